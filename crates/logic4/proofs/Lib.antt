@@ -1,0 +1,11 @@
+pub mod Rows
+pub mod Formulas
+pub mod Tables
+pub mod Words
+pub mod Reductions
+pub mod Pairs
+pub mod Places
+pub mod Marks
+pub mod Texts
+pub mod Lengths
+pub mod Widths
