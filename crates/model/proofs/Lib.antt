@@ -1,0 +1,7 @@
+pub mod Rows
+pub mod SourceRows
+pub mod TurnLaws
+pub mod RunLaws
+pub mod StepLaws
+pub mod PlaceLaws
+pub mod JournalLaws

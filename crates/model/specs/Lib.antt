@@ -1,0 +1,11 @@
+pub mod Syntax
+pub mod Trees
+pub mod Design
+pub mod Elaboration
+pub mod Expressions
+pub mod Turns
+pub mod States
+pub mod Runs
+pub mod Steps
+pub mod Journal
+pub mod Laws
