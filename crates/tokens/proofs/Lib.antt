@@ -1,0 +1,6 @@
+pub mod Ascii
+pub mod Steps
+pub mod Numbers
+pub mod Longest
+pub mod Chain
+mod Rows

@@ -1,0 +1,208 @@
+-- How a text is cut into tokens, space and comments, the longest piece first (IEEE 1364-2005, 3.1 to 3.7).
+use Rattle.std.specs.Prelude.{◌≡◌, ℕ, ◌+◌, ◌≤◌, List, [], ◌∷◌, ◌++◌, length, Bool, true, false, not, ◌&&◌, ◌||◌, ◌==◌, if◌then◌else◌, Option, Some, None, option_map, codes}
+use Rattle.std.specs.Str.{bytes_eq}
+use Rattle.tokens.specs.declared.token.Kind.{Kind}
+use Rattle.tokens.specs.declared.token.Kind.TheVariants as k
+use Rattle.tokens.specs.Tokens.{PlainTokens}
+use Rattle.tokens.specs.Bytes.{is_letter, is_digit, in_word, in_literal, is_space, in_line, in_string, is_escape, all}
+use Rattle.tokens.specs.Literals.{is_empty, number_of}
+
+-- ---- operators and marks (3.4, A.8.6)
+
+-- One byte: ! ~ & | ^ + - < > ? : = # @ ( ) [ ] { } , ;
+abbrev pub is_sign1 : ℕ → Bool
+is_sign1 a =
+    a == 33 || a == 126 || a == 38 || a == 124 || a == 94 || a == 43 || a == 45 || a == 60 || a == 62 || a == 63 || a == 58
+    || a == 61 || a == 35 || a == 64 || a == 40 || a == 41 || a == 91 || a == 93 || a == 123 || a == 125 || a == 44 || a == 59
+
+-- Two bytes: << >> <= >= == != && ||
+abbrev pub is_sign2 : ℕ → ℕ → Bool
+is_sign2 a b =
+    (a == 60 && b == 60) || (a == 62 && b == 62) || (a == 60 && b == 61) || (a == 62 && b == 61) || (a == 61 && b == 61)
+    || (a == 33 && b == 61) || (a == 38 && b == 38) || (a == 124 && b == 124)
+
+-- Three bytes: === !==
+abbrev pub is_sign3 : ℕ → ℕ → ℕ → Bool
+is_sign3 a b c = (a == 61 || a == 33) && b == 61 && c == 61
+
+-- ---- pieces: tokens, spaces and comments
+
+-- The bytes of a string after its first `"`, behind a `\` or not: the next `"` that no `\` escapes is the last byte (3.6).
+abbrev pub is_string_rest : Bool → List ℕ → Bool
+is_string_rest after [] = false
+is_string_rest true (b ∷ bs) = is_escape b && is_string_rest false bs
+is_string_rest false (b ∷ bs) = if b == 34 then is_empty bs else ((in_string b || b == 92) && is_string_rest (b == 92) bs)
+
+-- The bytes of a comment after its `/*`, behind a `*` or not: the next `*/` is its end (3.3).
+abbrev pub is_comment_rest : Bool → List ℕ → Bool
+is_comment_rest star [] = false
+is_comment_rest star (b ∷ bs) = if star && b == 47 then is_empty bs else is_comment_rest (b == 42) bs
+
+-- A piece: a space, a comment of either form, a name or reserved word (3.7), a system name (3.7.3), a plain decimal, a
+-- number with a size (3.5), a string, an operator or a mark. What looks like a number may be malformed.
+pub data IsPiece : List ℕ → Type 0 where
+  space : {b : ℕ} → is_space b ≡ true → IsPiece (b ∷ [])
+  line : {bs : List ℕ} → all in_line bs ≡ true → IsPiece (47 ∷ 47 ∷ bs)
+  block : {bs : List ℕ} → is_comment_rest false bs ≡ true → IsPiece (47 ∷ 42 ∷ bs)
+  word : {b : ℕ} {bs : List ℕ} → is_letter b ≡ true → all in_word bs ≡ true → IsPiece (b ∷ bs)
+  system : {b : ℕ} {bs : List ℕ} → is_letter b ≡ true → all in_word bs ≡ true → IsPiece (36 ∷ b ∷ bs)
+  decimal : {b : ℕ} {bs : List ℕ} → is_digit b ≡ true → all is_digit bs ≡ true → IsPiece (b ∷ bs)
+  sized : {b : ℕ} (bs cs : List ℕ) → is_digit b ≡ true → all is_digit bs ≡ true → all in_literal cs ≡ true → IsPiece (b ∷ (bs ++ 39 ∷ cs))
+  quoted : {bs : List ℕ} → is_string_rest false bs ≡ true → IsPiece (34 ∷ bs)
+  sign1 : {a : ℕ} → is_sign1 a ≡ true → IsPiece (a ∷ [])
+  sign2 : {a b : ℕ} → is_sign2 a b ≡ true → IsPiece (a ∷ b ∷ [])
+  sign3 : {a b c : ℕ} → is_sign3 a b c ≡ true → IsPiece (a ∷ b ∷ c ∷ [])
+
+-- The longest piece with which a text begins, and what follows it.
+pub record IsNext (piece rest : List ℕ) : Type 0 where
+  pub is_piece : IsPiece piece
+  pub longest : (q r : List ℕ) → q ++ r ≡ piece ++ rest → IsPiece q → length q ≤ length piece
+
+-- ---- what a piece stands for
+
+-- The first of two kinds that is there.
+abbrev pub or_else : Option Kind → Kind → Kind
+or_else None kind = kind
+or_else (Some kind) other = kind
+
+-- The reserved words of modules, items and blocks (3.7.2).
+unfoldable pub item_word : List ℕ → Option Kind
+item_word t =
+    if bytes_eq t (codes "module") then Some k.Module
+    else (if bytes_eq t (codes "endmodule") then Some k.EndModule
+    else (if bytes_eq t (codes "reg") then Some k.Reg
+    else (if bytes_eq t (codes "initial") then Some k.Initial
+    else (if bytes_eq t (codes "always") then Some k.Always
+    else (if bytes_eq t (codes "begin") then Some k.Begin
+    else (if bytes_eq t (codes "end") then Some k.EndBlock
+    else None))))))
+
+-- The reserved words of statements and events, and the two system names that the grammar has.
+unfoldable pub statement_word : List ℕ → Option Kind
+statement_word t =
+    if bytes_eq t (codes "if") then Some k.If
+    else (if bytes_eq t (codes "else") then Some k.Else
+    else (if bytes_eq t (codes "while") then Some k.While
+    else (if bytes_eq t (codes "posedge") then Some k.Posedge
+    else (if bytes_eq t (codes "negedge") then Some k.Negedge
+    else (if bytes_eq t (codes "or") then Some k.Or
+    else (if bytes_eq t (codes "$display") then Some k.Display
+    else (if bytes_eq t (codes "$finish") then Some k.Finish
+    else None)))))))
+
+-- The operators of bits, sums and the left shift.
+unfoldable pub bit_sign : List ℕ → Option Kind
+bit_sign t =
+    if bytes_eq t (codes "!") then Some k.Bang
+    else (if bytes_eq t (codes "~") then Some k.Tilde
+    else (if bytes_eq t (codes "&") then Some k.Ampersand
+    else (if bytes_eq t (codes "|") then Some k.Bar
+    else (if bytes_eq t (codes "^") then Some k.Caret
+    else (if bytes_eq t (codes "+") then Some k.Plus
+    else (if bytes_eq t (codes "-") then Some k.Minus
+    else (if bytes_eq t (codes "<<") then Some k.ShiftLeft
+    else None)))))))
+
+-- The right shift, and the comparisons.
+unfoldable pub test_sign : List ℕ → Option Kind
+test_sign t =
+    if bytes_eq t (codes ">>") then Some k.ShiftRight
+    else (if bytes_eq t (codes "<") then Some k.Less
+    else (if bytes_eq t (codes "<=") then Some k.AtMost
+    else (if bytes_eq t (codes ">") then Some k.Greater
+    else (if bytes_eq t (codes ">=") then Some k.AtLeast
+    else (if bytes_eq t (codes "==") then Some k.Equal
+    else (if bytes_eq t (codes "!=") then Some k.NotEqual
+    else (if bytes_eq t (codes "===") then Some k.Same
+    else None)))))))
+
+-- The logical operators, and the marks of choices, assignments, delays and events.
+unfoldable pub mark_sign : List ℕ → Option Kind
+mark_sign t =
+    if bytes_eq t (codes "!==") then Some k.NotSame
+    else (if bytes_eq t (codes "&&") then Some k.AndAnd
+    else (if bytes_eq t (codes "||") then Some k.OrOr
+    else (if bytes_eq t (codes "?") then Some k.Question
+    else (if bytes_eq t (codes ":") then Some k.Colon
+    else (if bytes_eq t (codes "=") then Some k.Assign
+    else (if bytes_eq t (codes "#") then Some k.Hash
+    else (if bytes_eq t (codes "@") then Some k.At
+    else None)))))))
+
+-- The brackets, the comma and the semicolon.
+unfoldable pub bracket_sign : List ℕ → Option Kind
+bracket_sign t =
+    if bytes_eq t (codes "(") then Some k.Open
+    else (if bytes_eq t (codes ")") then Some k.Close
+    else (if bytes_eq t (codes "[") then Some k.OpenSquare
+    else (if bytes_eq t (codes "]") then Some k.CloseSquare
+    else (if bytes_eq t (codes "{") then Some k.OpenCurly
+    else (if bytes_eq t (codes "}") then Some k.CloseCurly
+    else (if bytes_eq t (codes ",") then Some k.Comma
+    else (if bytes_eq t (codes ";") then Some k.Semicolon
+    else None)))))))
+
+-- The kind of a token that is no word of the grammar and no sign, by its first byte.
+unfoldable pub kind_by_first : List ℕ → Kind
+kind_by_first [] = k.End
+kind_by_first (b ∷ bs) =
+    if is_digit b then (if all is_digit bs then k.Decimal else k.Sized)
+    else (if b == 34 then k.Text else (if b == 36 then k.System else k.Name))
+
+-- The kind of a token that is no word of the grammar.
+abbrev pub sign_kind : List ℕ → Kind
+sign_kind t = or_else (bit_sign t) (or_else (test_sign t) (or_else (mark_sign t) (or_else (bracket_sign t) (kind_by_first t))))
+
+-- The kind of a token, by how it is spelled.
+abbrev pub kind_of : List ℕ → Kind
+kind_of t = or_else (item_word t) (or_else (statement_word t) (sign_kind t))
+
+-- A piece that is no token: a space or a comment.
+abbrev pub is_skipped : List ℕ → Bool
+is_skipped [] = false
+is_skipped (b ∷ bs) = is_space b || b == 47
+
+-- The value of a plain decimal, and 0 for every other token; none where a number is malformed or too wide.
+abbrev pub value_of : List ℕ → Option ℕ
+value_of [] = Some 0
+value_of (b ∷ bs) = if is_digit b then number_of (b ∷ bs) else Some 0
+
+-- The tokens that a piece gives, one or none, if it isn't a number that is malformed or too wide.
+unfoldable pub reading : List ℕ → Option PlainTokens
+reading piece = if is_skipped piece then Some [] else option_map (λ v. record { kind = kind_of piece; text = piece; value = v } ∷ []) (value_of piece)
+
+-- The byte that an escape stands for, by the byte behind its `\`: \n, \t, \\ and \" (3.6.3).
+abbrev pub escaped : ℕ → ℕ
+escaped b = if b == 110 then 10 else (if b == 116 then 9 else b)
+
+-- What a byte of a string adds to its text, behind a `\` or not.
+abbrev pub shown : Bool → ℕ → List ℕ
+shown true b = escaped b ∷ []
+shown false b = if b == 34 || b == 92 then [] else b ∷ []
+
+-- What the bytes of a string add to its text, behind a `\` or not.
+abbrev pub string_text_from : Bool → List ℕ → List ℕ
+string_text_from after [] = []
+string_text_from after (b ∷ bs) = shown after b ++ string_text_from (not after && b == 92) bs
+
+-- The text of a string: without its quotes, and with its escapes replaced.
+abbrev pub string_text : List ℕ → List ℕ
+string_text t = string_text_from false t
+
+-- ---- the cut
+
+-- A text is cut into these tokens: again and again the longest piece is taken, up to the end.
+pub data Cut : List ℕ → PlainTokens → Type 0 where
+  ended : Cut [] []
+  next : {piece rest : List ℕ} {us ts : PlainTokens} → IsNext piece rest → reading piece ≡ Some us → Cut rest ts → Cut (piece ++ rest) (us ++ ts)
+
+-- Why a cut stops: no piece begins, or a number that is malformed or too wide.
+pub data Cause : Type 0 where
+  stray : Cause
+  bad_number : Cause
+
+-- The cut of a text stops at this byte, counted from 0.
+pub data Stops : List ℕ → Cause → ℕ → Type 0 where
+  no_piece : {b : ℕ} {text : List ℕ} → ((q r : List ℕ) → q ++ r ≡ b ∷ text → IsPiece q → ⊥) → Stops (b ∷ text) stray 0
+  no_value : {piece rest : List ℕ} → IsNext piece rest → reading piece ≡ None → Stops (piece ++ rest) bad_number 0
+  later : {piece rest : List ℕ} {us : PlainTokens} {cause : Cause} {n : ℕ} → IsNext piece rest → reading piece ≡ Some us → Stops rest cause n → Stops (piece ++ rest) cause (length piece + n)

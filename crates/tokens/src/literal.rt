@@ -1,0 +1,269 @@
+//! Plain decimals, and literals with a size.
+
+ghost use Rattle.std.specs.Prelude.{◌≡◌, ◌≤◌, ◌^◌, ◌%◌, ℕ, [], nat_lt, length, option_map, IfOk};
+ghost use Rattle.logic4.specs.Vector.{bit_digit, vector};
+ghost use Rattle.tokens.specs.Literals as spec;
+ghost use Rattle.tokens.specs.Literals.{AddsDigits};
+
+use crate::spans::{all_digits, digit_span, digits_value, is_digit};
+use logic4::digit::Digit;
+use std::alloc::{AllocError, Global};
+
+/// The number of a run of digits, of at most 18.
+#[tactic(auto, unfolding(crate::specs::Literals::decimal_of))]
+pub fn decimal_of(text: &[u8]) -> Option<u64>
+    ensures { result ≡ spec.decimal_of text.now }
+{
+    if text.len() <= 18 {
+        digits_value(text)
+    } else {
+        None
+    }
+}
+
+fn bit(n: u64) -> Digit
+    ensures { result ≡ bit_digit (n % 2) }
+{
+    if n % 2 == 0 { Digit::Zero } else { Digit::One }
+}
+
+fn nibble(n: u8) -> [Digit; 4]
+    ensures { result ≡ vector 4 n }
+{
+    let n = u64::from(n);
+    [bit(n), bit(n / 2), bit(n / 2 / 2), bit(n / 2 / 2 / 2)]
+}
+
+/// Adds the digit that a byte of a binary literal stands for, if it stands for one.
+#[tactic(auto, unfolding(crate::specs::Literals::binary_digits))]
+fn add_binary(found: &mut Vec<Digit>, b: u8) -> Result<bool, AllocError>
+    ensures { IfOk result (λ added. AddsDigits (spec.binary_digits b) found.old.items added found.new.items) }
+{
+    let digit = match b {
+        b'0' => Digit::Zero,
+        b'1' => Digit::One,
+        b'x' => Digit::X,
+        b'z' => Digit::Z,
+        _ => return Ok(false),
+    };
+    found.push(digit)?;
+    Ok(true)
+}
+
+/// Adds the digits that a byte of a hexadecimal literal stands for, if it stands for some.
+#[tactic(auto, unfolding(crate::specs::Literals::hex_digits))]
+fn add_hex(found: &mut Vec<Digit>, b: u8) -> Result<bool, AllocError>
+    ensures { IfOk result (λ added. AddsDigits (spec.hex_digits b) found.old.items added found.new.items) }
+{
+    let digits = if is_digit(b) {
+        nibble(b - b'0')
+    } else if b >= b'a' && b <= b'f' {
+        nibble(b - 87)
+    } else if b == b'x' {
+        [Digit::X; 4]
+    } else if b == b'z' {
+        [Digit::Z; 4]
+    } else {
+        return Ok(false);
+    };
+    found.extend_from_slice(&digits)?;
+    Ok(true)
+}
+
+fn add_digits(found: &mut Vec<Digit>, hex: bool, b: u8) -> Result<bool, AllocError>
+    ensures { IfOk result (λ added. AddsDigits (spec.digits_in hex b) found.old.items added found.new.items) }
+{
+    if hex {
+        add_hex(found, b)
+    } else {
+        add_binary(found, b)
+    }
+}
+
+/// The digits of a run of bytes, whose first is the most significant.
+fn digits_of(alloc: Global, hex: bool, text: &[u8]) -> Result<Option<Vec<Digit>>, AllocError>
+    ensures { IfOk result (λ found. option_map (λ v. v.items) found ≡ spec.all_digits (spec.digits_in hex) text.now []) }
+{
+    let mut found = Vec::new(alloc);
+    let mut left = text;
+    while let [rest @ .., b] = left {
+        if !add_digits(&mut found, hex, *b)? {
+            return Ok(None);
+        }
+        left = rest;
+    }
+    Ok(Some(found))
+}
+
+fn filling(d: Digit) -> Digit
+    ensures { result ≡ spec.filling d }
+{
+    match d {
+        Digit::X => Digit::X,
+        Digit::Z => Digit::Z,
+        _ => Digit::Zero,
+    }
+}
+
+fn filling_of(found: &[Digit]) -> Digit
+    ensures { result ≡ spec.filling_of found.now }
+{
+    let mut left = found;
+    let mut fill = Digit::Zero;
+    while let [d, rest @ ..] = left {
+        fill = filling(*d);
+        left = rest;
+    }
+    fill
+}
+
+fn all_zero(digits: &[Digit]) -> bool
+    ensures { result ≡ spec.all_zero digits.now }
+{
+    let mut left = digits;
+    while let [d, rest @ ..] = left {
+        match *d {
+            Digit::Zero => (),
+            _ => return false,
+        }
+        left = rest;
+    }
+    true
+}
+
+/// The digits at a width, filled up, or cut where all that is cut is 0.
+#[tactic(auto, unfolding(crate::specs::Literals::fitted))]
+fn fitted(mut found: Vec<Digit>, width: usize) -> Result<Option<Vec<Digit>>, AllocError>
+    ensures { IfOk result (λ fit. option_map (λ v. v.items) fit ≡ spec.fitted width found.items) }
+{
+    if found.len() <= width {
+        let fill = filling_of(&found);
+        found.resize(width, fill)?;
+        return Ok(Some(found));
+    }
+    if all_zero(&found[width..]) {
+        found.truncate(width);
+        return Ok(Some(found));
+    }
+    Ok(None)
+}
+
+/// The digits of a number at a width.
+fn vector_of(alloc: Global, width: usize, n: u64) -> Result<Vec<Digit>, AllocError>
+    ensures { IfOk result (λ found. found.items ≡ vector width n) }
+{
+    let mut found = Vec::new(alloc);
+    let mut left = n;
+    for _i in 0..width {
+        found.push(bit(left))?;
+        left /= 2;
+    }
+    Ok(found)
+}
+
+fn is_below(n: u64, width: u32) -> bool
+    requires { width ≤ 64 }
+    ensures { result ≡ nat_lt n (2 ^ width) }
+{
+    u128::from(n) < 2u128.pow(width)
+}
+
+/// The digits of a literal of base d, where the width holds them.
+#[tactic(auto, unfolding(crate::specs::Literals::decimal_vector))]
+fn decimal_vector(
+    alloc: Global,
+    width: u32,
+    found: Option<u64>,
+) -> Result<Option<Vec<Digit>>, AllocError>
+    requires { width ≤ 64 }
+    ensures { IfOk result (λ fit. option_map (λ v. v.items) fit ≡ spec.decimal_vector width found) }
+{
+    let Some(n) = found else {
+        return Ok(None);
+    };
+    if !is_below(n, width) {
+        return Ok(None);
+    }
+    Ok(Some(vector_of(alloc, width as usize, n)?))
+}
+
+fn fitted_digits(
+    alloc: Global,
+    hex: bool,
+    width: u32,
+    text: &[u8],
+) -> Result<Option<Vec<Digit>>, AllocError>
+    ensures { IfOk result (λ fit. option_map (λ v. v.items) fit ≡ spec.fitted_digits hex width text.now) }
+{
+    match digits_of(alloc, hex, text)? {
+        None => Ok(None),
+        Some(found) => fitted(found, width as usize),
+    }
+}
+
+/// A literal of a width, by its base and its digits.
+#[tactic(auto, unfolding(crate::specs::Literals::based))]
+fn based(alloc: Global, width: u32, base: u8, text: &[u8]) -> Result<Option<Vec<Digit>>, AllocError>
+    requires { width ≤ 64 }
+    ensures { IfOk result (λ fit. option_map (λ v. v.items) fit ≡ spec.based width base text.now) }
+{
+    if text.is_empty() {
+        return Ok(None);
+    }
+    if base == b'b' {
+        return fitted_digits(alloc, false, width, text);
+    }
+    if base == b'h' {
+        return fitted_digits(alloc, true, width, text);
+    }
+    if base == b'd' && all_digits(text) {
+        return decimal_vector(alloc, width, digits_value(text));
+    }
+    Ok(None)
+}
+
+fn sized(
+    alloc: Global,
+    size: Option<u64>,
+    base: u8,
+    text: &[u8],
+) -> Result<Option<Vec<Digit>>, AllocError>
+    ensures { IfOk result (λ fit. option_map (λ v. v.items) fit ≡ spec.sized size base text.now) }
+{
+    match size {
+        Some(width) if width >= 1 && width <= 64 => based(alloc, width as u32, base, text),
+        _ => Ok(None),
+    }
+}
+
+fn literal_from(alloc: Global, size: &[u8], rest: &[u8]) -> Result<Option<Vec<Digit>>, AllocError>
+    ensures { IfOk result (λ fit. option_map (λ v. v.items) fit ≡ spec.literal_from size.now rest.now) }
+{
+    match rest {
+        [_, base, given @ ..] => sized(alloc, decimal_of(size), *base, given),
+        _ => Ok(None),
+    }
+}
+
+/// The digits of a sized literal, the least significant first; `None` where it is malformed or too wide.
+#[tactic(auto, unfolding(crate::specs::Literals::literal_of))]
+pub fn literal_of(alloc: Global, text: &[u8]) -> Result<Option<Vec<Digit>>, AllocError>
+    ensures { IfOk result (λ fit. option_map (λ v. v.items) fit ≡ spec.literal_of text.now) }
+{
+    let (size, rest) = text.split_at(digit_span(text));
+    literal_from(alloc, size, rest)
+}
+
+/// The value of a plain decimal, and 0 for a sized literal; `None` where it is malformed or too wide.
+#[tactic(auto, unfolding(crate::specs::Literals::number_of))]
+pub fn number_of(alloc: Global, text: &[u8]) -> Result<Option<u64>, AllocError>
+    ensures { IfOk result (λ found. found ≡ spec.number_of text.now) }
+{
+    if all_digits(text) {
+        return Ok(decimal_of(text));
+    }
+    match literal_of(alloc, text)? {
+        None => Ok(None),
+        Some(_) => Ok(Some(0)),
+    }
+}

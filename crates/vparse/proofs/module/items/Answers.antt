@@ -1,0 +1,14 @@
+-- One turn of the loop is one step of the recursion that the loop stands for.
+use Rattle.std.proofs.Common.{rules, arith}
+use Rattle.std.proofs.lemmas.Grind.{common_steps}
+use Rattle.vparse.specs.Cursor.{left_of}
+use Rattle.model.specs.Trees.{module_of}
+use Rattle.vparse.specs.Reading.{items_from}
+use Rattle.vparse.proofs.Turns.{one_more}
+use Rattle.vparse.proofs.module.items.Goals as goal
+
+pub loop-turn-preserved : goal.loop-turn-preserved
+unfolding items_from
+loop-turn-preserved c =
+    let e = one_more (λ n. items_from c.args.room n (module_of c.loop-turn.found) (left_of c.loop-turn.tokens)) c.args.room c.loop-turn._turn c.loop-turn-test.true c.loop-turn.invariant in
+    first_of (search rules, grind (arith, common_steps))

@@ -1,0 +1,25 @@
+-- What a text spells: the grammar over the cut of the text into its longest tokens.
+use Rattle.std.specs.Prelude.{ℕ, List}
+use Rattle.tokens.specs.Tokens.{PlainTokens}
+use Rattle.tokens.specs.Lexing.{Cut}
+use Rattle.model.specs.Syntax.{Module}
+use Rattle.vparse.specs.Grammar.{IsModule}
+use Rattle.vparse.specs.Nesting.{IsDeep, IsDeepAt}
+
+-- A text spells a module: it is cut into tokens that are a spelling of the module.
+pub record Spells (m : Module) (text : List ℕ) : Type 0 where
+  pub tokens : PlainTokens
+  pub cut : Cut text tokens
+  pub is_module : IsModule m tokens
+
+-- A text nests too deep: it is cut into tokens that do.
+pub record IsDeepText (text : List ℕ) : Type 0 where
+  pub tokens : PlainTokens
+  pub cut : Cut text tokens
+  pub is_deep : IsDeep tokens
+
+-- A text nests too deep at the token of this number, counted from 1, and at none before it.
+pub record IsDeepTextAt (text : List ℕ) (n : ℕ) : Type 0 where
+  pub tokens : PlainTokens
+  pub cut : Cut text tokens
+  pub is_deep : IsDeepAt tokens n
