@@ -1,0 +1,4 @@
+pub mod Waking
+pub mod Listing
+pub mod Steps
+pub mod Standing

@@ -1,0 +1,39 @@
+-- What a turn's log stands for.
+use Rattle.std.specs.Prelude.{◌≡◌, ℕ, List, [], map, slice_index_or}
+use Rattle.std.specs.List.{All}
+use Rattle.std.specs.String.{string_bytes}
+use Rattle.model.specs.Design.{Trigger}
+use Rattle.model.specs.Turns.{Remainder, Wait, Ended, Inactive, Until, OnChange, Later, Turn}
+use Rattle.elaborate.specs.declared.code.ProcState.{ProcState}
+use Rattle.elaborate.specs.Listing.{FitsRegister}
+use Rattle.turn.specs.declared.log.Nba.{Nba}
+use Rattle.turn.specs.declared.log.Suspend.{Suspend}
+use Rattle.turn.specs.declared.log.Suspend.TheVariants as suspends
+use Rattle.turn.specs.declared.log.TurnLog.{TurnLog}
+
+-- a nonblocking assignment of the definitions for one of the log
+abbrev pub later_of : Nba → Later
+later_of nba = record { register = nba.register; value = nba.value; due = nba.due }
+
+-- what a process waits for, where the triggers of each event control are known
+abbrev pub wait_of : List (List Trigger) → Suspend → Wait
+wait_of controls suspends.Ended = Ended
+wait_of controls suspends.Inactive = Inactive
+wait_of controls (suspends.Until time) = Until time
+wait_of controls (suspends.Event control) = OnChange (slice_index_or controls control [])
+
+-- The log is the turn, where it is known what a process state stands for and which triggers each event control has.
+pub record IsLogOf (rem : ProcState → Remainder) (controls : List (List Trigger)) (log : TurnLog) (turn : Turn) : Type 0 where
+  pub uses : log.reads.items ≡ turn.uses
+  pub writes : log.writes.items ≡ turn.writes
+  pub laters : map later_of log.nbas.items ≡ turn.laters
+  pub lines : string_bytes log.lines ≡ turn.lines
+  pub rest : rem log.next ≡ turn.rest
+  pub wait : wait_of controls log.suspend ≡ turn.wait
+  pub finish : log.finish ≡ turn.finish
+  pub count : log.count ≡ turn.count
+
+-- what a log keeps to: each register is declared, and each value has its register's width
+pub record LogFits (widths : List ℕ) (log : TurnLog) : Type 0 where
+  pub writes : All (λ w. FitsRegister widths w.0 w.1) log.writes.items
+  pub nbas : All (λ n. FitsRegister widths n.register n.value) log.nbas.items

@@ -1,0 +1,57 @@
+//! What a turn did.
+
+ghost use Rattle.std.specs.Prelude.{◌≡◌};
+
+use elaborate::{ProcState, RegId};
+use logic4::bits::Bits;
+use std::alloc::AllocError;
+
+/// A nonblocking assignment that a turn made (9.2.2): its register, its value, and the time at which it is due.
+#[derive(Clone, Copy)]
+pub struct Nba {
+    pub register: RegId,
+    pub value: Bits,
+    pub due: u64,
+}
+
+/// What a process waits for once its turn is over: nothing any more, the inactive region, a time, or the event
+/// control with a number.
+#[derive(Clone, Copy)]
+pub enum Suspend {
+    Ended,
+    Inactive,
+    Until(u64),
+    Event(u32),
+}
+
+/// A turn that is over: the registers that it read, in the order of their first use; its writes, its nonblocking
+/// assignments and its lines, in the order of the text; where the process goes on and what it waits for; whether it
+/// met `$finish`; and the number of its counted steps.
+#[derive(Drop)]
+pub struct TurnLog {
+    pub reads: Vec<RegId>,
+    pub writes: Vec<(RegId, Bits)>,
+    pub nbas: Vec<Nba>,
+    pub lines: String,
+    pub next: ProcState,
+    pub suspend: Suspend,
+    pub finish: bool,
+    pub count: u32,
+}
+
+/// Why there is no log: the turn has more counted steps than a turn may have, or memory was refused.
+#[derive(Clone, Copy, PartialEq, Eq, Debug)]
+pub enum TurnFault {
+    TooLong,
+    Memory,
+}
+
+impl From<AllocError> for TurnFault {
+    ghost use Rattle.turn.specs.declared.log.TurnFault.TheVariants as fault;
+
+    ghost from_gives = { λ _ e. e ≡ fault.Memory };
+
+    fn from(_: AllocError) -> Self {
+        TurnFault::Memory
+    }
+}
