@@ -1,0 +1,11 @@
+pub mod Named
+pub mod Nameless
+pub mod Held
+pub mod Guarded
+pub mod Tickets
+pub mod Steps
+pub mod Seats
+pub mod Parts
+pub mod Answers
+pub mod Replies
+pub mod Closing

@@ -1,0 +1,6 @@
+-- The name of no gate.
+use Rattle.std.specs.Prelude.{[], None}
+use Rattle.commitgate.specs.Named.{Named}
+
+abbrev pub nameless : Named
+nameless = record { listing = record { widths = []; bodies = [] }; workers = 0; limits = record { until = None; max_entries = 0 } }

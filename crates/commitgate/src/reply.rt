@@ -1,0 +1,39 @@
+//! What the gate answers.
+
+use crate::naming::Naming;
+use crate::ticket::Ticket;
+use model::end::Why;
+use model::entry::Entry;
+
+/// An appended entry, its position in the journal, counted from 0, and a ticket for each evaluation event that became
+/// active, in the order of their numbers.
+#[derive(Drop)]
+pub struct Grant<K: Naming> {
+    pub position: u64,
+    pub entry: Entry,
+    pub tickets: Vec<Ticket<K>>,
+}
+
+/// The answer to a ticket.
+#[derive(Drop)]
+pub enum Reply<K: Naming> {
+    /// The turn stands in the journal.
+    Accepted(Grant<K>),
+    /// No active evaluation has the ticket's event, process, state and time.
+    Gone,
+    /// The run is stopped.
+    Stopped(Why),
+    /// Memory was refused, and nothing changed.
+    NoMemory(Ticket<K>),
+}
+
+/// The answer to a worker that has no ticket.
+#[derive(Clone, Copy, PartialEq, Eq, Debug)]
+pub enum Rest {
+    /// There may be more to do.
+    Busy,
+    /// No event is left.
+    Quiet,
+    /// The run is stopped.
+    Stopped(Why),
+}

@@ -1,0 +1,176 @@
+//! The workers, from their first ticket to the closed gate.
+ghost use Rattle.std.specs.Prelude.{◌≡◌, ◌≤◌, None, IfOk};
+ghost use Rattle.commitgate.specs.Closing.{IsClosed};
+ghost use Rattle.simulate.specs.Named.{named};
+
+use crate::queue::Queue;
+use commitgate::{Blank, Closed, Gate, Naming, Reply, Rest, Seat, Ticket};
+use elaborate::Design;
+use model::end::Limits;
+use std::alloc::{AllocError, AllocFailed, Global};
+use std::marker::Brand;
+use std::sync::Wait;
+use std::thread;
+use std::thread::Threads;
+use thiserror::Error;
+
+// The most entries of a journal.
+const MOST_ENTRIES: u32 = 1_000_000;
+
+/// How a design is run: on 1 to 16 workers.
+#[derive(Clone, Copy, Debug, PartialEq, Eq)]
+pub struct Options {
+    pub workers: u32,
+}
+
+/// Why there is no outcome.
+#[derive(Clone, Copy, Debug, PartialEq, Eq, Error)]
+pub enum SimFault {
+    /// Memory was refused before the first worker began.
+    #[error("memory")]
+    Memory,
+    /// A worker couldn't be started, and those that had begun were stopped and joined.
+    #[error("cannot start worker")]
+    NoWorker,
+}
+
+impl From<AllocError> for SimFault {
+    fn from(_: AllocError) -> Self {
+        SimFault::Memory
+    }
+}
+
+impl<T: Drop> From<AllocFailed<T>> for SimFault {
+    fn from(_: AllocFailed<T>) -> Self {
+        SimFault::Memory
+    }
+}
+
+/// What a run leaves: a lawful journal, its lines, and how it ended.
+#[derive(Drop)]
+pub struct Outcome {
+    pub closed: Closed,
+}
+
+// Commits a ticket, and puts the tickets that come of it into the queue. Answers whether the worker goes on.
+fn commit<K: Naming, R: Wait>(
+    rt: &R,
+    alloc: Global,
+    gate: &Gate<'_, K>,
+    queue: &Queue<K>,
+    seat: &mut Seat<K>,
+    ticket: Ticket<K>,
+) -> bool {
+    match gate.commit_held(rt, alloc, seat, ticket) {
+        Reply::Accepted(grant) => {
+            for ticket in grant.tickets {
+                if queue.put(rt, ticket).is_err() {
+                    gate.stop(rt, seat);
+                    return false;
+                }
+            }
+            true
+        }
+        Reply::Gone => true,
+        Reply::Stopped(_) => false,
+        Reply::NoMemory(_) => {
+            gate.stop(rt, seat);
+            false
+        }
+    }
+}
+
+// A worker, until no event is left or the run is stopped.
+fn work<K: Naming, R: Wait>(
+    rt: &R,
+    alloc: Global,
+    gate: &Gate<'_, K>,
+    queue: &Queue<K>,
+    mut seat: Seat<K>,
+) -> Seat<K> {
+    for _ in rt.forever() {
+        let goes_on = match queue.take(rt) {
+            Some(ticket) => commit(rt, alloc, gate, queue, &mut seat, ticket),
+            None => match gate.rest(rt, &mut seat) {
+                Rest::Busy => true,
+                Rest::Quiet | Rest::Stopped(_) => false,
+            },
+        };
+        if !goes_on {
+            break;
+        }
+    }
+    seat
+}
+
+// Starts a worker for each seat and joins them all. Where one can't be started the run is stopped.
+fn work_all<K: Naming + Send + Sync, R: Threads + Wait + Sync>(
+    rt: &R,
+    alloc: Global,
+    gate: &Gate<'_, K>,
+    queue: &Queue<K>,
+    mut seats: Vec<Seat<K>>,
+) -> Result<Vec<Seat<K>>, SimFault> {
+    let mut workers = Vec::with_capacity(alloc, seats.len())?;
+    let mut left = Vec::with_capacity(alloc, seats.len())?;
+    let Some(mut own) = seats.pop() else {
+        return Ok(left);
+    };
+    thread::scope(
+        thread::scope_env(),
+        rt,
+        move |scope| -> Result<Vec<Seat<K>>, SimFault> {
+            for seat in seats {
+                match scope.spawn(move || work(rt, alloc, gate, queue, seat)) {
+                    Ok(worker) => workers.push(worker)?,
+                    Err(_) => {
+                        gate.stop(rt, &mut own);
+                        return Err(SimFault::NoWorker);
+                    }
+                }
+            }
+            left.push(work(rt, alloc, gate, queue, own))?;
+            for worker in workers {
+                left.push(worker.join(rt))?;
+            }
+            Ok(left)
+        },
+    )
+}
+
+// Opens a gate, works, and closes it.
+fn run<K: Naming + Send + Sync, R: Threads + Wait + Sync>(
+    rt: &R,
+    alloc: Global,
+    blank: Blank<'_>,
+) -> Result<Outcome, SimFault>
+    requires { blank ≡ K.named }
+    ensures { IfOk result (λ outcome. IsClosed K.named outcome.closed) }
+{
+    let (gate, seats, tickets) = blank.open::<K>(alloc)?;
+    let queue = Queue::new(alloc, tickets)?;
+    let seats = work_all(rt, alloc, &gate, &queue, seats)?;
+    Ok(Outcome {
+        closed: gate.close(seats),
+    })
+}
+
+/// Runs a design on several workers until no event is left or the run is stopped. The journal is lawful, and the lines
+/// are its lines.
+pub fn simulate<R: Threads + Wait + Sync>(
+    rt: &R,
+    alloc: Global,
+    design: &Design,
+    options: Options,
+) -> Result<Outcome, SimFault>
+    requires some { 1 ≤ options.workers }
+    requires few { options.workers ≤ 16 }
+    ensures { IfOk result (λ outcome. IsClosed (named design.now options) outcome.closed) }
+{
+    let limits = Limits {
+        until: None,
+        max_entries: MOST_ENTRIES,
+    };
+    let blank = Gate::new(alloc, design, options.workers, limits)?;
+    run::<Brand, R>(rt, alloc, blank)
+}
