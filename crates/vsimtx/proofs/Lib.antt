@@ -1,0 +1,2 @@
+pub mod GivenLemmas
+pub mod Statuses

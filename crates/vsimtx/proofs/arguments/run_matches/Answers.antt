@@ -1,0 +1,17 @@
+use Rattle.std.proofs.Common.{refl, None, true, codes}
+use Rattle.clap.specs.Built.{IsParsedFrom}
+use Rattle.clap.specs.Matches.{found_of}
+use Rattle.vsimtx.specs.Arguments.{GivesRun, run_rules, rule}
+use Rattle.vsimtx.proofs.GivenLemmas.{if_ok, required_text}
+use Rattle.vsimtx.proofs.arguments.run_matches.Goals as goal
+
+pub returns : goal.returns
+returns c =
+    let cmd = c.in_ok-run_command.field-0 in
+    let h = c.in_ok-run_command.ensures.rules in
+    record {
+      given = if_ok (IsParsedFrom cmd) (λ m. GivesRun (found_of m)) c.try_get_matches_from.result
+          (λ m p. record {
+            file = required_text cmd m run_rules 0 (rule (codes "FILE") true None) p h refl refl refl refl;
+          }) c.try_get_matches_from.ensures.parsed;
+    }

@@ -1,0 +1,51 @@
+-- What the commands of the program take, and what a parse of them gives.
+use Rattle.std.specs.Prelude.{◌≡◌, ◌≤◌, ℕ, Bool, true, false, List, [], ◌∷◌, Option, Some, None, ⊤, is_some, codes}
+use Rattle.clap.specs.Facts.{least_values}
+use Rattle.clap.specs.Words.{args_of, IsPlain, IsPlainArg, first_value}
+use Rattle.clap.specs.declared.builder.action.ArgAction.TheVariants.{Set}
+use Rattle.clap.specs.declared.builder.arg.Arg.{Arg}
+use Rattle.clap.specs.declared.builder.command.Command.{Command}
+use Rattle.clap.specs.declared.builder.command.Command.TheViews.{out-Command}
+use Rattle.clap.specs.declared.builder.value_parser.ValueParser.{ValueParser}
+use Rattle.clap.specs.declared.parser.matches.Found.{Found}
+
+-- an argument: its id, whether it is required, and what its values have to pass
+pub record Rule : Type 0 where
+  pub id : List ℕ
+  pub required : Bool
+  pub parser : Option ValueParser
+
+abbrev pub rule : List ℕ → Bool → Option ValueParser → Rule
+rule id required parser = record { id = id; required = required; parser = parser }
+
+-- the argument takes one value by this rule, and excludes nothing
+pub record Takes (a : Arg) (r : Rule) : Type 0 where
+  pub id : a.id.now ≡ r.id
+  pub required : a.required ≡ r.required
+  pub parser : (q : ValueParser) → r.parser ≡ Some q → a.value_parser ≡ Some q
+  pub set : a.action ≡ Some Set
+  pub least : 1 ≤ least_values a
+  pub whole : a.val_delim ≡ None
+  pub plain : IsPlainArg a
+  pub local : a.global ≡ false
+
+-- the arguments follow the rules, one by one
+abbrev pub Follow : List Arg → List Rule → Type 0
+Follow [] [] = ⊤
+Follow [] (r ∷ rs) = ⊥
+Follow (a ∷ xs) [] = ⊥
+Follow (a ∷ xs) (r ∷ rs) = Takes a r × Follow xs rs
+
+-- the command has these arguments alone
+pub record HasRules (c : Command) (rs : List Rule) : Type 0 where
+  pub args : Follow (args_of c) rs
+  pub plain : IsPlain c
+  pub local : (out-Command c).has_globals ≡ false
+  pub negates : (out-Command c).subcommand_negates_reqs ≡ false
+
+abbrev pub run_rules : List Rule
+run_rules = rule (codes "FILE") true None ∷ []
+
+-- what a parse of `run` gives
+pub record GivesRun (f : Found) : Type 0 where
+  pub file : is_some (first_value f (codes "FILE")) ≡ true

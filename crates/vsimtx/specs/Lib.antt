@@ -1,0 +1,4 @@
+pub mod Arguments
+pub mod Printed
+pub mod Program
+pub mod Small

@@ -1,0 +1,106 @@
+//! What can go wrong in a command, with its line on standard error and its exit status.
+
+ghost use Rattle.std.specs.Prelude.{◌≡◌};
+ghost use Rattle.vsimtx.specs.Program.{status_of, stop_of, stop_for, stop_status, source_status_of, simulate_status_of};
+
+use crate::source::fault::SourceFault;
+use model::end::{End, Why};
+use simulate::SimFault;
+use thiserror::Error;
+
+/// A file, output or memory fault, or a fault of a layer.
+#[derive(Debug, Drop, Error)]
+pub enum Fault<'a> {
+    #[error("cannot read {0}")]
+    CannotRead(&'a str),
+    #[error("cannot write")]
+    CannotWrite,
+    #[error("memory")]
+    Memory,
+    #[error(transparent)]
+    Source(#[from] SourceFault),
+    #[error(transparent)]
+    Simulate(#[from] SimFault),
+}
+
+/// The reason of a stop, as it is told.
+#[derive(Debug, Drop, Error)]
+pub enum Stop {
+    #[error("stopped: until")]
+    Until,
+    #[error("stopped: entries")]
+    Entries,
+    #[error("stopped: process {0} too long")]
+    TooLong(u32),
+    #[error("stopped: time")]
+    Time,
+    #[error("stopped: memory")]
+    Memory,
+}
+
+impl Stop {
+    /// What is told of an end: nothing of a quiet one, and nothing of `$finish`.
+    pub fn of(end: End) -> Option<Stop>
+        ensures { result ≡ stop_of end }
+    {
+        match end {
+            End::Stopped(why) => Stop::why(why),
+            End::Quiet | End::Running => None,
+        }
+    }
+
+    fn why(why: Why) -> Option<Stop>
+        ensures { result ≡ stop_for why }
+    {
+        match why {
+            Why::Finish => None,
+            Why::Until => Some(Stop::Until),
+            Why::Entries => Some(Stop::Entries),
+            Why::TooLong(process) => Some(Stop::TooLong(process)),
+            Why::Time => Some(Stop::Time),
+            Why::Memory => Some(Stop::Memory),
+        }
+    }
+
+    /// The exit status of a stopped run.
+    pub fn status(&self) -> u8
+        ensures { result ≡ stop_status self.now }
+    {
+        match self {
+            Stop::Memory => 6,
+            _ => 4,
+        }
+    }
+}
+
+impl Fault<'_> {
+    /// The exit status: 1 for files and output, 3 for a source, and 6 for memory or a worker that
+    /// couldn't be started.
+    pub fn status(&self) -> u8
+        ensures { result ≡ status_of self.now }
+    {
+        match self {
+            Fault::CannotRead(_) | Fault::CannotWrite => 1,
+            Fault::Memory => 6,
+            Fault::Source(fault) => source_status(fault),
+            Fault::Simulate(fault) => simulate_status(fault),
+        }
+    }
+}
+
+fn source_status(fault: &SourceFault) -> u8
+    ensures { result ≡ source_status_of fault.now }
+{
+    match fault {
+        SourceFault::Memory => 6,
+        _ => 3,
+    }
+}
+
+fn simulate_status(fault: &SimFault) -> u8
+    ensures { result ≡ simulate_status_of fault.now }
+{
+    match fault {
+        SimFault::Memory | SimFault::NoWorker => 6,
+    }
+}

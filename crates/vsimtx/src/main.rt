@@ -1,0 +1,39 @@
+//! The program `vsimtx`: it runs one Verilog module on several workers and prints its lines.
+//!
+//! - `arguments` reads the command line into a request.
+//! - `files` says where paths lead: to the system's files, or to a test's.
+//! - `source` reads the bytes of a source into a design.
+//! - `program` is the whole program as a function, `command`, which `main` calls.
+//! - `fault` has the lines on standard error and the exit statuses.
+#![tactic(auto)]
+
+mod arguments;
+mod fault;
+mod files;
+mod program;
+mod source;
+#[cfg(test)]
+mod tests;
+
+use files::SystemFiles;
+use program::{command, without_words};
+use std::alloc::Global;
+use std::process::ExitCode;
+use std::{env, io};
+
+fn main(rt: HostRuntime) -> ExitCode {
+    let alloc = rt.alloc();
+    let mut files = SystemFiles { rt: &rt };
+    let mut out = rt.stdout();
+    let mut err = rt.stderr();
+    let status = match words(&rt, alloc) {
+        Ok(words) => command(&rt, alloc, words.as_slice(), &mut files, &mut out, &mut err),
+        Err(error) => without_words(&rt, alloc, &error, &mut files, &mut out, &mut err),
+    };
+    ExitCode::from(status)
+}
+
+fn words<R: std::rt::Env + AllocGlobal>(rt: &R, alloc: Global) -> io::Result<Vec<String>> {
+    let words = env::args(rt)?.collect(alloc)?;
+    Ok(words)
+}
