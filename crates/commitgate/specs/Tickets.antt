@@ -9,7 +9,7 @@ use Rattle.journal.specs.declared.state.MadeEvent.{MadeEvent}
 use Rattle.journal.specs.Evaluations.{IsEvaluation}
 use Rattle.journal.specs.Queue.{Core}
 
--- what contracts see of a ticket: its event, its process, where that goes on, the time, and its refusals
+-- what contracts see of a ticket: its event, its process, where that goes on, the time, and its tries
 pub record TicketView : Type 0 where
   pub event : ℕ
   pub process : ℕ
@@ -44,7 +44,7 @@ abbrev pub process_in : Action → ℕ
 process_in (Evaluate p) = p
 process_in (Update r v) = 0
 
--- the ticket of an active evaluation: where its process goes on, at this time, and never refused before
+-- the ticket of an active evaluation: where its process goes on, at this time, to be evaluated under the lock
 abbrev pub ticket_for : Core → Event → TicketView
 ticket_for core event =
     record {

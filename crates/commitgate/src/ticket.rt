@@ -6,8 +6,9 @@ use crate::naming::Naming;
 use elaborate::ProcState;
 use std::marker::{Model, PhantomData};
 
-/// The right to one turn of a process: the number of its event, the process and where that goes on, the time, and how
-/// often it was refused. The gate alone makes one, and it can't be copied.
+/// The right to one turn of a process: the number of its event, the process and where that goes on, the time, and its
+/// tries, of which a ticket whose turn is evaluated under the lock has three. The gate alone makes one, and it can't be
+/// copied.
 #[derive(Drop)]
 pub struct Ticket<K: Naming> {
     event: u64,
@@ -75,7 +76,7 @@ impl<K: Naming> Ticket<K> {
         self.time
     }
 
-    /// How often it was refused.
+    /// Its tries: three, since its turn is evaluated under the lock.
     pub fn tries(&self) -> u8
         ensures { result ≡ self.now.tries }
     {
