@@ -2,5 +2,6 @@
 use Rattle.std.specs.Prelude.{[], None}
 use Rattle.commitgate.specs.Named.{Named}
 
+-- a name for no gate: no register, no process, no worker, and no entry
 abbrev pub nameless : Named
 nameless = record { listing = record { widths = []; bodies = [] }; workers = 0; limits = record { until = None; max_entries = 0 } }

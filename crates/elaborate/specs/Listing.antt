@@ -12,6 +12,7 @@ pub data Step : Type 0 where
   Set : (register : ℕ) (value : Vector) → Step
   Print : (text : List ℕ) → Step
 
+-- the width of each register, and the steps of each process, in the order of the text
 pub record Listing : Type 0 where
   pub widths : List ℕ
   pub bodies : List (List Step)

@@ -10,6 +10,7 @@ use Rattle.logic4.specs.Vector.{Vector}
 abbrev pub max_width : ℕ
 max_width = 64
 
+-- the digit of a bit of the first word and one of the second
 abbrev pub pair_digit : ℕ → ℕ → Digit
 pair_digit zero zero = Zero
 pair_digit (suc m) zero = One
@@ -21,22 +22,26 @@ abbrev pub of_words : ℕ → ℕ → ℕ → Vector
 of_words zero a b = []
 of_words (suc width) a b = pair_digit (a % 2) (b % 2) ∷ of_words width (a / 2) (b / 2)
 
+-- the bit of a digit in the first word
 abbrev pub first_bit : Digit → ℕ
 first_bit Zero = 0
 first_bit One = 1
 first_bit X = 1
 first_bit Z = 0
 
+-- the bit of a digit in the second word
 abbrev pub second_bit : Digit → ℕ
 second_bit Zero = 0
 second_bit One = 0
 second_bit X = 1
 second_bit Z = 1
 
+-- the first word of a vector
 abbrev pub first_word : Vector → ℕ
 first_word [] = 0
 first_word (d ∷ v) = first_bit d + 2 * first_word v
 
+-- the second word of a vector
 abbrev pub second_word : Vector → ℕ
 second_word [] = 0
 second_word (d ∷ v) = second_bit d + 2 * second_word v

@@ -76,14 +76,17 @@ start design =
 abbrev pub numbered : State → List Action → List Event
 numbered s actions = enumerate_from s.next_event actions
 
+-- new active events
 abbrev pub with_active : List Action → State → State
 with_active actions s =
     record s { active = s.active ++ numbered s actions; next_event = s.next_event + length actions }
 
+-- new inactive events
 abbrev pub with_inactive : List Action → State → State
 with_inactive actions s =
     record s { inactive = s.inactive ++ numbered s actions; next_event = s.next_event + length actions }
 
+-- new nonblocking updates
 abbrev pub with_nonblocking : List Action → State → State
 with_nonblocking actions s =
     record s { nonblocking = s.nonblocking ++ numbered s actions; next_event = s.next_event + length actions }
@@ -98,6 +101,7 @@ abbrev pub with_future_inactive : ℕ → Action → State → State
 with_future_inactive due action s =
     record s { future_inactive = with_due (due, (s.next_event, action)) s.future_inactive; next_event = s.next_event + 1 }
 
+-- a future update
 abbrev pub with_future_nonblocking : ℕ → Action → State → State
 with_future_nonblocking due action s =
     record s { future_nonblocking = with_due (due, (s.next_event, action)) s.future_nonblocking; next_event = s.next_event + 1 }
@@ -137,6 +141,7 @@ schedule s later =
     if later.due == s.time then with_nonblocking (Update later.register later.value ∷ []) s
     else with_future_nonblocking later.due (Update later.register later.value) s
 
+-- the updates of nonblocking assignments, in order
 abbrev pub schedule_all : State → List Later → State
 schedule_all s [] = s
 schedule_all s (later ∷ laters) = schedule_all (schedule s later) laters
@@ -148,10 +153,12 @@ schedule_wait p Inactive s = with_inactive (Evaluate p ∷ []) s
 schedule_wait p (Until time) s = with_future_inactive time (Evaluate p) s
 schedule_wait p (OnChange triggers) s = s
 
+-- the changes that a wait is for
 abbrev pub triggers_of : Wait → List Trigger
 triggers_of (OnChange triggers) = triggers
 triggers_of _ = []
 
+-- events without the one with a number
 abbrev pub without : ℕ → List Event → List Event
 without number events = filter (λ e. not (e.0 == number)) events
 
@@ -183,6 +190,7 @@ inactive_activated s = record s { active = s.active ++ s.inactive; inactive = []
 abbrev pub nonblocking_activated : State → State
 nonblocking_activated s = record s { active = s.active ++ s.nonblocking; nonblocking = [] }
 
+-- whether an event evaluates a process
 abbrev pub is_evaluation : Action → Bool
 is_evaluation (Evaluate p) = true
 is_evaluation (Update r v) = false

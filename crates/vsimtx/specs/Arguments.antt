@@ -15,6 +15,7 @@ pub record Rule : Type 0 where
   pub required : Bool
   pub parser : Option ValueParser
 
+-- a rule for an argument with this id
 abbrev pub rule : List ℕ → Bool → Option ValueParser → Rule
 rule id required parser = record { id = id; required = required; parser = parser }
 
@@ -43,6 +44,7 @@ pub record HasRules (c : Command) (rs : List Rule) : Type 0 where
   pub local : (out-Command c).has_globals ≡ false
   pub negates : (out-Command c).subcommand_negates_reqs ≡ false
 
+-- the one argument of `run`
 abbrev pub run_rules : List Rule
 run_rules = rule (codes "FILE") true None ∷ []
 

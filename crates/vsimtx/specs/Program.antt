@@ -40,6 +40,7 @@ stop_for (why.TooLong process) = Some (stop.TooLong process)
 stop_for why.Time = Some stop.Time
 stop_for why.Memory = Some stop.Memory
 
+-- what is told of an end: a stop alone is told
 abbrev pub stop_of : End → Option Stop
 stop_of (end.Stopped w) = stop_for w
 stop_of e = None
