@@ -6,6 +6,8 @@ pub mod Tickets
 pub mod Steps
 pub mod Seats
 pub mod Parts
+pub mod Evaluated
 pub mod Answers
+pub mod Regions
 pub mod Replies
 pub mod Closing

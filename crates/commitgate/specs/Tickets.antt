@@ -1,10 +1,10 @@
 -- Tickets: the right to one turn of a process.
-use Rattle.std.specs.Prelude.{◌≡◌, ℕ, ◌<◌, List, [], length, slice_index_or}
+use Rattle.std.specs.Prelude.{◌≡◌, ℕ, ◌<◌, List, [], None, length, slice_index_or}
 use Rattle.model.specs.States.{Action, Evaluate, Update, Event}
 use Rattle.model.specs.Turns.{whole}
-use Rattle.elaborate.specs.declared.code.ProcState.{ProcState}
-use Rattle.elaborate.specs.Listing.{Listing, design_of}
-use Rattle.elaborate.specs.Standing.{remainder_of}
+use Rattle.design.specs.declared.code.ProcState.{ProcState}
+use Rattle.design.specs.Compiled.{Compiled, design_of}
+use Rattle.design.specs.Standing.{remainder_of}
 use Rattle.journal.specs.declared.state.MadeEvent.{MadeEvent}
 use Rattle.journal.specs.Evaluations.{IsEvaluation}
 use Rattle.journal.specs.Queue.{Core}
@@ -23,7 +23,7 @@ pub record IsCurrent (core : Core) (ticket : TicketView) : Type 0 where
   pub time : core.time ≡ ticket.time
 
 -- the ticket of a process that hasn't begun, for the event of its own number
-pub record IsFirstTicket (listing : Listing) (p : ℕ) (ticket : TicketView) : Type 0 where
+pub record IsFirstTicket (listing : Compiled) (p : ℕ) (ticket : TicketView) : Type 0 where
   pub event : ticket.event ≡ p
   pub process : ticket.process ≡ p
   pub remainder : remainder_of listing ticket.state ≡ whole (design_of listing) p
@@ -31,8 +31,8 @@ pub record IsFirstTicket (listing : Listing) (p : ℕ) (ticket : TicketView) : T
   pub tries : ticket.tries ≡ 3
 
 -- a ticket for the first event of each process, in order
-pub record IsFirstTickets (listing : Listing) (tickets : List TicketView) : Type 0 where
-  pub count : length tickets ≡ length listing.bodies
+pub record IsFirstTickets (listing : Compiled) (tickets : List TicketView) : Type 0 where
+  pub count : length tickets ≡ length listing.processes
   pub each : (p : ℕ) (d : TicketView) → p < length tickets → IsFirstTicket listing p (slice_index_or tickets p d)
 
 -- the ticket of an evaluation that an entry made active, at a time
@@ -50,7 +50,7 @@ ticket_for core event =
     record {
       event = event.0;
       process = process_in event.1;
-      state = (slice_index_or core.processes (process_in event.1) (record { place = 0 }, [])).0;
+      state = (slice_index_or core.processes (process_in event.1) (record { place = 0; pending = None }, [])).0;
       time = core.time;
       tries = 3;
     }

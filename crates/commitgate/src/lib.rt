@@ -8,14 +8,12 @@ mod parts;
 mod reply;
 mod seat;
 mod state;
-#[cfg(test)]
-mod tests;
 mod ticket;
 
 pub use closed::Closed;
 pub use gate::{Blank, Gate};
 pub use naming::Naming;
-pub use reply::{Grant, Reply, Rest};
+pub use reply::{Grant, Reply, Rest, UpdateReply};
 pub use seat::Seat;
 pub use state::GateState;
 pub use ticket::Ticket;

@@ -17,7 +17,7 @@ pub struct Grant<K: Naming> {
 /// The answer to a ticket.
 #[derive(Drop)]
 pub enum Reply<K: Naming> {
-    /// The turn stands in the journal.
+    /// The turn stands in the journal. A turn with `$finish` has stopped the run (17.4.1).
     Accepted(Grant<K>),
     /// No active evaluation has the ticket's event, process, state and time.
     Gone,
@@ -27,13 +27,30 @@ pub enum Reply<K: Naming> {
     NoMemory(Ticket<K>),
 }
 
-/// The answer to a worker that has no ticket.
-#[derive(Clone, Copy, PartialEq, Eq, Debug)]
-pub enum Rest {
-    /// There may be more to do.
+/// The answer to a worker that asks for an update.
+#[derive(Drop)]
+pub enum UpdateReply<K: Naming> {
+    /// The first active update stands in the journal (11.4).
+    Accepted(Grant<K>),
+    /// No update is active.
+    Nothing,
+    /// The run is stopped.
+    Stopped(Why),
+    /// Memory was refused, and nothing changed.
+    NoMemory,
+}
+
+/// The answer to a worker that has neither a ticket nor an update.
+#[derive(Drop)]
+pub enum Rest<K: Naming> {
+    /// The change of the regions that was due stands in the journal (11.4).
+    Changed(Grant<K>),
+    /// An event is active.
     Busy,
     /// No event is left.
     Quiet,
     /// The run is stopped.
     Stopped(Why),
+    /// Memory was refused, and nothing changed.
+    NoMemory,
 }

@@ -3,7 +3,7 @@ ghost use Rattle.std.specs.Prelude.{◌≡◌, ◌≤◌, ◌^◌};
 ghost use Rattle.commitgate.specs.Tickets.{TicketView};
 
 use crate::naming::Naming;
-use elaborate::ProcState;
+use design::ProcState;
 use std::marker::{Model, PhantomData};
 
 /// The right to one turn of a process: the number of its event, the process and where that goes on, the time, and its

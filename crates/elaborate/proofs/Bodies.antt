@@ -1,27 +1,25 @@
--- The steps of one process are sound, as those of all are.
-use Rattle.std.proofs.Common.{◌≡◌, ℕ, zero, suc, ◌<◌, List, [], ◌∷◌, length, map, subst, sym, arith, Vec, Global}
-use Rattle.std.specs.Prelude.{slice_index_or}
-use Rattle.std.specs.List.{All}
-use Rattle.std.proofs.lemmas.List.Elements.{All-head, All-tail}
-use Rattle.elaborate.specs.declared.design.Statement.{Statement}
-use Rattle.elaborate.specs.Listing.{Listing, IsSound, IsSoundStep}
-use Rattle.elaborate.specs.Steps.{steps_of}
+-- Statements one after another.
+use Rattle.std.proofs.Common.{◌≡◌, List, [], ◌∷◌, ◌++◌, map, refl, ap}
+use Rattle.model.specs.Design.{Statements, End, Then}
+use Rattle.model.specs.Elaboration.{Declared, alone, all_resolved, followed_by, resolved}
+use Rattle.model.specs.Syntax.{Text, Expression, Also}
+use Rattle.model.specs.Trees as source
+use Rattle.design.specs.Trees as tree
+use Rattle.design.specs.declared.tree.Statement as program
+use Rattle.design.specs.Trees.{statement_of, statements_of}
 
-abbrev Body : Type 0
-Body = Vec Statement Global
+pub one_more : (ss : List program.Statement) (s : program.Statement) → statements_of (ss ++ s ∷ []) ≡ followed_by (statements_of ss) (alone (statement_of s))
+one_more [] s = refl
+one_more (t ∷ ss) s = ap (Then (statement_of t)) (one_more ss s)
 
-sound_item : (widths : List ℕ) (bodies : List Body) (i : ℕ) (b : Body) → All (All (IsSoundStep widths)) (map (λ b. steps_of b.items) bodies)
-    → i < length bodies → b ≡ slice_index_or bodies i b → All (IsSoundStep widths) (steps_of b.items)
-sound_item widths [] i b all lt at = absurd (omega arith)
-sound_item widths (x ∷ xs) zero b all lt at =
-    subst (λ (y : Body). All (IsSoundStep widths) (steps_of y.items)) (sym at)
-    (All-head (All (IsSoundStep widths)) (steps_of x.items) (map (λ b. steps_of b.items) xs) all)
-sound_item widths (x ∷ xs) (suc i) b all lt at =
-    sound_item widths xs i b (All-tail (All (IsSoundStep widths)) (steps_of x.items) (map (λ b. steps_of b.items) xs) all) (omega arith) at
+pub followed_by_assoc : (a b c : Statements) → followed_by (followed_by a b) c ≡ followed_by a (followed_by b c)
+followed_by_assoc End b c = refl
+followed_by_assoc (Then s a) b c = ap (Then s) (followed_by_assoc a b c)
 
-pub sound_body : (listing : Listing) (widths : List ℕ) (bodies : List Body) (i : ℕ) (b : Body) (now : List Statement)
-    → record { widths = widths; bodies = map (λ b. steps_of b.items) bodies } ≡ listing → IsSound (record { widths = widths; bodies = map (λ b. steps_of b.items) bodies })
-    → i < length bodies → b ≡ slice_index_or bodies i b → now ≡ b.items → All (IsSoundStep listing.widths) (steps_of now)
-sound_body listing widths bodies i b now view sound lt at same =
-    subst (λ (l : Listing). All (IsSoundStep l.widths) (steps_of now)) view
-    (subst (λ (ss : List Statement). All (IsSoundStep widths) (steps_of ss)) (sym same) (sound_item widths bodies i b sound.steps lt at))
+pub followed_by_end : (a : Statements) → followed_by a End ≡ a
+followed_by_end End = refl
+followed_by_end (Then s a) = ap (Then s) (followed_by_end a)
+
+pub resolved_are : (ds : List Declared) (es : List (Expression Text)) → all_resolved ds (source.expressions es) ≡ tree.expressions (map (resolved ds) es)
+resolved_are ds [] = refl
+resolved_are ds (e ∷ es) = ap (Also (resolved ds e)) (resolved_are ds es)

@@ -1,4 +1,6 @@
-pub mod Waking
-pub mod Listing
-pub mod Steps
-pub mod Standing
+pub mod Registers
+pub mod Findings
+pub mod Formats
+pub mod Small
+pub mod Faults
+pub mod Formed

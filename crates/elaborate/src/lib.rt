@@ -1,14 +1,18 @@
-//! Designs: registers by number and name, and what each process runs.
-//!
-//! A `Design` is what the later layers simulate. Names are numbers here, blocks and parentheses are gone, and each
-//! value has its register's width. `Code` says what a design tells the layers above: the design of the definitions
-//! that it stands for, the remainder that each `ProcState` stands for, and the triggers of each event control.
+//! From the tree of a source module to its design: the checks of names, sizes and limits, and the resolution of names.
 #![tactic(auto)]
 
-mod code;
-mod design;
+mod build;
+mod check;
+mod elaboration;
+mod fault;
+mod finding;
+mod format;
+mod names;
+mod registers;
+mod resolve;
 #[cfg(test)]
 mod tests;
+mod uses;
 
-pub use code::{Code, Control, ProcState, RegId, Trigger};
-pub use design::{Design, Statement};
+pub use elaboration::elaborate;
+pub use fault::ElabFault;

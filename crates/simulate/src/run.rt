@@ -1,11 +1,13 @@
 //! The workers, from their first ticket to the closed gate.
-ghost use Rattle.std.specs.Prelude.{◌≡◌, ◌≤◌, None, IfOk};
+ghost use Rattle.std.specs.Prelude.{◌≡◌, ◌≤◌, ◌^◌, IfOk, IfSome};
+ghost use Rattle.std.specs.Thread.{IsSend, IsSync};
+ghost use Rattle.design.specs.contracts.design.Design as design_rows;
 ghost use Rattle.commitgate.specs.Closing.{IsClosed};
 ghost use Rattle.simulate.specs.Named.{named};
 
 use crate::queue::Queue;
-use commitgate::{Blank, Closed, Gate, Naming, Reply, Rest, Seat, Ticket};
-use elaborate::Design;
+use commitgate::{Blank, Closed, Gate, Grant, Naming, Reply, Rest, Seat, Ticket, UpdateReply};
+use design::Design;
 use model::end::Limits;
 use std::alloc::{AllocError, AllocFailed, Global};
 use std::marker::Brand;
@@ -14,13 +16,13 @@ use std::thread;
 use std::thread::Threads;
 use thiserror::Error;
 
-// The most entries of a journal.
-const MOST_ENTRIES: u32 = 1_000_000;
-
-/// How a design is run: on 1 to 16 workers.
+/// How a design is run: on 1 to 16 workers, up to a time of at most 2 to the 48 where one is given, and with at least
+/// one entry in its journal.
 #[derive(Clone, Copy, Debug, PartialEq, Eq)]
 pub struct Options {
     pub workers: u32,
+    pub until: Option<u64>,
+    pub max_entries: u32,
 }
 
 /// Why there is no outcome.
@@ -52,7 +54,24 @@ pub struct Outcome {
     pub closed: Closed,
 }
 
-// Commits a ticket, and puts the tickets that come of it into the queue. Answers whether the worker goes on.
+// Puts the tickets of an appended entry into the queue. Answers whether the worker goes on.
+fn put_all<K: Naming, R: Wait>(
+    rt: &R,
+    gate: &Gate<'_, K>,
+    queue: &Queue<K>,
+    seat: &mut Seat<K>,
+    grant: Grant<K>,
+) -> bool {
+    for ticket in grant.tickets {
+        if queue.put(rt, ticket).is_err() {
+            gate.stop(rt, seat);
+            return false;
+        }
+    }
+    true
+}
+
+// Commits a ticket. Answers whether the worker goes on.
 fn commit<K: Naming, R: Wait>(
     rt: &R,
     alloc: Global,
@@ -62,15 +81,7 @@ fn commit<K: Naming, R: Wait>(
     ticket: Ticket<K>,
 ) -> bool {
     match gate.commit_held(rt, alloc, seat, ticket) {
-        Reply::Accepted(grant) => {
-            for ticket in grant.tickets {
-                if queue.put(rt, ticket).is_err() {
-                    gate.stop(rt, seat);
-                    return false;
-                }
-            }
-            true
-        }
+        Reply::Accepted(grant) => put_all(rt, gate, queue, seat, grant),
         Reply::Gone => true,
         Reply::Stopped(_) => false,
         Reply::NoMemory(_) => {
@@ -80,7 +91,45 @@ fn commit<K: Naming, R: Wait>(
     }
 }
 
-// A worker, until no event is left or the run is stopped.
+// Rests, or changes the regions. Answers whether the worker goes on.
+fn rest<K: Naming, R: Wait>(
+    rt: &R,
+    alloc: Global,
+    gate: &Gate<'_, K>,
+    queue: &Queue<K>,
+    seat: &mut Seat<K>,
+) -> bool {
+    match gate.rest(rt, alloc, seat) {
+        Rest::Changed(grant) => put_all(rt, gate, queue, seat, grant),
+        Rest::Busy => true,
+        Rest::Quiet | Rest::Stopped(_) => false,
+        Rest::NoMemory => {
+            gate.stop(rt, seat);
+            false
+        }
+    }
+}
+
+// Makes an update, or rests where none is active. Answers whether the worker goes on.
+fn update<K: Naming, R: Wait>(
+    rt: &R,
+    alloc: Global,
+    gate: &Gate<'_, K>,
+    queue: &Queue<K>,
+    seat: &mut Seat<K>,
+) -> bool {
+    match gate.update(rt, alloc, seat) {
+        UpdateReply::Accepted(grant) => put_all(rt, gate, queue, seat, grant),
+        UpdateReply::Nothing => rest(rt, alloc, gate, queue, seat),
+        UpdateReply::Stopped(_) => false,
+        UpdateReply::NoMemory => {
+            gate.stop(rt, seat);
+            false
+        }
+    }
+}
+
+// A worker, until no event is left or the run is stopped. Tickets come before updates, and updates before rest.
 fn work<K: Naming, R: Wait>(
     rt: &R,
     alloc: Global,
@@ -91,10 +140,7 @@ fn work<K: Naming, R: Wait>(
     for _ in rt.forever() {
         let goes_on = match queue.take(rt) {
             Some(ticket) => commit(rt, alloc, gate, queue, &mut seat, ticket),
-            None => match gate.rest(rt, &mut seat) {
-                Rest::Busy => true,
-                Rest::Quiet | Rest::Stopped(_) => false,
-            },
+            None => update(rt, alloc, gate, queue, &mut seat),
         };
         if !goes_on {
             break;
@@ -102,6 +148,11 @@ fn work<K: Naming, R: Wait>(
     }
     seat
 }
+
+// That threads may share a type, as contracts say it. The proof that a gate may be shared goes through a design as a whole.
+fn is_shared<T: Sync>()
+    ensures { IsSync T.row }
+{}
 
 // Starts a worker for each seat and joins them all. Where one can't be started the run is stopped.
 fn work_all<K: Naming + Send + Sync, R: Threads + Wait + Sync>(
@@ -116,10 +167,15 @@ fn work_all<K: Naming + Send + Sync, R: Threads + Wait + Sync>(
     let Some(mut own) = seats.pop() else {
         return Ok(left);
     };
+    is_shared::<Design>();
     thread::scope(
         thread::scope_env(),
         rt,
-        move |scope| -> Result<Vec<Seat<K>>, SimFault> {
+        move |scope| -> Result<Vec<Seat<K>>, SimFault>
+            requires design { IsSync design_rows.the_row }
+            requires runtime { IsSync R.row }
+            requires name { IsSend K.row }
+        {
             for seat in seats {
                 match scope.spawn(move || work(rt, alloc, gate, queue, seat)) {
                     Ok(worker) => workers.push(worker)?,
@@ -155,8 +211,8 @@ fn run<K: Naming + Send + Sync, R: Threads + Wait + Sync>(
     })
 }
 
-/// Runs a design on several workers until no event is left or the run is stopped. The journal is lawful, and the lines
-/// are its lines.
+/// Runs a design on several workers until no event is left or the run is stopped. The journal is lawful, the lines are
+/// its lines, and the end is one in which a run with these limits may end.
 pub fn simulate<R: Threads + Wait + Sync>(
     rt: &R,
     alloc: Global,
@@ -165,11 +221,13 @@ pub fn simulate<R: Threads + Wait + Sync>(
 ) -> Result<Outcome, SimFault>
     requires some { 1 ≤ options.workers }
     requires few { options.workers ≤ 16 }
+    requires until { IfSome options.until (λ until. until ≤ 2 ^ 48) }
+    requires some_entry { 1 ≤ options.max_entries }
     ensures { IfOk result (λ outcome. IsClosed (named design.now options) outcome.closed) }
 {
     let limits = Limits {
-        until: None,
-        max_entries: MOST_ENTRIES,
+        until: options.until,
+        max_entries: options.max_entries,
     };
     let blank = Gate::new(alloc, design, options.workers, limits)?;
     run::<Brand, R>(rt, alloc, blank)

@@ -1,2 +1,7 @@
+pub mod Operators
+pub mod Known
+pub mod Runs
+pub mod Printed
+pub mod Values
 pub mod Steps
 pub mod Turns

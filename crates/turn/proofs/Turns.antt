@@ -1,214 +1,266 @@
--- The turn of a process is that of its steps.
-use Rattle.std.proofs.Common.{◌≡◌, ℕ, zero, suc, ◌+◌, ◌-◌, ◌<◌, ◌≤◌, false, List, [], ◌∷◌, ◌++◌, length, Some, None, refl, sym, ◌∙◌, ap, arith, append_assoc, append-nil, if◌then◌else◌, nat_le}
-use Rattle.std.proofs.lemmas.Bool.{le-leb}
-use Rattle.std.specs.List.{All, AllByRecursion}
-use Rattle.std.specs.Prelude.{slice_get, string_bytes, map}
-use Rattle.std.proofs.lemmas.List.Elements.{All-get_or, All-tail, All-nil, All-cons}
-use Rattle.model.specs.Design.{Design, process_at, statement_at, inside, first_place}
+-- The steps of a turn, one after another.
+use Rattle.std.proofs.Common.{◌≡◌, ℕ, zero, suc, ◌+◌, ◌≤◌, Bool, true, false, nat_le, List, [], ◌∷◌, ◌++◌, map, length, replicate, Option, Some, None, refl, sym, ap, ◌∙◌, arith, zero-add, subst, if◌then◌else◌}
+use Rattle.std.specs.Prelude.{slice_get, slice_index_or, is_some}
+use Rattle.std.specs.Option.{IsSomeAnd}
+use Rattle.std.specs.String.{string_bytes}
+use Rattle.std.specs.List.{All}
+use Rattle.std.proofs.lemmas.List.{length-replicate}
+use Rattle.std.proofs.lemmas.List.Elements.{All-nil}
+use Rattle.logic4.specs.Vector.{Vector}
+use Rattle.model.specs.Design as tree
+use Rattle.model.specs.Design.{Design, Statement, process_at, statement_at}
 use Rattle.model.specs.Expressions.{Store}
-use Rattle.model.specs.Turns.{Remainder, Going, Goes, Turn, Ended, next, and_then, turn_within, begun, parts, stops, goes_on, counted, whole, if_short, short_turn, most_steps}
-use Rattle.model.proofs.PlaceLaws.{Stands, statement_there, stands_others}
-use Rattle.elaborate.specs.declared.code.ProcState.{ProcState}
-use Rattle.elaborate.specs.Listing.{Step, Skip, Set, Print, Listing, statement_of, statements_of, design_of, IsSoundStep, FitsRegister}
-use Rattle.turn.specs.declared.log.TurnLog.{TurnLog}
+use Rattle.model.specs.Turns as turns
+use Rattle.model.specs.Turns.{At, Remainder, Turn, Going, Next, begun, next, after_statement, and_then, turn_within, most_steps, if_short, short_turn, goes_on, counted, whole, stops}
+use Rattle.model.proofs.TurnLaws.{short_turn_found}
+use Rattle.design.specs.declared.code.Node.{Node}
+use Rattle.design.specs.declared.code.Node.TheVariants as node
+use Rattle.design.specs.declared.code.Op.{Op}
+use Rattle.design.specs.declared.code.ProcState.{ProcState}
+use Rattle.design.specs.declared.code.Shown.{Shown}
+use Rattle.design.specs.Fits.{FitsRegister}
+use Rattle.design.specs.Places.{remainder_at}
+use Rattle.design.specs.Compiled.{Compiled, design_of}
+use Rattle.design.specs.Meaning.{IsFine, IsCompiled}
+use Rattle.design.specs.Standing.{pending_part, remainder_of, controls_of, IsStateOf}
+use Rattle.turn.specs.declared.log.Suspend.{Suspend}
 use Rattle.turn.specs.declared.log.Suspend.TheVariants as suspends
-use Rattle.turn.specs.Logs.{later_of, wait_of}
-use Rattle.turn.specs.Answers.{IsTurnLog, HasNoShortTurn}
-use Rattle.turn.specs.Plain.{writes_of, lines_of}
-use Rattle.turn.proofs.Steps.{did, with_left, step_at, stands, whole_is, whole_past, runs_once}
+use Rattle.turn.specs.declared.log.TurnLog.{TurnLog}
+use Rattle.turn.specs.declared.machine.Step.{Step}
+use Rattle.turn.specs.declared.machine.Step.TheVariants as step
+use Rattle.turn.specs.Reads.{registers, AreDeclared, Agrees}
+use Rattle.turn.specs.Progress.{Status, fresh}
+use Rattle.turn.specs.Machine.{Takes, TakesSome, TakesPending, IsEndNode, IsAtEnd}
+use Rattle.turn.specs.Logs.{later_of, wait_of, IsLogOf}
+use Rattle.turn.specs.Answers.{IsTurnLog}
+use Rattle.turn.proofs.Steps.{going_of, turn_of, Sound, takes_follows, not_past, place_within}
 
--- what steps make of a turn under way, one after another
-abbrev done : List Step → Going → Going
-done [] g = g
-done (s ∷ ss) g = done ss (did s g)
+-- After this many counted steps the turn is under way as the status says, on every store that agrees with the reads so
+-- far: the values of registers that weren't read count for nothing.
+pub record ReachedIn (code : Compiled) (p now : ℕ) (state : ProcState) (count : ℕ) (s : Status) : Type 0 where
+  pub sound : Sound code p s
+  pub goes : (store : Store) → length store ≡ length code.widths → Agrees s.reads store → (k : ℕ) → turn_within (count + k) (design_of code) p now (begun (remainder_of code state) store) ≡ turn_within k (design_of code) p now (going_of code store count s)
 
-after_next : (k : ℕ) (design : Design) (p now : ℕ) (g h : Going) (left : Remainder) → next design p now (with_left left g) left ≡ Goes h
-    → turn_within (suc k) design p now (with_left left g) ≡ turn_within k design p now h
+-- the same for each process with this state
+abbrev pub Reached : Compiled → ProcState → ℕ → ℕ → Status → Type 0
+Reached code state now count s = (p : ℕ) → IsStateOf code p state → ReachedIn code p now state count s
+
+-- ---- the beginning
+
+-- what is known of a register at first
+abbrev nothing : Option Vector
+nothing = None
+
+none_known : (n r : ℕ) (v : Vector) → slice_index_or (replicate n nothing) r None ≡ Some v → ⊥
+none_known zero r v e = cc
+none_known (suc n) zero v e = cc
+none_known (suc n) (suc r) v e = none_known n r v e
+
+none_marked : (n r : ℕ) → is_some (slice_index_or (replicate n nothing) r None) ≡ false
+none_marked zero r = refl
+none_marked (suc n) zero = refl
+none_marked (suc n) (suc r) = none_marked n r
+
+pub reached_none : (code : Compiled) (state : ProcState) (now : ℕ) → Reached code state now 0 (fresh state (length code.widths))
+reached_none code state now p start = record {
+  sound = record {
+    state = start;
+    size = length-replicate _ _;
+    knows = record { holds = λ store len agree r v e. absurd (none_known (length code.widths) r v e); declared = All-nil _; marks = λ r lt. none_marked (length code.widths) r };
+    writes = All-nil _;
+    nbas = All-nil _;
+  };
+  goes = λ store len agree k. ap (λ n. turn_within n (design_of code) p now (begun (remainder_of code state) store)) (zero-add k);
+}
+
+-- ---- one step more
+
+goes_more : (design : Design) (p now k : ℕ) (g h : Going) → next design p now g g.left ≡ turns.Goes h → turn_within (suc k) design p now g ≡ turn_within k design p now h
 unfolding turn_within
-after_next k design p now g h left e = ap (λ n. and_then n (turn_within k design p now)) e
+goes_more design p now k g h e = rw e refl
 
--- the steps are made one after another, and then nothing is left
-steps_made : (k : ℕ) (design : Design) (p now place : ℕ) (g : Going) (ss : List Step) → AllByRecursion (IsSoundStep design.widths) ss
-    → Stands design place (statements_of ss)
-    → turn_within (length ss + k) design p now (with_left (parts place (statements_of ss)) g) ≡ turn_within k design p now (with_left [] (done ss g))
-steps_made k design p now place g [] sound stand =
-    let sum : 0 + k ≡ k = omega arith in
-    ap (λ n. turn_within n design p now (with_left [] g)) sum
-steps_made k design p now place g (s ∷ ss) sound stand =
-    let sum : suc (length ss) + k ≡ suc (length ss + k) = omega arith in
-    let there : statement_at design place ≡ statement_of s = statement_there design place (statement_of s) (statements_of ss) stand in
-    ap (λ n. turn_within n design p now (with_left (parts place (statements_of (s ∷ ss))) g)) sum
-    ∙ (after_next (length ss + k) design p now g _ (parts place (statements_of (s ∷ ss))) (step_at design p now _ place s _ there sound.0)
-    ∙ steps_made k design p now (place + 1 + length (inside (statement_of s))) (did s g) ss sound.1 (stands_others design place (statement_of s) (statements_of ss) stand))
-
--- more steps than may be made leave the turn under way
-never_over : (k : ℕ) (design : Design) (p now place : ℕ) (g : Going) (ss : List Step) → AllByRecursion (IsSoundStep design.widths) ss
-    → Stands design place (statements_of ss) → k ≤ length ss
-    → turn_within k design p now (with_left (parts place (statements_of ss)) g) ≡ None
+over_more : (design : Design) (p now k : ℕ) (g : Going) (turn : Turn) → next design p now g g.left ≡ turns.Over turn → turn_within (suc k) design p now g ≡ Some turn
 unfolding turn_within
-never_over zero design p now place g ss sound stand h = refl
-never_over (suc k) design p now place g [] sound stand h = absurd (omega arith)
-never_over (suc k) design p now place g (s ∷ ss) sound stand h =
-    let there : statement_at design place ≡ statement_of s = statement_there design place (statement_of s) (statements_of ss) stand in
-    after_next k design p now g _ (parts place (statements_of (s ∷ ss))) (step_at design p now _ place s _ there sound.0)
-    ∙ never_over k design p now (place + 1 + length (inside (statement_of s))) (did s g) ss sound.1 (stands_others design place (statement_of s) (statements_of ss) stand) (omega arith)
+over_more design p now k g turn e = rw e refl
 
--- ---- what the steps have made in all
-
-abbrev turn_after : Going → Turn
-turn_after g = record { uses = g.uses; writes = g.writes; laters = g.laters; lines = g.lines; rest = []; wait = Ended; finish = false; count = g.count }
-
-ends : (k : ℕ) (design : Design) (p now : ℕ) (g : Going) → (process_at design p).repeats ≡ false
-    → turn_within (suc k) design p now (with_left [] g) ≡ Some (turn_after g)
-unfolding turn_within
-ends k design p now g once =
-    ap (λ b. and_then (if b then goes_on (counted [] (with_left [] g)) (whole design p) else stops (with_left [] g) Ended false []) (turn_within k design p now)) once
-
-abbrev pub turn_of_steps : List Step → Turn
-turn_of_steps ss = record { uses = []; writes = writes_of ss; laters = []; lines = lines_of ss; rest = []; wait = Ended; finish = false; count = length ss }
-
-abbrev turn_from : Going → List Step → Turn
-turn_from g ss =
-    record { uses = g.uses; writes = g.writes ++ writes_of ss; laters = g.laters; lines = g.lines ++ lines_of ss; rest = []; wait = Ended; finish = false; count = g.count + length ss }
-
-turn_after-done : (ss : List Step) (g : Going) → turn_after (done ss g) ≡ turn_from g ss
-turn_after-done [] g =
-    let count : g.count ≡ g.count + 0 = omega arith in
-    λ i. record { uses = g.uses; writes = sym (append-nil g.writes) i; laters = g.laters; lines = sym (append-nil g.lines) i; rest = []; wait = Ended; finish = false; count = count i }
-turn_after-done (Skip ∷ ss) g =
-    let count : g.count + 1 + length ss ≡ g.count + suc (length ss) = omega arith in
-    turn_after-done ss (did Skip g)
-    ∙ (λ i. record { uses = g.uses; writes = g.writes ++ writes_of ss; laters = g.laters; lines = g.lines ++ lines_of ss; rest = []; wait = Ended; finish = false; count = count i })
-turn_after-done (Set r v ∷ ss) g =
-    let count : g.count + 1 + length ss ≡ g.count + suc (length ss) = omega arith in
-    let writes : (g.writes ++ (r, v) ∷ []) ++ writes_of ss ≡ g.writes ++ ((r, v) ∷ writes_of ss) = append_assoc g.writes ((r, v) ∷ []) (writes_of ss) in
-    turn_after-done ss (did (Set r v) g)
-    ∙ (λ i. record { uses = g.uses; writes = writes i; laters = g.laters; lines = g.lines ++ lines_of ss; rest = []; wait = Ended; finish = false; count = count i })
-turn_after-done (Print text ∷ ss) g =
-    let count : g.count + 1 + length ss ≡ g.count + suc (length ss) = omega arith in
-    let lines : (g.lines ++ (text ++ 10 ∷ [])) ++ lines_of ss ≡ g.lines ++ ((text ++ 10 ∷ []) ++ lines_of ss) = append_assoc g.lines (text ++ 10 ∷ []) (lines_of ss) in
-    turn_after-done ss (did (Print text) g)
-    ∙ (λ i. record { uses = g.uses; writes = g.writes ++ writes_of ss; laters = g.laters; lines = lines i; rest = []; wait = Ended; finish = false; count = count i })
-
-turn_from-begun : (remainder : Remainder) (store : Store) (ss : List Step) → turn_from (begun remainder store) ss ≡ turn_of_steps ss
-turn_from-begun remainder store ss =
-    let count : 0 + length ss ≡ length ss = omega arith in
-    λ i. record { uses = []; writes = writes_of ss; laters = []; lines = lines_of ss; rest = []; wait = Ended; finish = false; count = count i }
-
--- the turn of the steps, where enough may be made
-steps_turn : (k : ℕ) (design : Design) (p now place : ℕ) (store : Store) (ss : List Step) → AllByRecursion (IsSoundStep design.widths) ss
-    → Stands design place (statements_of ss) → (process_at design p).repeats ≡ false
-    → turn_within (length ss + suc k) design p now (begun (parts place (statements_of ss)) store) ≡ Some (turn_of_steps ss)
-steps_turn k design p now place store ss sound stand once =
-    let g : Going = begun (parts place (statements_of ss)) store in
-    steps_made (suc k) design p now place g ss sound stand
-    ∙ (ends k design p now (done ss g) once ∙ ap Some (turn_after-done ss g ∙ turn_from-begun (parts place (statements_of ss)) store ss))
-
--- ---- short turns
-
-short_where : (most : ℕ) (t : Turn) → t.count ≤ most → (if nat_le t.count most then Some t else None) ≡ Some t
-short_where most t h = ap (λ b. if b then Some t else None) (le-leb _ _ h)
-
--- a turn of few steps is short
-pub short_of_steps : (design : Design) (p now place : ℕ) (store : Store) (ss : List Step) → AllByRecursion (IsSoundStep design.widths) ss
-    → Stands design place (statements_of ss) → (process_at design p).repeats ≡ false → length ss ≤ most_steps
-    → short_turn design p (parts place (statements_of ss)) store now ≡ Some (turn_of_steps ss)
-short_of_steps design p now place store ss sound stand once h =
-    let sum : most_steps + 1 ≡ length ss + suc (most_steps - length ss) = omega arith in
-    let found : turn_within (most_steps + 1) design p now (begun (parts place (statements_of ss)) store) ≡ Some (turn_of_steps ss) =
-    ap (λ n. turn_within n design p now (begun (parts place (statements_of ss)) store)) sum
-    ∙ steps_turn (most_steps - length ss) design p now place store ss sound stand once in
-    ap if_short found ∙ short_where most_steps (turn_of_steps ss) h
-
--- where nothing is left the turn is over
-ends_at_once : (design : Design) (p now : ℕ) (store : Store) → (process_at design p).repeats ≡ false
-    → short_turn design p [] store now ≡ Some (turn_of_steps [])
-ends_at_once design p now store once =
-    ap if_short (ends most_steps design p now (begun [] store) once) ∙ short_where most_steps (turn_of_steps []) (omega arith)
-
--- a turn of more steps isn't
-pub none_of_steps : (design : Design) (p now place : ℕ) (store : Store) (ss : List Step) → AllByRecursion (IsSoundStep design.widths) ss
-    → Stands design place (statements_of ss) → most_steps < length ss
-    → short_turn design p (parts place (statements_of ss)) store now ≡ None
-none_of_steps design p now place store ss sound stand h =
-    ap if_short (never_over (most_steps + 1) design p now place (begun (parts place (statements_of ss)) store) ss sound stand (omega arith))
-
--- ---- the log of a turn
-
-each_of : {A : Type 0} (P : A → Type 0) (xs : List A) → All P xs → AllByRecursion P xs
-each_of P [] h = tt
-each_of P (x ∷ xs) h = (All-get_or P (x ∷ xs) 0 x (omega arith) h, each_of P xs (All-tail P x xs h))
-
-writes_fit : (widths : List ℕ) (ss : List Step) → AllByRecursion (IsSoundStep widths) ss → All (λ w. FitsRegister widths w.0 w.1) (writes_of ss)
-writes_fit widths [] h = All-nil _
-writes_fit widths (Skip ∷ ss) h = writes_fit widths ss h.1
-writes_fit widths (Set r v ∷ ss) h = All-cons (λ w. FitsRegister widths w.0 w.1) (r, v) (writes_of ss) h.0 (writes_fit widths ss h.1)
-writes_fit widths (Print text ∷ ss) h = writes_fit widths ss h.1
-
--- a log that has what the steps of its process do is that of its turn
-pub is_turn_log : (listing : Listing) (state : ProcState) (ss : List Step) (log : TurnLog) → slice_get listing.bodies state.place ≡ Some ss
-    → All (IsSoundStep listing.widths) ss → length ss ≤ most_steps → log.reads.items ≡ [] → log.writes.items ≡ writes_of ss
-    → log.nbas.items ≡ [] → string_bytes log.lines ≡ lines_of ss → log.next.place ≡ length listing.bodies → log.suspend ≡ suspends.Ended
-    → log.finish ≡ false → log.count ≡ length ss → IsTurnLog listing state log
-is_turn_log listing state ss log at sound few reads writes nbas lines next suspend finish count =
-    let each : AllByRecursion (IsSoundStep listing.widths) ss = each_of (IsSoundStep listing.widths) ss sound in
-    let nothing : whole (design_of listing) log.next.place ≡ [] = rw next (whole_past listing (length listing.bodies) (omega arith)) in
+pub reached_more : (code : Compiled) → IsCompiled code → (state : ProcState) (now count : ℕ) (s s' : Status) → Reached code state now count s → Takes code.nodes code.ops code.shown now s step.Goes s' → Reached code state now (count + 1) s'
+reached_more code is state now count s s' reached takes p start =
+    let r = reached p start in
+    let f = takes_follows code p now is s step.Goes s' r.sound takes in
     record {
-      fits = record {
-        writes = rw writes (writes_fit listing.widths ss each);
-        nbas = rw nbas (All-nil _);
-      };
-      nbas = nbas;
-      suspend = suspend;
-      finish = finish;
-      turn = λ p store now.
-          let found : short_turn (design_of listing) p (whole (design_of listing) state.place) store now ≡ Some (turn_of_steps ss) =
-          rw (whole_is listing state.place ss at) (short_of_steps (design_of listing) p now (first_place (design_of listing) state.place) store ss each (stands listing state.place ss at) (runs_once listing p) few) in
-          rw found (record {
-            uses = reads;
-            writes = writes;
-            laters = ap (map later_of) nbas;
-            lines = lines;
-            rest = nothing;
-            wait = ap (wait_of []) suspend;
-            finish = finish;
-            count = count;
-          });
+      sound = f.sound;
+      goes = λ store len agree k.
+          let sum : count + 1 + k ≡ count + suc k = omega arith in
+          ap (λ n. turn_within n (design_of code) p now (begun (remainder_of code state) store)) sum
+          ∙ r.goes store len (f.agrees store agree) (suc k)
+          ∙ goes_more (design_of code) p now k (going_of code store count s) (going_of code store (count + 1) s') (f.goes store count len agree);
     }
 
--- nothing is left of a process that isn't there, so its turn is over at once
-pub is_empty_log : (listing : Listing) (state : ProcState) (log : TurnLog) → length listing.bodies ≤ state.place → log.reads.items ≡ []
-    → log.writes.items ≡ [] → log.nbas.items ≡ [] → string_bytes log.lines ≡ [] → log.next.place ≡ length listing.bodies
-    → log.suspend ≡ suspends.Ended → log.finish ≡ false → log.count ≡ 0 → IsTurnLog listing state log
-is_empty_log listing state log past reads writes nbas lines next suspend finish count =
-    let nothing : whole (design_of listing) log.next.place ≡ [] = rw next (whole_past listing (length listing.bodies) (omega arith)) in
-    record {
-      fits = record {
-        writes = rw writes (All-nil _);
-        nbas = rw nbas (All-nil _);
-      };
-      nbas = nbas;
-      suspend = suspend;
-      finish = finish;
-      turn = λ p store now.
-          let found : short_turn (design_of listing) p (whole (design_of listing) state.place) store now ≡ Some (turn_of_steps []) =
-          rw (whole_past listing state.place past) (ends_at_once (design_of listing) p now store (runs_once listing p)) in
-          rw found (record {
-            uses = reads;
-            writes = writes;
-            laters = ap (map later_of) nbas;
-            lines = lines;
-            rest = nothing;
-            wait = ap (wait_of []) suspend;
-            finish = finish;
-            count = count;
-          });
-    }
+-- ---- the end
 
--- a process of too many steps has no short turn
-pub is_too_long : (listing : Listing) (state : ProcState) (ss : List Step) → slice_get listing.bodies state.place ≡ Some ss
-    → All (IsSoundStep listing.widths) ss → most_steps < length ss → HasNoShortTurn listing state
-is_too_long listing state ss at sound many =
-    λ p store now.
-    rw (whole_is listing state.place ss at)
-    (none_of_steps (design_of listing) p now (first_place (design_of listing) state.place) store ss (each_of (IsSoundStep listing.widths) ss sound) (stands listing state.place ss at) many)
+-- a step that ends the turn
+pub record Ends (code : Compiled) (p now count : ℕ) (s s' : Status) (suspend : Suspend) (finish : Bool) (n : ℕ) : Type 0 where
+  pub sound : Sound code p s'
+  pub agrees : (store : Store) → Agrees s'.reads store → Agrees s.reads store
+  pub over : (store : Store) → length store ≡ length code.widths → Agrees s'.reads store → next (design_of code) p now (going_of code store count s) (remainder_of code s.state) ≡ turns.Over (turn_of code s' suspend finish n)
+
+pub ends_over : (code : Compiled) → IsCompiled code → (p now count : ℕ) (s s' : Status) → Takes code.nodes code.ops code.shown now s step.Over s' → Sound code p s → Ends code p now count s s' suspends.Ended false count
+ends_over code is p now count s s' takes sound =
+    let f = takes_follows code p now is s step.Over s' sound takes in
+    record { sound = f.sound; agrees = f.agrees; over = λ store len agree. f.goes store count len agree }
+
+pub ends_counted : (code : Compiled) → IsCompiled code → (p now count : ℕ) (s s' : Status) (suspend : Suspend) (finish : Bool) → Takes code.nodes code.ops code.shown now s (step.Ends suspend finish) s' → Sound code p s → Ends code p now count s s' suspend finish (count + 1)
+ends_counted code is p now count s s' suspend finish takes sound =
+    let f = takes_follows code p now is s (step.Ends suspend finish) s' sound takes in
+    record { sound = f.sound; agrees = f.agrees; over = λ store len agree. f.goes store count len agree }
+
+-- the log says what the status does
+pub record Logs (log : TurnLog) (s : Status) (suspend : Suspend) (finish : Bool) (n : ℕ) : Type 0 where
+  pub reads : log.reads.entries ≡ s.reads
+  pub writes : log.writes.items ≡ s.writes
+  pub nbas : log.nbas.items ≡ s.nbas
+  pub lines : string_bytes log.lines ≡ s.lines
+  pub next : log.next ≡ s.state
+  pub waits : log.suspend ≡ suspend
+  pub finishes : log.finish ≡ finish
+  pub count : log.count ≡ n
+
+log_is : (code : Compiled) (log : TurnLog) (s : Status) (suspend : Suspend) (finish : Bool) (n : ℕ) → Logs log s suspend finish n → IsLogOf (remainder_of code) (controls_of code) log (turn_of code s suspend finish n)
+log_is code log s suspend finish n l = record {
+  uses = ap registers l.reads;
+  writes = l.writes;
+  laters = ap (map later_of) l.nbas;
+  lines = l.lines;
+  rest = ap (remainder_of code) l.next;
+  wait = ap (wait_of code.controls) l.waits;
+  finish = l.finishes;
+  count = l.count;
+}
+
+-- the log of a turn that is over
+pub is_log : (code : Compiled) (state : ProcState) (now count : ℕ) (s s' : Status) (suspend : Suspend) (finish : Bool) (n : ℕ) (log : TurnLog) → Reached code state now count s → ((p : ℕ) → Sound code p s → Ends code p now count s s' suspend finish n) → n ≤ most_steps → Logs log s' suspend finish n → IsTurnLog code state now log
+is_log code state now count s s' suspend finish n log reached ends short l = record {
+  turn = λ p start store len agree.
+      let r = reached p start in
+      let f = ends p r.sound in
+      let agree' : Agrees s'.reads store = subst (λ reads. Agrees reads store) l.reads agree in
+      let turn = turn_of code s' suspend finish n in
+      let found : turn_within (count + 1) (design_of code) p now (begun (remainder_of code state) store) ≡ Some turn =
+      r.goes store len (f.agrees store agree') 1 ∙ over_more (design_of code) p now 0 (going_of code store count s) turn (f.over store len agree') in
+      subst (λ o. IsSomeAnd o (IsLogOf (remainder_of code) (controls_of code) log))
+      (sym (short_turn_found (design_of code) p (remainder_of code state) store now turn (count + 1, found) short))
+      (log_is code log s' suspend finish n l);
+  declared = λ p start.
+      let f = (ends p (reached p start).sound).sound in
+      subst (λ reads. AreDeclared (length code.widths) reads) (sym l.reads) (subst (λ n. AreDeclared n s'.reads) f.size f.knows.declared);
+  next = λ p start. subst (IsStateOf code p) (sym l.next) (ends p (reached p start).sound).sound.state;
+  fits = λ p start.
+      let f = (ends p (reached p start).sound).sound in
+      record {
+        writes = subst (All (λ w. FitsRegister code.widths w.0 w.1)) (sym l.writes) f.writes;
+        nbas = subst (All (λ n. FitsRegister code.widths n.register n.value)) (sym l.nbas) f.nbas;
+      };
+}
+
+-- at the end of an initial construct the next step ends the turn
+end_node : (o : Option Node) (code : Compiled) (now : ℕ) (s : Status) → IsEndNode o → TakesSome code.ops code.shown now o s step.Over s
+end_node (Some node.Over) code now s h = (refl, refl)
+end_node (Some (node.Restart a)) code now s h = absurd h
+end_node (Some (node.Skip a)) code now s h = absurd h
+end_node (Some (node.Assign a b c)) code now s h = absurd h
+end_node (Some (node.AssignAfter a b c d)) code now s h = absurd h
+end_node (Some (node.AssignLater a b c d)) code now s h = absurd h
+end_node (Some (node.Delay a b)) code now s h = absurd h
+end_node (Some (node.Await a b)) code now s h = absurd h
+end_node (Some (node.Branch a b c)) code now s h = absurd h
+end_node (Some (node.Display a b)) code now s h = absurd h
+end_node (Some (node.Finish a)) code now s h = absurd h
+end_node None code now s h = absurd h
+
+end_pending : (o : Option (ℕ × Vector)) (code : Compiled) (now : ℕ) (s : Status) → o ≡ None → IsEndNode (slice_get code.nodes s.state.place) → TakesPending code.nodes code.ops code.shown now o s step.Over s
+end_pending None code now s e h = end_node (slice_get code.nodes s.state.place) code now s h
+end_pending (Some w) code now s e h = cc
+
+pub end_takes : (code : Compiled) (now : ℕ) (s : Status) → IsAtEnd code.nodes s.state → Takes code.nodes code.ops code.shown now s step.Over s
+end_takes code now s (e, h) = end_pending s.state.pending code now s e h
+
+-- ---- turns that are too long
+
+-- a turn that has made as many counted steps as it may, and isn't at its end, isn't short
+IsLong : Next → Type 0
+IsLong (turns.Goes h) = Unit {0}
+IsLong (turns.Over turn) = turn.count ≡ most_steps + 1
+
+none_within : (design : Design) (p now : ℕ) (g : Going) → turn_within 0 design p now g ≡ None
+unfolding turn_within
+none_within design p now g = refl
+
+one_within : (design : Design) (p now : ℕ) (g : Going) → turn_within 1 design p now g ≡ and_then (next design p now g g.left) (turn_within 0 design p now)
+unfolding turn_within
+one_within design p now g = refl
+
+long_none : (design : Design) (p now : ℕ) (n : Next) → IsLong n → if_short (and_then n (turn_within 0 design p now)) ≡ None
+unfolding IsLong
+long_none design p now (turns.Goes h) l = ap if_short (none_within design p now h)
+long_none design p now (turns.Over t) l = ap (λ n. if nat_le n most_steps then Some t else None) l
+
+statement_long : (design : Design) (now : ℕ) (g : Going) (place : ℕ) (s : Statement) (rest : Remainder) → g.count ≡ most_steps → IsLong (after_statement design now g place s rest)
+unfolding IsLong
+statement_long design now g place tree.Empty rest e = tt
+statement_long design now g place (tree.Assign r x) rest e = tt
+statement_long design now g place (tree.AssignAfter r d x) rest e = ap (λ n. n + 1) e
+statement_long design now g place (tree.AssignLater r d x) rest e = tt
+statement_long design now g place (tree.Delay d body) rest e = ap (λ n. n + 1) e
+statement_long design now g place (tree.Await triggers body) rest e = ap (λ n. n + 1) e
+statement_long design now g place (tree.If c body otherwise) rest e = tt
+statement_long design now g place (tree.While c body) rest e = tt
+statement_long design now g place (tree.Display format arguments) rest e = tt
+statement_long design now g place tree.Finish rest e = ap (λ n. n + 1) e
+
+restart_long : (b : Bool) (design : Design) (p : ℕ) (g : Going) → b ≡ true → IsLong (if b then goes_on (counted [] g) (whole design p) else stops g turns.Ended false [])
+unfolding IsLong
+restart_long true design p g e = tt
+restart_long false design p g e = cc
+
+place_long : (design : Design) (p now : ℕ) (g : Going) (left rest : Remainder) (place : ℕ) → left ≡ At place ∷ rest → g.count ≡ most_steps → IsLong (next design p now g left)
+place_long design p now g left rest place e c = subst (λ l. IsLong (next design p now g l)) (sym e) (statement_long design now g place (statement_at design place) rest c)
+
+node_long : (code : Compiled) (p now : ℕ) (i : Node) (g : Going) (left : Remainder) → IsFine code p i left → (IsEndNode (Some i) → ⊥) → g.count ≡ most_steps → IsLong (next (design_of code) p now g left)
+node_long code p now node.Over g left fine not c = absurd (not tt)
+node_long code p now (node.Restart to) g left (e, again, there, within) not c = subst (λ l. IsLong (next (design_of code) p now g l)) (sym e) (restart_long (process_at (design_of code) p).repeats (design_of code) p g again)
+node_long code p now (node.Skip to) g left (place, h) not c = place_long (design_of code) p now g left _ place h.0 c
+node_long code p now (node.Assign q span to) g left (place, (x, h)) not c = place_long (design_of code) p now g left _ place h.0 c
+node_long code p now (node.AssignAfter q delay span to) g left (place, (x, h)) not c = place_long (design_of code) p now g left _ place h.0 c
+node_long code p now (node.AssignLater q delay span to) g left (place, (x, h)) not c = place_long (design_of code) p now g left _ place h.0 c
+node_long code p now (node.Delay delay to) g left (place, (body, (rest, h))) not c = place_long (design_of code) p now g left rest place h.0 c
+node_long code p now (node.Await control to) g left (place, (body, (rest, (triggers, h)))) not c = place_long (design_of code) p now g left rest place h.0 c
+node_long code p now (node.Branch span taken missed) g left (place, (x, (rest, h))) not c = place_long (design_of code) p now g left rest place h.0 c
+node_long code p now (node.Display span to) g left (place, (format, (arguments, h))) not c = place_long (design_of code) p now g left _ place h.0 c
+node_long code p now (node.Finish to) g left (place, h) not c = place_long (design_of code) p now g left _ place h.0 c
+
+some_long : (o : Option Node) (code : Compiled) (p now : ℕ) (s : ProcState) (g : Going) → IsCompiled code → IsStateOf code p s → slice_get code.nodes s.place ≡ o → (IsEndNode o → ⊥) → g.count ≡ most_steps → IsLong (next (design_of code) p now g (remainder_at (design_of code) s.place))
+some_long None code p now s g is state found not c = absurd (not_past code.nodes s.place (place_within code p s is state) found)
+some_long (Some i) code p now s g is state found not c = node_long code p now i g (remainder_at (design_of code) s.place) (is.fine p s.place i state.process state.place found) not c
+
+pending_long : (o : Option (ℕ × Vector)) (code : Compiled) (p now : ℕ) (s : ProcState) (g : Going) → IsCompiled code → IsStateOf code p s → (o ≡ None → IsEndNode (slice_get code.nodes s.place) → ⊥) → g.count ≡ most_steps → IsLong (next (design_of code) p now g (pending_part o ++ remainder_at (design_of code) s.place))
+unfolding IsLong
+pending_long None code p now s g is state not c = some_long (slice_get code.nodes s.place) code p now s g is state refl (not refl) c
+pending_long (Some w) code p now s g is state not c = tt
+
+pub too_long : (code : Compiled) → IsCompiled code → (state : ProcState) (now count : ℕ) (s : Status) → Reached code state now count s → count ≡ most_steps → (IsAtEnd code.nodes s.state → ⊥) → (p : ℕ) → IsStateOf code p state → (store : Store) → length store ≡ length code.widths → Agrees s.reads store → short_turn (design_of code) p (remainder_of code state) store now ≡ None
+too_long code is state now count s reached full not p start store len agree =
+    let r = reached p start in
+    let g = going_of code store count s in
+    let long : IsLong (next (design_of code) p now g g.left) = pending_long s.state.pending code p now s.state g is r.sound.state (λ e h. not (e, h)) full in
+    ap if_short (ap (λ n. turn_within (n + 1) (design_of code) p now (begun (remainder_of code state) store)) (sym full) ∙ r.goes store len agree 1 ∙ one_within (design_of code) p now g)
+    ∙ long_none (design_of code) p now (next (design_of code) p now g g.left) long
+
+-- and its reads are of declared registers
+pub reads_declared : (code : Compiled) (state : ProcState) (now count : ℕ) (s : Status) → Reached code state now count s → (p : ℕ) → IsStateOf code p state → AreDeclared (length code.widths) s.reads
+reads_declared code state now count s reached p start =
+    let f = (reached p start).sound in
+    subst (λ n. AreDeclared n s.reads) f.size f.knows.declared
+
+-- a step over the lists that the program has
+pub taken : (code : Compiled) (nodes : List Node) (ops : List Op) (shown : List Shown) (now : ℕ) (s : Status) (r r' : Step) (s' : Status) → nodes ≡ code.nodes → ops ≡ code.ops → shown ≡ code.shown → r ≡ r' → Takes nodes ops shown now s r s' → Takes code.nodes code.ops code.shown now s r' s'
+taken code nodes ops shown now s r r' s' e1 e2 e3 e4 t = rw (← e1, ← e2, ← e3, ← e4) t

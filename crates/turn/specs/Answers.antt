@@ -1,26 +1,37 @@
 -- What a turn answers.
-use Rattle.std.specs.Prelude.{◌≡◌, ℕ, [], false, None}
+use Rattle.std.specs.Prelude.{◌≡◌, ℕ, List, [], length, None}
 use Rattle.std.specs.Option.{IsSomeAnd}
 use Rattle.model.specs.Expressions.{Store}
 use Rattle.model.specs.Turns.{short_turn}
-use Rattle.elaborate.specs.declared.code.ProcState.{ProcState}
-use Rattle.elaborate.specs.Listing.{Listing, design_of}
-use Rattle.elaborate.specs.Standing.{remainder_of, controls_of}
+use Rattle.design.specs.declared.code.ProcState.{ProcState}
+use Rattle.design.specs.Compiled.{Compiled, design_of}
+use Rattle.design.specs.Standing.{remainder_of, controls_of, IsStateOf}
+use Rattle.turn.specs.declared.memory.Seen.{Seen}
 use Rattle.turn.specs.declared.log.TurnLog.{TurnLog}
-use Rattle.turn.specs.declared.log.Suspend.TheVariants.{Ended}
+use Rattle.turn.specs.declared.log.TurnFault.{TurnFault}
+use Rattle.turn.specs.declared.log.TurnFault.TheVariants.{TooLong, Memory}
+use Rattle.turn.specs.Reads.{AreDeclared, Agrees}
 use Rattle.turn.specs.Logs.{IsLogOf, LogFits}
 
--- The log is the short turn that this state of a process stands for, on every store and at every time, since no step
--- reads a register. It makes no nonblocking assignment, waits for nothing and meets no $finish.
-pub record IsTurnLog (listing : Listing) (state : ProcState) (log : TurnLog) : Type 0 where
-  pub fits : LogFits listing.widths log
-  pub nbas : log.nbas.items ≡ []
-  pub suspend : log.suspend ≡ Ended
-  pub finish : log.finish ≡ false
-  pub turn : (p : ℕ) (store : Store) (now : ℕ)
-      → IsSomeAnd (short_turn (design_of listing) p (remainder_of listing state) store now) (IsLogOf (remainder_of listing) (controls_of listing) log)
+-- The log is the short turn of the process, on every store that agrees with the reads, which are of declared registers. What is left is a state of the
+-- process again, and each write and each nonblocking assignment is to a declared register, and of its width.
+pub record IsTurnLog (code : Compiled) (state : ProcState) (now : ℕ) (log : TurnLog) : Type 0 where
+  pub turn : (p : ℕ) → IsStateOf code p state → (store : Store) → length store ≡ length code.widths → Agrees log.reads.entries store
+      → IsSomeAnd (short_turn (design_of code) p (remainder_of code state) store now) (IsLogOf (remainder_of code) (controls_of code) log)
+  pub declared : (p : ℕ) → IsStateOf code p state → AreDeclared (length code.widths) log.reads.entries
+  pub next : (p : ℕ) → IsStateOf code p state → IsStateOf code p log.next
+  pub fits : (p : ℕ) → IsStateOf code p state → LogFits code.widths log
 
--- no store and no time gives this state of a process a short turn
-abbrev pub HasNoShortTurn : Listing → ProcState → Type 0
-HasNoShortTurn listing state =
-    (p : ℕ) (store : Store) (now : ℕ) → short_turn (design_of listing) p (remainder_of listing state) store now ≡ None
+-- where a turn is too long, no store that agrees with the reads so far gives the process a short turn
+abbrev pub IsNoTurn : Compiled → ProcState → ℕ → TurnFault → Type 0
+IsNoTurn code state now (TooLong reads) =
+    (p : ℕ) → IsStateOf code p state
+    → AreDeclared (length code.widths) reads.entries
+    × ((store : Store) → length store ≡ length code.widths → Agrees reads.entries store
+    → short_turn (design_of code) p (remainder_of code state) store now ≡ None)
+IsNoTurn code state now Memory = Unit {0}
+
+-- the reads that a fault tells of
+abbrev pub reads_of_fault : TurnFault → List (ℕ × Seen)
+reads_of_fault (TooLong reads) = reads.entries
+reads_of_fault Memory = []

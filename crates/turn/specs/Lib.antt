@@ -1,3 +1,7 @@
+pub mod Reads
+pub mod Memory
+pub mod Evaluate
+pub mod Progress
+pub mod Machine
 pub mod Logs
-pub mod Plain
 pub mod Answers

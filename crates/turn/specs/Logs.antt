@@ -4,12 +4,13 @@ use Rattle.std.specs.List.{All}
 use Rattle.std.specs.String.{string_bytes}
 use Rattle.model.specs.Design.{Trigger}
 use Rattle.model.specs.Turns.{Remainder, Wait, Ended, Inactive, Until, OnChange, Later, Turn}
-use Rattle.elaborate.specs.declared.code.ProcState.{ProcState}
-use Rattle.elaborate.specs.Listing.{FitsRegister}
+use Rattle.design.specs.declared.code.ProcState.{ProcState}
+use Rattle.design.specs.Fits.{FitsRegister}
 use Rattle.turn.specs.declared.log.Nba.{Nba}
 use Rattle.turn.specs.declared.log.Suspend.{Suspend}
 use Rattle.turn.specs.declared.log.Suspend.TheVariants as suspends
 use Rattle.turn.specs.declared.log.TurnLog.{TurnLog}
+use Rattle.turn.specs.Reads.{registers}
 
 -- a nonblocking assignment of the definitions for one of the log
 abbrev pub later_of : Nba → Later
@@ -24,7 +25,7 @@ wait_of controls (suspends.Event control) = OnChange (slice_index_or controls co
 
 -- The log is the turn, where it is known what a process state stands for and which triggers each event control has.
 pub record IsLogOf (rem : ProcState → Remainder) (controls : List (List Trigger)) (log : TurnLog) (turn : Turn) : Type 0 where
-  pub uses : log.reads.items ≡ turn.uses
+  pub uses : registers log.reads.entries ≡ turn.uses
   pub writes : log.writes.items ≡ turn.writes
   pub laters : map later_of log.nbas.items ≡ turn.laters
   pub lines : string_bytes log.lines ≡ turn.lines

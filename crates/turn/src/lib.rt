@@ -1,14 +1,27 @@
 //! Turns: all that a process does from one wait to the next (9.2 to 9.9, 11.4).
 //!
-//! A turn runs the statements that a `ProcState` stands for on the values of the registers, and answers a `TurnLog`:
-//! what it read, wrote and printed, what is left of the process, and what that waits for. The log is the turn of the
-//! definitions, and a turn that is too long has none.
+//! 1. `run_turn` begins at the place that a `ProcState` says, and takes one node of the design's code after another until
+//!    one of them ends the turn. Each is a counted step, and there are at most 65,536 of them.
+//! 2. Expressions are steps on a stack of vectors. A register that the turn wrote has the value written; any other is
+//!    asked of a `RegReader` at its first use, and recorded.
+//! 3. A `TurnLog` says what was read, written and printed, what is left of the process, and what that waits for.
+//!
+//! What the layer above uses: on every store that has the values recorded, the log is the turn of the definitions, and a
+//! turn that is too long has none (`specs/Answers.antt`). So values of registers that weren't read count for nothing.
 #![tactic(auto)]
 
+mod display;
+mod evaluate;
 mod log;
-mod plain;
+mod machine;
+mod memory;
+mod operate;
+mod progress;
+mod run;
+mod statements;
 #[cfg(test)]
 mod tests;
 
 pub use log::{Nba, Suspend, TurnFault, TurnLog};
-pub use plain::plain_turn;
+pub use memory::{RegReader, Seen};
+pub use run::run_turn;

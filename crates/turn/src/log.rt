@@ -1,8 +1,9 @@
 //! What a turn did.
-
 ghost use Rattle.std.specs.Prelude.{◌≡◌};
 
-use elaborate::{ProcState, RegId};
+use crate::memory::Seen;
+use design::{ProcState, RegId};
+use indexmap::IndexMap;
 use logic4::bits::Bits;
 use std::alloc::AllocError;
 
@@ -21,15 +22,15 @@ pub enum Suspend {
     Ended,
     Inactive,
     Until(u64),
-    Event(u32),
+    Event(usize),
 }
 
-/// A turn that is over: the registers that it read, in the order of their first use; its writes, its nonblocking
-/// assignments and its lines, in the order of the text; where the process goes on and what it waits for; whether it
-/// met `$finish`; and the number of its counted steps.
+/// A turn that is over: the registers that it read, in the order of their first use, each with what it saw; its writes,
+/// its nonblocking assignments and its lines, in the order of the text; where the process goes on and what it waits for;
+/// whether it met `$finish`; and the number of its counted steps.
 #[derive(Drop)]
 pub struct TurnLog {
-    pub reads: Vec<RegId>,
+    pub reads: IndexMap<RegId, Seen>,
     pub writes: Vec<(RegId, Bits)>,
     pub nbas: Vec<Nba>,
     pub lines: String,
@@ -39,10 +40,11 @@ pub struct TurnLog {
     pub count: u32,
 }
 
-/// Why there is no log: the turn has more counted steps than a turn may have, or memory was refused.
-#[derive(Clone, Copy, PartialEq, Eq, Debug)]
+/// Why there is no log: the turn has more counted steps than a turn may have, and these are its reads so far; or memory
+/// was refused.
+#[derive(Drop)]
 pub enum TurnFault {
-    TooLong,
+    TooLong(IndexMap<RegId, Seen>),
     Memory,
 }
 

@@ -1,90 +1,347 @@
-//! Turns of one process over one register.
-ghost use Rattle.std.specs.Prelude.{◌≡◌, [], ◌∷◌, IfOk};
-ghost use Rattle.std.specs.List.{All};
-ghost use Rattle.elaborate.specs.Listing.{IsSoundStep};
-ghost use Rattle.elaborate.specs.Steps.{steps_of};
-
-use crate::{Suspend, TurnFault, plain_turn};
-use elaborate::{Design, ProcState, Statement};
+//! Steps of turns over registers that a test holds.
+use crate::evaluate::evaluate;
+use crate::log::Suspend;
+use crate::machine::Step;
+use crate::memory::{Memory, RegReader, Seen};
+use crate::operate::{binary, choose, join, unary};
+use crate::progress::{Progress, part};
+use design::code::{Node, Op, Shown, Size, Span};
+use design::tree::Conversion;
+use design::{ProcState, RegId};
 use logic4::bits::Bits;
+use model::tree::{BinaryOperator, UnaryOperator};
 use std::alloc::{AllocError, Global};
 use std::test::Fail;
 
-/// A register of one digit, and an initial construct with these statements.
-fn one_process(alloc: Global, body: Vec<Statement>) -> Result<Design, AllocError>
-    requires { All (IsSoundStep (1 ∷ [])) (steps_of body.items) }
-{
-    let widths = Vec::from_slice(alloc, &[1])?;
-    let mut design = Design::new(alloc, widths);
-    design.add_process(body)?;
-    Ok(design)
+/// Every register has the same value. The version of a read is its number, from 1.
+#[derive(Drop)]
+struct Same {
+    value: Bits,
+    reads: u64,
 }
 
-/// So many empty statements.
-fn empty_statements(alloc: Global, count: u32) -> Result<Vec<Statement>, AllocError>
-    ensures { IfOk result (λ body. All (IsSoundStep (1 ∷ [])) (steps_of body.items)) }
-{
-    let mut body = Vec::new(alloc);
-    for _ in 0..count {
-        body.push(Statement::Empty)?;
+impl RegReader for Same {
+    ghost use Rattle.std.specs.Prelude.{ℕ};
+    ghost use Rattle.turn.specs.declared.memory.Seen.{Seen};
+
+    ghost gave = { λ s r x. Unit {0} };
+
+    fn read(&mut self, _register: RegId) -> Seen {
+        self.reads = self.reads.wrapping_add(1);
+        Seen {
+            version: self.reads,
+            value: self.value,
+        }
     }
-    Ok(body)
 }
 
-/// `begin a = 1'b1; $display("x"); ; a = 1'b0; $display(""); end`
-fn five_statements(alloc: Global) -> Result<Vec<Statement>, AllocError>
-    ensures { IfOk result (λ body. All (IsSoundStep (1 ∷ [])) (steps_of body.items)) }
-{
-    let mut body = Vec::new(alloc);
-    body.push(Statement::Assign(0, Bits::from_u64(1, 1)))?;
-    body.push(Statement::Display(String::from_str(alloc, "x")?))?;
-    body.push(Statement::Empty)?;
-    body.push(Statement::Assign(0, Bits::from_u64(1, 0)))?;
-    body.push(Statement::Display(String::new(alloc)))?;
-    Ok(body)
+fn reader_of(value: Bits) -> Same {
+    Same { value, reads: 0 }
+}
+
+/// A turn that begins at place 0, over two registers.
+fn begin(alloc: Global) -> Result<Progress, AllocError> {
+    let state = ProcState {
+        place: 0,
+        pending: None,
+    };
+    Progress::new(alloc, state, 2)
 }
 
 #[test]
-fn takes_down_writes_and_lines(rt: HostRuntime) -> Result<(), Fail> {
-    let design = one_process(rt.alloc(), five_statements(rt.alloc())?)?;
-    let log = plain_turn(rt.alloc(), &design, ProcState { place: 0 }).expect(&rt, "a turn");
-    assert!(rt; log.reads.is_empty());
+fn computes_binary_operators(rt: HostRuntime) -> Result<(), Fail> {
+    let eight = Size::new(8);
+    let one = Size::new(1);
+    let two = Bits::from_u64(8, 2);
+    let top = Bits::from_u64(8, 255);
+    let x = Bits::unknown(8);
+    // (operator, size of the result, left, right, result)
+    let rows = [
+        (BinaryOperator::Add, eight, top, two, Bits::from_u64(8, 1)),
+        (
+            BinaryOperator::Subtract,
+            eight,
+            two,
+            top,
+            Bits::from_u64(8, 3),
+        ),
+        (BinaryOperator::And, eight, top, two, two),
+        (BinaryOperator::Or, eight, top, two, top),
+        (BinaryOperator::Xor, eight, top, two, Bits::from_u64(8, 253)),
+        (
+            BinaryOperator::ShiftLeft,
+            eight,
+            top,
+            two,
+            Bits::from_u64(8, 252),
+        ),
+        (
+            BinaryOperator::ShiftRight,
+            eight,
+            top,
+            two,
+            Bits::from_u64(8, 63),
+        ),
+        (BinaryOperator::Less, one, two, top, Bits::from_u64(1, 1)),
+        (
+            BinaryOperator::LessEqual,
+            one,
+            top,
+            two,
+            Bits::from_u64(1, 0),
+        ),
+        (BinaryOperator::Greater, one, top, two, Bits::from_u64(1, 1)),
+        (
+            BinaryOperator::GreaterEqual,
+            one,
+            two,
+            two,
+            Bits::from_u64(1, 1),
+        ),
+        (BinaryOperator::Equal, one, two, x, Bits::unknown(1)),
+        (
+            BinaryOperator::NotEqual,
+            one,
+            two,
+            top,
+            Bits::from_u64(1, 1),
+        ),
+        (BinaryOperator::CaseEqual, one, x, x, Bits::from_u64(1, 1)),
+        (
+            BinaryOperator::CaseNotEqual,
+            eight,
+            x,
+            two,
+            Bits::from_u64(8, 1),
+        ),
+        (BinaryOperator::LogicalAnd, one, two, x, Bits::unknown(1)),
+        (BinaryOperator::LogicalOr, one, two, x, Bits::from_u64(1, 1)),
+    ];
+    for row in rows.as_slice() {
+        assert_eq!(rt; binary(row.0, eight, row.1, row.2, row.3), row.4);
+    }
+    Ok(())
+}
+
+#[test]
+fn computes_other_operators(rt: HostRuntime) -> Result<(), Fail> {
+    let one = Size::new(1);
+    let eight = Size::new(8);
+    let two = Bits::from_u64(8, 2);
+    let zero = Bits::from_u64(8, 0);
     assert_eq!(rt;
-        log.writes.as_slice(),
-        [(0, Bits::from_u64(1, 1)), (0, Bits::from_u64(1, 0))].as_slice()
+        unary(UnaryOperator::Not, eight, two),
+        Bits::from_u64(8, 253)
     );
-    assert!(rt; log.nbas.is_empty());
-    assert_eq!(rt; log.lines.as_str(), "x\n\n");
-    assert_eq!(rt; log.next, ProcState { place: 1 });
-    assert!(rt; matches!(log.suspend, Suspend::Ended));
-    assert!(rt; !log.finish);
-    assert_eq!(rt; log.count, 5);
+    assert_eq!(rt;
+        unary(UnaryOperator::LogicalNot, eight, zero),
+        Bits::from_u64(8, 1)
+    );
+    assert_eq!(rt;
+        unary(UnaryOperator::ReduceAnd, one, two),
+        Bits::from_u64(1, 0)
+    );
+    assert_eq!(rt;
+        unary(UnaryOperator::ReduceOr, one, two),
+        Bits::from_u64(1, 1)
+    );
+    assert_eq!(rt;
+        unary(UnaryOperator::ReduceXor, one, two),
+        Bits::from_u64(1, 1)
+    );
+    assert_eq!(rt; join(two, zero), Bits::from_u64(16, 512));
+    assert_eq!(rt; join(Bits::from_u64(60, 7), two), Bits::from_u64(60, 7));
+    assert_eq!(rt; choose(eight, two, zero, two), zero);
+    assert_eq!(rt; choose(eight, zero, zero, two), two);
+    assert_eq!(rt; choose(eight, Bits::unknown(1), two, two), two);
     Ok(())
 }
 
 #[test]
-fn does_nothing_once_a_process_has_ended(rt: HostRuntime) -> Result<(), Fail> {
-    let design = one_process(rt.alloc(), five_statements(rt.alloc())?)?;
-    let log = plain_turn(rt.alloc(), &design, ProcState { place: 1 }).expect(&rt, "a turn");
-    assert!(rt; log.writes.is_empty());
-    assert!(rt; log.lines.is_empty());
-    assert!(rt; matches!(log.suspend, Suspend::Ended));
-    assert_eq!(rt; log.count, 0);
+fn reads_a_register_once(rt: HostRuntime) -> Result<(), Fail> {
+    let alloc = rt.alloc();
+    let size = Size::new(8);
+    let ops = [
+        Op::Load { register: 1, size },
+        Op::Load { register: 0, size },
+        Op::Binary {
+            operator: BinaryOperator::Add,
+            size,
+            asked: size,
+        },
+        Op::Load { register: 1, size },
+        Op::Binary {
+            operator: BinaryOperator::Add,
+            size,
+            asked: size,
+        },
+    ];
+    let mut memory = Memory::new(alloc, 2)?;
+    let mut stack = Vec::new(alloc);
+    let mut reader = reader_of(Bits::from_u64(4, 3));
+    let value = evaluate(ops.as_slice(), &mut memory, &mut reader, &mut stack)?;
+    assert_eq!(rt; value, Bits::from_u64(8, 9));
+    assert_eq!(rt; reader.reads, 2);
+    assert_eq!(rt; memory.reads.get_index_of(&1), Some(0));
+    assert_eq!(rt; memory.reads.get_index_of(&0), Some(1));
+    assert!(rt; stack.is_empty());
     Ok(())
 }
 
 #[test]
-fn takes_the_most_steps(rt: HostRuntime) -> Result<(), Fail> {
-    let design = one_process(rt.alloc(), empty_statements(rt.alloc(), 65_536)?)?;
-    let log = plain_turn(rt.alloc(), &design, ProcState { place: 0 }).expect(&rt, "a turn");
-    assert_eq!(rt; log.count, 65_536);
+fn knows_what_it_wrote(rt: HostRuntime) -> Result<(), Fail> {
+    let alloc = rt.alloc();
+    let mut progress = begin(alloc)?;
+    let mut reader = reader_of(Bits::from_u64(4, 3));
+    progress.write(1, Bits::from_u64(4, 5), 2)?;
+    assert_eq!(rt; progress.memory.look(&mut reader, 1)?, Bits::from_u64(4, 5));
+    assert_eq!(rt; reader.reads, 0);
+    assert_eq!(rt; progress.memory.look(&mut reader, 0)?, Bits::from_u64(4, 3));
+    assert_eq!(rt; reader.reads, 1);
+    assert_eq!(rt; progress.state.place, 2);
+    assert_eq!(rt; progress.writes.len(), 1);
     Ok(())
 }
 
 #[test]
-fn refuses_one_step_more(rt: HostRuntime) -> Result<(), Fail> {
-    let design = one_process(rt.alloc(), empty_statements(rt.alloc(), 65_537)?)?;
-    let turn = plain_turn(rt.alloc(), &design, ProcState { place: 0 });
-    assert!(rt; matches!(turn, Err(TurnFault::TooLong)));
+fn takes_a_part_or_none(rt: HostRuntime) -> Result<(), Fail> {
+    let numbers = [1u32, 2, 3];
+    assert_eq!(rt;
+        part(numbers.as_slice(), Span { from: 1, to: 3 }),
+        [2, 3].as_slice()
+    );
+    assert!(rt; part(numbers.as_slice(), Span { from: 2, to: 1 }).is_empty());
+    assert!(rt; part(numbers.as_slice(), Span { from: 1, to: 4 }).is_empty());
+    Ok(())
+}
+
+#[test]
+fn prints_a_line(rt: HostRuntime) -> Result<(), Fail> {
+    let alloc = rt.alloc();
+    let size = Size::new(6);
+    let ops = [Op::Load { register: 0, size }];
+    let value = Span { from: 0, to: 1 };
+    let shown = [
+        Shown::Byte(97),
+        Shown::Value {
+            conversion: Conversion::Binary,
+            value,
+        },
+        Shown::Byte(32),
+        Shown::Value {
+            conversion: Conversion::Hex,
+            value,
+        },
+        Shown::Value {
+            conversion: Conversion::Decimal,
+            value,
+        },
+    ];
+    let mut progress = begin(alloc)?;
+    let mut reader = reader_of(Bits::from_u64(6, 43));
+    let pieces = Span { from: 0, to: 5 };
+    progress.display(ops.as_slice(), shown.as_slice(), pieces, 1, &mut reader)?;
+    assert_eq!(rt; progress.lines.as_str(), "a101011 2b43\n");
+    assert_eq!(rt; progress.state.place, 1);
+    Ok(())
+}
+
+/// `while (r < 5) r = r + 1;` and the end of an initial construct.
+fn count_to_five() -> ([Node; 3], [Op; 6]) {
+    let size = Size::new(4);
+    let register = 0;
+    let nodes = [
+        Node::Branch {
+            condition: Span { from: 0, to: 3 },
+            taken: 1,
+            missed: 2,
+        },
+        Node::Assign {
+            register,
+            value: Span { from: 3, to: 6 },
+            next: 0,
+        },
+        Node::Over,
+    ];
+    let ops = [
+        Op::Load { register, size },
+        Op::Constant {
+            value: Bits::from_u64(4, 5),
+        },
+        Op::Binary {
+            operator: BinaryOperator::Less,
+            size,
+            asked: Size::new(1),
+        },
+        Op::Load { register, size },
+        Op::Constant {
+            value: Bits::from_u64(4, 1),
+        },
+        Op::Binary {
+            operator: BinaryOperator::Add,
+            size,
+            asked: size,
+        },
+    ];
+    (nodes, ops)
+}
+
+#[test]
+fn loops_to_the_end(rt: HostRuntime) -> Result<(), Fail> {
+    let (nodes, ops) = count_to_five();
+    let mut progress = begin(rt.alloc())?;
+    let mut reader = reader_of(Bits::from_u64(4, 3));
+    for _ in 0..5 {
+        let step = progress.take(nodes.as_slice(), ops.as_slice(), &[], 7, &mut reader)?;
+        assert!(rt; matches!(step, Step::Goes));
+    }
+    let step = progress.take(nodes.as_slice(), ops.as_slice(), &[], 7, &mut reader)?;
+    assert!(rt; matches!(step, Step::Over));
+    assert!(rt; progress.is_over(nodes.as_slice()));
+    assert_eq!(rt; reader.reads, 1);
+    assert_eq!(rt; progress.writes.len(), 2);
+    Ok(())
+}
+
+/// `#3 q <= #2 r;` and `q = #0 r;`, at time 7.
+#[test]
+fn waits_and_assigns_later(rt: HostRuntime) -> Result<(), Fail> {
+    let size = Size::new(4);
+    let ops = [Op::Load { register: 0, size }];
+    let value = Span { from: 0, to: 1 };
+    let nodes = [
+        Node::Delay { delay: 3, next: 1 },
+        Node::AssignLater {
+            register: 1,
+            delay: 2,
+            value,
+            next: 2,
+        },
+        Node::AssignAfter {
+            register: 1,
+            delay: 0,
+            value,
+            next: 3,
+        },
+        Node::Finish { next: 4 },
+    ];
+    let mut progress = begin(rt.alloc())?;
+    let mut reader = reader_of(Bits::from_u64(4, 3));
+    let step = progress.take(nodes.as_slice(), ops.as_slice(), &[], 7, &mut reader)?;
+    let until = match step {
+        Step::Ends { suspend, .. } => suspend,
+        _ => Suspend::Ended,
+    };
+    assert!(rt; matches!(until, Suspend::Until(10)));
+    let step = progress.take(nodes.as_slice(), ops.as_slice(), &[], 10, &mut reader)?;
+    assert!(rt; matches!(step, Step::Goes));
+    assert_eq!(rt; progress.nbas.as_slice()[0].due, 12);
+    let step = progress.take(nodes.as_slice(), ops.as_slice(), &[], 10, &mut reader)?;
+    let inactive = match step {
+        Step::Ends { suspend, .. } => suspend,
+        _ => Suspend::Ended,
+    };
+    assert!(rt; matches!(inactive, Suspend::Inactive));
+    assert_eq!(rt; progress.state.pending, Some((1, Bits::from_u64(4, 3))));
     Ok(())
 }

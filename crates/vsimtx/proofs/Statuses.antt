@@ -5,13 +5,16 @@ use Rattle.vsimtx.specs.declared.arguments.Refusal.TheVariants as refusal
 use Rattle.vsimtx.specs.declared.fault.Fault.{Fault}
 use Rattle.vsimtx.specs.declared.fault.Fault.TheVariants as fault
 use Rattle.vsimtx.specs.declared.fault.Stop.{Stop}
-use Rattle.vsimtx.specs.declared.source.fault.SourceFault.{SourceFault}
-use Rattle.vsimtx.specs.declared.source.fault.SourceFault.TheVariants as source
+use Rattle.frontend.specs.declared.source.SourceFault.{SourceFault}
+use Rattle.frontend.specs.declared.source.SourceFault.TheVariants as source
+use Rattle.vparse.specs.declared.parse.ParseFault.TheVariants as parsing
+use Rattle.elaborate.specs.declared.fault.ElabFault.TheVariants as elaboration
 use Rattle.vsimtx.specs.Program.{ended_status, source_status_of, IsRefusalStatus}
 use Rattle.vsimtx.specs.Printed.{HasPrinted, HasStopped}
 
 source_not_four : (f : SourceFault) → source_status_of f ≡ 4 → ⊥
-source_not_four source.Memory e = cc
+source_not_four (source.Parse parsing.Memory) e = cc
+source_not_four (source.Elaborate elaboration.Memory) e = cc
 source_not_four f e = cc
 
 -- status 4 is a stop's alone

@@ -1,4 +1,3 @@
 pub mod Arguments
 pub mod Printed
 pub mod Program
-pub mod Small

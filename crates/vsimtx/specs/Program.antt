@@ -11,12 +11,15 @@ use Rattle.vsimtx.specs.declared.fault.Fault.TheVariants as fault
 use Rattle.vsimtx.specs.declared.fault.Stop.{Stop}
 use Rattle.vsimtx.specs.declared.fault.Stop.TheVariants as stop
 use Rattle.simulate.specs.declared.run.SimFault.{SimFault}
-use Rattle.vsimtx.specs.declared.source.fault.SourceFault.{SourceFault}
-use Rattle.vsimtx.specs.declared.source.fault.SourceFault.TheVariants as source
+use Rattle.vparse.specs.declared.parse.ParseFault.TheVariants as parsing
+use Rattle.elaborate.specs.declared.fault.ElabFault.TheVariants as elaboration
+use Rattle.frontend.specs.declared.source.SourceFault.{SourceFault}
+use Rattle.frontend.specs.declared.source.SourceFault.TheVariants as source
 
 -- a source that isn't run, or no memory for it
 abbrev pub source_status_of : SourceFault → ℕ
-source_status_of source.Memory = 6
+source_status_of (source.Parse parsing.Memory) = 6
+source_status_of (source.Elaborate elaboration.Memory) = 6
 source_status_of f = 3
 
 -- memory, or a worker that couldn't be started

@@ -3,10 +3,12 @@
 ghost use Rattle.std.specs.Prelude.{◌≡◌};
 ghost use Rattle.vsimtx.specs.Program.{status_of, stop_of, stop_for, stop_status, source_status_of, simulate_status_of};
 
-use crate::source::fault::SourceFault;
+use elaborate::ElabFault;
+use frontend::SourceFault;
 use model::end::{End, Why};
 use simulate::SimFault;
 use thiserror::Error;
+use vparse::parse::ParseFault;
 
 /// A file, output or memory fault, or a fault of a layer.
 #[derive(Debug, Drop, Error)]
@@ -92,7 +94,7 @@ fn source_status(fault: &SourceFault) -> u8
     ensures { result ≡ source_status_of fault.now }
 {
     match fault {
-        SourceFault::Memory => 6,
+        SourceFault::Parse(ParseFault::Memory) | SourceFault::Elaborate(ElabFault::Memory) => 6,
         _ => 3,
     }
 }

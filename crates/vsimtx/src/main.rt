@@ -2,7 +2,6 @@
 //!
 //! - `arguments` reads the command line into a request.
 //! - `files` says where paths lead: to the system's files, or to a test's.
-//! - `source` reads the bytes of a source into a design.
 //! - `program` is the whole program as a function, `command`, which `main` calls.
 //! - `fault` has the lines on standard error and the exit statuses.
 #![tactic(auto)]
@@ -11,7 +10,6 @@ mod arguments;
 mod fault;
 mod files;
 mod program;
-mod source;
 #[cfg(test)]
 mod tests;
 

@@ -11,8 +11,8 @@ ghost use Rattle.vsimtx.specs.Printed.{IsRun, HasPrinted, HasStopped};
 use crate::arguments::{Refusal, RunRequest, read_request};
 use crate::fault::{Fault, Stop};
 use crate::files::Files;
-use crate::source::read_design;
 use commitgate::Closed;
+use frontend::read_design;
 use simulate::{Options, simulate};
 use std::alloc::Global;
 use std::fmt::Display;
@@ -23,6 +23,9 @@ use std::thread::Threads;
 
 /// How many workers run a design.
 const WORKERS: u32 = 2;
+
+/// The most entries of a journal.
+const MAX_ENTRIES: u32 = 1_000_000;
 
 /// The whole program; it answers the exit status. The first word is the program's name.
 pub fn command<R: Threads + Wait + Sync, F: Files, O: Write, E: Write>(
@@ -166,7 +169,11 @@ fn simulated<'a, R: Threads + Wait + Sync, F: Files>(
 {
     let source = read_file(alloc, request.file, files)?;
     let design = read_design(alloc, source.as_slice())?;
-    let options = Options { workers: WORKERS };
+    let options = Options {
+        workers: WORKERS,
+        until: None,
+        max_entries: MAX_ENTRIES,
+    };
     let outcome = simulate(rt, alloc, &design, options)?;
     Ok(outcome.closed)
 }

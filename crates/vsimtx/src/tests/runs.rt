@@ -1,10 +1,26 @@
-//! Sources that run, each with all that it prints.
+//! Sources that run, each with all that it prints, whatever the order of its turns.
 
 use super::{assert_left, run_line, run_within};
 use std::alloc::{AllocError, Global};
+use std::process::Abort;
+use std::sync::Wait;
 use std::test::Fail;
+use std::thread::Threads;
 
 const RUN: &str = "vsimtx run t.v";
+
+/// Each of the sources runs and prints these lines.
+fn assert_prints<R: Abort + Threads + Wait + Sync>(
+    rt: &R,
+    alloc: Global,
+    cases: &[(&str, &str)],
+) -> Result<(), AllocError> {
+    for (source, out) in cases {
+        let left = run_line(rt, alloc, RUN, source.as_bytes())?;
+        assert_left(rt, source, &left, 0, out, "");
+    }
+    Ok(())
+}
 
 #[test]
 fn prints_what_a_design_displays(rt: HostRuntime) -> Result<(), Fail> {
@@ -24,27 +40,155 @@ fn prints_what_a_design_displays(rt: HostRuntime) -> Result<(), Fail> {
             "module t; reg a, b; initial begin a = 1'b0; b = 1'bx; a = 1'bz; b = 1'b1; end endmodule",
             "",
         ),
+        // A register that is declared after its use.
+        (
+            "module t; initial begin a = 1'b1; $display(\"%b\", a); end reg a; endmodule",
+            "1\n",
+        ),
     ];
-    for (source, out) in cases {
-        let left = run_line(&rt, rt.alloc(), RUN, source.as_bytes())?;
-        assert_left(&rt, source, &left, 0, out, "");
+    assert_prints(&rt, rt.alloc(), &cases)?;
+    Ok(())
+}
+
+#[test]
+fn computes_with_digits_and_sizes(rt: HostRuntime) -> Result<(), Fail> {
+    let cases = [
+        (
+            "module t; initial $display(\"%b %0d %0d %h\", 4'b1x01+4'b0001, 4'b1x01+4'b0001, 4'b1x01, 4'b1zz1); endmodule",
+            "xxxx x X Z\n",
+        ),
+        (
+            "module t; initial $display(\"%0d\", 64'hffffffffffffffff+64'h1); endmodule",
+            "0\n",
+        ),
+        (
+            "module t; reg [4:0] s; initial begin s=4'hf+4'h1; $display(\"%0d %0d\", s, 4'hf+4'h1); end endmodule",
+            "16 0\n",
+        ),
+        (
+            "module t; initial $display(\"%b %b %b %b\", 2'b1x==2'b0x, 2'b1x==2'b10, 2'b1x===2'b1x, 1'bx ? 2'b10 : 2'b11); endmodule",
+            "0 x 1 1x\n",
+        ),
+        (
+            "module t; initial begin $display(\"%b %h %0d\", 8'bx, 8'bx, 8'bx); $display(\"%b %h %0d\", 8'hz1, 8'hz1, 8'hz1); end endmodule",
+            "xxxxxxxx xx x\nzzzz0001 z1 Z\n",
+        ),
+        (
+            "module t; reg [7:0] a; initial begin a = 8'd255; $display(\"%0d\",a); end endmodule",
+            "255\n",
+        ),
+        (
+            "module t; reg [7:0] i, s; initial begin i=8'd0; s=8'd0; while (i<8'd5) begin i=i+8'd1; s=s+i; end $display(\"%0d %0d\",i,s); end endmodule",
+            "5 15\n",
+        ),
+        (
+            "module t; initial $display(\"%b\", 4'bzzzz << 1'b1); endmodule",
+            "zzz0\n",
+        ),
+    ];
+    assert_prints(&rt, rt.alloc(), &cases)?;
+    Ok(())
+}
+
+#[test]
+fn takes_events_region_by_region(rt: HostRuntime) -> Result<(), Fail> {
+    let cases = [
+        // A swap by nonblocking assignments.
+        (
+            "module t; reg a, b; initial begin a=1'b0; b=1'b1; #1 a<=b; b<=a; #1 $display(\"%b %b\",a,b); end endmodule",
+            "1 0\n",
+        ),
+        // The second of two updates is seen.
+        (
+            "module t; reg a; initial begin a<=1'b0; a<=1'b1; end initial @(posedge a) $display(\"up %b\",a); endmodule",
+            "up 1\n",
+        ),
+        // A change and back again within one turn.
+        (
+            "module t; reg a; initial begin a=1'b1; #1 a=1'b0; a=1'b1; end initial #0 @(posedge a) $display(\"glitch\"); endmodule",
+            "glitch\n",
+        ),
+        // A value that was computed before its wait.
+        (
+            "module t; reg a, b; initial begin b=1'b1; a = #5 b; $display(\"%b %b\",a,b); end initial #1 b=1'b0; endmodule",
+            "1 0\n",
+        ),
+        // A nonblocking assignment and a delay due at the same time.
+        (
+            "module t; reg a; initial begin a=1'b0; a <= #2 1'b1; #2 $display(\"%b\",a); #1 $display(\"%b\",a); end endmodule",
+            "0\n1\n",
+        ),
+    ];
+    assert_prints(&rt, rt.alloc(), &cases)?;
+    Ok(())
+}
+
+/// The source runs and prints one of two texts, each time.
+fn assert_one_of<R: Abort + Threads + Wait + Sync>(
+    rt: &R,
+    alloc: Global,
+    source: &str,
+    texts: [&str; 2],
+) -> Result<(), AllocError> {
+    for _ in 0..100 {
+        let left = run_line(rt, alloc, RUN, source.as_bytes())?;
+        assert_eq!(rt; left.status, 0, "{source}");
+        assert!(rt; left.err.is_empty(), "{source}");
+        assert!(rt;
+            left.out.as_slice() == texts[0].as_bytes()
+                || left.out.as_slice() == texts[1].as_bytes(),
+            "{source}"
+        );
     }
     Ok(())
 }
 
 #[test]
-fn prints_two_processes_in_one_of_two_orders(rt: HostRuntime) -> Result<(), Fail> {
-    let source =
-        b"module t; reg a; initial begin a=1'b1; $display(\"x\"); end initial $display(\"y\"); endmodule";
-    for _ in 0..100 {
-        let left = run_line(&rt, rt.alloc(), RUN, source)?;
-        assert_eq!(rt; left.status, 0);
-        assert!(rt; left.err.is_empty());
-        assert!(rt;
-            left.out.as_slice() == b"x\ny\n".as_slice()
-                || left.out.as_slice() == b"y\nx\n".as_slice()
-        );
+fn prints_a_race_in_one_of_its_orders(rt: HostRuntime) -> Result<(), Fail> {
+    let cases = [
+        (
+            "module t; reg a; initial begin a=1'b1; $display(\"x\"); end initial $display(\"y\"); endmodule",
+            ["x\ny\n", "y\nx\n"],
+        ),
+        (
+            "module t; reg a; initial a=1'b0; initial a=1'b1; initial #0 $display(\"%b\",a); endmodule",
+            ["0\n", "1\n"],
+        ),
+        (
+            "module t; reg a; initial #0 a=1'b1; initial @(a) $display(\"p1\"); initial @(posedge a) $display(\"p2\"); endmodule",
+            ["p1\np2\n", "p2\np1\n"],
+        ),
+        (
+            "module t; initial begin $display(\"a\"); $finish; $display(\"b\"); end initial $display(\"c\"); endmodule",
+            ["a\n", "c\na\n"],
+        ),
+    ];
+    for (source, texts) in cases {
+        assert_one_of(&rt, rt.alloc(), source, texts)?;
     }
+    Ok(())
+}
+
+#[test]
+fn copies_race_as_whole_turns(rt: HostRuntime) -> Result<(), Fail> {
+    let source =
+        "module t; reg a, b; initial begin a=1'b0; b=1'b1; end initial #1 a=b; initial #1 b=a; initial #2 $display(\"%b %b\",a,b); endmodule";
+    for _ in 0..10 {
+        assert_one_of(&rt, rt.alloc(), source, ["1 1\n", "0 0\n"])?;
+    }
+    Ok(())
+}
+
+#[test]
+fn stops_where_time_or_a_turn_ends(rt: HostRuntime) -> Result<(), Fail> {
+    let alloc = rt.alloc();
+    let left = run_line(&rt, alloc, RUN, b"module t; always ; endmodule")?;
+    let text = "vsimtx: stopped: process 0 too long\n";
+    assert_left(&rt, "always ;", &left, 4, "", text);
+    let left = run_line(&rt, alloc, RUN, b"module t; always #4294967295 ; endmodule")?;
+    assert_left(&rt, "last time", &left, 4, "", "vsimtx: stopped: time\n");
+    let left = run_line(&rt, alloc, RUN, b"module t; always #0 ; endmodule")?;
+    assert_left(&rt, "entries", &left, 4, "", "vsimtx: stopped: entries\n");
     Ok(())
 }
 

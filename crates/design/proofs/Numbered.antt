@@ -1,0 +1,145 @@
+-- The remainder at a place names the place, so states of one process are equal where their remainders are.
+use Rattle.std.proofs.Common.{◌≡◌, ℕ, zero, suc, ◌+◌, ◌<◌, ◌≤◌, ◌⊎◌, ⊎_elim, inl, inr, Option, Some, None, List, [], ◌∷◌, ◌++◌, length, take, refl, sym, ap, ◌∙◌, subst, arith, length-append}
+use Rattle.std.specs.Prelude.{slice_index_or}
+use Rattle.logic4.specs.Vector.{Vector}
+use Rattle.model.specs.Design.{Design, Process, Statement, Empty, Assign, AssignAfter, AssignLater, Delay, Await, If, While, Display, Finish, Statements, End, Then, inside, all_of, size, statements_of}
+use Rattle.model.specs.Turns.{Remainder, At, Set, parts}
+use Rattle.design.specs.declared.code.ProcState.{ProcState}
+use Rattle.design.specs.Places.{remainders, remainders_inside, all_remainders, remainder_at, end_place, IsPlaceOf}
+use Rattle.design.specs.Compiled.{Compiled, design_of}
+use Rattle.design.specs.Standing.{pending_part, remainder_of, IsStateOf}
+use Rattle.design.specs.Equal.{StatesAreEqual}
+use Rattle.design.proofs.Placed.{length_remainders, length_remainders_inside}
+use Rattle.design.proofs.Whole.{length_all_remainders, left_at_end}
+
+-- each remainder begins with its own place
+abbrev NumberedFrom : ℕ → List Remainder → Type 0
+NumberedFrom n [] = Unit {0}
+NumberedFrom n (r ∷ rs) = ((rest : Remainder) × (r ≡ At n ∷ rest)) × NumberedFrom (n + 1) rs
+
+numbered_both : (n m : ℕ) (xs ys : List Remainder) → n + length xs ≡ m → NumberedFrom n xs → NumberedFrom m ys → NumberedFrom n (xs ++ ys)
+numbered_both n m [] ys e h j = let same : m ≡ n = omega arith in subst (λ k. NumberedFrom k ys) same j
+numbered_both n m (x ∷ xs) ys e h j = (h.0, numbered_both (n + 1) m xs ys (omega arith) h.1 j)
+
+mutual
+  numbered_all : (place : ℕ) (ss : Statements) (rest : Remainder) → NumberedFrom place (remainders place ss rest)
+  numbered_all place End rest = tt
+  numbered_all place (Then s ss) rest =
+      let n = place + 1 + length (inside s) in
+      let behind = parts n ss ++ rest in
+      ((behind, refl), numbered_both (place + 1) n (remainders_inside place s behind) (remainders n ss rest) (ap (λ k. place + 1 + k) (length_remainders_inside place s behind)) (numbered_inside place s behind) (numbered_all n ss rest))
+
+  numbered_inside : (place : ℕ) (s : Statement) (rest : Remainder) → NumberedFrom (place + 1) (remainders_inside place s rest)
+  numbered_inside place Empty rest = tt
+  numbered_inside place (Assign r e) rest = tt
+  numbered_inside place (AssignAfter r d e) rest = tt
+  numbered_inside place (AssignLater r d e) rest = tt
+  numbered_inside place (Delay d body) rest = numbered_all (place + 1) body rest
+  numbered_inside place (Await triggers body) rest = numbered_all (place + 1) body rest
+  numbered_inside place (If c body otherwise) rest =
+      numbered_both (place + 1) (place + 1 + size body) (remainders (place + 1) body rest) (remainders (place + 1 + size body) otherwise rest) (ap (λ k. place + 1 + k) (length_remainders (place + 1) body rest)) (numbered_all (place + 1) body rest) (numbered_all (place + 1 + size body) otherwise rest)
+  numbered_inside place (While c body) rest = numbered_all (place + 1) body (At place ∷ rest)
+  numbered_inside place (Display format arguments) rest = tt
+  numbered_inside place Finish rest = tt
+
+numbered_processes : (place : ℕ) (ps : List Process) → NumberedFrom place (all_remainders place ps)
+numbered_processes place [] = tt
+numbered_processes place (p ∷ ps) =
+    numbered_both place (place + size p.body) (remainders place p.body []) (all_remainders (place + size p.body) ps) (ap (λ k. place + k) (length_remainders place p.body [])) (numbered_all place p.body []) (numbered_processes (place + size p.body) ps)
+
+numbered_at : (n : ℕ) (rs : List Remainder) (k m : ℕ) → NumberedFrom n rs → k < length rs → n + k ≡ m → (rest : Remainder) × (slice_index_or rs k [] ≡ At m ∷ rest)
+numbered_at n [] k m h lt e = absurd (omega arith)
+numbered_at n (r ∷ rs) zero m h lt e = let same : n ≡ m = omega arith in (h.0.0, h.0.1 ∙ ap (λ i. At i ∷ h.0.0) same)
+numbered_at n (r ∷ rs) (suc k) m h lt e = numbered_at (n + 1) rs k m h.1 (omega arith) (omega arith)
+
+fewer : (n : ℕ) (ps : List Process) → length (statements_of (take n ps)) ≤ length (statements_of ps)
+fewer zero ps = omega arith
+fewer (suc n) [] = omega arith
+fewer (suc n) (p ∷ ps) = omega (arith, length-append (all_of p.body) (statements_of (take n ps)), length-append (all_of p.body) (statements_of ps), fewer n ps)
+
+-- a remainder names its place, or is that of the end
+names : (design : Design) (p k : ℕ) → IsPlaceOf design p k → ((rest : Remainder) × (remainder_at design k ≡ At k ∷ rest)) ⊎ ((remainder_at design k ≡ []) × (k ≡ end_place design p))
+names design p k own =
+    ⊎_elim
+    (λ h. inl (numbered_at 0 (all_remainders 0 design.processes) k k (numbered_processes 0 design.processes) (omega (arith, h.1, fewer (p + 1) design.processes, length_all_remainders 0 design.processes)) (omega arith)))
+    (λ h. inr (subst (λ i. remainder_at design i ≡ []) (sym h) (left_at_end design p), h))
+    own
+
+same_at : (j k : ℕ) (x y r q : Remainder) → x ≡ At j ∷ r → y ≡ At k ∷ q → x ≡ y → j ≡ k
+same_at j k x y r q a b e = cc
+
+not_none : (j : ℕ) (x y r : Remainder) (A : Type 0) → x ≡ At j ∷ r → y ≡ [] → x ≡ y → A
+not_none j x y r A a b e = cc
+
+-- places of one process with one remainder are the same
+same_place : (design : Design) (p j k : ℕ) → IsPlaceOf design p j → IsPlaceOf design p k → remainder_at design j ≡ remainder_at design k → j ≡ k
+same_place design p j k hj hk e =
+    let x = remainder_at design j in
+    let y = remainder_at design k in
+    ⊎_elim
+    (λ a. ⊎_elim (λ b. same_at j k x y a.0 b.0 a.1 b.1 e) (λ b. not_none j x y a.0 (j ≡ k) a.1 b.0 e) (names design p k hk))
+    (λ a. ⊎_elim (λ b. not_none k y x b.0 (j ≡ k) b.1 a.0 (sym e)) (λ b. a.1 ∙ sym b.1) (names design p k hk))
+    (names design p j hj)
+
+never_at : (r k : ℕ) (v : Vector) (x q : Remainder) (A : Type 0) → Set r v ∷ x ≡ At k ∷ q → A
+never_at r k v x q A h = cc
+
+never_none : (r : ℕ) (v : Vector) (x : Remainder) (A : Type 0) → Set r v ∷ x ≡ [] → A
+never_none r v x A h = cc
+
+-- no remainder at a place begins with an assignment left over
+not_set : (design : Design) (p k r : ℕ) (v : Vector) (x y : Remainder) (A : Type 0) → IsPlaceOf design p k → y ≡ remainder_at design k → Set r v ∷ x ≡ y → A
+not_set design p k r v x y A own is e =
+    ⊎_elim (λ b. never_at r k v x b.0 A (e ∙ is ∙ b.1)) (λ b. never_none r v x A (e ∙ is ∙ b.0)) (names design p k own)
+
+state_same : (s t : ProcState) → s.place ≡ t.place → s.pending ≡ t.pending → s ≡ t
+state_same s t e f = ap (λ k. record s { place = k }) e ∙ ap (λ o. record t { pending = o }) f
+
+set_same : (q r : ℕ) (v w : Vector) (x y : Remainder) → Set q v ∷ x ≡ Set r w ∷ y → (q ≡ r) × (v ≡ w) × (x ≡ y)
+set_same q r v w x y e = (cc, cc, cc)
+
+same_left : (a b : Option (ℕ × Vector)) (design : Design) (p j k : ℕ) → IsPlaceOf design p j → IsPlaceOf design p k → pending_part a ++ remainder_at design j ≡ pending_part b ++ remainder_at design k → (j ≡ k) × (a ≡ b)
+same_left None None design p j k hj hk e = (same_place design p j k hj hk e, refl)
+same_left None (Some w) design p j k hj hk e = not_set design p j w.0 w.1 (remainder_at design k) (remainder_at design j) _ hj refl (sym e)
+same_left (Some v) None design p j k hj hk e = not_set design p k v.0 v.1 (remainder_at design j) (remainder_at design k) _ hk refl e
+same_left (Some v) (Some w) design p j k hj hk e =
+    let parts : (v.0 ≡ w.0) × (v.1 ≡ w.1) × (remainder_at design j ≡ remainder_at design k) = set_same v.0 w.0 v.1 w.1 _ _ e in
+    (same_place design p j k hj hk parts.2, ap (λ r. Some (r, v.1)) parts.0 ∙ ap (λ x. Some (w.0, x)) parts.1)
+
+more_places : (n m : ℕ) (ps : List Process) → n ≤ m → length (statements_of (take n ps)) ≤ length (statements_of (take m ps))
+more_places zero m ps le = omega arith
+more_places (suc n) zero ps le = absurd (omega arith)
+more_places (suc n) (suc m) [] le = omega arith
+more_places (suc n) (suc m) (p ∷ ps) le =
+    let rest : length (statements_of (take n ps)) ≤ length (statements_of (take m ps)) = more_places n m ps (omega arith) in
+    omega (arith, length-append (all_of p.body) (statements_of (take n ps)), length-append (all_of p.body) (statements_of (take m ps)), rest)
+
+-- the places of a process come before those of a later one
+not_later : (design : Design) (p q k : ℕ) → p < q → IsPlaceOf design p k → IsPlaceOf design q k → ⊥
+not_later design p q k lt a b =
+    let own : length (statements_of (take (p + 1) design.processes)) ≤ length (statements_of (take q design.processes)) = more_places (p + 1) q design.processes (omega arith) in
+    ⊎_elim
+    (λ x. ⊎_elim (λ y. omega (arith, x.1, y.0, own)) (λ y. omega (arith, x.1, y, fewer (p + 1) design.processes)) b)
+    (λ x. ⊎_elim (λ y. omega (arith, x, y.1, fewer (q + 1) design.processes)) (λ y. omega (arith, x, y)) b)
+    a
+
+same_unless : (p q : ℕ) → (p < q → ⊥) → (q < p → ⊥) → p ≡ q
+same_unless zero zero a b = refl
+same_unless zero (suc q) a b = absurd (a (omega arith))
+same_unless (suc p) zero a b = absurd (b (omega arith))
+same_unless (suc p) (suc q) a b = ap suc (same_unless p q (λ h. a (omega (arith, h))) (λ h. b (omega (arith, h))))
+
+-- a place is of one process alone
+same_process : (design : Design) (p q k : ℕ) → IsPlaceOf design p k → IsPlaceOf design q k → p ≡ q
+same_process design p q k a b = same_unless p q (λ lt. not_later design p q k lt a b) (λ lt. not_later design q p k lt b a)
+
+same_state : (code : Compiled) (p : ℕ) (s t : ProcState) → IsStateOf code p s → IsStateOf code p t → remainder_of code s ≡ remainder_of code t → s ≡ t
+same_state code p s t a b e =
+    let same = same_left s.pending t.pending (design_of code) p s.place t.place a.place b.place e in
+    state_same s t same.0 same.1
+
+pub states_are_equal : StatesAreEqual
+states_are_equal code p q s t a b = (
+  λ e. (same_process (design_of code) p q s.place a.place (subst (λ (x : ProcState). IsPlaceOf (design_of code) q x.place) (sym e) b.place), ap (remainder_of code) e),
+  λ h. same_state code p s t a (subst (λ k. IsStateOf code k t) (sym h.0) b) h.1,
+)

@@ -1,0 +1,104 @@
+-- The code of all processes: each process's statements are placed, and each node is fine.
+use Rattle.std.proofs.Common.{◌≡◌, ℕ, zero, suc, ◌+◌, ◌<◌, ◌≤◌, ◌⊎◌, ⊎_elim, inl, inr, Bool, true, false, List, [], ◌∷◌, ◌++◌, length, take, drop, get_or, map, Some, None, refl, sym, ap, ◌∙◌, subst, arith, length-append, append_assoc, zero-add}
+use Rattle.std.proofs.lemmas.List.{append-nil}
+use Rattle.std.specs.Prelude.{slice_get, slice_index_or}
+use Rattle.model.specs.Design.{Design, Process, Statement, Statements, End, Then, all_of, size, statements_of, first_place, process_at}
+use Rattle.model.specs.Turns.{Remainder, parts, whole}
+use Rattle.design.specs.declared.code.Node.{Node}
+use Rattle.design.specs.Sound.{AreSoundStatements}
+use Rattle.design.specs.Places.{remainders, all_remainders, remainder_at, statement_count, end_place, IsPlaceOf}
+use Rattle.design.specs.Compiled.{Compiled, design_of}
+use Rattle.design.specs.Emit.{Emitted, with_all, with_bodies, starts_of, first_of}
+use Rattle.design.proofs.Places.{Sits, drop-length-append}
+use Rattle.design.proofs.Growing.{Grows, grows_same, grows_both}
+use Rattle.design.proofs.Emitted.{grows_all, length_all}
+use Rattle.design.proofs.Placed.{Placed, placed_all, length_remainders, Leads, leads}
+use Rattle.design.proofs.Fine.{code_of, FineAt, Done}
+use Rattle.design.proofs.Nodes.{done_all}
+
+pub statements_both : (ps qs : List Process) → statements_of (ps ++ qs) ≡ statements_of ps ++ statements_of qs
+statements_both [] qs = refl
+statements_both (p ∷ ps) qs =
+    ap (λ zs. all_of p.body ++ zs) (statements_both ps qs) ∙ sym (append_assoc (all_of p.body) (statements_of ps) (statements_of qs))
+
+pub length_all_remainders : (place : ℕ) (ps : List Process) → length (all_remainders place ps) ≡ length (statements_of ps)
+length_all_remainders place [] = refl
+length_all_remainders place (p ∷ ps) =
+    omega (arith, length-append (remainders place p.body []) (all_remainders (place + size p.body) ps), length-append (all_of p.body) (statements_of ps), length_remainders place p.body [], length_all_remainders (place + size p.body) ps)
+
+add_none : (n : ℕ) → n + 0 ≡ n
+add_none n = omega arith
+
+pub remainders_both : (place : ℕ) (ps qs : List Process) → all_remainders place (ps ++ qs) ≡ all_remainders place ps ++ all_remainders (place + length (statements_of ps)) qs
+remainders_both place [] qs = ap (λ k. all_remainders k qs) (sym (add_none place))
+remainders_both place (p ∷ ps) qs =
+    let sum : place + size p.body + length (statements_of ps) ≡ place + length (statements_of (p ∷ ps)) = omega (arith, length-append (all_of p.body) (statements_of ps)) in
+    ap (λ l. remainders place p.body [] ++ l) (remainders_both (place + size p.body) ps qs)
+    ∙ ap (λ k. remainders place p.body [] ++ (all_remainders (place + size p.body) ps ++ all_remainders k qs)) sum
+    ∙ sym (append_assoc (remainders place p.body []) (all_remainders (place + size p.body) ps) (all_remainders (place + length (statements_of (p ∷ ps))) qs))
+
+-- the statements of a process are placed, from the place behind those of the processes before it
+pub placed_process : (design : Design) (before : List Process) (p : Process) (ps : List Process) → design.processes ≡ before ++ p ∷ ps → Placed design (length (statements_of before)) p.body []
+placed_process design before p ps e =
+    let n = length (statements_of before) in
+    let all : statements_of design.processes ≡ statements_of before ++ (all_of p.body ++ statements_of ps) = ap statements_of e ∙ statements_both before (p ∷ ps) in
+    let lefts : all_remainders 0 design.processes ≡ all_remainders 0 before ++ (remainders n p.body [] ++ all_remainders (n + size p.body) ps) =
+    ap (all_remainders 0) e ∙ remainders_both 0 before (p ∷ ps) ∙ ap (λ k. all_remainders 0 before ++ (remainders k p.body [] ++ all_remainders (k + size p.body) ps)) (zero-add n) in
+    placed_all design n p.body []
+    (statements_of ps, ap (drop n) all ∙ drop-length-append (statements_of before) (all_of p.body ++ statements_of ps)) (
+      all_remainders (n + size p.body) ps,
+      ap (drop n) lefts ∙ ap (λ k. drop k (all_remainders 0 before ++ (remainders n p.body [] ++ all_remainders (n + size p.body) ps))) (sym (length_all_remainders 0 before))
+          ∙ drop-length-append (all_remainders 0 before) (remainders n p.body [] ++ all_remainders (n + size p.body) ps),
+    )
+
+take_before : (before : List Process) (ps : List Process) → take (length before) (before ++ ps) ≡ before
+take_before [] ps = refl
+take_before (p ∷ before) ps = ap (λ l. p ∷ l) (take_before before ps)
+
+-- the first place of a process is the number of the statements before it
+pub first_there : (design : Design) (before ps : List Process) → design.processes ≡ before ++ ps → first_place design (length before) ≡ length (statements_of before)
+first_there design before ps e = ap (λ l. length (statements_of l)) (ap (take (length before)) e ∙ take_before before ps)
+
+at_seam : (before : List Process) (p : Process) (ps : List Process) (d : Process) → slice_index_or (before ++ p ∷ ps) (length before) d ≡ p
+at_seam [] p ps d = refl
+at_seam (q ∷ before) p ps d = at_seam before p ps d
+
+pub one_more : (before : List Process) (p : Process) (ps : List Process) → (before ++ p ∷ []) ++ ps ≡ before ++ p ∷ ps
+one_more before p ps = append_assoc before (p ∷ []) ps
+
+-- and the next process begins behind its statements
+pub next_first : (design : Design) (before : List Process) (p : Process) (ps : List Process) → design.processes ≡ before ++ p ∷ ps → first_place design (length before + 1) ≡ length (statements_of before) + size p.body
+next_first design before p ps e =
+    let long : length (before ++ p ∷ []) ≡ length before + 1 = length-append before (p ∷ []) in
+    ap (first_place design) (sym long)
+    ∙ first_there design (before ++ p ∷ []) ps (e ∙ sym (one_more before p ps))
+    ∙ ap length (statements_both before (p ∷ [])) ∙ length-append (statements_of before) (all_of p.body ++ [])
+    ∙ ap (λ l. length (statements_of before) + length l) (append-nil (all_of p.body))
+
+past_the_end : (rs : List Remainder) (k : ℕ) → length rs ≤ k → slice_index_or rs k [] ≡ []
+past_the_end [] k h = refl
+past_the_end (r ∷ rs) zero h = absurd (omega arith)
+past_the_end (r ∷ rs) (suc k) h = past_the_end rs k (omega arith)
+
+-- nothing is left at an end
+pub left_at_end : (design : Design) (p : ℕ) → remainder_at design (end_place design p) ≡ []
+left_at_end design p = past_the_end (all_remainders 0 design.processes) (end_place design p) (omega (arith, length_all_remainders 0 design.processes))
+
+pub leads_to_end : (design : Design) (p : ℕ) → Leads design p (end_place design p) []
+leads_to_end design p = record { left = left_at_end design p; own = inr refl }
+
+pub process_there : (design : Design) (before : List Process) (p : Process) (ps : List Process) → design.processes ≡ before ++ p ∷ ps → process_at design (length before) ≡ p
+process_there design before p ps e =
+    let d : Process = record { repeats = false; body = End } in
+    ap (λ l. slice_index_or l (length before) d) e ∙ at_seam before p ps d
+
+-- a process begins with its whole body
+pub begins_whole : (design : Design) (before : List Process) (p : Process) (ps : List Process) → design.processes ≡ before ++ p ∷ ps → Leads design (length before) (first_of (length (statements_of before)) p.body (end_place design (length before))) (whole design (length before))
+begins_whole design before p ps e =
+    let k = length before in
+    let n = length (statements_of before) in
+    let lo : first_place design k ≤ n = omega (arith, first_there design before (p ∷ ps) e) in
+    let hi : n + size p.body ≤ first_place design (k + 1) = omega (arith, next_first design before p ps e) in
+    let l = leads design k n p.body [] (end_place design k) (placed_process design before p ps e) lo hi (leads_to_end design k) in
+    let is : parts n p.body ++ [] ≡ whole design k = append-nil (parts n p.body) ∙ ap (λ m. parts m p.body) (sym (first_there design before (p ∷ ps) e)) ∙ ap (λ q. parts (first_place design k) q.body) (sym (process_there design before p ps e)) in
+    record { left = l.left ∙ is; own = l.own }

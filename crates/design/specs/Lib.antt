@@ -1,0 +1,15 @@
+pub mod Waking
+pub mod Fits
+pub mod Trees
+pub mod Sound
+pub mod Operate
+pub mod Steps
+pub mod Places
+pub mod Compiled
+pub mod Meaning
+pub mod Standing
+pub mod Equal
+pub mod Generate
+pub mod Extents
+pub mod Emit
+pub mod Emitter

@@ -1,0 +1,235 @@
+//! Flat code, and what the layers above are told of it.
+ghost use Rattle.std.specs.Prelude.{◌≡◌, ◌<◌, ◌≤◌, ◌↔◌, length, IfOk, IsTrue};
+ghost use Rattle.std.specs.List.{All};
+ghost use Rattle.logic4.specs.Words.{max_width};
+
+use crate::control::{Control, RegId};
+use crate::tree::Conversion;
+use logic4::bits::Bits;
+use model::tree::{BinaryOperator, UnaryOperator};
+use std::alloc::{AllocError, Global};
+use std::marker::Model;
+
+/// A width, from 1 to the greatest.
+#[derive(Clone, Copy, Debug)]
+pub struct Size {
+    digits: u32,
+}
+
+impl Model for Size {
+    ghost use Rattle.std.specs.Prelude.{ℕ, ◌≤◌};
+    ghost use Rattle.logic4.specs.Words.{max_width};
+
+    ghost Value = { ℕ };
+
+    ghost view = { λ s. s.digits };
+
+    ghost invariant = { λ s. (1 ≤ s.digits) × (s.digits ≤ max_width) };
+
+    ghost inverse = { λ v. record { digits = v } };
+
+    ghost inverse_ok = { λ s h i. record { digits = s.digits } };
+}
+
+impl Size {
+    /// This many digits.
+    pub fn new(digits: u32) -> Self
+        requires some { 1 ≤ digits }
+        requires within { digits ≤ max_width }
+        ensures { result ≡ digits }
+    {
+        Size { digits }
+    }
+
+    /// The number of digits.
+    pub fn get(self) -> u32
+        ensures value { result ≡ self }
+        ensures some { 1 ≤ result }
+        ensures within { result ≤ max_width }
+    {
+        self.digits
+    }
+}
+
+/// One step of an expression, on a stack of vectors. Each says the sizes of what it makes.
+#[derive(Clone, Copy, Debug)]
+pub enum Op {
+    /// The value of a register, extended or cut.
+    Load {
+        register: RegId,
+        size: Size,
+    },
+    /// One digit of a register (5.2.1), extended.
+    Pick {
+        register: RegId,
+        index: u32,
+        size: Size,
+    },
+    /// A vector as it is.
+    Constant {
+        value: Bits,
+    },
+    /// An operator on the topmost vector.
+    Unary {
+        operator: UnaryOperator,
+        asked: Size,
+    },
+    /// An operator on the two topmost vectors, both of this size where it wants them alike.
+    Binary {
+        operator: BinaryOperator,
+        size: Size,
+        asked: Size,
+    },
+    /// The two topmost vectors as one, the topmost in the least significant digits (5.1.14).
+    Join,
+    /// The topmost vector, extended or cut.
+    Resize {
+        size: Size,
+    },
+    /// The second or the first of the two topmost vectors, by the truth of the third (5.1.13).
+    Choose {
+        size: Size,
+    },
+}
+
+/// A part of the steps of expressions, or of the pieces of lines.
+#[derive(Clone, Copy, Debug)]
+pub struct Span {
+    pub from: usize,
+    pub to: usize,
+}
+
+/// A piece of a line (17.1.1): a byte as it is, or the value of an expression.
+#[derive(Clone, Copy, Debug)]
+pub enum Shown {
+    Byte(u8),
+    Value { conversion: Conversion, value: Span },
+}
+
+/// What a process does at one place, and where that leads.
+#[derive(Clone, Copy, Debug)]
+pub enum Node {
+    /// The end of an initial construct.
+    Over,
+    /// The end of an always construct's body.
+    Restart {
+        first: usize,
+    },
+    /// The empty statement.
+    Skip {
+        next: usize,
+    },
+    /// A blocking assignment (9.2.1).
+    Assign {
+        register: RegId,
+        value: Span,
+        next: usize,
+    },
+    /// A blocking assignment with a delay inside it (9.7.7).
+    AssignAfter {
+        register: RegId,
+        delay: u32,
+        value: Span,
+        next: usize,
+    },
+    /// A nonblocking assignment (9.2.2).
+    AssignLater {
+        register: RegId,
+        delay: u32,
+        value: Span,
+        next: usize,
+    },
+    /// A delay before a statement (9.7.1).
+    Delay {
+        delay: u32,
+        next: usize,
+    },
+    /// The event control with a number, before a statement (9.7.2).
+    Await {
+        control: usize,
+        next: usize,
+    },
+    /// The test of a choice or of a loop (9.4, 9.6).
+    Branch {
+        condition: Span,
+        taken: usize,
+        missed: usize,
+    },
+    /// `$display` (17.1).
+    Display {
+        pieces: Span,
+        next: usize,
+    },
+    /// `$finish` (17.4.1).
+    Finish {
+        next: usize,
+    },
+}
+
+/// Where a process goes on: the assignment left over from one with a delay inside it, and the place of the node behind
+/// it. Plain data of the compiler, which stands for a remainder.
+#[derive(Clone, Copy, PartialEq, Eq, Debug)]
+pub struct ProcState {
+    pub place: usize,
+    pub pending: Option<(RegId, Bits)>,
+}
+
+impl ProcState {
+    /// Whether it is the same state.
+    pub fn is_same(&self, other: &ProcState) -> bool
+        ensures { IsTrue result ↔ (self.now ≡ other.now) }
+    {
+        (self.place == other.place) & same_pending(self.pending, other.pending)
+    }
+}
+
+fn same_pending(left: Option<(RegId, Bits)>, right: Option<(RegId, Bits)>) -> bool
+    ensures { IsTrue result ↔ (left ≡ right) }
+{
+    match (left, right) {
+        (None, None) => true,
+        (Some(a), Some(b)) => (a.0 == b.0) & (a.1 == b.1),
+        _ => false,
+    }
+}
+
+/// What the layers above ask of a compiled design.
+pub trait Code {
+    ghost use Rattle.std.specs.Prelude.{List, ℕ};
+    ghost use Rattle.model.specs.Design.{Design, Trigger};
+    ghost use Rattle.model.specs.Turns.{Remainder, whole};
+    ghost use Rattle.design.specs.declared.code.ProcState.{ProcState};
+
+    /// The design that was compiled.
+    ghost design: { Self → Design };
+
+    /// What a process state stands for.
+    ghost remainder: { Self → ProcState → Remainder };
+
+    /// Which process states are states of the process with a number.
+    ghost is_state: { Self → ℕ → ProcState → Type 0 };
+
+    /// The triggers of each event control, by its number.
+    ghost controls: { Self → List (List Trigger) };
+
+    /// The width of each register, in the order of their numbers.
+    fn widths(&self, alloc: Global) -> Result<Vec<u32>, AllocError>
+        ensures widths { IfOk result (λ v. v.items ≡ (design self.now).widths) }
+        ensures some_digit { IfOk result (λ v. All (λ w. 1 ≤ w) v.items) }
+        ensures few_digits { IfOk result (λ v. All (λ w. w ≤ 64) v.items) };
+
+    /// The event controls, in the order of their numbers.
+    fn controls(&self, alloc: Global) -> Result<Vec<Control>, AllocError>
+        ensures { IfOk result (λ v. v.items ≡ controls self.now) };
+
+    /// The number of processes.
+    fn processes(&self) -> u32
+        ensures value { result ≡ length (design self.now).processes }
+        ensures few { result ≤ 256 };
+
+    /// Where a process begins.
+    fn first(&self, process: u32) -> ProcState
+        requires { process < length (design self.now).processes }
+        ensures whole { remainder self.now result ≡ whole (design self.now) process }
+        ensures own { is_state self.now process result };
+}

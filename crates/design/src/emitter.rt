@@ -1,0 +1,242 @@
+//! The nodes of statements, in the order of the text: the node of a statement stands at the statement's place.
+ghost use Rattle.std.specs.Prelude.{◌≡◌, ◌<◌, ◌≤◌, ◌+◌, ◌++◌, ◌∷◌, [], length, map, drop, slice_get, Some, OnOk, IfOk, List};
+ghost use Rattle.std.specs.List.{All};
+ghost use Rattle.model.specs.Design as model;
+ghost use Rattle.model.specs.Design.{inside, size};
+ghost use Rattle.design.specs.declared.code.Node.TheVariants as node;
+ghost use Rattle.design.specs.Sound.{IsSoundExpression, IsSoundStatement, AreSoundStatements};
+ghost use Rattle.design.specs.Trees.{expression_of, statement_of, statements_of};
+ghost use Rattle.design.specs.Generate.{own_code};
+ghost use Rattle.design.specs.Extents.{AreMeasured, AreMeasuredInside, extent_of};
+ghost use Rattle.design.specs.Emit.{with_node, with_control, with_valued, with_statement, with_all, first_of, next_of};
+ghost use Rattle.design.specs.Emitter.{emitted_of};
+
+use crate::code::{Node, Op, Shown};
+use crate::control::{Control, Trigger};
+use crate::extents::Extent;
+use crate::tree::{Expression, Statement};
+use std::alloc::{AllocError, Global};
+
+/// The code so far. What it leads to may stand behind it.
+#[derive(Drop)]
+pub struct Emitter {
+    pub nodes: Vec<Node>,
+    pub ops: Vec<Op>,
+    pub shown: Vec<Shown>,
+    pub controls: Vec<Control>,
+}
+
+/// The place of the first of these statements, which would stand at this place, or else the place behind them.
+pub fn first_of(place: usize, statements: &[Statement], after: usize) -> usize
+    ensures { result ≡ first_of place (statements_of statements.now) after }
+{
+    if statements.is_empty() { after } else { place }
+}
+
+// the place to which the first of these statements leads
+#[tactic(auto, using(crate::proofs::Lines::first_measured))]
+fn next_of(table: &[Extent], place: usize, statements: &[Statement], after: usize) -> usize
+    requires some { 1 ≤ length statements.now }
+    requires measured { AreMeasured table.now place (statements_of statements.now) }
+    ensures { result ≡ next_of place (statements_of statements.now) after }
+{
+    first_of(table[place].whole, &statements[1..], after)
+}
+
+impl Emitter {
+    /// No code yet.
+    pub fn new(alloc: Global) -> Emitter
+        ensures { emitted_of result ≡ record { nodes = []; ops = []; shown = []; controls = [] } }
+    {
+        Emitter {
+            nodes: Vec::new(alloc),
+            ops: Vec::new(alloc),
+            shown: Vec::new(alloc),
+            controls: Vec::new(alloc),
+        }
+    }
+
+    /// One node more.
+    pub fn put(&mut self, node: Node) -> Result<(), AllocError>
+        ensures node { OnOk result (emitted_of self.new ≡ with_node (emitted_of self.old) node) }
+        ensures length { OnOk result (length self.new.nodes.items ≡ length self.old.nodes.items + 1) }
+    {
+        self.nodes.push(node)?;
+        Ok(())
+    }
+
+    fn control(&mut self, triggers: &Vec<Trigger>) -> Result<(), AllocError>
+        ensures { OnOk result (emitted_of self.new ≡ with_control (emitted_of self.old) triggers.now.items) }
+    {
+        self.controls.push(Control::new(triggers.clone()?))?;
+        Ok(())
+    }
+
+    fn delay(&mut self, delay: u32, body: &[Statement], next: usize) -> Result<(), AllocError>
+        ensures node { OnOk result (emitted_of self.new ≡ with_node (emitted_of self.old) (node.Delay delay (first_of (length self.old.nodes.items + 1) (statements_of body.now) next))) }
+        ensures length { OnOk result (length self.new.nodes.items ≡ length self.old.nodes.items + 1) }
+    {
+        let next = first_of(self.nodes.len() + 1, body, next);
+        self.put(Node::Delay { delay, next })
+    }
+
+    fn wait(
+        &mut self,
+        triggers: &Vec<Trigger>,
+        body: &[Statement],
+        next: usize,
+    ) -> Result<(), AllocError>
+        ensures node { OnOk result (emitted_of self.new ≡ with_node (with_control (emitted_of self.old) triggers.now.items) (node.Await (length self.old.controls.items) (first_of (length self.old.nodes.items + 1) (statements_of body.now) next))) }
+        ensures length { OnOk result (length self.new.nodes.items ≡ length self.old.nodes.items + 1) }
+    {
+        let control = self.controls.len();
+        let next = first_of(self.nodes.len() + 1, body, next);
+        self.control(triggers)?;
+        self.put(Node::Await { control, next })
+    }
+
+    // The test of a condition, which leads into a body that stands next, or to another place.
+    fn test(
+        &mut self,
+        widths: &[u32],
+        condition: &Expression,
+        taken: usize,
+        missed: usize,
+    ) -> Result<(), AllocError>
+        requires sound { IsSoundExpression widths.now (expression_of condition.now) }
+        requires some_digit { All (λ w. 1 ≤ w) widths.now }
+        requires few_digits { All (λ w. w ≤ 64) widths.now }
+        ensures node { OnOk result (emitted_of self.new ≡ with_valued (emitted_of self.old) (own_code widths.now (expression_of condition.now)) (λ s. node.Branch s taken missed)) }
+        ensures length { OnOk result (length self.new.nodes.items ≡ length self.old.nodes.items + 1) }
+    {
+        let condition = self.own(widths, condition)?;
+        self.put(Node::Branch {
+            condition,
+            taken,
+            missed,
+        })
+    }
+
+    // The test of a choice between bodies, the first of which stands next.
+    fn choice(
+        &mut self,
+        widths: &[u32],
+        table: &[Extent],
+        condition: &Expression,
+        body: &[Statement],
+        otherwise: &[Statement],
+        next: usize,
+    ) -> Result<(), AllocError>
+        requires sound { IsSoundExpression widths.now (expression_of condition.now) }
+        requires some_digit { All (λ w. 1 ≤ w) widths.now }
+        requires few_digits { All (λ w. w ≤ 64) widths.now }
+        requires measured { slice_get table.now (length self.old.nodes.items) ≡ Some (extent_of (length self.old.nodes.items) (model.If (expression_of condition.now) (statements_of body.now) (statements_of otherwise.now))) }
+        ensures node { OnOk result (emitted_of self.new ≡ with_valued (emitted_of self.old) (own_code widths.now (expression_of condition.now)) (λ s. node.Branch s (first_of (length self.old.nodes.items + 1) (statements_of body.now) next) (first_of (length self.old.nodes.items + 1 + size (statements_of body.now)) (statements_of otherwise.now) next))) }
+        ensures length { OnOk result (length self.new.nodes.items ≡ length self.old.nodes.items + 1) }
+    {
+        let place = self.nodes.len();
+        let taken = first_of(place + 1, body, next);
+        let missed = first_of(table[place].body, otherwise, next);
+        self.test(widths, condition, taken, missed)
+    }
+
+    // A statement and those inside it, which lead to the next place.
+    #[cycle(emit)]
+    fn emit(
+        &mut self,
+        widths: &[u32],
+        table: &[Extent],
+        statement: &Statement,
+        next: usize,
+    ) -> Result<(), AllocError>
+        requires sound { IsSoundStatement widths.now (statement_of statement.now) }
+        requires some_digit { All (λ w. 1 ≤ w) widths.now }
+        requires few_digits { All (λ w. w ≤ 64) widths.now }
+        requires measured { slice_get table.now (length self.old.nodes.items) ≡ Some (extent_of (length self.old.nodes.items) (statement_of statement.now)) }
+        requires inside { AreMeasuredInside table.now (length self.old.nodes.items) (statement_of statement.now) }
+        ensures code { OnOk result (emitted_of self.new ≡ with_statement widths.now next (emitted_of self.old) (statement_of statement.now)) }
+        ensures length { OnOk result (length self.new.nodes.items ≡ length self.old.nodes.items + 1 + length (inside (statement_of statement.now))) }
+    {
+        match statement {
+            Statement::Empty => self.put(Node::Skip { next }),
+            Statement::Assign(register, expression) => {
+                let register = *register;
+                let value = self.assigned(widths, register, expression)?;
+                self.put(Node::Assign {
+                    register,
+                    value,
+                    next,
+                })
+            }
+            Statement::AssignAfter(register, delay, expression) => {
+                let register = *register;
+                let delay = *delay;
+                let value = self.assigned(widths, register, expression)?;
+                self.put(Node::AssignAfter {
+                    register,
+                    delay,
+                    value,
+                    next,
+                })
+            }
+            Statement::AssignLater(register, delay, expression) => {
+                let register = *register;
+                let delay = *delay;
+                let value = self.assigned(widths, register, expression)?;
+                self.put(Node::AssignLater {
+                    register,
+                    delay,
+                    value,
+                    next,
+                })
+            }
+            Statement::Delay(delay, body) => {
+                self.delay(*delay, body, next)?;
+                self.emit_all(widths, table, body, next)
+            }
+            Statement::Await(triggers, body) => {
+                self.wait(triggers, body, next)?;
+                self.emit_all(widths, table, body, next)
+            }
+            Statement::If(condition, body, otherwise) => {
+                self.choice(widths, table, condition, body, otherwise, next)?;
+                self.emit_all(widths, table, body, next)?;
+                self.emit_all(widths, table, otherwise, next)
+            }
+            Statement::While(condition, body) => {
+                let place = self.nodes.len();
+                let taken = first_of(place + 1, body, place);
+                self.test(widths, condition, taken, next)?;
+                self.emit_all(widths, table, body, place)
+            }
+            Statement::Display(format, arguments) => {
+                let pieces = self.line(widths, format, arguments)?;
+                self.put(Node::Display { pieces, next })
+            }
+            Statement::Finish => self.put(Node::Finish { next }),
+        }
+    }
+
+    /// Statements and those inside them, the last of which leads to the place after them.
+    #[cycle(emit)]
+    pub fn emit_all(
+        &mut self,
+        widths: &[u32],
+        table: &[Extent],
+        statements: &[Statement],
+        after: usize,
+    ) -> Result<(), AllocError>
+        requires sound { AreSoundStatements widths.now (statements_of statements.now) }
+        requires some_digit { All (λ w. 1 ≤ w) widths.now }
+        requires few_digits { All (λ w. w ≤ 64) widths.now }
+        requires measured { AreMeasured table.now (length self.old.nodes.items) (statements_of statements.now) }
+        ensures code { OnOk result (emitted_of self.new ≡ with_all widths.now after (emitted_of self.old) (statements_of statements.now)) }
+        ensures length { OnOk result (length self.new.nodes.items ≡ length self.old.nodes.items + size (statements_of statements.now)) }
+    {
+        for (index, statement) in statements.iter().enumerate() {
+            let next = next_of(table, self.nodes.len(), &statements[index..], after);
+            self.emit(widths, table, statement, next)?;
+        }
+        Ok(())
+    }
+}

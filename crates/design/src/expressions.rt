@@ -1,0 +1,149 @@
+//! The steps of expressions: the operands from left to right, each at its size, and then the operator.
+ghost use Rattle.std.specs.Prelude.{◌≡◌, ◌<◌, ◌≤◌, ◌++◌, ◌∷◌, [], true, length, OnOk};
+ghost use Rattle.std.specs.List.{All};
+ghost use Rattle.design.specs.Sound.{IsSoundExpression, AreSoundExpressions};
+ghost use Rattle.design.specs.Trees.{expression_of, expressions_of};
+ghost use Rattle.design.specs.Generate.{expression_code, parts_code, join_code, own_code, assigned_code};
+
+use crate::code::{Op, Size};
+use crate::control::RegId;
+use crate::sizes::{greater, left_size, operand_size, own_size, right_size, width_of};
+use crate::tree::Expression;
+use std::alloc::AllocError;
+
+fn put(ops: &mut Vec<Op>, op: Op) -> Result<(), AllocError>
+    ensures { OnOk result (ops.new.items ≡ ops.old.items ++ op ∷ []) }
+{
+    ops.push(op)?;
+    Ok(())
+}
+
+fn join(ops: &mut Vec<Op>, is_first: bool) -> Result<(), AllocError>
+    ensures { OnOk result (ops.new.items ≡ ops.old.items ++ join_code is_first) }
+{
+    if is_first { Ok(()) } else { put(ops, Op::Join) }
+}
+
+#[cycle(emit)]
+fn emit(
+    ops: &mut Vec<Op>,
+    widths: &[u32],
+    asked: Size,
+    expression: &Expression,
+) -> Result<(), AllocError>
+    requires sound { IsSoundExpression widths.now (expression_of expression.now) }
+    requires some_digit { All (λ w. 1 ≤ w) widths.now }
+    requires few_digits { All (λ w. w ≤ 64) widths.now }
+    ensures { OnOk result (ops.new.items ≡ ops.old.items ++ expression_code widths.now asked (expression_of expression.now)) }
+{
+    match expression {
+        Expression::Register(register) => {
+            let register = *register;
+            put(
+                ops,
+                Op::Load {
+                    register,
+                    size: asked,
+                },
+            )
+        }
+        Expression::Select(register, index) => {
+            let register = *register;
+            let index = *index;
+            put(
+                ops,
+                Op::Pick {
+                    register,
+                    index,
+                    size: asked,
+                },
+            )
+        }
+        Expression::Literal(value) => {
+            let value = value.resize(asked.get());
+            put(ops, Op::Constant { value })
+        }
+        Expression::Concat(parts) => {
+            emit_parts(ops, widths, parts)?;
+            put(ops, Op::Resize { size: asked })
+        }
+        Expression::Unary(operator, operand) => {
+            let operator = *operator;
+            let size = operand_size(operator, asked, own_size(widths, operand));
+            emit(ops, widths, size, operand)?;
+            put(ops, Op::Unary { operator, asked })
+        }
+        Expression::Binary(operator, left, right) => {
+            let operator = *operator;
+            let own_left = own_size(widths, left);
+            let own_right = own_size(widths, right);
+            let size = left_size(operator, asked, own_left, own_right);
+            let other = right_size(operator, asked, own_left, own_right);
+            emit(ops, widths, size, left)?;
+            emit(ops, widths, other, right)?;
+            put(
+                ops,
+                Op::Binary {
+                    operator,
+                    size,
+                    asked,
+                },
+            )
+        }
+        Expression::Conditional(condition, first, second) => {
+            emit(ops, widths, own_size(widths, condition), condition)?;
+            emit(ops, widths, asked, first)?;
+            emit(ops, widths, asked, second)?;
+            put(ops, Op::Choose { size: asked })
+        }
+    }
+}
+
+#[cycle(emit)]
+fn emit_parts(ops: &mut Vec<Op>, widths: &[u32], parts: &[Expression]) -> Result<(), AllocError>
+    requires sound { AreSoundExpressions widths.now (expressions_of parts.now) }
+    requires some_digit { All (λ w. 1 ≤ w) widths.now }
+    requires few_digits { All (λ w. w ≤ 64) widths.now }
+    ensures { OnOk result (ops.new.items ≡ ops.old.items ++ parts_code widths.now true (expressions_of parts.now)) }
+{
+    let mut is_first = true;
+    for part in parts {
+        emit(ops, widths, own_size(widths, part), part)?;
+        join(ops, is_first)?;
+        is_first = false;
+    }
+    Ok(())
+}
+
+/// The steps of a condition or of an argument, behind those that are there.
+pub fn emit_own(
+    ops: &mut Vec<Op>,
+    widths: &[u32],
+    expression: &Expression,
+) -> Result<(), AllocError>
+    requires sound { IsSoundExpression widths.now (expression_of expression.now) }
+    requires some_digit { All (λ w. 1 ≤ w) widths.now }
+    requires few_digits { All (λ w. w ≤ 64) widths.now }
+    ensures { OnOk result (ops.new.items ≡ ops.old.items ++ own_code widths.now (expression_of expression.now)) }
+{
+    emit(ops, widths, own_size(widths, expression), expression)
+}
+
+/// The steps of the right side of an assignment, behind those that are there.
+pub fn emit_assigned(
+    ops: &mut Vec<Op>,
+    widths: &[u32],
+    register: RegId,
+    expression: &Expression,
+) -> Result<(), AllocError>
+    requires declared { register < length widths.now }
+    requires sound { IsSoundExpression widths.now (expression_of expression.now) }
+    requires some_digit { All (λ w. 1 ≤ w) widths.now }
+    requires few_digits { All (λ w. w ≤ 64) widths.now }
+    ensures { OnOk result (ops.new.items ≡ ops.old.items ++ assigned_code widths.now register (expression_of expression.now)) }
+{
+    let width = width_of(widths, register);
+    let size = greater(width, own_size(widths, expression));
+    emit(ops, widths, size, expression)?;
+    put(ops, Op::Resize { size: width })
+}

@@ -1,0 +1,63 @@
+//! The code of processes: their statements, and behind all of them the node of the end of each.
+ghost use Rattle.std.specs.Prelude.{◌≡◌, ◌<◌, ◌≤◌, ◌+◌, ◌^◌, ◌++◌, length, map, OnOk, IfOk};
+ghost use Rattle.std.specs.List.{All};
+ghost use Rattle.design.specs.Sound.{AreSoundStatements};
+ghost use Rattle.design.specs.Trees.{statements_of, process_of};
+ghost use Rattle.design.specs.Extents.{IsMeasured};
+ghost use Rattle.design.specs.Emit.{with_node, with_bodies, starts_of, end_node, end_nodes};
+ghost use Rattle.design.specs.Emitter.{emitted_of};
+
+use crate::code::Node;
+use crate::emitter::{Emitter, first_of};
+use crate::extents::Extent;
+use crate::tree::Process;
+use std::alloc::{AllocError, Global};
+
+impl Emitter {
+    /// The statements of processes, each of which ends at its own place behind all statements, and where they begin.
+    pub fn emit_bodies(
+        &mut self,
+        alloc: Global,
+        widths: &[u32],
+        table: &[Extent],
+        processes: &[Process],
+        end: usize,
+    ) -> Result<Vec<usize>, AllocError>
+        requires sound { All (λ p. AreSoundStatements widths.now (statements_of p.body.items)) processes.now }
+        requires some_digit { All (λ w. 1 ≤ w) widths.now }
+        requires few_digits { All (λ w. w ≤ 64) widths.now }
+        requires measured { IsMeasured table.now (length self.old.nodes.items) (map process_of processes.now) }
+        requires fits { end + length processes.now < 2 ^ 64 }
+        ensures code { IfOk result (λ v. emitted_of self.new ≡ with_bodies widths.now end (emitted_of self.old) (map process_of processes.now)) }
+        ensures starts { IfOk result (λ v. v.items ≡ starts_of (length self.old.nodes.items) end (map process_of processes.now)) }
+    {
+        let mut starts = Vec::new(alloc);
+        for (index, process) in processes.iter().enumerate() {
+            let behind = end + index;
+            starts.push(first_of(self.nodes.len(), &process.body, behind))?;
+            self.emit_all(widths, table, &process.body, behind)?;
+        }
+        Ok(starts)
+    }
+
+    fn end(&mut self, repeats: bool, first: usize) -> Result<(), AllocError>
+        ensures { OnOk result (emitted_of self.new ≡ with_node (emitted_of self.old) (end_node repeats first)) }
+    {
+        if repeats {
+            self.put(Node::Restart { first })
+        } else {
+            self.put(Node::Over)
+        }
+    }
+
+    /// The ends of processes, which begin at these places.
+    pub fn emit_ends(&mut self, processes: &[Process], starts: &[usize]) -> Result<(), AllocError>
+        requires { length starts.now ≡ length processes.now }
+        ensures { OnOk result (emitted_of self.new ≡ record (emitted_of self.old) { nodes = self.old.nodes.items ++ end_nodes (map process_of processes.now) starts.now }) }
+    {
+        for (index, process) in processes.iter().enumerate() {
+            self.end(process.repeats, starts[index])?;
+        }
+        Ok(())
+    }
+}

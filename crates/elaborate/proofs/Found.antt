@@ -1,0 +1,15 @@
+-- What is found first among declared names.
+use Rattle.std.proofs.Common.{◌≡◌, List, [], ◌∷◌, ◌++◌, Option, Some, None, refl, sym, ap, ◌∙◌, append_assoc, append-nil}
+use Rattle.model.specs.Elaboration.{Declared}
+use Rattle.elaborate.specs.Findings.{Found, or_else, found_name, found_names}
+
+-- one behind another
+pub or_else_assoc : (a b c : Option Found) → or_else (or_else a b) c ≡ or_else a (or_else b c)
+or_else_assoc None b c = refl
+or_else_assoc (Some f) b c = refl
+
+pub found_names_append : (before xs ys : List Declared) → found_names before (xs ++ ys) ≡ or_else (found_names before xs) (found_names (before ++ xs) ys)
+found_names_append before [] ys = rw append-nil
+found_names_append before (x ∷ xs) ys =
+    ap (λ o. or_else (found_name before x) o) (found_names_append (before ++ x ∷ []) xs ys ∙ ap (λ b. or_else (found_names (before ++ x ∷ []) xs) (found_names b ys)) (append_assoc before (x ∷ []) xs))
+    ∙ sym (or_else_assoc (found_name before x) (found_names (before ++ x ∷ []) xs) (found_names (before ++ x ∷ xs) ys))

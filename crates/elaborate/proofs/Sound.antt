@@ -1,0 +1,285 @@
+-- Where nothing is found, the resolved tree is sound, and its numbers are small.
+use Rattle.std.proofs.Common.{◌≡◌, ℕ, ◌+◌, ◌<◌, ◌≤◌, nat_lt, nat_le, Bool, true, false, not, ◌&&◌, ◌==◌, List, [], ◌∷◌, ◌++◌, map, length, Option, Some, None, refl, sym, ◌∙◌, unwrap_or, length-append, arith}
+use Rattle.std.proofs.lemmas.Bool.Decides.{nat_tests}
+use Rattle.std.proofs.lemmas.List.{length-map}
+use Rattle.std.proofs.lemmas.List.Elements.{All-nil, All-cons}
+use Rattle.std.specs.List.{All}
+use Rattle.model.specs.declared.tree.Change.{Change}
+use Rattle.model.specs.Syntax as source
+use Rattle.model.specs.Syntax.{greatest_width, Text, Expression, Register, Select, Literal, Concat, Unary, Binary, Conditional, Expressions, Nothing, Also, Module}
+use Rattle.model.specs.Design.{Statements, End, Then, Piece}
+use Rattle.model.specs.Elaboration as model
+use Rattle.model.specs.Elaboration.{Fault, Declared, has_name, is_declared, number_of, is_range, is_index, range_of, width_of, widths_of, parts_size, most_registers, most_processes, greatest_delay, count_of, is_format_for, pieces_of, argument_count, resolved, all_resolved, followed_by, statements_of, block_of, process_of, design_of, declared, assignment, trigger_of}
+use Rattle.design.specs.Sound.{HasSome, how_many, IsSoundExpression, AreSoundExpressions, IsSoundStatement, AreSoundStatements, IsSound}
+use Rattle.elaborate.specs.Findings.{Found, Known, Unspelled, or_else, found_where, unknown, unknown_among, used, all_used, used_in, all_used_in, used_by, found_name, found_names, found_concat, is_literal, is_nothing, found, all_found, found_delay, found_format, found_in, all_found_in, found_by, found_few, found_among}
+use Rattle.elaborate.specs.Small.{IsSmall, AreSmall, IsShort, IsSmallStatement, AreSmallStatements, AreSmallProcesses}
+use Rattle.elaborate.proofs.Settled.{literal_is}
+use Rattle.elaborate.proofs.Lookups.{allowed}
+
+-- nothing found by two walks is nothing found by each
+split : (a b : Option Found) → or_else a b ≡ None → (a ≡ None) × (b ≡ None)
+split None b h = (refl, h)
+split (Some f) b h = absurd cc
+
+-- nothing found where a condition holds: it doesn't
+fails : (b : Bool) (f : Found) → found_where b f ≡ None → b ≡ false
+fails true f h = absurd cc
+fails false f h = refl
+
+holds : (b : Bool) (f : Found) → found_where (not b) f ≡ None → b ≡ true
+holds true f h = refl
+holds false f h = absurd cc
+
+-- a declared name has the number of a register
+number_below : (ds : List Declared) (name : Text) → is_declared ds name ≡ true → number_of ds name < length ds
+number_below [] name h = absurd cc
+number_below (d ∷ ds) name h = by (has_name name d) refl (number_below ds name)
+  where
+    by : (b : Bool) → has_name name d ≡ b → (is_declared ds name ≡ true → number_of ds name < length ds) → number_of (d ∷ ds) name < length (d ∷ ds)
+    by true q rest = rw q (omega arith)
+    by false q rest = let k : is_declared ds name ≡ true = rw q at h in rw q (omega (arith, rest k))
+
+known_below : (ds : List Declared) (name : Text) → unknown ds name ≡ None → number_of ds name < length (widths_of ds)
+known_below ds name h = rw length-map (number_below ds name (holds (is_declared ds name) (Known (model.Undeclared name)) h))
+
+few_digits : (n : ℕ) → nat_lt 64 n ≡ false → n ≤ 64
+few_digits n h = grind (arith, nat_tests)
+
+has_some : (ds : List Declared) (es : Expressions Text) → is_nothing es ≡ false → HasSome (all_resolved ds es)
+has_some ds Nothing h = absurd cc
+has_some ds (Also e es) h = tt
+
+mutual
+  pub sound : (ds : List Declared) (e : Expression Text) → used ds e ≡ None → found ds e ≡ None → IsSoundExpression (widths_of ds) (resolved ds e)
+  sound ds (Register name) u f = known_below ds name u
+  sound ds (Select name i) u f = known_below ds name u
+  sound ds (Literal v) u f = literal_is (length v) (holds (is_literal v) Unspelled f)
+  sound ds (Concat parts) u f =
+      let a = split (found_concat ds parts) (all_found ds parts) f in
+      let b = split (found_where (nat_lt greatest_width (parts_size ds parts)) (Known model.WideConcat)) (found_where (is_nothing parts) Unspelled) a.0 in (
+        few_digits (parts_size ds parts) (fails (nat_lt greatest_width (parts_size ds parts)) (Known model.WideConcat) b.0),
+        has_some ds parts (fails (is_nothing parts) Unspelled b.1),
+        all_sound ds parts u a.1,
+      )
+  sound ds (Unary op e) u f = sound ds e u f
+  sound ds (Binary op e g) u f =
+      let a = split (used ds e) (used ds g) u in let b = split (found ds e) (found ds g) f in (sound ds e a.0 b.0, sound ds g a.1 b.1)
+  sound ds (Conditional c e g) u f =
+      let a = split (used ds c) (or_else (used ds e) (used ds g)) u in let a2 = split (used ds e) (used ds g) a.1 in
+      let b = split (found ds c) (or_else (found ds e) (found ds g)) f in let b2 = split (found ds e) (found ds g) b.1 in
+      (sound ds c a.0 b.0, sound ds e a2.0 b2.0, sound ds g a2.1 b2.1)
+
+  pub all_sound : (ds : List Declared) (es : Expressions Text) → all_used ds es ≡ None → all_found ds es ≡ None → AreSoundExpressions (widths_of ds) (all_resolved ds es)
+  all_sound ds Nothing u f = tt
+  all_sound ds (Also e es) u f =
+      let a = split (used ds e) (all_used ds es) u in let b = split (found ds e) (all_found ds es) f in (sound ds e a.0 b.0, all_sound ds es a.1 b.1)
+
+-- statements behind sound ones
+sound_behind : (widths : List ℕ) (a b : Statements) → AreSoundStatements widths a → AreSoundStatements widths b → AreSoundStatements widths (followed_by a b)
+sound_behind widths End b x y = y
+sound_behind widths (Then s a) b x y = (x.0, sound_behind widths a b x.1 y)
+
+short : (delay : ℕ) → found_delay (Some delay) ≡ None → delay ≤ greatest_delay
+short delay h = let k = fails (nat_lt greatest_delay delay) (Known model.LongDelay) h in not_above delay k
+  where
+    not_above : (n : ℕ) → nat_lt 4294967295 n ≡ false → n ≤ 4294967295
+    not_above n k = grind (arith, nat_tests)
+
+sound_assignment : (widths : List ℕ) (r : ℕ) (delay : Option ℕ) (e : Expression ℕ) → r < length widths → found_delay delay ≡ None → IsSoundExpression widths e
+    → IsSoundStatement widths (assignment r delay e)
+sound_assignment widths r None e n d s = (n, s)
+sound_assignment widths r (Some delay) e n d s = (n, short delay d, s)
+
+short_or_none : (delay : Option ℕ) → found_delay delay ≡ None → unwrap_or delay 0 ≤ greatest_delay
+short_or_none None d = omega arith
+short_or_none (Some delay) d = short delay d
+
+triggers_below : (ds : List Declared) (ts : List (Change × Text)) → unknown_among ds (map (λ t. t.1) ts) ≡ None
+    → All (λ t. t.1 < length (widths_of ds)) (map (trigger_of ds) ts)
+triggers_below ds [] u = All-nil (λ t. t.1 < length (widths_of ds))
+triggers_below ds (t ∷ ts) u =
+    let a = split (unknown ds t.1) (unknown_among ds (map (λ t. t.1) ts)) u in
+    All-cons (λ t. t.1 < length (widths_of ds)) (trigger_of ds t) (map (trigger_of ds) ts) (known_below ds t.1 a.0) (triggers_below ds ts a.1)
+
+counted : (ds : List Declared) (es : Expressions Text) → how_many (all_resolved ds es) ≡ count_of es
+counted ds Nothing = refl
+counted ds (Also e es) = omega (arith, counted ds es)
+
+same_count : (o : Option (List Piece)) (n : ℕ) → is_format_for o n ≡ true → argument_count (unwrap_or o []) ≡ n
+same_count None n h = absurd cc
+same_count (Some pieces) n h = equal_true (argument_count pieces) n h
+  where
+    equal_true : (a b : ℕ) → (a == b) ≡ true → a ≡ b
+    equal_true a b h = grind (arith, nat_tests)
+
+mutual
+  pub sound_in : (ds : List Declared) (s : source.Statement) → used_in ds s ≡ None → found_in ds s ≡ None → AreSoundStatements (widths_of ds) (statements_of ds s)
+  sound_in ds source.Empty u f = (tt, tt)
+  sound_in ds (source.Block body) u f = all_sound_in ds body u f
+  sound_in ds (source.Assign name delay e) u f =
+      let a = split (unknown ds name) (used ds e) u in let b = split (found_delay delay) (found ds e) f in
+      (sound_assignment (widths_of ds) (number_of ds name) delay (resolved ds e) (known_below ds name a.0) b.0 (sound ds e a.1 b.1), tt)
+  sound_in ds (source.AssignLater name delay e) u f =
+      let a = split (unknown ds name) (used ds e) u in let b = split (found_delay delay) (found ds e) f in
+      ((known_below ds name a.0, short_or_none delay b.0, sound ds e a.1 b.1), tt)
+  sound_in ds (source.Delay delay s) u f =
+      let b = split (found_delay (Some delay)) (found_in ds s) f in ((short delay b.0, sound_in ds s u b.1), tt)
+  sound_in ds (source.Await triggers s) u f =
+      let a = split (unknown_among ds (map (λ t. t.1) triggers)) (used_in ds s) u in
+      ((triggers_below ds triggers a.0, sound_in ds s a.1 f), tt)
+  sound_in ds (source.If c body) u f =
+      let a = split (used ds c) (all_used_in ds body) u in let b = split (found ds c) (all_found_in ds body) f in
+      ((sound ds c a.0 b.0, all_sound_in ds body a.1 b.1, tt), tt)
+  sound_in ds (source.IfElse c body otherwise) u f =
+      let a = split (used ds c) (or_else (all_used_in ds body) (all_used_in ds otherwise)) u in let a2 = split (all_used_in ds body) (all_used_in ds otherwise) a.1 in
+      let b = split (found ds c) (or_else (all_found_in ds body) (all_found_in ds otherwise)) f in let b2 = split (all_found_in ds body) (all_found_in ds otherwise) b.1 in
+      ((sound ds c a.0 b.0, all_sound_in ds body a2.0 b2.0, all_sound_in ds otherwise a2.1 b2.1), tt)
+  sound_in ds (source.While c body) u f =
+      let a = split (used ds c) (all_used_in ds body) u in let b = split (found ds c) (all_found_in ds body) f in
+      ((sound ds c a.0 b.0, all_sound_in ds body a.1 b.1), tt)
+  sound_in ds (source.Display format arguments) u f =
+      let b = split (found_format format (count_of arguments)) (all_found ds arguments) f in (
+        (
+          same_count (pieces_of format) (count_of arguments) (holds (is_format_for (pieces_of format) (count_of arguments)) (Known model.BadFormat) b.0) ∙ sym (counted ds arguments),
+          all_sound ds arguments u b.1,
+        ),
+        tt,
+      )
+  sound_in ds source.Finish u f = (tt, tt)
+
+  pub all_sound_in : (ds : List Declared) (ss : source.Statements) → all_used_in ds ss ≡ None → all_found_in ds ss ≡ None → AreSoundStatements (widths_of ds) (block_of ds ss)
+  all_sound_in ds source.End u f = tt
+  all_sound_in ds (source.Then s ss) u f =
+      let a = split (used_in ds s) (all_used_in ds ss) u in let b = split (found_in ds s) (all_found_in ds ss) f in
+      sound_behind (widths_of ds) (statements_of ds s) (block_of ds ss) (sound_in ds s a.0 b.0) (all_sound_in ds ss a.1 b.1)
+
+sound_by : (ds : List Declared) (ps : List source.Process) → used_by ds ps ≡ None → found_by ds ps ≡ None
+    → All (λ p. AreSoundStatements (widths_of ds) p.body) (map (process_of ds) ps)
+sound_by ds [] u f = All-nil (λ p. AreSoundStatements (widths_of ds) p.body)
+sound_by ds (p ∷ ps) u f =
+    let a = split (used_in ds p.body) (used_by ds ps) u in let b = split (found_in ds p.body) (found_by ds ps) f in
+    All-cons (λ p. AreSoundStatements (widths_of ds) p.body) (process_of ds p) (map (process_of ds) ps) (sound_in ds p.body a.0 b.0) (sound_by ds ps a.1 b.1)
+
+-- each range is allowed
+range_allowed : (before ds : List Declared) → found_names before ds ≡ None → (name : Text) → is_range (range_of ds name) ≡ true
+range_allowed before [] h name = refl
+range_allowed before (d ∷ ds) h name =
+    let a = split (found_name before d) (found_names (before ++ d ∷ []) ds) h in
+    by (has_name name d) refl (allowed before d.0 d.1 a.0).1 (range_allowed (before ++ d ∷ []) ds a.1 name)
+  where
+    by : (b : Bool) → has_name name d ≡ b → is_range d.1 ≡ true → is_range (range_of ds name) ≡ true → is_range (range_of (d ∷ ds) name) ≡ true
+    by true q mine others = rw q mine
+    by false q mine others = rw q others
+
+-- and there aren't too many registers
+few_registers : (before ds : List Declared) → found_names before ds ≡ None → length before ≤ 1024 → length before + length ds ≤ 1024
+few_registers before [] h few = omega arith
+few_registers before (d ∷ ds) h few =
+    let a = split (found_name before d) (found_names (before ++ d ∷ []) ds) h in
+    let room = (allowed before d.0 d.1 a.0).2 in
+    let e = length-append before (d ∷ []) in
+    let k : length (before ++ d ∷ []) ≤ 1024 = omega (arith, e) in
+    omega (arith, e, few_registers (before ++ d ∷ []) ds a.1 k)
+
+-- an allowed range has 1 to 64 digits
+high_of : (high low : ℕ) → ((low == 0) && nat_lt high 64) ≡ true → high < 64
+high_of high low h = grind (arith, nat_tests)
+
+some_width : (r : Option (ℕ × ℕ)) → is_range r ≡ true → 1 ≤ width_of r
+some_width None h = omega arith
+some_width (Some r) h = omega arith
+
+few_width : (r : Option (ℕ × ℕ)) → is_range r ≡ true → width_of r ≤ 64
+few_width None h = omega arith
+few_width (Some r) h = omega (arith, high_of r.0 r.1 h)
+
+some_widths : (before ds : List Declared) → found_names before ds ≡ None → All (λ w. 1 ≤ w) (widths_of ds)
+some_widths before [] h = All-nil (λ w. 1 ≤ w)
+some_widths before (d ∷ ds) h =
+    let a = split (found_name before d) (found_names (before ++ d ∷ []) ds) h in
+    All-cons (λ w. 1 ≤ w) (width_of d.1) (widths_of ds) (some_width d.1 (allowed before d.0 d.1 a.0).1) (some_widths (before ++ d ∷ []) ds a.1)
+
+few_widths : (before ds : List Declared) → found_names before ds ≡ None → All (λ w. w ≤ 64) (widths_of ds)
+few_widths before [] h = All-nil (λ w. w ≤ 64)
+few_widths before (d ∷ ds) h =
+    let a = split (found_name before d) (found_names (before ++ d ∷ []) ds) h in
+    All-cons (λ w. w ≤ 64) (width_of d.1) (widths_of ds) (few_width d.1 (allowed before d.0 d.1 a.0).1) (few_widths (before ++ d ∷ []) ds a.1)
+
+few_all : (n : ℕ) → nat_lt 256 n ≡ false → n ≤ 256
+few_all n h = grind (arith, nat_tests)
+
+-- the design of a module in which nothing is found is sound
+pub sound_design : (m : Module) → found_names [] (declared m) ≡ None → found_among (declared m) m.processes ≡ None → IsSound (design_of m)
+sound_design m n f =
+    let ds = declared m in let ps = m.processes in
+    let a = split (found_few (length ps)) (or_else (used_by ds ps) (found_by ds ps)) f in let b = split (used_by ds ps) (found_by ds ps) a.1 in
+    let zero_before : length {A = Declared} [] ≤ 1024 = omega arith in
+    let few = few_registers [] ds n zero_before in
+    let count = few_all (length ps) (fails (nat_lt 256 (length ps)) (Known model.TooManyProcesses) a.0) in
+    record {
+      some_digit = some_widths [] ds n;
+      few_digits = few_widths [] ds n;
+      few_registers = rw length-map (omega arith);
+      few_processes = rw length-map count;
+      statements = sound_by ds ps b.0 b.1;
+    }
+
+-- a bit index in an allowed range
+index_small : (r : Option (ℕ × ℕ)) (i : ℕ) → is_range r ≡ true → is_index r i ≡ true → i ≤ 64
+index_small None i h k = absurd cc
+index_small (Some r) i h k = let high = high_of r.0 r.1 h in below r.0 i high k
+  where
+    below : (high i : ℕ) → high < 64 → nat_le i high ≡ true → i ≤ 64
+    below high i h k = grind (arith, nat_tests)
+
+module _ (ds : List Declared) (ranged : (name : Text) → is_range (range_of ds name) ≡ true) where
+  mutual
+    pub small : (e : Expression Text) → found ds e ≡ None → IsSmall e
+    small (Register name) f = tt
+    small (Select name i) f = index_small (range_of ds name) i (ranged name) (holds (is_index (range_of ds name) i) (Known (model.BadIndex name)) f)
+    small (Literal v) f = literal_is (length v) (holds (is_literal v) Unspelled f)
+    small (Concat parts) f = all_small parts (split (found_concat ds parts) (all_found ds parts) f).1
+    small (Unary op e) f = small e f
+    small (Binary op e g) f = let b = split (found ds e) (found ds g) f in (small e b.0, small g b.1)
+    small (Conditional c e g) f =
+        let b = split (found ds c) (or_else (found ds e) (found ds g)) f in let b2 = split (found ds e) (found ds g) b.1 in
+        (small c b.0, small e b2.0, small g b2.1)
+
+    pub all_small : (es : Expressions Text) → all_found ds es ≡ None → AreSmall es
+    all_small Nothing f = tt
+    all_small (Also e es) f = let b = split (found ds e) (all_found ds es) f in (small e b.0, all_small es b.1)
+
+  short_delay : (delay : Option ℕ) → found_delay delay ≡ None → IsShort delay
+  short_delay None f = tt
+  short_delay (Some delay) f = short delay f
+
+  mutual
+    pub small_in : (s : source.Statement) → found_in ds s ≡ None → IsSmallStatement s
+    small_in source.Empty f = tt
+    small_in (source.Block body) f = all_small_in body f
+    small_in (source.Assign name delay e) f = let b = split (found_delay delay) (found ds e) f in (short_delay delay b.0, small e b.1)
+    small_in (source.AssignLater name delay e) f = let b = split (found_delay delay) (found ds e) f in (short_delay delay b.0, small e b.1)
+    small_in (source.Delay delay s) f = let b = split (found_delay (Some delay)) (found_in ds s) f in (short delay b.0, small_in s b.1)
+    small_in (source.Await triggers s) f = small_in s f
+    small_in (source.If c body) f = let b = split (found ds c) (all_found_in ds body) f in (small c b.0, all_small_in body b.1)
+    small_in (source.IfElse c body otherwise) f =
+        let b = split (found ds c) (or_else (all_found_in ds body) (all_found_in ds otherwise)) f in let b2 = split (all_found_in ds body) (all_found_in ds otherwise) b.1 in
+        (small c b.0, all_small_in body b2.0, all_small_in otherwise b2.1)
+    small_in (source.While c body) f = let b = split (found ds c) (all_found_in ds body) f in (small c b.0, all_small_in body b.1)
+    small_in (source.Display format arguments) f = all_small arguments (split (found_format format (count_of arguments)) (all_found ds arguments) f).1
+    small_in source.Finish f = tt
+
+    pub all_small_in : (ss : source.Statements) → all_found_in ds ss ≡ None → AreSmallStatements ss
+    all_small_in source.End f = tt
+    all_small_in (source.Then s ss) f = let b = split (found_in ds s) (all_found_in ds ss) f in (small_in s b.0, all_small_in ss b.1)
+
+  pub small_by : (ps : List source.Process) → found_by ds ps ≡ None → AreSmallProcesses ps
+  small_by [] f = tt
+  small_by (p ∷ ps) f = let b = split (found_in ds p.body) (found_by ds ps) f in (small_in p.body b.0, small_by ps b.1)
+
+-- the processes of a module in which nothing is found are small
+pub small_module : (m : Module) → found_names [] (declared m) ≡ None → found_among (declared m) m.processes ≡ None → AreSmallProcesses m.processes
+small_module m n f =
+    let ds = declared m in let ps = m.processes in
+    let a = split (found_few (length ps)) (or_else (used_by ds ps) (found_by ds ps)) f in let b = split (used_by ds ps) (found_by ds ps) a.1 in
+    small_by ds (range_allowed [] ds n) ps b.1

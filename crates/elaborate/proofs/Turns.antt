@@ -1,0 +1,81 @@
+-- What one turn of a loop does.
+use Rattle.std.proofs.Common.{◌≡◌, ℕ, suc, ◌+◌, ◌<◌, ◌≤◌, List, ◌∷◌, ◌++◌, map, length, get_or, drop, sym, ap, subst, ◌∙◌, add-one, append-nil, append_assoc, Option, Some, None, string_bytes, drop-cons}
+use Rattle.std.proofs.lemmas.List.{drop_all}
+use Rattle.model.specs.Design.{Statements}
+use Rattle.model.specs.Elaboration as model
+use Rattle.model.specs.Elaboration.{Declared, all_resolved, block_of, followed_by, resolved}
+use Rattle.model.specs.declared.tree.Statement as statement
+use Rattle.model.specs.declared.tree.Expression as expression
+use Rattle.model.specs.declared.tree.Declaration as declaration
+use Rattle.model.specs.Trees as source
+use Rattle.model.specs.Trees.{statement_of, statements, expression_of, declaration_of}
+use Rattle.design.specs.declared.tree.Expression as made
+use Rattle.design.specs.Trees as tree
+use Rattle.elaborate.specs.declared.fault.ElabFault.{ElabFault}
+use Rattle.elaborate.specs.Registers.{all_declared, of_range}
+use Rattle.elaborate.specs.Findings.{Found, or_else, found_names, IsFirstOf}
+use Rattle.elaborate.specs.Small.{AreSmallStatements}
+use Rattle.elaborate.proofs.Found.{found_names_append}
+use Rattle.elaborate.proofs.Bodies.{followed_by_assoc, followed_by_end, resolved_are}
+
+-- the element at a place, and those behind it
+next_of : {A : Type 0} (xs : List A) (i : ℕ) (x : A) → i < length xs → x ≡ get_or xs i x → drop i xs ≡ x ∷ drop (i + 1) xs
+next_of xs i x h e = rw add-one (drop-cons xs i x h ∙ ap (λ y. y ∷ drop (suc i) xs) (sym e))
+
+module _ (ds : List Declared) (body : List statement.Statement) (i : ℕ) (whole into : Statements) where
+  pub one_statement : (s : statement.Statement) (next : Statements) → i < length body → s ≡ get_or body i s
+      → next ≡ followed_by into (model.statements_of ds (statement_of s))
+      → followed_by into (block_of ds (statements (map statement_of (drop i body)))) ≡ whole
+      → followed_by next (block_of ds (statements (map statement_of (drop (i + 1) body)))) ≡ whole
+  one_statement s next h e n inv =
+      ap (λ a. followed_by a (block_of ds (statements (map statement_of (drop (i + 1) body))))) n
+      ∙ followed_by_assoc into (model.statements_of ds (statement_of s)) (block_of ds (statements (map statement_of (drop (i + 1) body))))
+      ∙ ap (λ xs. followed_by into (block_of ds (statements (map statement_of xs)))) (sym (next_of body i s h e))
+      ∙ inv
+
+  pub last_statement : length body ≤ i → followed_by into (block_of ds (statements (map statement_of (drop i body)))) ≡ whole → into ≡ whole
+  last_statement h inv =
+      sym (followed_by_end into) ∙ ap (λ xs. followed_by into (block_of ds (statements (map statement_of xs)))) (sym (drop_all i body h)) ∙ inv
+
+-- what holds of statements from a place on holds of the first and of the others
+pub others_small : (body : List statement.Statement) (i : ℕ) (s : statement.Statement) → i < length body → s ≡ get_or body i s
+    → AreSmallStatements (statements (map statement_of (drop i body))) → AreSmallStatements (statements (map statement_of (drop (i + 1) body)))
+others_small body i s h e small = (subst (λ xs. AreSmallStatements (statements (map statement_of xs))) (next_of body i s h e) small).1
+
+-- the parts of an expression
+pub all_parts : (ds : List Declared) (es : List made.Expression) (parts : List expression.Expression) (i : ℕ) → length parts ≤ i
+    → map tree.expression_of es ++ map (resolved ds) (map expression_of (drop i parts)) ≡ map (resolved ds) (map expression_of parts)
+    → tree.expressions (map tree.expression_of es) ≡ all_resolved ds (source.expressions (map expression_of parts))
+all_parts ds es parts i h inv =
+    ap tree.expressions (sym (append-nil (map tree.expression_of es)) ∙ ap (λ xs. map tree.expression_of es ++ map (resolved ds) (map expression_of xs)) (sym (drop_all i parts h)) ∙ inv)
+    ∙ sym (resolved_are ds (map expression_of parts))
+
+-- what is told of the first part is told of both
+pub first_part : (f : ElabFault) (a b : Option Found) → IsFirstOf f a → IsFirstOf f (or_else a b)
+first_part f (Some x) b is = is
+first_part f None None is = is
+first_part f None (Some x) is = rw is tt
+
+module _ (names : List Declared) (ds : List declaration.Declaration) (d : declaration.Declaration) (i : ℕ) (h : i < length ds) (e : d ≡ get_or ds i d) where
+  abbrev mine : List Declared
+  mine = of_range d.range (map string_bytes d.names.items)
+
+  abbrev behind : List Declared
+  behind = all_declared (map declaration_of (drop (i + 1) ds))
+
+  pub split_declared : all_declared (map declaration_of (drop i ds)) ≡ of_range d.range (map string_bytes d.names.items) ++ all_declared (map declaration_of (drop (i + 1) ds))
+  split_declared = ap (λ xs. all_declared (map declaration_of xs)) (next_of ds i d h e)
+
+  pub one_declaration : (next : List Declared) → next ≡ names ++ of_range d.range (map string_bytes d.names.items)
+      → names ++ all_declared (map declaration_of (drop i ds)) ≡ next ++ all_declared (map declaration_of (drop (i + 1) ds))
+  one_declaration next n = ap (λ xs. names ++ xs) split_declared ∙ sym (append_assoc names mine behind) ∙ ap (λ xs. xs ++ behind) (sym n)
+
+  pub found_behind : (next : List Declared) → next ≡ names ++ of_range d.range (map string_bytes d.names.items)
+      → found_names names (of_range d.range (map string_bytes d.names.items)) ≡ None
+      → found_names names (all_declared (map declaration_of (drop i ds))) ≡ found_names next (all_declared (map declaration_of (drop (i + 1) ds)))
+  found_behind next n none =
+      ap (found_names names) split_declared ∙ found_names_append names mine behind ∙ ap (λ o. or_else o (found_names (names ++ mine) behind)) none
+      ∙ ap (λ xs. found_names xs behind) (sym n)
+
+  pub fault_in : (f : ElabFault) → IsFirstOf f (found_names names (of_range d.range (map string_bytes d.names.items))) → IsFirstOf f (found_names names (all_declared (map declaration_of (drop i ds))))
+  fault_in f is = subst (IsFirstOf f) (sym (ap (found_names names) split_declared ∙ found_names_append names mine behind)) (first_part f (found_names names mine) (found_names (names ++ mine) behind) is)

@@ -1,0 +1,8 @@
+use Rattle.std.proofs.Common.{◌≡◌, map, drop}
+use Rattle.model.specs.Trees.{process_of}
+use Rattle.elaborate.specs.Findings.{found_by}
+use Rattle.elaborate.proofs.check.processes.Given as goal
+
+abbrev pub invariant-loop-process : goal.invariant-loop-process
+invariant-loop-process l =
+    found_by l.names (map process_of l.processes) ≡ found_by l.names (map process_of (drop l.process-index l.processes))

@@ -1,0 +1,11 @@
+use Rattle.std.proofs.Common.{◌≡◌, ◌++◌, [], map, drop}
+use Rattle.model.specs.Trees.{declaration_of}
+use Rattle.elaborate.specs.Registers.{all_declared}
+use Rattle.elaborate.specs.Findings.{found_names}
+use Rattle.elaborate.proofs.registers.registers.Given as goal
+
+abbrev pub invariant-loop-declaration : goal.invariant-loop-declaration
+invariant-loop-declaration l = record {
+  registers : l.names ++ all_declared (map declaration_of (drop l.declaration-index l.declarations)) ≡ all_declared (map declaration_of l.declarations);
+  found : found_names [] (all_declared (map declaration_of l.declarations)) ≡ found_names l.names (all_declared (map declaration_of (drop l.declaration-index l.declarations)));
+}

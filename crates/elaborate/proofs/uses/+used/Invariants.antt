@@ -1,0 +1,8 @@
+use Rattle.std.proofs.Common.{◌≡◌, map, drop}
+use Rattle.model.specs.Trees.{expression_of, expressions}
+use Rattle.elaborate.specs.Findings.{all_used}
+use Rattle.elaborate.proofs.uses.+used.Given as goal
+
+abbrev pub invariant-expressions-loop-part : goal.invariant-expressions-loop-part
+invariant-expressions-loop-part l =
+    all_used l.names (expressions (map expression_of l.parts)) ≡ all_used l.names (expressions (map expression_of (drop l.part-index l.parts)))

@@ -1,0 +1,32 @@
+-- Which fault of a module is told.
+use Rattle.std.specs.Prelude.{◌≡◌, List, [], ◌∷◌, Option, Some, None, string_bytes}
+use Rattle.model.specs.Elaboration as model
+use Rattle.model.specs.Elaboration.{Fault}
+use Rattle.model.specs.Syntax.{Module}
+use Rattle.elaborate.specs.Formed.{IsFormedModule}
+use Rattle.elaborate.specs.declared.fault.ElabFault.{ElabFault}
+use Rattle.elaborate.specs.declared.fault.ElabFault.TheVariants.{Undeclared, DeclaredTwice, BadRange, TooManyRegisters, TooManyProcesses, BadFormat, WideConcat, BadIndex, LongDelay, Memory, Unspelled}
+
+-- the first of some faults
+abbrev pub first : List Fault → Option Fault
+first [] = None
+first (f ∷ fs) = Some f
+
+-- that no source spells a module is told of such a module alone
+abbrev pub IsToldRightly : ElabFault → Module → Type 0
+IsToldRightly Unspelled m = IsFormedModule m → ⊥
+IsToldRightly fault m = Unit {0}
+
+-- what is told is the first of the faults, with its name; want of memory, and a tree that no source spells, may be told of any module
+abbrev pub IsFirstFault : ElabFault → List Fault → Type 0
+IsFirstFault (Undeclared name) faults = first faults ≡ Some (model.Undeclared (string_bytes name))
+IsFirstFault (DeclaredTwice name) faults = first faults ≡ Some (model.DeclaredTwice (string_bytes name))
+IsFirstFault (BadRange name) faults = first faults ≡ Some (model.BadRange (string_bytes name))
+IsFirstFault TooManyRegisters faults = first faults ≡ Some model.TooManyRegisters
+IsFirstFault TooManyProcesses faults = first faults ≡ Some model.TooManyProcesses
+IsFirstFault BadFormat faults = first faults ≡ Some model.BadFormat
+IsFirstFault WideConcat faults = first faults ≡ Some model.WideConcat
+IsFirstFault (BadIndex name) faults = first faults ≡ Some (model.BadIndex (string_bytes name))
+IsFirstFault LongDelay faults = first faults ≡ Some model.LongDelay
+IsFirstFault Memory faults = Unit {0}
+IsFirstFault Unspelled faults = Unit {0}

@@ -1,0 +1,52 @@
+-- Trees that some source spells: the grammar has literals of 1 to 64 digits (3.5.1), and concatenations of at least one part (5.1.14).
+use Rattle.std.specs.Prelude.{◌≤◌, List, [], ◌∷◌, length}
+use Rattle.model.specs.Syntax as source
+use Rattle.model.specs.Syntax.{Text, greatest_width, Expression, Register, Select, Literal, Concat, Unary, Binary, Conditional, Expressions, Nothing, Also, Module}
+
+-- there is at least one expression
+abbrev pub HasParts : Expressions Text → Type 0
+HasParts Nothing = ⊥
+HasParts (Also e es) = Unit {0}
+
+-- each literal has 1 to 64 digits, and each concatenation has a part
+abbrev mutual
+  pub IsFormed : Expression Text → Type 0
+  IsFormed (Register name) = Unit {0}
+  IsFormed (Select name i) = Unit {0}
+  IsFormed (Literal v) = (1 ≤ length v) × (length v ≤ greatest_width)
+  IsFormed (Concat parts) = HasParts parts × AreFormed parts
+  IsFormed (Unary op e) = IsFormed e
+  IsFormed (Binary op e f) = IsFormed e × IsFormed f
+  IsFormed (Conditional c e f) = IsFormed c × (IsFormed e × IsFormed f)
+
+  pub AreFormed : Expressions Text → Type 0
+  AreFormed Nothing = Unit {0}
+  AreFormed (Also e es) = IsFormed e × AreFormed es
+
+-- each expression of the statements is formed
+abbrev mutual
+  pub IsFormedStatement : source.Statement → Type 0
+  IsFormedStatement source.Empty = Unit {0}
+  IsFormedStatement (source.Block body) = AreFormedStatements body
+  IsFormedStatement (source.Assign name delay e) = IsFormed e
+  IsFormedStatement (source.AssignLater name delay e) = IsFormed e
+  IsFormedStatement (source.Delay delay s) = IsFormedStatement s
+  IsFormedStatement (source.Await triggers s) = IsFormedStatement s
+  IsFormedStatement (source.If c body) = IsFormed c × AreFormedStatements body
+  IsFormedStatement (source.IfElse c body otherwise) = IsFormed c × (AreFormedStatements body × AreFormedStatements otherwise)
+  IsFormedStatement (source.While c body) = IsFormed c × AreFormedStatements body
+  IsFormedStatement (source.Display format arguments) = AreFormed arguments
+  IsFormedStatement source.Finish = Unit {0}
+
+  pub AreFormedStatements : source.Statements → Type 0
+  AreFormedStatements source.End = Unit {0}
+  AreFormedStatements (source.Then s ss) = IsFormedStatement s × AreFormedStatements ss
+
+-- each process has a formed body
+abbrev pub AreFormedProcesses : List source.Process → Type 0
+AreFormedProcesses [] = Unit {0}
+AreFormedProcesses (p ∷ ps) = IsFormedStatement p.body × AreFormedProcesses ps
+
+-- a module as some source spells it
+abbrev pub IsFormedModule : Module → Type 0
+IsFormedModule m = AreFormedProcesses m.processes

@@ -1,0 +1,110 @@
+//! The nodes of a design's tree, with what each stands for.
+ghost use Rattle.std.specs.Prelude.{◌≡◌, map, unwrap_or, IfOk, OnOk};
+ghost use Rattle.design.specs.Trees.{expression_of, expressions_of, piece_of, statement_of, statements_of};
+ghost use Rattle.model.specs.Design as model;
+ghost use Rattle.model.specs.Elaboration.{alone, assignment, followed_by};
+ghost use Rattle.model.specs.Syntax as syntax;
+ghost use Rattle.elaborate.specs.Small.{IsShort};
+
+use design::tree::{Expression, Piece, Statement};
+use design::{RegId, Trigger};
+use model::tree::{BinaryOperator, UnaryOperator};
+use std::alloc::{AllocError, Global};
+
+pub fn concat_of(parts: Vec<Expression>) -> Expression
+    ensures { expression_of result ≡ syntax.Concat (expressions_of parts.items) }
+{
+    Expression::Concat(parts)
+}
+
+pub fn unary_of(alloc: Global, op: UnaryOperator, e: Expression) -> Result<Expression, AllocError>
+    ensures { IfOk result (λ made. expression_of made ≡ syntax.Unary op (expression_of e)) }
+{
+    Ok(Expression::Unary(op, Box::new(alloc, e)?))
+}
+
+pub fn binary_of(
+    alloc: Global,
+    op: BinaryOperator,
+    left: Expression,
+    right: Expression,
+) -> Result<Expression, AllocError>
+    ensures { IfOk result (λ made. expression_of made ≡ syntax.Binary op (expression_of left) (expression_of right)) }
+{
+    Ok(Expression::Binary(op, Box::new(alloc, left)?, Box::new(alloc, right)?))
+}
+
+pub fn conditional_of(
+    alloc: Global,
+    test: Expression,
+    first: Expression,
+    second: Expression,
+) -> Result<Expression, AllocError>
+    ensures { IfOk result
+        (λ made. expression_of made ≡ syntax.Conditional (expression_of test) (expression_of first) (expression_of second)) }
+{
+    Ok(Expression::Conditional(
+        Box::new(alloc, test)?,
+        Box::new(alloc, first)?,
+        Box::new(alloc, second)?,
+    ))
+}
+
+pub fn assign_of(register: RegId, wait: Option<u64>, value: Expression) -> Statement
+    requires { IsShort wait }
+    ensures { statement_of result ≡ assignment register wait (expression_of value) }
+{
+    match wait {
+        Some(wait) => Statement::AssignAfter(register, wait as u32, value),
+        None => Statement::Assign(register, value),
+    }
+}
+
+pub fn assign_later_of(register: RegId, wait: Option<u64>, value: Expression) -> Statement
+    requires { IsShort wait }
+    ensures { statement_of result ≡ model.AssignLater register (unwrap_or wait 0) (expression_of value) }
+{
+    match wait {
+        Some(wait) => Statement::AssignLater(register, wait as u32, value),
+        None => Statement::AssignLater(register, 0, value),
+    }
+}
+
+pub fn delay_of(wait: u32, body: Vec<Statement>) -> Statement
+    ensures { statement_of result ≡ model.Delay wait (statements_of body.items) }
+{
+    Statement::Delay(wait, body)
+}
+
+pub fn await_of(triggers: Vec<Trigger>, body: Vec<Statement>) -> Statement
+    ensures { statement_of result ≡ model.Await triggers.items (statements_of body.items) }
+{
+    Statement::Await(triggers, body)
+}
+
+pub fn if_of(test: Expression, body: Vec<Statement>, otherwise: Vec<Statement>) -> Statement
+    ensures { statement_of result ≡ model.If (expression_of test) (statements_of body.items) (statements_of otherwise.items) }
+{
+    Statement::If(test, body, otherwise)
+}
+
+pub fn while_of(test: Expression, body: Vec<Statement>) -> Statement
+    ensures { statement_of result ≡ model.While (expression_of test) (statements_of body.items) }
+{
+    Statement::While(test, body)
+}
+
+pub fn display_of(format: Vec<Piece>, arguments: Vec<Expression>) -> Statement
+    ensures { statement_of result ≡ model.Display (map piece_of format.items) (expressions_of arguments.items) }
+{
+    Statement::Display(format, arguments)
+}
+
+/// One statement more.
+#[tactic(auto, using(crate::proofs::Bodies::one_more))]
+pub fn push(into: &mut Vec<Statement>, s: Statement) -> Result<(), AllocError>
+    ensures { OnOk result (statements_of into.new.items ≡ followed_by (statements_of into.old.items) (alone (statement_of s))) }
+{
+    into.push(s)?;
+    Ok(())
+}

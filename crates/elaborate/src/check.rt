@@ -1,0 +1,256 @@
+//! Formats, concatenations, bit indices and delays, in the order of the text.
+ghost use Rattle.std.specs.Prelude.{◌≡◌, ◌==◌, [], map, max, length, nat_lt};
+ghost use Rattle.model.specs.Elaboration.{all_resolved, count_of, resolved, widths_of};
+ghost use Rattle.model.specs.Expressions.{own_size, result_size, sizing_of, total_size, unary_size};
+ghost use Rattle.model.specs.Elaboration as model;
+ghost use Rattle.model.specs.Syntax.{greatest_width, Concat, Literal, Select};
+ghost use Rattle.model.specs.Trees.{expression_of, expressions, process_of, statement_of, statements};
+ghost use Rattle.elaborate.specs.Findings.{Known, Unspelled, verdict, or_else, capped, found_where, found, all_found, found_delay, found_format, found_in, all_found_in, found_by};
+
+use crate::finding::Finding;
+use crate::format;
+use crate::names::Names;
+use logic4::digit::Digit;
+use model::tree::{BinaryOperator, Expression, Process, Statement, UnaryOperator};
+
+const MAX_WIDTH: u32 = 64;
+
+const MAX_DELAY: u64 = 4_294_967_295;
+
+/// What is told of an expression: its own size (5.4.1), or 65 where it is greater, and what is wrong with it first.
+#[derive(Clone, Copy)]
+struct Checked<'a> {
+    size: u32,
+    verdict: Result<(), Finding<'a>>,
+}
+
+/// Refuses the first thing that is wrong with these processes.
+pub fn processes<'a>(names: &Names, processes: &'a [Process]) -> Result<(), Finding<'a>>
+    ensures { verdict result ≡ found_by names.now (map process_of processes.now) }
+{
+    for process in processes {
+        statement(names, &process.body)?;
+    }
+    Ok(())
+}
+
+#[cycle(found_in)]
+fn statement<'a>(names: &Names, s: &'a Statement) -> Result<(), Finding<'a>>
+    ensures { verdict result ≡ found_in names.now (statement_of s.now) }
+{
+    match s {
+        Statement::Empty | Statement::Finish => Ok(()),
+        Statement::Block(body) => block(names, body.as_slice()),
+        Statement::Assign(_, wait, e) | Statement::AssignLater(_, wait, e) => {
+            delay(*wait)?;
+            expression(names, e).verdict
+        }
+        Statement::Delay(wait, s) => {
+            delay(Some(*wait))?;
+            statement(names, s)
+        }
+        Statement::Await(_, s) => statement(names, s),
+        Statement::If(c, body) | Statement::While(c, body) => {
+            expression(names, c).verdict?;
+            block(names, body.as_slice())
+        }
+        Statement::IfElse(c, body, otherwise) => {
+            expression(names, c).verdict?;
+            block(names, body.as_slice())?;
+            block(names, otherwise.as_slice())
+        }
+        Statement::Display(format, arguments) => {
+            display(format.as_slice(), arguments.as_slice())?;
+            expressions(names, arguments.as_slice()).verdict
+        }
+    }
+}
+
+#[cycle(found_in)]
+fn block<'a>(names: &Names, body: &'a [Statement]) -> Result<(), Finding<'a>>
+    ensures { verdict result ≡ all_found_in names.now (statements (map statement_of body.now)) }
+{
+    for s in body {
+        statement(names, s)?;
+    }
+    Ok(())
+}
+
+fn delay<'a>(wait: Option<u64>) -> Result<(), Finding<'a>>
+    ensures { verdict result ≡ found_delay wait }
+{
+    match wait {
+        Some(wait) if wait > MAX_DELAY => Err(Finding::LongDelay),
+        _ => Ok(()),
+    }
+}
+
+fn display<'a>(format: &[u8], arguments: &[Expression]) -> Result<(), Finding<'a>>
+    ensures { verdict result ≡ found_format format.now (count_of (expressions (map expression_of arguments.now))) }
+{
+    shows(format, arguments.len())
+}
+
+fn shows<'a>(format: &[u8], arguments: usize) -> Result<(), Finding<'a>>
+    ensures { verdict result ≡ found_format format.now arguments }
+{
+    match format::conversions(format) {
+        Some(count) if count == arguments => Ok(()),
+        _ => Err(Finding::BadFormat),
+    }
+}
+
+#[cycle(found)]
+fn expression<'a>(names: &Names, e: &'a Expression) -> Checked<'a>
+    ensures size { result.size ≡ capped (own_size (widths_of names.now) (resolved names.now (expression_of e.now))) }
+    ensures found { verdict result.verdict ≡ found names.now (expression_of e.now) }
+{
+    match e {
+        Expression::Name(name) => Checked {
+            size: names.width(name.as_str()),
+            verdict: Ok(()),
+        },
+        Expression::Select(name, index) => Checked {
+            size: 1,
+            verdict: bit(names, name.as_str(), *index),
+        },
+        Expression::Literal(digits) => literal(digits.as_slice()),
+        Expression::Concat(parts) => concat(names, parts.as_slice()),
+        Expression::Unary(op, e) => unary(*op, expression(names, e)),
+        Expression::Binary(op, e, f) => binary(*op, expression(names, e), expression(names, f)),
+        Expression::Conditional(c, e, f) => {
+            let test = expression(names, c);
+            chosen(test, expression(names, e), expression(names, f))
+        }
+    }
+}
+
+#[cycle(found)]
+#[tactic(auto, using(crate::proofs::Sizes::concat_is))]
+fn concat<'a>(names: &Names, parts: &'a [Expression]) -> Checked<'a>
+    ensures size { result.size ≡ capped (own_size (widths_of names.now) (resolved names.now (Concat (expressions (map expression_of parts.now))))) }
+    ensures found { verdict result.verdict ≡ found names.now (Concat (expressions (map expression_of parts.now))) }
+{
+    let inside = expressions(names, parts);
+    Checked {
+        size: inside.size,
+        verdict: first(joined(inside.size, parts.len()), inside.verdict),
+    }
+}
+
+#[cycle(found)]
+fn expressions<'a>(names: &Names, parts: &'a [Expression]) -> Checked<'a>
+    ensures size { result.size ≡ capped (total_size (widths_of names.now) (all_resolved names.now (expressions (map expression_of parts.now)))) }
+    ensures found { verdict result.verdict ≡ all_found names.now (expressions (map expression_of parts.now)) }
+{
+    let mut size = 0;
+    let mut verdict = Ok(());
+    for part in parts {
+        let checked = expression(names, part);
+        size = cap(size + checked.size);
+        verdict = first(verdict, checked.verdict);
+    }
+    Checked { size, verdict }
+}
+
+fn unary<'a>(op: UnaryOperator, operand: Checked<'a>) -> Checked<'a>
+    ensures size { result.size ≡ unary_size op operand.entry.size }
+    ensures verdict { verdict result.verdict ≡ verdict operand.entry.verdict }
+{
+    Checked {
+        size: match op {
+            UnaryOperator::Not => operand.size,
+            _ => 1,
+        },
+        verdict: operand.verdict,
+    }
+}
+
+fn binary<'a>(op: BinaryOperator, left: Checked<'a>, right: Checked<'a>) -> Checked<'a>
+    ensures size { result.size ≡ result_size (sizing_of op) left.entry.size right.entry.size }
+    ensures verdict { verdict result.verdict ≡ or_else (verdict left.entry.verdict) (verdict right.entry.verdict) }
+{
+    Checked {
+        size: binary_size(op, left.size, right.size),
+        verdict: first(left.verdict, right.verdict),
+    }
+}
+
+fn binary_size(op: BinaryOperator, left: u32, right: u32) -> u32
+    ensures { result ≡ result_size (sizing_of op) left right }
+{
+    match op {
+        BinaryOperator::Or
+        | BinaryOperator::Xor
+        | BinaryOperator::And
+        | BinaryOperator::Add
+        | BinaryOperator::Subtract => left.max(right),
+        BinaryOperator::ShiftLeft | BinaryOperator::ShiftRight => left,
+        _ => 1,
+    }
+}
+
+fn chosen<'a>(test: Checked<'a>, left: Checked<'a>, right: Checked<'a>) -> Checked<'a>
+    ensures size { result.size ≡ max left.entry.size right.entry.size }
+    ensures verdict { verdict result.verdict
+        ≡ or_else (verdict test.entry.verdict) (or_else (verdict left.entry.verdict) (verdict right.entry.verdict)) }
+{
+    Checked {
+        size: left.size.max(right.size),
+        verdict: first(test.verdict, first(left.verdict, right.verdict)),
+    }
+}
+
+fn literal<'a>(digits: &[Digit]) -> Checked<'a>
+    ensures size { result.size ≡ capped (length digits.now) }
+    ensures verdict { verdict result.verdict ≡ found [] (Literal digits.now) }
+{
+    let size = digits.len().min(65) as u32;
+    Checked {
+        size,
+        verdict: if 0 < size && size <= MAX_WIDTH {
+            Ok(())
+        } else {
+            Err(Finding::Unspelled)
+        },
+    }
+}
+
+fn bit<'a>(names: &Names, name: &'a str, index: u64) -> Result<(), Finding<'a>>
+    ensures { verdict result ≡ found names.now (Select name.now index) }
+{
+    match names.range(name) {
+        Some((high, _)) if index <= high => Ok(()),
+        _ => Err(Finding::BadIndex(name)),
+    }
+}
+
+// A concatenation of so many digits together, and of so many parts.
+fn joined<'a>(size: u32, parts: usize) -> Result<(), Finding<'a>>
+    ensures { verdict result ≡ or_else (found_where (nat_lt greatest_width size) (Known model.WideConcat)) (found_where (parts == 0) Unspelled) }
+{
+    if size > MAX_WIDTH {
+        Err(Finding::WideConcat)
+    } else if parts == 0 {
+        Err(Finding::Unspelled)
+    } else {
+        Ok(())
+    }
+}
+
+// The first of two findings.
+fn first<'a>(
+    one: Result<(), Finding<'a>>,
+    other: Result<(), Finding<'a>>,
+) -> Result<(), Finding<'a>>
+    ensures { verdict result ≡ or_else (verdict one.entry) (verdict other.entry) }
+{
+    one?;
+    other
+}
+
+fn cap(size: u32) -> u32
+    ensures { result ≡ capped size }
+{
+    size.min(65)
+}

@@ -1,0 +1,60 @@
+//! From a module to its design.
+ghost use Rattle.std.specs.Prelude.{◌≡◌, [], None, map, length, IfOk, IfErr};
+ghost use Rattle.design.specs.Compiled.{design_of};
+ghost use Rattle.elaborate.specs.Faults.{IsFirstFault, IsToldRightly};
+ghost use Rattle.elaborate.specs.Findings.{verdict, found_among, found_few};
+ghost use Rattle.model.specs.Elaboration as model;
+ghost use Rattle.model.specs.Elaboration.{declared, faults};
+ghost use Rattle.model.specs.Trees.{module_of, process_of};
+
+use crate::fault::ElabFault;
+use crate::finding::Finding;
+use crate::names::Names;
+use crate::{check, registers, resolve, uses};
+use design::Design;
+use model::tree::{Module, Process};
+use std::alloc::Global;
+
+const MAX_PROCESSES: usize = 256;
+
+/// The design of a module without faults: its registers by number, in the order of their declarations, and its
+/// processes over those numbers.
+///
+/// # Errors
+///
+/// The first fault of a module that has one, by the codes E1 to E9: those of the declarations come first, then too
+/// many processes, then names that aren't declared, and then those of the statements, each in the order of the text.
+/// `Memory` where memory is refused, and `Unspelled` for a tree that no source spells.
+pub fn elaborate(alloc: Global, module: &Module) -> Result<Design, ElabFault>
+    ensures faultless { IfOk result (λ d. faults (module_of module.now) ≡ []) }
+    ensures design { IfOk result (λ d. design_of d ≡ model.design_of (module_of module.now)) }
+    ensures names { IfOk result (λ d. d.names ≡ map (λ x. x.0) (declared (module_of module.now))) }
+    ensures fault { IfErr result (λ f. IsFirstFault f (faults (module_of module.now))) }
+    ensures spelled { IfErr result (λ f. IsToldRightly f (module_of module.now)) }
+{
+    let names = registers::registers(alloc, module.regs.as_slice())?;
+    if let Err(finding) = allowed(&names, module.procs.as_slice()) {
+        return Err(finding.fault(alloc));
+    }
+    let processes = resolve::processes(alloc, &names, module.procs.as_slice())?;
+    Ok(names.design(alloc, processes)?)
+}
+
+/// Refuses the first thing that is wrong with the processes of a module.
+pub fn allowed<'a>(names: &Names, processes: &'a [Process]) -> Result<(), Finding<'a>>
+    ensures { verdict result ≡ found_among names.now (map process_of processes.now) }
+{
+    few(processes.len())?;
+    uses::processes(names, processes)?;
+    check::processes(names, processes)
+}
+
+fn few<'a>(processes: usize) -> Result<(), Finding<'a>>
+    ensures { verdict result ≡ found_few processes }
+{
+    if processes > MAX_PROCESSES {
+        Err(Finding::TooManyProcesses)
+    } else {
+        Ok(())
+    }
+}

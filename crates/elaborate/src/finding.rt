@@ -1,0 +1,52 @@
+//! What a walk over the tree finds first, with the name as it stands in the tree.
+ghost use Rattle.std.specs.Prelude.{IfOk};
+ghost use Rattle.elaborate.specs.Findings.{IsFaultOf, plain};
+
+use crate::fault::ElabFault;
+use std::alloc::{AllocError, Global};
+
+/// A fault that isn't about memory.
+#[derive(Clone, Copy)]
+pub enum Finding<'a> {
+    Undeclared(&'a str),
+    DeclaredTwice(&'a str),
+    BadRange(&'a str),
+    TooManyRegisters,
+    TooManyProcesses,
+    BadFormat,
+    WideConcat,
+    BadIndex(&'a str),
+    LongDelay,
+    Unspelled,
+}
+
+impl Finding<'_> {
+    /// The fault that is told. Where memory is refused for the name, that is the fault.
+    pub fn fault(self, alloc: Global) -> ElabFault
+        ensures { IsFaultOf result (plain self.entry) }
+    {
+        match self.owned(alloc) {
+            Ok(fault) => fault,
+            Err(_) => ElabFault::Memory,
+        }
+    }
+
+    fn owned(self, alloc: Global) -> Result<ElabFault, AllocError>
+        ensures { IfOk result (λ f. IsFaultOf f (plain self.entry)) }
+    {
+        Ok(match self {
+            Finding::Undeclared(name) => ElabFault::Undeclared(String::from_str(alloc, name)?),
+            Finding::DeclaredTwice(name) => ElabFault::DeclaredTwice(String::from_str(
+                alloc, name,
+            )?),
+            Finding::BadRange(name) => ElabFault::BadRange(String::from_str(alloc, name)?),
+            Finding::TooManyRegisters => ElabFault::TooManyRegisters,
+            Finding::TooManyProcesses => ElabFault::TooManyProcesses,
+            Finding::BadFormat => ElabFault::BadFormat,
+            Finding::WideConcat => ElabFault::WideConcat,
+            Finding::BadIndex(name) => ElabFault::BadIndex(String::from_str(alloc, name)?),
+            Finding::LongDelay => ElabFault::LongDelay,
+            Finding::Unspelled => ElabFault::Unspelled,
+        })
+    }
+}

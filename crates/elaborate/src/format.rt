@@ -1,0 +1,107 @@
+//! Display formats (17.1.1), read from left to right.
+ghost use Rattle.std.specs.Prelude.{◌≡◌, ◌≤◌, ◌++◌, [], Some, map, option_map, unwrap_or, IfOk, OnOk};
+ghost use Rattle.model.specs.Elaboration.{AtByte, AfterPercent, argument_count, pieces_of, read_byte};
+ghost use Rattle.design.specs.Trees.{piece_of};
+ghost use Rattle.elaborate.specs.Formats.{reading_of, step_of, shown};
+
+use design::tree::{Conversion, Piece};
+use std::alloc::{AllocError, Global};
+
+// Where a format is read: at a plain byte, after a `%`, or after `%0`.
+#[derive(Clone, Copy)]
+enum Reading {
+    AtByte,
+    AfterPercent,
+    AfterZero,
+}
+
+/// How many arguments a format shows. None where it has another conversion than `%b`, `%h` and `%0d`.
+pub fn conversions(format: &[u8]) -> Option<usize>
+    ensures { result ≡ option_map argument_count (pieces_of format.now) }
+{
+    let mut reading = Reading::AtByte;
+    let mut count = 0;
+    for byte in format {
+        let (next, piece) = read(reading, *byte)?;
+        reading = next;
+        count += arguments(piece);
+    }
+    match reading {
+        Reading::AtByte => Some(count),
+        _ => None,
+    }
+}
+
+/// The pieces of a format, or none where it has another conversion.
+pub fn pieces(alloc: Global, format: &[u8]) -> Result<Vec<Piece>, AllocError>
+    ensures { IfOk result (λ v. map piece_of v.items ≡ unwrap_or (pieces_of format.now) []) }
+{
+    let mut reading = Reading::AtByte;
+    let mut pieces = Vec::new(alloc);
+    for byte in format {
+        let Some((next, piece)) = read(reading, *byte) else {
+            return Ok(Vec::new(alloc));
+        };
+        reading = next;
+        push(&mut pieces, piece)?;
+    }
+    match reading {
+        Reading::AtByte => Ok(pieces),
+        _ => Ok(Vec::new(alloc)),
+    }
+}
+
+// One byte of a format, and the piece that it completes. None where it may not stand there.
+fn read(reading: Reading, byte: u8) -> Option<(Reading, Option<Piece>)>
+    ensures { option_map step_of result ≡ read_byte (reading_of reading) byte }
+{
+    match reading {
+        Reading::AtByte => Some(plain(byte)),
+        Reading::AfterPercent => conversion(byte),
+        Reading::AfterZero if byte == b'd' => {
+            Some((Reading::AtByte, Some(Piece::Argument(Conversion::Decimal))))
+        }
+        Reading::AfterZero => None,
+    }
+}
+
+fn plain(byte: u8) -> (Reading, Option<Piece>)
+    ensures { Some (step_of result) ≡ read_byte AtByte byte }
+{
+    if byte == b'%' {
+        (Reading::AfterPercent, None)
+    } else {
+        (Reading::AtByte, Some(Piece::Byte(byte)))
+    }
+}
+
+fn conversion(byte: u8) -> Option<(Reading, Option<Piece>)>
+    ensures { option_map step_of result ≡ read_byte AfterPercent byte }
+{
+    match byte {
+        b'%' => Some((Reading::AtByte, Some(Piece::Byte(b'%')))),
+        b'b' => Some((Reading::AtByte, Some(Piece::Argument(Conversion::Binary)))),
+        b'h' => Some((Reading::AtByte, Some(Piece::Argument(Conversion::Hex)))),
+        b'0' => Some((Reading::AfterZero, None)),
+        _ => None,
+    }
+}
+
+fn arguments(piece: Option<Piece>) -> usize
+    ensures value { result ≡ argument_count (shown piece) }
+    ensures few { result ≤ 1 }
+{
+    match piece {
+        Some(Piece::Argument(_)) => 1,
+        _ => 0,
+    }
+}
+
+fn push(pieces: &mut Vec<Piece>, piece: Option<Piece>) -> Result<(), AllocError>
+    ensures { OnOk result (map piece_of pieces.new.items ≡ map piece_of pieces.old.items ++ shown piece) }
+{
+    if let Some(piece) = piece {
+        pieces.push(piece)?;
+    }
+    Ok(())
+}

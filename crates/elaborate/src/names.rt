@@ -1,0 +1,210 @@
+//! The declared registers, by number and by name.
+ghost use Rattle.std.specs.Prelude.{◌≡◌, ℕ, ◌++◌, ◌<◌, ◌≤◌, [], ◌∷◌, None, true, false, map, length, slice_index, slice_index_or, IfOk, IfErr, OnOk};
+ghost use Rattle.model.specs.Elaboration.{is_declared, is_range, most_registers, number_of, range_of, width_of, widths_of};
+ghost use Rattle.design.specs.Compiled.{design_of};
+ghost use Rattle.design.specs.Sound.{IsSound};
+ghost use Rattle.design.specs.Trees.{tree_design};
+ghost use Rattle.elaborate.specs.declared.fault.ElabFault.TheVariants.{Memory};
+ghost use Rattle.elaborate.specs.Findings.{verdict, unknown, found_name, IsFirstOf};
+
+use crate::fault::ElabFault;
+use crate::finding::Finding;
+use design::Design;
+use design::tree::Process;
+use indexmap::IndexSet;
+use std::alloc::{AllocError, Global};
+use std::marker::Model;
+
+const MAX_REGISTERS: usize = 1024;
+
+const MAX_WIDTH: u64 = 64;
+
+/// A register's range, as it stands in its declaration.
+pub type Range = Option<(u64, u64)>;
+
+/// The names and the ranges of the declared registers, in the order of their numbers.
+#[derive(Drop)]
+pub struct Names {
+    names: IndexSet<String>,
+    ranges: Vec<Range>,
+}
+
+impl Model for Names {
+    ghost use Rattle.std.specs.Prelude.{List, map, string_bytes};
+    ghost use Rattle.model.specs.Elaboration.{Declared};
+    ghost use Rattle.elaborate.specs.Registers.{with_ranges, AreRegisters};
+
+    ghost Value = { List Declared };
+
+    ghost view = { λ n. with_ranges (map string_bytes n.names.keys) n.ranges.items };
+
+    ghost invariant = { λ n. AreRegisters (map string_bytes n.names.keys) n.ranges.items };
+}
+
+impl Names {
+    /// No register.
+    pub fn new(alloc: Global) -> Names
+        ensures { result ≡ [] }
+    {
+        Names {
+            names: IndexSet::new(alloc),
+            ranges: Vec::new(alloc),
+        }
+    }
+
+    /// One register more. Refuses a name that is declared already, a range that isn't allowed and a register too many,
+    /// in this order, and fails where memory is refused.
+    pub fn declare(self, alloc: Global, name: &str, range: Range) -> Result<Names, ElabFault>
+        ensures allowed { OnOk result (found_name self (name.now, range) ≡ None) }
+        ensures added { IfOk result (λ names. names ≡ self ++ (name.now, range) ∷ []) }
+        ensures fault { IfErr result (λ f. IsFirstOf f (found_name self (name.now, range))) }
+    {
+        match self.allowed(name, range) {
+            Ok(()) => self.with(alloc, name, range),
+            Err(finding) => Err(finding.fault(alloc)),
+        }
+    }
+
+    fn allowed<'a>(&self, name: &'a str, range: Range) -> Result<(), Finding<'a>>
+        ensures { verdict result ≡ found_name self.now (name.now, range) }
+    {
+        if self.contains(name) {
+            Err(Finding::DeclaredTwice(name))
+        } else if !is_allowed(range) {
+            Err(Finding::BadRange(name))
+        } else if self.count() >= MAX_REGISTERS {
+            Err(Finding::TooManyRegisters)
+        } else {
+            Ok(())
+        }
+    }
+
+    fn with(self, alloc: Global, name: &str, range: Range) -> Result<Names, ElabFault>
+        requires { found_name self (name.now, range) ≡ None }
+        ensures added { IfOk result (λ names. names ≡ self ++ (name.now, range) ∷ []) }
+        ensures fault { IfErr result (λ f. f ≡ Memory) }
+    {
+        let Names {
+            mut names,
+            mut ranges,
+        } = self;
+        names.insert(String::from_str(alloc, name)?)?;
+        ranges.push(range)?;
+        Ok(Names { names, ranges })
+    }
+
+    /// Refuses a name that isn't declared.
+    pub fn known<'a>(&self, name: &'a str) -> Result<(), Finding<'a>>
+        ensures { verdict result ≡ unknown self.now name.now }
+    {
+        if self.contains(name) {
+            Ok(())
+        } else {
+            Err(Finding::Undeclared(name))
+        }
+    }
+
+    fn contains(&self, name: &str) -> bool
+        ensures { result ≡ is_declared self.now name.now }
+    {
+        self.names.contains(name)
+    }
+
+    fn count(&self) -> usize
+        ensures value { result ≡ length self.now }
+        ensures few { result ≤ most_registers }
+    {
+        self.ranges.len()
+    }
+
+    /// The number of the register with a name, or that of all registers where none has it.
+    pub fn number(&self, name: &str) -> u32
+        ensures { result ≡ number_of self.now name.now }
+    {
+        self.place(name) as u32
+    }
+
+    /// The width of the register with a name, or 0 where none has it.
+    pub fn width(&self, name: &str) -> u32
+        ensures value { result ≡ slice_index (widths_of self.now) (number_of self.now name.now) }
+        ensures within { result ≤ 64 }
+    {
+        let place = self.place(name);
+        if place < self.count() {
+            width_in(self.range_at(place))
+        } else {
+            0
+        }
+    }
+
+    /// The range of the register with a name, if it has one.
+    pub fn range(&self, name: &str) -> Range
+        ensures value { result ≡ range_of self.now name.now }
+        ensures allowed { is_range result ≡ true }
+    {
+        self.range_at(self.place(name))
+    }
+
+    // The place of the register with a name, or the number of all registers.
+    fn place(&self, name: &str) -> usize
+        ensures number { result ≡ number_of self.now name.now }
+        ensures within { result ≤ most_registers }
+    {
+        self.names.get_index_of(name).unwrap_or(self.names.len())
+    }
+
+    fn range_at(&self, place: usize) -> Range
+        ensures value { result ≡ slice_index_or (map (λ d. d.1) self.now) place None }
+        ensures allowed { is_range result ≡ true }
+    {
+        range_in(self.ranges.as_slice(), place)
+    }
+
+    /// The design of these registers and processes.
+    pub fn design(self, alloc: Global, processes: Vec<Process>) -> Result<Design, AllocError>
+        requires { IsSound (tree_design (widths_of self) processes.items) }
+        ensures design { IfOk result (λ d. design_of d ≡ tree_design (widths_of self) processes.items) }
+        ensures names { IfOk result (λ d. d.names ≡ map (λ d. d.0) self) }
+    {
+        let Names { names, ranges } = self;
+        let widths = widths(alloc, ranges.as_slice())?;
+        Design::new(alloc, names, widths, processes)
+    }
+}
+
+fn range_in(ranges: &[Range], place: usize) -> Range
+    ensures { result ≡ slice_index_or ranges.now place None }
+{
+    ranges.get(place).copied().unwrap_or(None)
+}
+
+fn widths(alloc: Global, ranges: &[Range]) -> Result<Vec<u32>, AllocError>
+    requires { (k : ℕ) → is_range (slice_index_or ranges.now k None) ≡ true }
+    ensures { IfOk result (λ v. v.items ≡ map width_of ranges.now) }
+{
+    let mut widths = Vec::new(alloc);
+    for place in 0..ranges.len() {
+        widths.push(width_in(range_in(ranges, place)))?;
+    }
+    Ok(widths)
+}
+
+fn is_allowed(range: Range) -> bool
+    ensures { result ≡ is_range range }
+{
+    match range {
+        Some((high, low)) => low == 0 && high < MAX_WIDTH,
+        None => true,
+    }
+}
+
+fn width_in(range: Range) -> u32
+    requires { is_range range ≡ true }
+    ensures value { result ≡ width_of range }
+    ensures within { result ≤ 64 }
+{
+    match range {
+        Some((high, _)) => high as u32 + 1,
+        None => 1,
+    }
+}

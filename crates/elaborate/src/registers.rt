@@ -1,0 +1,46 @@
+//! The registers of a module, in the order of their declarations.
+ghost use Rattle.std.specs.Prelude.{◌≡◌, ◌++◌, [], None, map, string_bytes, IfOk, IfErr, OnOk};
+ghost use Rattle.model.specs.Trees.{declaration_of};
+ghost use Rattle.elaborate.specs.Registers.{all_declared, of_range};
+ghost use Rattle.elaborate.specs.Findings.{found_names, IsFirstOf};
+
+use crate::fault::ElabFault;
+use crate::names::{Names, Range};
+use model::tree::Declaration;
+use std::alloc::Global;
+
+/// The registers of these declarations. Refuses the first name that may not be declared.
+pub fn registers(alloc: Global, declarations: &[Declaration]) -> Result<Names, ElabFault>
+    ensures registers { IfOk result (λ names. names ≡ all_declared (map declaration_of declarations.now)) }
+    ensures allowed { OnOk result (found_names [] (all_declared (map declaration_of declarations.now)) ≡ None) }
+    ensures fault { IfErr result
+        (λ f. IsFirstOf f (found_names [] (all_declared (map declaration_of declarations.now)))) }
+{
+    let mut names = Names::new(alloc);
+    for declaration in declarations {
+        names = with_all(
+            alloc,
+            names,
+            declaration.names.as_slice(),
+            declaration.range,
+        )?;
+    }
+    Ok(names)
+}
+
+fn with_all(
+    alloc: Global,
+    registers: Names,
+    more: &[String],
+    range: Range,
+) -> Result<Names, ElabFault>
+    ensures registers { IfOk result (λ names. names ≡ registers ++ of_range range (map string_bytes more.now)) }
+    ensures allowed { OnOk result (found_names registers (of_range range (map string_bytes more.now)) ≡ None) }
+    ensures fault { IfErr result (λ f. IsFirstOf f (found_names registers (of_range range (map string_bytes more.now)))) }
+{
+    let mut names = registers;
+    for name in more {
+        names = names.declare(alloc, name.as_str(), range)?;
+    }
+    Ok(names)
+}

@@ -1,0 +1,85 @@
+use Rattle.std.proofs.Common.{◌≡◌, ◌+◌, ap, sym, false, true, refl, subst, arith}
+use Rattle.turn.specs.Progress.{status_of}
+use Rattle.turn.specs.Machine.{IsAtEnd}
+use Rattle.turn.specs.declared.log.Suspend.TheVariants as suspends
+use Rattle.turn.specs.declared.machine.Step.TheVariants as step
+use Rattle.turn.proofs.Turns.{reached_more, ends_over, ends_counted, is_log, end_takes, too_long, reads_declared, taken}
+use Rattle.turn.proofs.run.run_turn.Goals as goal
+
+pub returns-in-Over-clause-turn : goal.returns-in-Over-clause-turn
+returns-in-Over-clause-turn g c =
+    let s = status_of c.loop-count.progress in
+    let t = status_of c.take.new.self in
+    let takes = taken c.args.design.now c.nodes-nodes.result.now c.ops-ops.result.now c.shown-shown.result.now c.args.now s _ step.Over t c.nodes-nodes.ensures c.ops-ops.ensures c.shown-shown.ensures c.in-Over.is c.in_ok-take.ensures.takes in
+    is_log c.args.design.now c.args.state.now c.args.now c.loop-count.count s t suspends.Ended false c.loop-count.count c.log_of.result
+    c.loop-count.invariant.reached
+    (λ p. ends_over c.args.design.now c.registers.ensures.compiled p c.args.now c.loop-count.count s t takes)
+    (omega arith)
+    (record {
+      reads = ap (λ m. m.entries) c.log_of.ensures.reads;
+      writes = c.log_of.ensures.writes;
+      nbas = c.log_of.ensures.nbas;
+      lines = c.log_of.ensures.lines;
+      next = c.log_of.ensures.next;
+      waits = c.log_of.ensures.suspend;
+      finishes = c.log_of.ensures.finish;
+      count = c.log_of.ensures.count;
+    })
+
+pub returns-in-Ends-clause-turn : goal.returns-in-Ends-clause-turn
+returns-in-Ends-clause-turn g c =
+    let s = status_of c.loop-count.progress in
+    let t = status_of c.take.new.self in
+    let takes = taken c.args.design.now c.nodes-nodes.result.now c.ops-ops.result.now c.shown-shown.result.now c.args.now s _ (step.Ends c.in-Ends.suspend c.in-Ends.finish) t c.nodes-nodes.ensures c.ops-ops.ensures c.shown-shown.ensures c.in-Ends.is c.in_ok-take.ensures.takes in
+    is_log c.args.design.now c.args.state.now c.args.now c.loop-count.count s t c.in-Ends.suspend c.in-Ends.finish (c.loop-count.count + 1) c.log_of-in-Ends.result
+    c.loop-count.invariant.reached
+    (λ p. ends_counted c.args.design.now c.registers.ensures.compiled p c.args.now c.loop-count.count s t c.in-Ends.suspend c.in-Ends.finish takes)
+    (omega arith)
+    (record {
+      reads = ap (λ m. m.entries) c.log_of-in-Ends.ensures.reads;
+      writes = c.log_of-in-Ends.ensures.writes;
+      nbas = c.log_of-in-Ends.ensures.nbas;
+      lines = c.log_of-in-Ends.ensures.lines;
+      next = c.log_of-in-Ends.ensures.next;
+      waits = c.log_of-in-Ends.ensures.suspend;
+      finishes = c.log_of-in-Ends.ensures.finish;
+      count = c.log_of-in-Ends.ensures.count;
+    })
+
+pub loop-count-preserved : goal.loop-count-preserved
+loop-count-preserved g c = record {
+  reached = reached_more c.args.design.now c.registers.ensures.compiled c.args.state.now c.args.now c.loop-count.count (status_of c.loop-count.progress) (status_of c.take.new.self)
+      c.loop-count.invariant.reached
+      (taken c.args.design.now c.nodes-nodes.result.now c.ops-ops.result.now c.shown-shown.result.now c.args.now (status_of c.loop-count.progress) _ step.Goes (status_of c.take.new.self) c.nodes-nodes.ensures c.ops-ops.ensures c.shown-shown.ensures c.in-Goes.is c.in_ok-take.ensures.takes);
+  gave = c.in_ok-take.ensures.gave c.loop-count.invariant.gave;
+}
+
+pub returns-then-is_over-clause-turn : goal.returns-then-is_over-clause-turn
+returns-then-is_over-clause-turn g c =
+    let s = status_of c.loop-count.progress in
+    let there : IsAtEnd c.args.design.now.nodes s.state = subst (λ nodes. IsAtEnd nodes s.state) c.nodes-nodes.ensures (c.if-is_over.ensures.0 refl) in
+    is_log c.args.design.now c.args.state.now c.args.now c.loop-count.count s s suspends.Ended false c.loop-count.count c.log_of-then-is_over.result
+    c.loop-count.invariant.reached
+    (λ p. ends_over c.args.design.now c.registers.ensures.compiled p c.args.now c.loop-count.count s s (end_takes c.args.design.now c.args.now s there))
+    (omega arith)
+    (record {
+      reads = ap (λ m. m.entries) c.log_of-then-is_over.ensures.reads;
+      writes = c.log_of-then-is_over.ensures.writes;
+      nbas = c.log_of-then-is_over.ensures.nbas;
+      lines = c.log_of-then-is_over.ensures.lines;
+      next = c.log_of-then-is_over.ensures.next;
+      waits = c.log_of-then-is_over.ensures.suspend;
+      finishes = c.log_of-then-is_over.ensures.finish;
+      count = omega (arith, c.log_of-then-is_over.ensures.count);
+    })
+
+pub returns-else-is_over-clause-turn : goal.returns-else-is_over-clause-turn
+returns-else-is_over-clause-turn g c =
+    let s = status_of c.loop-count.progress in
+    λ p start. (
+      reads_declared c.args.design.now c.args.state.now c.args.now c.loop-count.count s c.loop-count.invariant.reached p start,
+      too_long c.args.design.now c.registers.ensures.compiled c.args.state.now c.args.now c.loop-count.count s
+          c.loop-count.invariant.reached (omega arith)
+          (λ there. let no : false ≡ true = c.if-is_over.ensures.1 (subst (λ nodes. IsAtEnd nodes s.state) (sym c.nodes-nodes.ensures) there) in cc)
+          p start,
+    )

@@ -1,0 +1,10 @@
+use Rattle.turn.specs.Progress.{status_of}
+use Rattle.turn.specs.Reads.{GaveAll}
+use Rattle.turn.proofs.Turns.{Reached}
+use Rattle.turn.proofs.run.run_turn.Given as goal
+
+abbrev pub invariant-loop-count : goal.invariant-loop-count
+invariant-loop-count g l = record {
+  reached : Reached l.design l.state l.now l.count (status_of l.progress);
+  gave : GaveAll (g.R.RegReader.gave l.reader) l.progress.memory.reads.entries;
+}

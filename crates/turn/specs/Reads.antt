@@ -1,0 +1,23 @@
+-- What a turn read: registers, each with what was seen of it, in the order of their first use.
+use Rattle.std.specs.Prelude.{◌≡◌, ℕ, ◌<◌, List, [], ◌∷◌, map}
+use Rattle.std.specs.List.{All}
+use Rattle.model.specs.Expressions.{Store, value_of}
+use Rattle.turn.specs.declared.memory.Seen.{Seen}
+
+-- the registers that were read
+abbrev pub registers : List (ℕ × Seen) → List ℕ
+registers reads = map (λ r. r.0) reads
+
+-- each register that was read is declared, where there are this many
+abbrev pub AreDeclared : ℕ → List (ℕ × Seen) → Type 0
+AreDeclared n reads = All (λ r. r.0 < n) reads
+
+-- each recorded value is the store's value of its register
+abbrev pub Agrees : List (ℕ × Seen) → Store → Type 0
+Agrees [] store = Unit {0}
+Agrees (r ∷ reads) store = (value_of store r.0 ≡ r.1.value) × Agrees reads store
+
+-- each recorded pair is one that a reader gave
+abbrev pub GaveAll : (ℕ → Seen → Type 0) → List (ℕ × Seen) → Type 0
+GaveAll gave [] = Unit {0}
+GaveAll gave (r ∷ reads) = gave r.0 r.1 × GaveAll gave reads

@@ -1,0 +1,81 @@
+//! The lines of `$display` (17.1).
+ghost use Rattle.std.specs.Prelude.{◌≡◌, ◌++◌, ◌∷◌, [], string_bytes, OnOk, IfOk};
+ghost use Rattle.logic4.specs.Display as display;
+ghost use Rattle.design.specs.Trees.{conversion_of};
+ghost use Rattle.turn.specs.Reads.{GaveAll};
+ghost use Rattle.turn.specs.Progress.{status_of, printing, PrintsPiece, Prints};
+
+use crate::memory::RegReader;
+use crate::progress::Progress;
+use design::code::{Op, Shown};
+use design::tree::Conversion;
+use logic4::bits::Bits;
+use std::alloc::{AllocError, Global};
+
+// The text of a value by a conversion (17.1.1.2).
+fn text_of(alloc: Global, conversion: Conversion, value: Bits) -> Result<String, AllocError>
+    ensures { IfOk result (λ t. string_bytes t ≡ display.shown (conversion_of conversion) value) }
+{
+    match conversion {
+        Conversion::Binary => value.show_b(alloc),
+        Conversion::Hex => value.show_h(alloc),
+        Conversion::Decimal => value.show_d0(alloc),
+    }
+}
+
+impl Progress {
+    // Prints a byte. Strings have ASCII bytes alone (3.6), and a line is UTF-8, so any other byte is refused.
+    fn print_byte(&mut self, byte: u8) -> Result<(), AllocError>
+        ensures { OnOk result (status_of self.new ≡ printing (status_of self.old) (byte ∷ [])) }
+    {
+        if byte < 128 {
+            self.lines.push(char::from(byte))
+        } else {
+            Err(AllocError)
+        }
+    }
+
+    // Prints a value by a conversion.
+    fn print_value(&mut self, conversion: Conversion, value: Bits) -> Result<(), AllocError>
+        ensures { OnOk result (status_of self.new ≡ printing (status_of self.old) (display.shown (conversion_of conversion) value)) }
+    {
+        let text = text_of(self.alloc, conversion, value)?;
+        self.lines.push_str(text.as_str())
+    }
+
+    // Prints a piece of a line.
+    fn print_piece<R: RegReader>(
+        &mut self,
+        ops: &[Op],
+        piece: &Shown,
+        reader: &mut R,
+    ) -> Result<(), AllocError>
+        ensures prints { OnOk result (PrintsPiece ops.now piece.now (status_of self.old) (status_of self.new)) }
+        ensures gave { OnOk result (GaveAll (R.gave reader.old) self.old.memory.reads.entries → GaveAll (R.gave reader.new) self.new.memory.reads.entries) }
+    {
+        match piece {
+            Shown::Byte(byte) => self.print_byte(*byte),
+            Shown::Value { conversion, value } => {
+                let value = self.value(ops, *value, reader)?;
+                self.print_value(*conversion, value)?;
+                Ok(())
+            }
+        }
+    }
+
+    /// Prints the pieces of a line.
+    pub fn print_pieces<R: RegReader>(
+        &mut self,
+        ops: &[Op],
+        pieces: &[Shown],
+        reader: &mut R,
+    ) -> Result<(), AllocError>
+        ensures prints { OnOk result (Prints ops.now pieces.now (status_of self.old) (status_of self.new)) }
+        ensures gave { OnOk result (GaveAll (R.gave reader.old) self.old.memory.reads.entries → GaveAll (R.gave reader.new) self.new.memory.reads.entries) }
+    {
+        for piece in pieces {
+            self.print_piece(ops, piece, reader)?;
+        }
+        Ok(())
+    }
+}

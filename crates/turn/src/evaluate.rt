@@ -1,0 +1,112 @@
+//! The steps of an expression, on a stack of vectors.
+ghost use Rattle.std.specs.Prelude.{◌≡◌, ◌∷◌, [], length, reverse, OnOk, IfOk};
+ghost use Rattle.logic4.specs.Operators.{select_digit};
+ghost use Rattle.design.specs.Steps.{topmost, below};
+ghost use Rattle.turn.specs.Reads.{GaveAll};
+ghost use Rattle.turn.specs.Evaluate.{Acts, Evaluates};
+
+use crate::memory::{Memory, RegReader};
+use crate::operate::{binary, choose, join, unary};
+use design::code::Op;
+use logic4::bits::Bits;
+use std::alloc::AllocError;
+
+fn put(stack: &mut Vec<Bits>, value: Bits) -> Result<(), AllocError>
+    ensures { OnOk result (reverse stack.new.items ≡ value ∷ reverse stack.old.items) }
+{
+    stack.push(value)?;
+    Ok(())
+}
+
+fn pop(stack: &mut Vec<Bits>) -> Bits
+    ensures value { result ≡ topmost (reverse stack.old.items) }
+    ensures rest { reverse stack.new.items ≡ below (reverse stack.old.items) }
+{
+    match stack.pop() {
+        Some(value) => value,
+        None => Bits::unknown(1),
+    }
+}
+
+// One digit of a vector, x where it has none there (5.2.1).
+fn pick(value: Bits, index: u32) -> Bits
+    ensures value { result ≡ select_digit value index ∷ [] }
+    ensures width { length result ≡ 1 }
+{
+    if index < value.width() {
+        value.select(index)
+    } else {
+        Bits::unknown(1)
+    }
+}
+
+// One step.
+fn step<R: RegReader>(
+    op: &Op,
+    memory: &mut Memory,
+    reader: &mut R,
+    stack: &mut Vec<Bits>,
+) -> Result<(), AllocError>
+    ensures acts { OnOk result (Acts op.now memory.old.known.items memory.old.reads.entries (reverse stack.old.items) memory.new.known.items memory.new.reads.entries (reverse stack.new.items)) }
+    ensures gave { OnOk result (GaveAll (R.gave reader.old) memory.old.reads.entries → GaveAll (R.gave reader.new) memory.new.reads.entries) }
+{
+    match op {
+        Op::Load { register, size } => {
+            let value = memory.look(reader, *register)?;
+            put(stack, value.resize(size.get()))
+        }
+        Op::Pick {
+            register,
+            index,
+            size,
+        } => {
+            let value = memory.look(reader, *register)?;
+            put(stack, pick(value, *index).resize(size.get()))
+        }
+        Op::Constant { value } => put(stack, *value),
+        Op::Unary { operator, asked } => {
+            let operand = pop(stack);
+            put(stack, unary(*operator, *asked, operand))
+        }
+        Op::Binary {
+            operator,
+            size,
+            asked,
+        } => {
+            let right = pop(stack);
+            let left = pop(stack);
+            put(stack, binary(*operator, *size, *asked, left, right))
+        }
+        Op::Join => {
+            let low = pop(stack);
+            let high = pop(stack);
+            put(stack, join(high, low))
+        }
+        Op::Resize { size } => {
+            let value = pop(stack);
+            put(stack, value.resize(size.get()))
+        }
+        Op::Choose { size } => {
+            let second = pop(stack);
+            let first = pop(stack);
+            let condition = pop(stack);
+            put(stack, choose(*size, condition, first, second))
+        }
+    }
+}
+
+/// The value of an expression, whose steps are these.
+pub(crate) fn evaluate<R: RegReader>(
+    ops: &[Op],
+    memory: &mut Memory,
+    reader: &mut R,
+    stack: &mut Vec<Bits>,
+) -> Result<Bits, AllocError>
+    ensures value { IfOk result (λ v. Evaluates ops.now memory.old.known.items memory.old.reads.entries v memory.new.known.items memory.new.reads.entries) }
+    ensures gave { OnOk result (GaveAll (R.gave reader.old) memory.old.reads.entries → GaveAll (R.gave reader.new) memory.new.reads.entries) }
+{
+    for op in ops {
+        step(op, memory, reader, stack)?;
+    }
+    Ok(pop(stack))
+}

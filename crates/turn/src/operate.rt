@@ -1,0 +1,108 @@
+//! The operators of flat code (5.1), on vectors of any widths.
+ghost use Rattle.std.specs.Prelude.{◌≡◌, ◌∷◌, [], length};
+ghost use Rattle.logic4.specs.Operators.{truth, truth_digit, case_ne_vector};
+ghost use Rattle.model.specs.Expressions.{unary_value};
+ghost use Rattle.design.specs.Operate.{combined, joined_two, chosen};
+
+use design::code::Size;
+use logic4::bits::Bits;
+use logic4::digit::{Digit, Truth};
+use model::tree::{BinaryOperator, UnaryOperator};
+
+fn digit_of(truth: Truth) -> Digit
+    ensures { result ≡ truth_digit truth }
+{
+    match truth {
+        Truth::False => Digit::Zero,
+        Truth::True => Digit::One,
+        Truth::Unknown => Digit::X,
+    }
+}
+
+// The truth of a vector as one digit (5.1.9).
+fn truth_bit(operand: Bits) -> Bits
+    ensures value { result ≡ truth_digit (truth operand) ∷ [] }
+    ensures width { length result ≡ 1 }
+{
+    Bits::from_digit(digit_of(operand.truth()))
+}
+
+// Case inequality (5.1.8).
+#[tactic(auto, using(crate::proofs::Operators::not_bool))]
+fn differ(left: Bits, right: Bits) -> Bits
+    requires { length left ≡ length right }
+    ensures value { result ≡ case_ne_vector left right ∷ [] }
+    ensures width { length result ≡ 1 }
+{
+    left.case_eq(right).not()
+}
+
+/// A unary operator's value.
+pub(crate) fn unary(operator: UnaryOperator, asked: Size, operand: Bits) -> Bits
+    ensures { result ≡ unary_value operator asked operand }
+{
+    match operator {
+        UnaryOperator::Not => operand.not(),
+        UnaryOperator::LogicalNot => truth_bit(operand).not().resize(asked.get()),
+        UnaryOperator::ReduceAnd => operand.reduce_and().resize(asked.get()),
+        UnaryOperator::ReduceOr => operand.reduce_or().resize(asked.get()),
+        UnaryOperator::ReduceXor => operand.reduce_xor().resize(asked.get()),
+    }
+}
+
+/// A binary operator's value.
+pub(crate) fn binary(
+    operator: BinaryOperator,
+    size: Size,
+    asked: Size,
+    left: Bits,
+    right: Bits,
+) -> Bits
+    ensures { result ≡ combined operator size asked left right }
+{
+    let first = left.resize(size.get());
+    let second = right.resize(size.get());
+    match operator {
+        BinaryOperator::LogicalOr => truth_bit(left).or(truth_bit(right)).resize(asked.get()),
+        BinaryOperator::LogicalAnd => truth_bit(left).and(truth_bit(right)).resize(asked.get()),
+        BinaryOperator::Or => first.or(second),
+        BinaryOperator::Xor => first.xor(second),
+        BinaryOperator::And => first.and(second),
+        BinaryOperator::Equal => first.eq(second).resize(asked.get()),
+        BinaryOperator::NotEqual => first.eq(second).not().resize(asked.get()),
+        BinaryOperator::CaseEqual => first.case_eq(second).resize(asked.get()),
+        BinaryOperator::CaseNotEqual => differ(first, second).resize(asked.get()),
+        BinaryOperator::Less => first.lt(second).resize(asked.get()),
+        BinaryOperator::LessEqual => first.le(second).resize(asked.get()),
+        BinaryOperator::Greater => second.lt(first).resize(asked.get()),
+        BinaryOperator::GreaterEqual => second.le(first).resize(asked.get()),
+        BinaryOperator::ShiftLeft => left.shl(right),
+        BinaryOperator::ShiftRight => left.shr(right),
+        BinaryOperator::Add => first.add(second),
+        BinaryOperator::Subtract => first.sub(second),
+    }
+}
+
+/// The first in the most significant digits, where both fit (5.1.14).
+pub(crate) fn join(high: Bits, low: Bits) -> Bits
+    ensures { result ≡ joined_two high low }
+{
+    if high.width() + low.width() <= 64 {
+        Bits::concat(high, low)
+    } else {
+        high
+    }
+}
+
+/// The first or the second, or where they agree, by the truth of a condition (5.1.13).
+pub(crate) fn choose(size: Size, condition: Bits, first: Bits, second: Bits) -> Bits
+    ensures { result ≡ chosen size condition first second }
+{
+    let first = first.resize(size.get());
+    let second = second.resize(size.get());
+    match condition.truth() {
+        Truth::True => first,
+        Truth::False => second,
+        Truth::Unknown => first.merge(second),
+    }
+}

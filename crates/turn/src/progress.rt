@@ -1,0 +1,105 @@
+//! A turn under way.
+ghost use Rattle.std.specs.Prelude.{◌≡◌, ◌++◌, OnOk, IfOk};
+ghost use Rattle.design.specs.Steps.{piece};
+ghost use Rattle.turn.specs.Reads.{GaveAll};
+ghost use Rattle.turn.specs.Progress.{status_of, fresh, at, writing, holding, delaying, printing, Valued};
+
+use crate::evaluate::evaluate;
+use crate::log::{Nba, Suspend, TurnLog};
+use crate::memory::{Memory, RegReader};
+use design::code::{Op, Span};
+use design::{ProcState, RegId};
+use logic4::bits::Bits;
+use std::alloc::{AllocError, Global};
+
+/// What a turn knows and has done so far, and the stack of its expressions, which is kept between them.
+#[derive(Drop)]
+pub(crate) struct Progress {
+    pub alloc: Global,
+    pub state: ProcState,
+    pub memory: Memory,
+    pub writes: Vec<(RegId, Bits)>,
+    pub nbas: Vec<Nba>,
+    pub lines: String,
+    pub stack: Vec<Bits>,
+}
+
+/// The part of a list, or none where it isn't there.
+pub(crate) fn part<T>(list: &[T], span: Span) -> &[T]
+    ensures { result.now ≡ piece list.entry.now span }
+{
+    if span.from <= span.to && span.to <= list.len() {
+        &list[span.from..span.to]
+    } else {
+        &list[0..0]
+    }
+}
+
+impl Progress {
+    /// A turn that begins, over this many registers.
+    pub fn new(alloc: Global, state: ProcState, registers: u32) -> Result<Self, AllocError>
+        ensures { IfOk result (λ p. status_of p ≡ fresh state registers) }
+    {
+        Ok(Progress {
+            alloc,
+            state,
+            memory: Memory::new(alloc, registers)?,
+            writes: Vec::new(alloc),
+            nbas: Vec::new(alloc),
+            lines: String::new(alloc),
+            stack: Vec::new(alloc),
+        })
+    }
+
+    /// The process goes on at this place.
+    pub fn go(&mut self, next: usize)
+        ensures { status_of self.new ≡ at (status_of self.old) next }
+    {
+        self.state = ProcState {
+            place: next,
+            pending: None,
+        };
+    }
+
+    /// Writes a register, which the rest of the turn sees.
+    pub fn write(&mut self, register: RegId, value: Bits, next: usize) -> Result<(), AllocError>
+        ensures { OnOk result (status_of self.new ≡ writing (status_of self.old) register value next) }
+    {
+        self.memory.set(register, value);
+        self.writes.push((register, value))?;
+        self.go(next);
+        Ok(())
+    }
+
+    /// Leaves an assignment over for after the wait (9.7.7).
+    pub fn hold(&mut self, register: RegId, value: Bits, next: usize)
+        ensures { status_of self.new ≡ holding (status_of self.old) register value next }
+    {
+        self.state = ProcState {
+            place: next,
+            pending: Some((register, value)),
+        };
+    }
+
+    /// Makes a nonblocking assignment.
+    pub fn assign_later(&mut self, nba: Nba, next: usize) -> Result<(), AllocError>
+        ensures { OnOk result (status_of self.new ≡ delaying (status_of self.old) nba next) }
+    {
+        self.nbas.push(nba)?;
+        self.go(next);
+        Ok(())
+    }
+
+    /// The value of the expression whose steps are this part.
+    pub fn value<R: RegReader>(
+        &mut self,
+        ops: &[Op],
+        span: Span,
+        reader: &mut R,
+    ) -> Result<Bits, AllocError>
+        ensures value { IfOk result (λ v. Valued (piece ops.now span) (status_of self.old) v (status_of self.new)) }
+        ensures gave { OnOk result (GaveAll (R.gave reader.old) self.old.memory.reads.entries → GaveAll (R.gave reader.new) self.new.memory.reads.entries) }
+    {
+        evaluate(part(ops, span), &mut self.memory, reader, &mut self.stack)
+    }
+}

@@ -1,0 +1,84 @@
+//! A whole turn.
+ghost use Rattle.std.specs.Prelude.{◌≡◌, ◌≤◌, ◌^◌, MatchResult, string_bytes};
+ghost use Rattle.turn.specs.Reads.{GaveAll};
+ghost use Rattle.turn.specs.Answers.{IsTurnLog, IsNoTurn, reads_of_fault};
+
+use crate::log::{Suspend, TurnFault, TurnLog};
+use crate::machine::Step;
+use crate::memory::{Memory, RegReader};
+use crate::progress::Progress;
+use design::{Design, ProcState};
+use std::alloc::Global;
+
+/// The most counted steps of a turn.
+const MOST_STEPS: u32 = 65_536;
+
+// The log of a turn that is over.
+fn log_of(progress: Progress, suspend: Suspend, finish: bool, count: u32) -> TurnLog
+    ensures reads { result.reads ≡ progress.memory.reads }
+    ensures writes { result.writes.items ≡ progress.writes.items }
+    ensures nbas { result.nbas.items ≡ progress.nbas.items }
+    ensures lines { string_bytes result.lines ≡ string_bytes progress.lines }
+    ensures next { result.next ≡ progress.state }
+    ensures suspend { result.suspend ≡ suspend }
+    ensures finish { result.finish ≡ finish }
+    ensures count { result.count ≡ count }
+{
+    let Progress {
+        state,
+        memory,
+        writes,
+        nbas,
+        lines,
+        ..
+    } = progress;
+    let Memory { reads, .. } = memory;
+    TurnLog {
+        reads,
+        writes,
+        nbas,
+        lines,
+        next: state,
+        suspend,
+        finish,
+        count,
+    }
+}
+
+/// The turn at this time of the process in this state. A register that the turn hasn't written is read once, at its first
+/// use. `TooLong` where the turn has more than 65,536 counted steps, with its reads so far; `Memory` where the log couldn't
+/// grow.
+pub fn run_turn<R: RegReader>(
+    alloc: Global,
+    design: &Design,
+    state: &ProcState,
+    now: u64,
+    reader: &mut R,
+) -> Result<TurnLog, TurnFault>
+    requires now { now ≤ 2 ^ 48 }
+    ensures turn { MatchResult result (IsTurnLog design.now state.now now) (IsNoTurn design.now state.now now) }
+    ensures gave { MatchResult result (λ log. GaveAll (R.gave reader.new) log.reads.entries) (λ fault. GaveAll (R.gave reader.new) (reads_of_fault fault)) }
+{
+    let nodes = design.nodes();
+    let ops = design.ops();
+    let shown = design.shown();
+    let mut progress = Progress::new(alloc, *state, design.registers())?;
+    for count in 0..MOST_STEPS {
+        match progress.take(nodes, ops, shown, now, reader)? {
+            Step::Goes => {}
+            Step::Over => return Ok(log_of(progress, Suspend::Ended, false, count)),
+            Step::Ends { suspend, finish } => return Ok(log_of(
+                progress,
+                suspend,
+                finish,
+                count + 1,
+            )),
+        }
+    }
+    if progress.is_over(nodes) {
+        Ok(log_of(progress, Suspend::Ended, false, MOST_STEPS))
+    } else {
+        let Memory { reads, .. } = progress.memory;
+        Err(TurnFault::TooLong(reads))
+    }
+}

@@ -1,0 +1,118 @@
+//! The statements that compute something.
+ghost use Rattle.std.specs.Prelude.{◌≡◌, OnOk};
+ghost use Rattle.turn.specs.Reads.{GaveAll};
+ghost use Rattle.turn.specs.Progress.{status_of, chosen_place};
+ghost use Rattle.turn.specs.Machine.{Assigns, AssignsAfter, AssignsLater, Branches, Displays};
+
+use crate::log::Nba;
+use crate::memory::RegReader;
+use crate::progress::{Progress, part};
+use design::RegId;
+use design::code::{Op, Shown, Span};
+use logic4::digit::Truth;
+use std::alloc::AllocError;
+
+// Where a condition leads (9.4, 9.6).
+fn choose_place(truth: Truth, taken: usize, missed: usize) -> usize
+    ensures { result ≡ chosen_place truth taken missed }
+{
+    match truth {
+        Truth::True => taken,
+        Truth::False => missed,
+        Truth::Unknown => missed,
+    }
+}
+
+impl Progress {
+    /// A blocking assignment (9.2.1).
+    pub fn assign<R: RegReader>(
+        &mut self,
+        ops: &[Op],
+        value: Span,
+        register: RegId,
+        next: usize,
+        reader: &mut R,
+    ) -> Result<(), AllocError>
+        ensures takes { OnOk result (Assigns ops.now value register next (status_of self.old) (status_of self.new)) }
+        ensures gave { OnOk result (GaveAll (R.gave reader.old) self.old.memory.reads.entries → GaveAll (R.gave reader.new) self.new.memory.reads.entries) }
+    {
+        let value = self.value(ops, value, reader)?;
+        self.write(register, value, next)?;
+        Ok(())
+    }
+
+    /// A blocking assignment with a delay inside it: the value is computed before the wait (9.7.7).
+    pub fn assign_after<R: RegReader>(
+        &mut self,
+        ops: &[Op],
+        value: Span,
+        register: RegId,
+        next: usize,
+        reader: &mut R,
+    ) -> Result<(), AllocError>
+        ensures takes { OnOk result (AssignsAfter ops.now value register next (status_of self.old) (status_of self.new)) }
+        ensures gave { OnOk result (GaveAll (R.gave reader.old) self.old.memory.reads.entries → GaveAll (R.gave reader.new) self.new.memory.reads.entries) }
+    {
+        let value = self.value(ops, value, reader)?;
+        self.hold(register, value, next);
+        Ok(())
+    }
+
+    /// A nonblocking assignment, which is due at this time (9.2.2).
+    pub fn assign_at<R: RegReader>(
+        &mut self,
+        ops: &[Op],
+        value: Span,
+        register: RegId,
+        due: u64,
+        next: usize,
+        reader: &mut R,
+    ) -> Result<(), AllocError>
+        ensures takes { OnOk result (AssignsLater ops.now value register due next (status_of self.old) (status_of self.new)) }
+        ensures gave { OnOk result (GaveAll (R.gave reader.old) self.old.memory.reads.entries → GaveAll (R.gave reader.new) self.new.memory.reads.entries) }
+    {
+        let value = self.value(ops, value, reader)?;
+        let nba = Nba {
+            register,
+            value,
+            due,
+        };
+        self.assign_later(nba, next)?;
+        Ok(())
+    }
+
+    /// The test of a choice or of a loop (9.4, 9.6).
+    pub fn branch<R: RegReader>(
+        &mut self,
+        ops: &[Op],
+        condition: Span,
+        taken: usize,
+        missed: usize,
+        reader: &mut R,
+    ) -> Result<(), AllocError>
+        ensures takes { OnOk result (Branches ops.now condition taken missed (status_of self.old) (status_of self.new)) }
+        ensures gave { OnOk result (GaveAll (R.gave reader.old) self.old.memory.reads.entries → GaveAll (R.gave reader.new) self.new.memory.reads.entries) }
+    {
+        let value = self.value(ops, condition, reader)?;
+        self.go(choose_place(value.truth(), taken, missed));
+        Ok(())
+    }
+
+    /// `$display`: the pieces, and a newline (17.1).
+    pub fn display<R: RegReader>(
+        &mut self,
+        ops: &[Op],
+        shown: &[Shown],
+        pieces: Span,
+        next: usize,
+        reader: &mut R,
+    ) -> Result<(), AllocError>
+        ensures takes { OnOk result (Displays ops.now shown.now pieces next (status_of self.old) (status_of self.new)) }
+        ensures gave { OnOk result (GaveAll (R.gave reader.old) self.old.memory.reads.entries → GaveAll (R.gave reader.new) self.new.memory.reads.entries) }
+    {
+        self.print_pieces(ops, part(shown, pieces), reader)?;
+        self.lines.push('\n')?;
+        self.go(next);
+        Ok(())
+    }
+}
