@@ -1,10 +1,18 @@
--- The design that a source describes.
+-- The design that a source describes, and which faults a source has.
 use Rattle.std.specs.Prelude.{◌≡◌, ℕ, List, []}
+use Rattle.tokens.specs.Lexing.{Stops, stray, bad_number}
 use Rattle.model.specs.Syntax.{Module}
 use Rattle.model.specs.Elaboration.{faults}
 use Rattle.model.specs.Elaboration as model
-use Rattle.vparse.specs.Spells.{Spells}
+use Rattle.vparse.specs.Spells.{Spells, IsDeepTextAt}
+use Rattle.vparse.specs.declared.parse.ParseFault.{ParseFault}
+use Rattle.vparse.specs.declared.parse.ParseFault.TheVariants.{Byte, Syntax, Literal, Deep, Unsized, Memory}
 use Rattle.design.specs.Compiled.{Compiled, design_of}
+use Rattle.elaborate.specs.Faults.{IsFirstFault, IsToldRightly}
+use Rattle.elaborate.specs.declared.fault.ElabFault.{ElabFault}
+use Rattle.elaborate.specs.declared.fault.ElabFault.TheVariants.{Unspelled}
+use Rattle.frontend.specs.declared.source.SourceFault.{SourceFault}
+use Rattle.frontend.specs.declared.source.SourceFault.TheVariants.{Parse, Elaborate}
 
 -- the text spells a module without faults, and this is its design
 pub record IsDesignOf (source : List ℕ) (design : Compiled) : Type 0 where
@@ -12,3 +20,26 @@ pub record IsDesignOf (source : List ℕ) (design : Compiled) : Type 0 where
   pub spells : Spells parsed source
   pub faultless : faults parsed ≡ []
   pub is_design : design_of design ≡ model.design_of parsed
+
+-- The text has this fault: its cut into tokens stops at this byte, no module is spelled, or it nests too deep at this
+-- token. Want of memory says nothing of the text.
+abbrev pub IsTextFault : List ℕ → ParseFault → Type 0
+IsTextFault source (Byte place) = Stops source stray place
+IsTextFault source (Literal place) = Stops source bad_number place
+IsTextFault source (Syntax token) = (m : Module) → Spells m source → ⊥
+IsTextFault source (Unsized token) = (m : Module) → Spells m source → ⊥
+IsTextFault source (Deep token) = IsDeepTextAt source token
+IsTextFault source Memory = Unit {0}
+
+-- the text spells a module of which this fault is told
+pub record HasModuleFault (source : List ℕ) (fault : ElabFault) : Type 0 where
+  pub parsed : Module
+  pub spells : Spells parsed source
+  pub is_first : IsFirstFault fault (faults parsed)
+  pub is_told : IsToldRightly fault parsed
+
+-- a fault of a source, none of which is that no source spells the tree
+abbrev pub IsSourceFault : List ℕ → SourceFault → Type 0
+IsSourceFault source (Parse fault) = IsTextFault source fault
+IsSourceFault source (Elaborate Unspelled) = ⊥
+IsSourceFault source (Elaborate fault) = HasModuleFault source fault

@@ -1,6 +1,6 @@
 //! From the bytes of a source to its design.
-ghost use Rattle.std.specs.Prelude.{IfOk};
-ghost use Rattle.frontend.specs.Sources.{IsDesignOf};
+ghost use Rattle.std.specs.Prelude.{IfOk, IfErr};
+ghost use Rattle.frontend.specs.Sources.{IsDesignOf, IsSourceFault};
 
 use design::Design;
 use elaborate::{ElabFault, elaborate};
@@ -12,16 +12,29 @@ use vparse::parse::{ParseFault, parse};
 #[derive(Debug, Drop, Error)]
 pub enum SourceFault {
     #[error(transparent)]
-    Parse(#[from] ParseFault),
+    Parse(ParseFault),
     #[error(transparent)]
-    Elaborate(#[from] ElabFault),
+    Elaborate(ElabFault),
 }
 
 /// The design of the module that a source spells.
+///
+/// # Errors
+///
+/// `Parse` with the fault of a text that spells no module or nests too deep, else `Elaborate` with the first fault of
+/// its module; either has `Memory` where memory is refused. `ElabFault::Unspelled` is never among them, since what a
+/// text spells is no such tree.
 pub fn read_design(alloc: Global, source: &[u8]) -> Result<Design, SourceFault>
-    ensures { IfOk result (λ d. IsDesignOf source.now d) }
+    ensures design { IfOk result (λ d. IsDesignOf source.now d) }
+    ensures fault { IfErr result (IsSourceFault source.now) }
 {
-    let module = parse(alloc, source)?;
-    let design = elaborate(alloc, &module)?;
-    Ok(design)
+    let module = match parse(alloc, source) {
+        Ok(module) => module,
+        Err(fault) => return Err(SourceFault::Parse(fault)),
+    };
+    match elaborate(alloc, &module) {
+        Ok(design) => Ok(design),
+        Err(ElabFault::Unspelled) => unreachable!(),
+        Err(fault) => Err(SourceFault::Elaborate(fault)),
+    }
 }

@@ -8,6 +8,8 @@ use Rattle.std.proofs.Crossing.{crosses}
 use Rattle.design.specs.contracts.design.Design as Design
 use Rattle.journal.specs.contracts.state.State as Regions
 use Rattle.journal.specs.contracts.store.PlainStore as Store
+use Rattle.turn.specs.contracts.workspace.Known as Known
+use Rattle.turn.specs.contracts.workspace.Workspace as Workspace
 use Rattle.commitgate.specs.declared.naming.Naming as Naming
 use Rattle.commitgate.specs.contracts.parts.Parts as Parts
 use Rattle.commitgate.specs.contracts.state.GateState as State
@@ -20,6 +22,12 @@ regions_send = search (crosses, sendable) depth 40 fits 5000
 store_send : IsSend Store.the_row
 store_send = search (crosses, sendable) depth 40 fits 5000
 
+known_send : IsSend Known.the_row
+known_send = search (crosses, sendable) depth 40 fits 5000
+
+workspace_send : IsSend Workspace.the_row
+workspace_send = search (known_send, crosses, sendable) depth 40 fits 5000
+
 -- the design that they borrow may be shared
 module _ (l : NamedLft) (design : IsSync Design.the_row) where
   parts_fields : AllSend (shape (Parts.the_type l)).fields
@@ -31,7 +39,10 @@ module _ (l : NamedLft) (design : IsSync Design.the_row) where
         search (regions_send, sendable) depth 20,
         (
           search (store_send, sendable) depth 20,
-          (search (crosses, sendable) depth 20, (search (crosses, sendable) depth 20, (search sendable depth 20, tt))),
+          (
+            search (crosses, sendable) depth 20,
+            (search (crosses, sendable) depth 20, (search sendable depth 20, (search (workspace_send, sendable) depth 20, tt))),
+          ),
         ),
       ),
     ),
@@ -42,7 +53,7 @@ module _ (l : NamedLft) (design : IsSync Design.the_row) where
 
   module _ (K : RattleType) (n : Naming.Ghosts K.Denot) (k : IsSend K) where
     state_fields : AllSend (shape (inside.the_type l K n)).fields
-    state_fields = (parts_send, (search (crosses, sendable) depth 40, tt))
+    state_fields = (parts_send, (search (crosses, sendable) depth 40 fits 5000, (search (crosses, sendable) depth 40, tt)))
 
     inside_send : IsSend (inside.the_field l K n).row
     inside_send = struct_send (shape (inside.the_type l K n)) state_fields

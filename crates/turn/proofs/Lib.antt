@@ -1,5 +1,6 @@
 pub mod Operators
 pub mod Known
+pub mod Slots
 pub mod Runs
 pub mod Printed
 pub mod Values

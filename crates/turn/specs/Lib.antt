@@ -1,3 +1,4 @@
+pub mod Slots
 pub mod Reads
 pub mod Memory
 pub mod Evaluate

@@ -31,7 +31,7 @@ pub record Status : Type 0 where
 abbrev pub status_of : Progress → Status
 status_of p = record {
   state = p.state;
-  known = p.memory.known.items;
+  known = p.memory.known;
   reads = p.memory.reads.entries;
   writes = p.writes.items;
   nbas = p.nbas.items;

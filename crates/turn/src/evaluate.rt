@@ -47,7 +47,7 @@ fn step<R: RegReader>(
     reader: &mut R,
     stack: &mut Vec<Bits>,
 ) -> Result<(), AllocError>
-    ensures acts { OnOk result (Acts op.now memory.old.known.items memory.old.reads.entries (reverse stack.old.items) memory.new.known.items memory.new.reads.entries (reverse stack.new.items)) }
+    ensures acts { OnOk result (Acts op.now memory.old.known memory.old.reads.entries (reverse stack.old.items) memory.new.known memory.new.reads.entries (reverse stack.new.items)) }
     ensures gave { OnOk result (GaveAll (R.gave reader.old) memory.old.reads.entries → GaveAll (R.gave reader.new) memory.new.reads.entries) }
 {
     match op {
@@ -102,7 +102,7 @@ pub(crate) fn evaluate<R: RegReader>(
     reader: &mut R,
     stack: &mut Vec<Bits>,
 ) -> Result<Bits, AllocError>
-    ensures value { IfOk result (λ v. Evaluates ops.now memory.old.known.items memory.old.reads.entries v memory.new.known.items memory.new.reads.entries) }
+    ensures value { IfOk result (λ v. Evaluates ops.now memory.old.known memory.old.reads.entries v memory.new.known memory.new.reads.entries) }
     ensures gave { OnOk result (GaveAll (R.gave reader.old) memory.old.reads.entries → GaveAll (R.gave reader.new) memory.new.reads.entries) }
 {
     for op in ops {

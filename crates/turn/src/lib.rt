@@ -5,6 +5,7 @@
 //! 2. Expressions are steps on a stack of vectors. A register that the turn wrote has the value written; any other is
 //!    asked of a `RegReader` at its first use, and recorded.
 //! 3. A `TurnLog` says what was read, written and printed, what is left of the process, and what that waits for.
+//! 4. `run_turn_in` works in a `Workspace` that its caller keeps, so that a short turn takes no memory but its log's.
 //!
 //! What the layer above uses: on every store that has the values recorded, the log is the turn of the definitions, and a
 //! turn that is too long has none (`specs/Answers.antt`). So values of registers that weren't read count for nothing.
@@ -21,7 +22,9 @@ mod run;
 mod statements;
 #[cfg(test)]
 mod tests;
+mod workspace;
 
 pub use log::{Nba, Suspend, TurnFault, TurnLog};
 pub use memory::{RegReader, Seen};
-pub use run::run_turn;
+pub use run::{run_turn, run_turn_in};
+pub use workspace::Workspace;

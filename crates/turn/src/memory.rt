@@ -1,9 +1,10 @@
 //! What a turn knows of the registers: what it wrote, and what it read.
-ghost use Rattle.std.specs.Prelude.{◌≡◌, ℕ, None, Some, [], replicate, nat_eq, slice_index_or, slice_set, OnOk, IfOk};
+ghost use Rattle.std.specs.Prelude.{◌≡◌, ℕ, None, Some, [], replicate, nat_eq, slice_set, OnOk, IfOk};
 ghost use Rattle.indexmap.specs.IndexMap.{insert_entry};
 ghost use Rattle.turn.specs.Reads.{GaveAll};
 ghost use Rattle.turn.specs.Memory.{Looks};
 
+use crate::workspace::Known;
 use design::RegId;
 use indexmap::IndexMap;
 use logic4::bits::Bits;
@@ -33,46 +34,35 @@ pub trait RegReader {
 /// The value that is known of each register, by its number, and the reads, in the order of their first use.
 #[derive(Drop)]
 pub(crate) struct Memory {
-    pub known: Vec<Option<Bits>>,
+    pub known: Known,
     pub reads: IndexMap<RegId, Seen>,
 }
 
 impl Memory {
-    /// Nothing is known of this many registers.
-    pub fn new(alloc: Global, registers: u32) -> Result<Self, AllocError>
-        ensures known { IfOk result (λ m. m.known.items ≡ replicate registers None) }
+    /// Nothing is known of this many registers, whatever the table held.
+    pub fn new(alloc: Global, known: Known, registers: u32) -> Result<Self, AllocError>
+        ensures known { IfOk result (λ m. m.known ≡ replicate registers None) }
         ensures reads { IfOk result (λ m. m.reads.entries ≡ []) }
     {
-        let nothing: Option<Bits> = None;
+        let mut known = known;
+        known.begin(registers)?;
         Ok(Memory {
-            known: vec![in alloc; nothing; registers as usize]?,
+            known,
             reads: IndexMap::new(alloc),
         })
     }
 
-    // The value that is known of a register.
-    fn find(&self, register: RegId) -> Option<Bits>
-        ensures { result ≡ slice_index_or self.now.known.items register None }
-    {
-        match self.known.get(register as usize) {
-            Some(known) => *known,
-            None => None,
-        }
-    }
-
     /// Knows this value of a register.
     pub fn set(&mut self, register: RegId, value: Bits)
-        ensures known { self.new.known.items ≡ slice_set self.old.known.items register (Some value) }
+        ensures known { self.new.known ≡ slice_set self.old.known register (Some value) }
         ensures reads { self.new.reads ≡ self.old.reads }
     {
-        if let Some(known) = self.known.get_mut(register as usize) {
-            *known = Some(value);
-        }
+        self.known.set(register, value);
     }
 
     // Records a read, whose value is known from now on.
     fn record(&mut self, register: RegId, seen: Seen) -> Result<(), AllocError>
-        ensures known { OnOk result (self.new.known.items ≡ slice_set self.old.known.items register (Some seen.value)) }
+        ensures known { OnOk result (self.new.known ≡ slice_set self.old.known register (Some seen.value)) }
         ensures reads { OnOk result (self.new.reads.entries ≡ insert_entry nat_eq self.old.reads.entries register seen) }
     {
         self.set(register, seen.value);
@@ -86,10 +76,10 @@ impl Memory {
         reader: &mut R,
         register: RegId,
     ) -> Result<Bits, AllocError>
-        ensures value { IfOk result (λ v. Looks self.old.known.items self.old.reads.entries register v self.new.known.items self.new.reads.entries) }
+        ensures value { IfOk result (λ v. Looks self.old.known self.old.reads.entries register v self.new.known self.new.reads.entries) }
         ensures gave { OnOk result (GaveAll (R.gave reader.old) self.old.reads.entries → GaveAll (R.gave reader.new) self.new.reads.entries) }
     {
-        if let Some(value) = self.find(register) {
+        if let Some(value) = self.known.get(register) {
             return Ok(value);
         }
         let seen = reader.read(register);

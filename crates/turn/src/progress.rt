@@ -7,6 +7,7 @@ ghost use Rattle.turn.specs.Progress.{status_of, fresh, at, writing, holding, de
 use crate::evaluate::evaluate;
 use crate::log::{Nba, Suspend, TurnLog};
 use crate::memory::{Memory, RegReader};
+use crate::workspace::Known;
 use design::code::{Op, Span};
 use design::{ProcState, RegId};
 use logic4::bits::Bits;
@@ -36,18 +37,24 @@ pub(crate) fn part<T>(list: &[T], span: Span) -> &[T]
 }
 
 impl Progress {
-    /// A turn that begins, over this many registers.
-    pub fn new(alloc: Global, state: ProcState, registers: u32) -> Result<Self, AllocError>
+    /// A turn that begins, over this many registers, with this table and this stack to work with.
+    pub fn new(
+        alloc: Global,
+        known: Known,
+        stack: Vec<Bits>,
+        state: ProcState,
+        registers: u32,
+    ) -> Result<Self, AllocError>
         ensures { IfOk result (λ p. status_of p ≡ fresh state registers) }
     {
         Ok(Progress {
             alloc,
             state,
-            memory: Memory::new(alloc, registers)?,
+            memory: Memory::new(alloc, known, registers)?,
             writes: Vec::new(alloc),
             nbas: Vec::new(alloc),
             lines: String::new(alloc),
-            stack: Vec::new(alloc),
+            stack,
         })
     }
 

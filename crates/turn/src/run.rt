@@ -5,16 +5,24 @@ ghost use Rattle.turn.specs.Answers.{IsTurnLog, IsNoTurn, reads_of_fault};
 
 use crate::log::{Suspend, TurnFault, TurnLog};
 use crate::machine::Step;
-use crate::memory::{Memory, RegReader};
+use crate::memory::{Memory, RegReader, Seen};
 use crate::progress::Progress;
-use design::{Design, ProcState};
+use crate::workspace::Workspace;
+use design::{Design, ProcState, RegId};
+use indexmap::IndexMap;
 use std::alloc::Global;
 
 /// The most counted steps of a turn.
 const MOST_STEPS: u32 = 65_536;
 
-// The log of a turn that is over.
-fn log_of(progress: Progress, suspend: Suspend, finish: bool, count: u32) -> TurnLog
+// The log of a turn that is over. Its room goes back.
+fn log_of(
+    workspace: &mut Workspace,
+    progress: Progress,
+    suspend: Suspend,
+    finish: bool,
+    count: u32,
+) -> TurnLog
     ensures reads { result.reads ≡ progress.memory.reads }
     ensures writes { result.writes.items ≡ progress.writes.items }
     ensures nbas { result.nbas.items ≡ progress.nbas.items }
@@ -30,9 +38,11 @@ fn log_of(progress: Progress, suspend: Suspend, finish: bool, count: u32) -> Tur
         writes,
         nbas,
         lines,
+        stack,
         ..
     } = progress;
-    let Memory { reads, .. } = memory;
+    let Memory { known, reads } = memory;
+    workspace.put_back(known, stack);
     TurnLog {
         reads,
         writes,
@@ -45,11 +55,22 @@ fn log_of(progress: Progress, suspend: Suspend, finish: bool, count: u32) -> Tur
     }
 }
 
+// The reads of a turn that is too long. Its room goes back.
+fn reads_of(workspace: &mut Workspace, progress: Progress) -> IndexMap<RegId, Seen>
+    ensures { result ≡ progress.memory.reads }
+{
+    let Progress { memory, stack, .. } = progress;
+    let Memory { known, reads } = memory;
+    workspace.put_back(known, stack);
+    reads
+}
+
 /// The turn at this time of the process in this state. A register that the turn hasn't written is read once, at its first
 /// use. `TooLong` where the turn has more than 65,536 counted steps, with its reads so far; `Memory` where the log couldn't
-/// grow.
-pub fn run_turn<R: RegReader>(
+/// grow. The turn works in the room that its caller keeps; what that holds changes nothing but the time that it takes.
+pub fn run_turn_in<R: RegReader>(
     alloc: Global,
+    workspace: &mut Workspace,
     design: &Design,
     state: &ProcState,
     now: u64,
@@ -62,12 +83,14 @@ pub fn run_turn<R: RegReader>(
     let nodes = design.nodes();
     let ops = design.ops();
     let shown = design.shown();
-    let mut progress = Progress::new(alloc, *state, design.registers())?;
+    let (known, stack) = workspace.take(alloc);
+    let mut progress = Progress::new(alloc, known, stack, *state, design.registers())?;
     for count in 0..MOST_STEPS {
         match progress.take(nodes, ops, shown, now, reader)? {
             Step::Goes => {}
-            Step::Over => return Ok(log_of(progress, Suspend::Ended, false, count)),
+            Step::Over => return Ok(log_of(workspace, progress, Suspend::Ended, false, count)),
             Step::Ends { suspend, finish } => return Ok(log_of(
+                workspace,
                 progress,
                 suspend,
                 finish,
@@ -76,9 +99,24 @@ pub fn run_turn<R: RegReader>(
         }
     }
     if progress.is_over(nodes) {
-        Ok(log_of(progress, Suspend::Ended, false, MOST_STEPS))
+        Ok(log_of(workspace, progress, Suspend::Ended, false, MOST_STEPS))
     } else {
-        let Memory { reads, .. } = progress.memory;
-        Err(TurnFault::TooLong(reads))
+        Err(TurnFault::TooLong(reads_of(workspace, progress)))
     }
+}
+
+/// The same turn, in room of its own.
+pub fn run_turn<R: RegReader>(
+    alloc: Global,
+    design: &Design,
+    state: &ProcState,
+    now: u64,
+    reader: &mut R,
+) -> Result<TurnLog, TurnFault>
+    requires now { now ≤ 2 ^ 48 }
+    ensures turn { MatchResult result (IsTurnLog design.now state.now now) (IsNoTurn design.now state.now now) }
+    ensures gave { MatchResult result (λ log. GaveAll (R.gave reader.new) log.reads.entries) (λ fault. GaveAll (R.gave reader.new) (reads_of_fault fault)) }
+{
+    let mut workspace = Workspace::new(alloc);
+    run_turn_in(alloc, &mut workspace, design, state, now, reader)
 }

@@ -5,6 +5,7 @@ use crate::machine::Step;
 use crate::memory::{Memory, RegReader, Seen};
 use crate::operate::{binary, choose, join, unary};
 use crate::progress::{Progress, part};
+use crate::workspace::Workspace;
 use design::code::{Node, Op, Shown, Size, Span};
 use design::tree::Conversion;
 use design::{ProcState, RegId};
@@ -45,7 +46,8 @@ fn begin(alloc: Global) -> Result<Progress, AllocError> {
         place: 0,
         pending: None,
     };
-    Progress::new(alloc, state, 2)
+    let (known, stack) = Workspace::new(alloc).take(alloc);
+    Progress::new(alloc, known, stack, state, 2)
 }
 
 #[test]
@@ -176,8 +178,8 @@ fn reads_a_register_once(rt: HostRuntime) -> Result<(), Fail> {
             asked: size,
         },
     ];
-    let mut memory = Memory::new(alloc, 2)?;
-    let mut stack = Vec::new(alloc);
+    let (known, mut stack) = Workspace::new(alloc).take(alloc);
+    let mut memory = Memory::new(alloc, known, 2)?;
     let mut reader = reader_of(Bits::from_u64(4, 3));
     let value = evaluate(ops.as_slice(), &mut memory, &mut reader, &mut stack)?;
     assert_eq!(rt; value, Bits::from_u64(8, 9));
@@ -185,6 +187,25 @@ fn reads_a_register_once(rt: HostRuntime) -> Result<(), Fail> {
     assert_eq!(rt; memory.reads.get_index_of(&1), Some(0));
     assert_eq!(rt; memory.reads.get_index_of(&0), Some(1));
     assert!(rt; stack.is_empty());
+    Ok(())
+}
+
+#[test]
+fn knows_nothing_of_the_turn_before(rt: HostRuntime) -> Result<(), Fail> {
+    let alloc = rt.alloc();
+    let mut workspace = Workspace::new(alloc);
+    let mut reader = reader_of(Bits::from_u64(4, 3));
+    // Registers of a turn, and the reads after it: each turn writes register 0 and looks at registers 0 and 1.
+    for (registers, reads) in [(2, 1), (2, 2), (3, 3), (2, 4)] {
+        let (known, stack) = workspace.take(alloc);
+        let mut memory = Memory::new(alloc, known, registers)?;
+        memory.set(0, Bits::from_u64(4, 5));
+        assert_eq!(rt; memory.look(&mut reader, 0)?, Bits::from_u64(4, 5));
+        assert_eq!(rt; memory.look(&mut reader, 1)?, Bits::from_u64(4, 3));
+        assert_eq!(rt; reader.reads, reads);
+        let Memory { known, .. } = memory;
+        workspace.put_back(known, stack);
+    }
     Ok(())
 }
 
@@ -335,7 +356,11 @@ fn waits_and_assigns_later(rt: HostRuntime) -> Result<(), Fail> {
     assert!(rt; matches!(until, Suspend::Until(10)));
     let step = progress.take(nodes.as_slice(), ops.as_slice(), &[], 10, &mut reader)?;
     assert!(rt; matches!(step, Step::Goes));
-    assert_eq!(rt; progress.nbas.as_slice()[0].due, 12);
+    let due = match progress.nbas.first() {
+        Some(nba) => nba.due,
+        None => 0,
+    };
+    assert_eq!(rt; due, 12);
     let step = progress.take(nodes.as_slice(), ops.as_slice(), &[], 10, &mut reader)?;
     let inactive = match step {
         Step::Ends { suspend, .. } => suspend,

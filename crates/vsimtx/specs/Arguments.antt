@@ -1,12 +1,13 @@
 -- What the commands of the program take, and what a parse of them gives.
-use Rattle.std.specs.Prelude.{◌≡◌, ◌≤◌, ℕ, Bool, true, false, List, [], ◌∷◌, Option, Some, None, ⊤, is_some, codes}
+use Rattle.std.specs.Prelude.{◌≡◌, ◌⊎◌, ◌≤◌, ℕ, Bool, true, false, List, [], ◌∷◌, Option, Some, None, ⊤, is_some, codes, pos}
 use Rattle.clap.specs.Facts.{least_values}
-use Rattle.clap.specs.Words.{args_of, IsPlain, IsPlainArg, first_value}
+use Rattle.clap.specs.Words.{args_of, IsPlain, IsPlainArg, Accepts, one_text, read_as, reading_of, first_value}
 use Rattle.clap.specs.declared.builder.action.ArgAction.TheVariants.{Set}
 use Rattle.clap.specs.declared.builder.arg.Arg.{Arg}
 use Rattle.clap.specs.declared.builder.command.Command.{Command}
 use Rattle.clap.specs.declared.builder.command.Command.TheViews.{out-Command}
 use Rattle.clap.specs.declared.builder.value_parser.ValueParser.{ValueParser}
+use Rattle.clap.specs.declared.builder.value_parser.ValueParser.TheVariants.{Signed, Unsigned}
 use Rattle.clap.specs.declared.parser.matches.Found.{Found}
 
 -- an argument: its id, whether it is required, and what its values have to pass
@@ -44,10 +45,45 @@ pub record HasRules (c : Command) (rs : List Rule) : Type 0 where
   pub local : (out-Command c).has_globals ≡ false
   pub negates : (out-Command c).subcommand_negates_reqs ≡ false
 
--- the one argument of `run`
+-- a number of workers is 1 to 16
+abbrev pub workers_parser : ValueParser
+workers_parser = Signed (pos 1) (pos 16)
+
+-- a limit of time is 0 to 2 to the 48
+abbrev pub until_parser : ValueParser
+until_parser = Unsigned 0 281474976710656
+
+-- a limit of entries is 1 to the greatest number of 32 bits
+abbrev pub entries_parser : ValueParser
+entries_parser = Signed (pos 1) (pos 4294967295)
+
+-- the arguments of `run`
 abbrev pub run_rules : List Rule
-run_rules = rule (codes "FILE") true None ∷ []
+run_rules =
+    rule (codes "FILE") true None
+    ∷ rule (codes "workers") false (Some workers_parser)
+    ∷ rule (codes "until") false (Some until_parser)
+    ∷ rule (codes "max-entries") false (Some entries_parser)
+    ∷ rule (codes "journal") false None
+    ∷ []
+
+-- the arguments of `replay`
+abbrev pub replay_rules : List Rule
+replay_rules = rule (codes "FILE") true None ∷ rule (codes "JOURNAL") true None ∷ []
+
+-- the argument has no value, or its value passed the parser
+abbrev pub IsGiven : Found → List ℕ → ValueParser → Type 0
+IsGiven f id q = (one_text f id ≡ None)
+    ⊎ ((text : List ℕ) × (any_case : Bool) × (one_text f id ≡ Some (read_as (reading_of q) text)) × Accepts any_case q text)
 
 -- what a parse of `run` gives
 pub record GivesRun (f : Found) : Type 0 where
   pub file : is_some (first_value f (codes "FILE")) ≡ true
+  pub workers : IsGiven f (codes "workers") workers_parser
+  pub until : IsGiven f (codes "until") until_parser
+  pub max_entries : IsGiven f (codes "max-entries") entries_parser
+
+-- what a parse of `replay` gives
+pub record GivesReplay (f : Found) : Type 0 where
+  pub file : is_some (first_value f (codes "FILE")) ≡ true
+  pub journal : is_some (first_value f (codes "JOURNAL")) ≡ true

@@ -1,3 +1,4 @@
 pub mod Arguments
+pub mod Options
 pub mod Printed
 pub mod Program

@@ -15,6 +15,12 @@ use Rattle.vparse.specs.declared.parse.ParseFault.TheVariants as parsing
 use Rattle.elaborate.specs.declared.fault.ElabFault.TheVariants as elaboration
 use Rattle.frontend.specs.declared.source.SourceFault.{SourceFault}
 use Rattle.frontend.specs.declared.source.SourceFault.TheVariants as source
+use Rattle.journal.specs.declared.text.fault.ReadFault.{ReadFault}
+use Rattle.journal.specs.declared.text.fault.ReadFault.TheVariants as reading
+use Rattle.replay.specs.declared.fault.Cause.{Cause}
+use Rattle.replay.specs.declared.fault.Cause.TheVariants as cause
+use Rattle.replay.specs.declared.fault.BytesFault.{BytesFault}
+use Rattle.replay.specs.declared.fault.BytesFault.TheVariants as replaying
 
 -- a source that isn't run, or no memory for it
 abbrev pub source_status_of : SourceFault → ℕ
@@ -26,13 +32,32 @@ source_status_of f = 3
 abbrev pub simulate_status_of : SimFault → ℕ
 simulate_status_of f = 6
 
--- 1 files and output, 3 a source, 6 memory or a worker that couldn't be started
+-- a journal whose reading failed, or no memory for it, or a malformed one
+abbrev pub read_status_of : ReadFault → ℕ
+read_status_of reading.Read = 1
+read_status_of reading.Memory = 6
+read_status_of f = 5
+
+-- no memory for a replay, or an unlawful journal
+abbrev pub cause_status_of : Cause → ℕ
+cause_status_of cause.Memory = 6
+cause_status_of c = 5
+
+-- a fault of the source or of the journal, or one of output
+abbrev pub replay_status_of : BytesFault → ℕ
+replay_status_of (replaying.Source f) = source_status_of f
+replay_status_of (replaying.Read f) = read_status_of f
+replay_status_of (replaying.Replay f) = cause_status_of f.cause
+replay_status_of replaying.CannotWrite = 1
+
+-- 1 files and output, 3 a source, 5 a journal, 6 memory or a worker that couldn't be started
 abbrev pub status_of : Fault → ℕ
 status_of (fault.CannotRead path) = 1
 status_of fault.CannotWrite = 1
 status_of fault.Memory = 6
 status_of (fault.Source f) = source_status_of f
 status_of (fault.Simulate f) = simulate_status_of f
+status_of (fault.Replay f) = replay_status_of f
 
 -- what is told of a stop: `$finish` is none
 abbrev pub stop_for : Why → Option Stop

@@ -1,11 +1,13 @@
 //! What can go wrong in a command, with its line on standard error and its exit status.
 
 ghost use Rattle.std.specs.Prelude.{◌≡◌};
-ghost use Rattle.vsimtx.specs.Program.{status_of, stop_of, stop_for, stop_status, source_status_of, simulate_status_of};
+ghost use Rattle.vsimtx.specs.Program.{status_of, stop_of, stop_for, stop_status, source_status_of, simulate_status_of, read_status_of, cause_status_of, replay_status_of};
 
 use elaborate::ElabFault;
 use frontend::SourceFault;
+use journal::ReadFault;
 use model::end::{End, Why};
+use replay::{BytesFault, Cause};
 use simulate::SimFault;
 use thiserror::Error;
 use vparse::parse::ParseFault;
@@ -23,6 +25,8 @@ pub enum Fault<'a> {
     Source(#[from] SourceFault),
     #[error(transparent)]
     Simulate(#[from] SimFault),
+    #[error(transparent)]
+    Replay(BytesFault),
 }
 
 /// The reason of a stop, as it is told.
@@ -76,8 +80,8 @@ impl Stop {
 }
 
 impl Fault<'_> {
-    /// The exit status: 1 for files and output, 3 for a source, and 6 for memory or a worker that
-    /// couldn't be started.
+    /// The exit status: 1 for files and output, 3 for a source, 5 for a journal, and 6 for memory or
+    /// a worker that couldn't be started.
     pub fn status(&self) -> u8
         ensures { result ≡ status_of self.now }
     {
@@ -86,6 +90,7 @@ impl Fault<'_> {
             Fault::Memory => 6,
             Fault::Source(fault) => source_status(fault),
             Fault::Simulate(fault) => simulate_status(fault),
+            Fault::Replay(fault) => replay_status(fault),
         }
     }
 }
@@ -104,5 +109,35 @@ fn simulate_status(fault: &SimFault) -> u8
 {
     match fault {
         SimFault::Memory | SimFault::NoWorker => 6,
+    }
+}
+
+fn replay_status(fault: &BytesFault) -> u8
+    ensures { result ≡ replay_status_of fault.now }
+{
+    match fault {
+        BytesFault::Source(fault) => source_status(fault),
+        BytesFault::Read(fault) => read_status(*fault),
+        BytesFault::Replay(fault) => cause_status(fault.cause),
+        BytesFault::CannotWrite => 1,
+    }
+}
+
+fn read_status(fault: ReadFault) -> u8
+    ensures { result ≡ read_status_of fault }
+{
+    match fault {
+        ReadFault::Read => 1,
+        ReadFault::Memory => 6,
+        _ => 5,
+    }
+}
+
+fn cause_status(cause: Cause) -> u8
+    ensures { result ≡ cause_status_of cause }
+{
+    match cause {
+        Cause::Memory => 6,
+        _ => 5,
     }
 }

@@ -1,7 +1,10 @@
-//! The program `vsimtx`: it runs one Verilog module on several workers and prints its lines.
+//! The program `vsimtx`: it runs one Verilog module on several workers, or replays the journal of a
+//! run, and prints the lines.
 //!
-//! - `arguments` reads the command line into a request.
+//! - `arguments` reads the command line into a request, whose options are proved to be in range.
 //! - `files` says where paths lead: to the system's files, or to a test's.
+//! - `reading` and `writing` take a file or a text whole.
+//! - `running` is a run, and `replaying` a replay.
 //! - `program` is the whole program as a function, `command`, which `main` calls.
 //! - `fault` has the lines on standard error and the exit statuses.
 #![tactic(auto)]
@@ -10,10 +13,15 @@ mod arguments;
 mod fault;
 mod files;
 mod program;
+mod reading;
+mod replaying;
+mod running;
 #[cfg(test)]
 mod tests;
+mod writing;
 
 use files::SystemFiles;
+use journal::Counted;
 use program::{command, without_words};
 use std::alloc::Global;
 use std::process::ExitCode;
@@ -22,7 +30,7 @@ use std::{env, io};
 fn main(rt: HostRuntime) -> ExitCode {
     let alloc = rt.alloc();
     let mut files = SystemFiles { rt: &rt };
-    let mut out = rt.stdout();
+    let mut out = Counted::new(rt.stdout());
     let mut err = rt.stderr();
     let status = match words(&rt, alloc) {
         Ok(words) => command(&rt, alloc, words.as_slice(), &mut files, &mut out, &mut err),

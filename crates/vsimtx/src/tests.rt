@@ -2,16 +2,23 @@
 
 use crate::files::Files;
 use crate::program::command;
+use journal::Counted;
 use std::alloc::{AllocError, Global};
+use std::cell::RefCell;
 use std::io;
 use std::io::{ErrorKind, Read, Write};
 use std::process::Abort;
+use std::rc::Rc;
 use std::sync::Wait;
 use std::test::Fail;
 use std::thread::Threads;
 
+mod journals;
+mod limits;
+mod replays;
 mod runs;
 mod sources;
+mod threads;
 mod words;
 
 /// A file to read: its bytes, of which a read gives one, and then a fault, if there is one.
@@ -35,27 +42,41 @@ impl Read for Source<'_> {
     }
 }
 
-/// Files with the same bytes: `t.v` is whole, and the others break off after them, `interrupted.v`
-/// for one read.
+/// Files in memory. Of a source and of a journal there is a whole one, and others that break off after
+/// the same bytes. `folder` isn't there, and any other new file has the room that is given.
 #[derive(Drop)]
 struct Memory<'a> {
     source: &'a [u8],
+    journal: &'a [u8],
+    made: Rc<RefCell<Vec<u8>>>,
+    room: usize,
 }
 
 impl<'a> Files for Memory<'a> {
     type Source = Source<'a>;
 
+    type Target = Target;
+
     fn open(&mut self, path: &str) -> io::Result<Source<'a>> {
-        let fault = match path {
-            "t.v" => None,
-            "broken.v" => Some(ErrorKind::Other),
-            "large.v" => Some(ErrorKind::OutOfMemory),
-            "interrupted.v" => Some(ErrorKind::Interrupted),
+        let (bytes, fault) = match path {
+            "t.v" => (self.source, None),
+            "broken.v" => (self.source, Some(ErrorKind::Other)),
+            "large.v" => (self.source, Some(ErrorKind::OutOfMemory)),
+            "interrupted.v" => (self.source, Some(ErrorKind::Interrupted)),
+            "JOURNAL" => (self.journal, None),
+            "BROKEN" => (self.journal, Some(ErrorKind::Other)),
             _ => return Err(io::Error::from(ErrorKind::NotFound)),
         };
-        Ok(Source {
-            bytes: self.source,
-            fault,
+        Ok(Source { bytes, fault })
+    }
+
+    fn create(&mut self, path: &str) -> io::Result<Target> {
+        if path.starts_with("folder/") {
+            return Err(io::Error::from(ErrorKind::NotFound));
+        }
+        Ok(Target {
+            room: self.room,
+            written: self.made.clone()?,
         })
     }
 }
@@ -64,7 +85,7 @@ impl<'a> Files for Memory<'a> {
 #[derive(Drop)]
 struct Target {
     room: usize,
-    written: Vec<u8>,
+    written: Rc<RefCell<Vec<u8>>>,
 }
 
 impl Write for Target {
@@ -76,7 +97,10 @@ impl Write for Target {
             return Err(io::Error::from(ErrorKind::Other));
         }
         self.room -= 1;
-        self.written.push(*byte)?;
+        match self.written.try_borrow_mut() {
+            Ok(mut written) => written.push(*byte)?,
+            Err(_) => return Err(io::Error::from(ErrorKind::Other)),
+        }
         Ok(1)
     }
 
@@ -85,12 +109,34 @@ impl Write for Target {
     }
 }
 
-/// What a command left: its status, and what stands on output and on standard error.
+/// The source and the journal that a command line finds, and the room of standard output and of a new
+/// file.
+#[derive(Clone, Copy)]
+struct Setting<'a> {
+    source: &'a [u8],
+    journal: &'a [u8],
+    out_room: usize,
+    room: usize,
+}
+
+/// A source, no journal, and room for all that is written.
+fn over(source: &[u8]) -> Setting<'_> {
+    Setting {
+        source,
+        journal: b"",
+        out_room: usize::MAX,
+        room: usize::MAX,
+    }
+}
+
+/// What a command left: its status, and what stands on output, on standard error and in the file that
+/// it made.
 #[derive(Drop)]
 struct Left {
     status: u8,
     out: Vec<u8>,
     err: Vec<u8>,
+    made: Vec<u8>,
 }
 
 fn words_of(alloc: Global, line: &str) -> Result<Vec<String>, AllocError> {
@@ -101,27 +147,41 @@ fn words_of(alloc: Global, line: &str) -> Result<Vec<String>, AllocError> {
     Ok(words)
 }
 
-/// What a command line leaves where `t.v` has these bytes, and standard output takes this many.
-fn run_within<R: Threads + Wait + Sync>(
+/// The bytes that a writer put there.
+fn copy(alloc: Global, bytes: &Rc<RefCell<Vec<u8>>>) -> Result<Vec<u8>, AllocError> {
+    match bytes.try_borrow() {
+        Ok(bytes) => bytes.clone(),
+        Err(_) => Ok(Vec::new(alloc)),
+    }
+}
+
+/// What a command line leaves in a setting.
+fn run_in<R: Threads + Wait + Sync>(
     rt: &R,
     alloc: Global,
     line: &str,
-    source: &[u8],
-    room: usize,
+    setting: &Setting<'_>,
 ) -> Result<Left, AllocError> {
     let words = words_of(alloc, line)?;
-    let mut files = Memory { source };
-    let mut out = Target {
-        room,
-        written: Vec::new(alloc),
+    let made = Rc::new(alloc, RefCell::new(Vec::new(alloc)))?;
+    let shown = Rc::new(alloc, RefCell::new(Vec::new(alloc)))?;
+    let mut files = Memory {
+        source: setting.source,
+        journal: setting.journal,
+        made: made.clone()?,
+        room: setting.room,
     };
+    let mut out = Counted::new(Target {
+        room: setting.out_room,
+        written: shown.clone()?,
+    });
     let mut err = Vec::new(alloc);
     let status = command(rt, alloc, words.as_slice(), &mut files, &mut out, &mut err);
-    let Target { written, .. } = out;
     Ok(Left {
         status,
-        out: written,
+        out: copy(alloc, &shown)?,
         err,
+        made: copy(alloc, &made)?,
     })
 }
 
@@ -132,7 +192,7 @@ fn run_line<R: Threads + Wait + Sync>(
     line: &str,
     source: &[u8],
 ) -> Result<Left, AllocError> {
-    run_within(rt, alloc, line, source, usize::MAX)
+    run_in(rt, alloc, line, &over(source))
 }
 
 fn assert_left(rt: &impl Abort, what: &str, left: &Left, status: u8, out: &str, err: &str) {

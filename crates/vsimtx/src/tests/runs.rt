@@ -1,13 +1,34 @@
-//! Sources that run, each with all that it prints, whatever the order of its turns.
+//! Sources that run, each with all that it prints, whatever the order of its turns. The journal of a run
+//! replays to the lines that the run printed.
 
-use super::{assert_left, run_line, run_within};
+use super::{Left, Setting, assert_left, over, run_in, run_line};
 use std::alloc::{AllocError, Global};
 use std::process::Abort;
 use std::sync::Wait;
 use std::test::Fail;
 use std::thread::Threads;
 
-const RUN: &str = "vsimtx run t.v";
+const RUN: &str = "vsimtx run t.v --journal OUT";
+
+const REPLAY: &str = "vsimtx replay t.v JOURNAL";
+
+/// What a run of the source leaves. A replay of its journal prints the same lines.
+fn run_twice<R: Abort + Threads + Wait + Sync>(
+    rt: &R,
+    alloc: Global,
+    source: &str,
+) -> Result<Left, AllocError> {
+    let left = run_line(rt, alloc, RUN, source.as_bytes())?;
+    let kept = Setting {
+        journal: left.made.as_slice(),
+        ..over(source.as_bytes())
+    };
+    let again = run_in(rt, alloc, REPLAY, &kept)?;
+    assert_eq!(rt; again.status, 0, "{source}");
+    assert!(rt; again.err.is_empty(), "{source}");
+    assert!(rt; again.out.as_slice() == left.out.as_slice(), "{source}");
+    Ok(left)
+}
 
 /// Each of the sources runs and prints these lines.
 fn assert_prints<R: Abort + Threads + Wait + Sync>(
@@ -16,7 +37,7 @@ fn assert_prints<R: Abort + Threads + Wait + Sync>(
     cases: &[(&str, &str)],
 ) -> Result<(), AllocError> {
     for (source, out) in cases {
-        let left = run_line(rt, alloc, RUN, source.as_bytes())?;
+        let left = run_twice(rt, alloc, source)?;
         assert_left(rt, source, &left, 0, out, "");
     }
     Ok(())
@@ -131,7 +152,7 @@ fn assert_one_of<R: Abort + Threads + Wait + Sync>(
     texts: [&str; 2],
 ) -> Result<(), AllocError> {
     for _ in 0..100 {
-        let left = run_line(rt, alloc, RUN, source.as_bytes())?;
+        let left = run_twice(rt, alloc, source)?;
         assert_eq!(rt; left.status, 0, "{source}");
         assert!(rt; left.err.is_empty(), "{source}");
         assert!(rt;
@@ -182,13 +203,25 @@ fn copies_race_as_whole_turns(rt: HostRuntime) -> Result<(), Fail> {
 #[test]
 fn stops_where_time_or_a_turn_ends(rt: HostRuntime) -> Result<(), Fail> {
     let alloc = rt.alloc();
-    let left = run_line(&rt, alloc, RUN, b"module t; always ; endmodule")?;
+    let left = run_twice(&rt, alloc, "module t; always ; endmodule")?;
     let text = "vsimtx: stopped: process 0 too long\n";
     assert_left(&rt, "always ;", &left, 4, "", text);
-    let left = run_line(&rt, alloc, RUN, b"module t; always #4294967295 ; endmodule")?;
+    assert!(rt; left.made.as_slice() == b"vsimtx-journal 1\n".as_slice());
+    let left = run_twice(&rt, alloc, "module t; always #4294967295 ; endmodule")?;
     assert_left(&rt, "last time", &left, 4, "", "vsimtx: stopped: time\n");
-    let left = run_line(&rt, alloc, RUN, b"module t; always #0 ; endmodule")?;
-    assert_left(&rt, "entries", &left, 4, "", "vsimtx: stopped: entries\n");
+    // The header and 131,073 entries, of which the last two are at the last time that is reached.
+    let lines = left.made.iter().filter(|byte| **byte == b'\n').count();
+    assert_eq!(rt; lines, 131_074);
+    let last = b"A 281474976645120\nT 65536\n".as_slice();
+    assert!(rt; left.made.as_slice().ends_with(last));
+    Ok(())
+}
+
+#[test]
+fn stops_at_a_million_entries(rt: HostRuntime) -> Result<(), Fail> {
+    let line = "vsimtx run t.v";
+    let left = run_line(&rt, rt.alloc(), line, b"module t; always #0 ; endmodule")?;
+    assert_left(&rt, line, &left, 4, "", "vsimtx: stopped: entries\n");
     Ok(())
 }
 
@@ -205,10 +238,10 @@ fn long_process(alloc: Global, empty: usize) -> Result<String, AllocError> {
 #[test]
 fn stops_at_a_turn_that_is_too_long(rt: HostRuntime) -> Result<(), Fail> {
     let source = long_process(rt.alloc(), 65_535)?;
-    let left = run_line(&rt, rt.alloc(), RUN, source.as_bytes())?;
+    let left = run_twice(&rt, rt.alloc(), source.as_str())?;
     assert_left(&rt, "65,536 steps", &left, 0, "hi\n", "");
     let source = long_process(rt.alloc(), 65_536)?;
-    let left = run_line(&rt, rt.alloc(), RUN, source.as_bytes())?;
+    let left = run_twice(&rt, rt.alloc(), source.as_str())?;
     let text = "vsimtx: stopped: process 0 too long\n";
     assert_left(&rt, "65,537 steps", &left, 4, "", text);
     Ok(())
@@ -217,7 +250,11 @@ fn stops_at_a_turn_that_is_too_long(rt: HostRuntime) -> Result<(), Fail> {
 #[test]
 fn tells_that_output_is_cut(rt: HostRuntime) -> Result<(), Fail> {
     let source = b"module t; initial $display(\"hello\"); endmodule";
-    let left = run_within(&rt, rt.alloc(), RUN, source, 3)?;
+    let cut = Setting {
+        out_room: 3,
+        ..over(source)
+    };
+    let left = run_in(&rt, rt.alloc(), RUN, &cut)?;
     assert_left(&rt, "cut", &left, 1, "hel", "vsimtx: cannot write\n");
     Ok(())
 }

@@ -7,6 +7,6 @@ use Rattle.turn.proofs.evaluate.evaluate.Given as goal
 
 abbrev pub invariant-loop-op : goal.invariant-loop-op
 invariant-loop-op g l = record {
-  ran : All (IsOpOf (length l.fn.memory.known.items)) l.ops → Ran (take l.op-index l.ops) l.fn.memory.known.items l.fn.memory.reads.entries (reverse l.fn.stack.items) l.memory.known.items l.memory.reads.entries (reverse l.stack.items);
+  ran : All (IsOpOf (length l.fn.memory.known)) l.ops → Ran (take l.op-index l.ops) l.fn.memory.known l.fn.memory.reads.entries (reverse l.fn.stack.items) l.memory.known l.memory.reads.entries (reverse l.stack.items);
   gave : GaveAll (g.R.RegReader.gave l.fn.reader) l.fn.memory.reads.entries → GaveAll (g.R.RegReader.gave l.reader) l.memory.reads.entries;
 }

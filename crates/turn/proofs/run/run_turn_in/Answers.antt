@@ -1,10 +1,23 @@
-use Rattle.std.proofs.Common.{◌≡◌, ◌+◌, ap, sym, false, true, refl, subst, arith}
-use Rattle.turn.specs.Progress.{status_of}
+use Rattle.std.proofs.Common.{◌≡◌, ◌+◌, ◌∙◌, length, ap, sym, false, true, refl, subst, arith}
+use Rattle.turn.specs.Progress.{status_of, fresh}
+use Rattle.turn.specs.Reads.{GaveAll}
 use Rattle.turn.specs.Machine.{IsAtEnd}
+use Rattle.turn.specs.Answers.{IsNoTurn}
+use Rattle.turn.specs.declared.log.TurnFault.TheVariants.{TooLong}
 use Rattle.turn.specs.declared.log.Suspend.TheVariants as suspends
 use Rattle.turn.specs.declared.machine.Step.TheVariants as step
-use Rattle.turn.proofs.Turns.{reached_more, ends_over, ends_counted, is_log, end_takes, too_long, reads_declared, taken}
-use Rattle.turn.proofs.run.run_turn.Goals as goal
+use Rattle.turn.proofs.Turns.{Reached, reached_none, reached_more, ends_over, ends_counted, is_log, end_takes, too_long, reads_declared, taken}
+use Rattle.turn.proofs.run.run_turn_in.Goals as goal
+
+pub loop-count-init : goal.loop-count-init
+loop-count-init g c =
+    let design = c.args.design.now in
+    let state = c.args.state.now in
+    let begins : status_of c.in_ok-progress.progress ≡ fresh state (length design.widths) = c.in_ok-progress.ensures ∙ ap (λ n. fresh state n) c.registers.ensures.value in
+    record {
+      reached = subst (Reached design state c.args.now 0) (sym begins) (reached_none design state c.args.now);
+      gave = subst (λ reads. GaveAll (g.R.RegReader.gave c.args.reader.now) reads) (sym (ap (λ s. s.reads) begins)) tt;
+    }
 
 pub returns-in-Over-clause-turn : goal.returns-in-Over-clause-turn
 returns-in-Over-clause-turn g c =
@@ -76,10 +89,11 @@ returns-then-is_over-clause-turn g c =
 pub returns-else-is_over-clause-turn : goal.returns-else-is_over-clause-turn
 returns-else-is_over-clause-turn g c =
     let s = status_of c.loop-count.progress in
-    λ p start. (
+    subst (λ reads. IsNoTurn c.args.design.now c.args.state.now c.args.now (TooLong reads)) (sym c.reads_of.ensures)
+    (λ p start. (
       reads_declared c.args.design.now c.args.state.now c.args.now c.loop-count.count s c.loop-count.invariant.reached p start,
       too_long c.args.design.now c.registers.ensures.compiled c.args.state.now c.args.now c.loop-count.count s
           c.loop-count.invariant.reached (omega arith)
           (λ there. let no : false ≡ true = c.if-is_over.ensures.1 (subst (λ nodes. IsAtEnd nodes s.state) (sym c.nodes-nodes.ensures) there) in cc)
           p start,
-    )
+    ))

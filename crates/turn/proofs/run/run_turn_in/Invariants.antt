@@ -1,7 +1,7 @@
 use Rattle.turn.specs.Progress.{status_of}
 use Rattle.turn.specs.Reads.{GaveAll}
 use Rattle.turn.proofs.Turns.{Reached}
-use Rattle.turn.proofs.run.run_turn.Given as goal
+use Rattle.turn.proofs.run.run_turn_in.Given as goal
 
 abbrev pub invariant-loop-count : goal.invariant-loop-count
 invariant-loop-count g l = record {

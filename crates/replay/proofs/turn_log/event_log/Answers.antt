@@ -1,0 +1,35 @@
+-- The turn of an event that is permitted, and why there is none.
+use Rattle.std.proofs.Common.{◌≡◌, subst, true, false, ℕ, None}
+use Rattle.model.specs.declared.entry.Entry.TheVariants as entries
+use Rattle.model.specs.Runs.{refusal}
+use Rattle.model.specs.Turns.{short_turn}
+use Rattle.design.specs.Compiled.{design_of}
+use Rattle.design.specs.Standing.{remainder_of, IsStateOf}
+use Rattle.turn.specs.declared.log.TurnFault.{TurnFault}
+use Rattle.replay.specs.Replays.{state_in}
+use Rattle.journal.specs.Reader.{IsTurnOn, IsNoTurnOn}
+use Rattle.replay.proofs.Given.{given_turn, given_none, stop_turn}
+use Rattle.replay.proofs.turn_log.event_log.Goals as goal
+
+pub returns-then-not-legal : goal.returns-then-not-legal
+returns-then-not-legal c =
+    let code = c.args.design.now in
+    let r = c.args.replayed.now in
+    let no : c.legal.result ≡ false = c.if-not-legal.true in
+    given_none code r c.args.number (λ none. let yes : c.legal.result ≡ true = (c.legal.ensures (remainder_of code) r.store).1 none in cc)
+
+pub returns-in-Ok : goal.returns-in-Ok
+returns-in-Ok c =
+    let code = c.args.design.now in
+    let r = c.args.replayed.now in
+    given_turn code r c.args.number c.in-Some.field-0-0 c.in-Some.state c.in-Ok.log c.requires.stands c.in-Some.ensures
+    (subst (λ (now : ℕ). IsTurnOn code c.in-Some.state r.store now c.in-Ok.log) c.time-now.ensures c.in-Ok.ensures)
+
+pub returns-in-Err-TooLong : goal.returns-in-Err-TooLong
+returns-in-Err-TooLong c =
+    let code = c.args.design.now in
+    let r = c.args.replayed.now in
+    let permitted : refusal (state_in code r) (entries.Turn c.args.number) ≡ None = (c.legal.ensures (remainder_of code) r.store).0 c.if-not-legal.false in
+    let none = subst (λ (f : TurnFault). IsNoTurnOn code c.in-Some.state r.store c.time-now.result f) c.in-Err-TooLong.field-0-is c.in-Err-TooLong.ensures in
+    stop_turn code r c.args.number c.in-Some.field-0-0 c.in-Some.state c.requires.stands c.in-Some.ensures permitted
+    (subst (λ (now : ℕ). (q : ℕ) → IsStateOf code q c.in-Some.state → short_turn (design_of code) q (remainder_of code c.in-Some.state) r.store now ≡ None) c.time-now.ensures none)

@@ -1,0 +1,4 @@
+pub mod Replays
+pub mod Taken
+pub mod Faults
+pub mod Bytes

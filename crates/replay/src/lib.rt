@@ -1,0 +1,25 @@
+//! The replayer of a journal, on one thread.
+//!
+//! 1. The start (11.3): every register is all x, and each process has its first event.
+//! 2. Each entry is taken where it stands. A turn that the rules permit is evaluated on the values and at the time of
+//!    the state, and its lines are appended; then the entry is applied.
+//! 3. The first entry that the rules don't permit, or whose turn isn't short, ends the replay with a fault.
+//!
+//! `replay_bytes` does this from the bytes of a source and of a journal, and writes the lines once all are known.
+//!
+//! The layer above uses the contract of `replay`. An `Ok` comes where the journal is lawful, with the state and the
+//! lines after it; each `Err` but those for want of memory and for too many entries says that it isn't lawful.
+#![tactic(auto)]
+
+mod bytes;
+mod fault;
+mod laws;
+mod replayed;
+#[cfg(test)]
+mod tests;
+mod turn_log;
+
+pub use bytes::replay_bytes;
+pub use fault::{BytesFault, Cause, ReplayFault};
+pub use laws::faults_are_just;
+pub use replayed::{Replayed, replay};

@@ -1,0 +1,11 @@
+-- What a run asks of its options.
+use Rattle.std.specs.Prelude.{◌≤◌, ◌^◌}
+use Rattle.std.specs.Option.{ForSome}
+use Rattle.simulate.specs.declared.run.Options.{Options}
+
+-- 1 to 16 workers, at least one entry, and no time past 2 to the 48
+pub record CanRun (options : Options) : Type 0 where
+  pub some_worker : 1 ≤ options.workers
+  pub few_workers : options.workers ≤ 16
+  pub until : ForSome options.until (λ t. t ≤ 2 ^ 48)
+  pub some_entry : 1 ≤ options.max_entries
