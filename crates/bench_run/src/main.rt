@@ -1,5 +1,6 @@
 //! Times a run from its source to its journal. Without arguments a small design is read, run and replayed, and one
-//! fixed line is printed; with the argument `measure`, the least of five runs of each of these:
+//! fixed line is printed. With the argument `loop` or `short` the source of the one turn or of the short processes is
+//! printed, for another simulator. With the argument `measure`, the least of five runs of each of these:
 //!
 //! - a source of 1 MB with 1,024 registers and 256 processes is read into its design;
 //! - one turn of 60,003 counted steps is evaluated;
@@ -56,16 +57,23 @@ fn design_of(alloc: Global, source: &str) -> io::Result<Design> {
     }
 }
 
-/// The counted steps of the first turn of a design's first process.
-fn first_turn(alloc: Global, design: &Design) -> Result<u64, AllocError> {
+/// The counted steps of the first turn of a design's first process, in room that earlier turns may have left.
+fn first_turn(
+    alloc: Global,
+    workspace: &mut Workspace,
+    design: &Design,
+) -> Result<u64, AllocError> {
     let widths = design.widths(alloc)?;
     let store = PlainStore::new(alloc, widths.as_slice())?;
     if design.processes() == 0 {
         return Ok(0);
     }
-    let mut workspace = Workspace::new(alloc);
-    match turn_on(alloc, &mut workspace, design, design.first(0), 0, &store) {
-        Ok(log) => Ok(u64::from(log.count)),
+    match turn_on(alloc, workspace, design, design.first(0), 0, &store) {
+        Ok(log) => {
+            let count = u64::from(log.count);
+            workspace.give_back(Some(log));
+            Ok(count)
+        }
         Err(_) => Ok(0),
     }
 }
@@ -103,9 +111,9 @@ fn read(rt: &HostRuntime, text: &str) -> io::Result<Measure> {
     })
 }
 
-fn turn(rt: &HostRuntime, design: &Design) -> io::Result<Measure> {
+fn turn(rt: &HostRuntime, workspace: &mut Workspace, design: &Design) -> io::Result<Measure> {
     let from = Instant::now(rt)?;
-    let amount = first_turn(rt.alloc(), design)?;
+    let amount = first_turn(rt.alloc(), workspace, design)?;
     let micros = from.elapsed(rt)?.as_micros();
     Ok(Measure { micros, amount })
 }
@@ -175,10 +183,11 @@ fn measure_all<R: Threads + Wait + Sync>(rt: &HostRuntime, threads: &R) -> io::R
     let text = wide(alloc, 1_000_000)?;
     let adds = design_of(alloc, LOOP)?;
     let mut reading = read(rt, text.as_str())?;
-    let mut turning = turn(rt, &adds)?;
+    let mut workspace = Workspace::new(alloc);
+    let mut turning = turn(rt, &mut workspace, &adds)?;
     for _run in 1..5u8 {
         reading = reading.least(read(rt, text.as_str())?);
-        turning = turning.least(turn(rt, &adds)?);
+        turning = turning.least(turn(rt, &mut workspace, &adds)?);
     }
     println!(rt; "a source of {} bytes", text.len())?;
     tell(rt, "registers of its design", reading)?;
@@ -197,14 +206,31 @@ fn measure_all<R: Threads + Wait + Sync>(rt: &HostRuntime, threads: &R) -> io::R
     )
 }
 
+/// Does what a word of the command line asks for.
+fn answer<R: Threads + Wait + Sync>(rt: &HostRuntime, threads: &R, word: &str) -> io::Result<()> {
+    if word == "loop" {
+        println!(rt; "{LOOP}")?;
+        return Ok(());
+    }
+    if word == "short" {
+        print!(rt; "{}", short(rt.alloc(), 256)?)?;
+        return Ok(());
+    }
+    if word == "measure" {
+        return measure_all(rt, threads);
+    }
+    Err(io::Error::from(io::ErrorKind::InvalidInput))
+}
+
 fn main(rt: HostRuntime) -> io::Result<()> {
     let alloc = rt.alloc();
     let mut words = env::args(&rt)?;
     words.next();
-    if words.next().is_some_and(|word| word.as_str() == "measure") {
-        return measure_all(&rt, &rt);
+    if let Some(word) = words.next() {
+        return answer(&rt, &rt, word.as_str());
     }
-    let steps = first_turn(alloc, &design_of(alloc, LOOP)?)?;
+    let mut workspace = Workspace::new(alloc);
+    let steps = first_turn(alloc, &mut workspace, &design_of(alloc, LOOP)?)?;
     let design = design_of(alloc, short(alloc, 4)?.as_str())?;
     let entries = journal_of(&rt, alloc, &design, 100);
     let is_lawful = replay(alloc, &design, entries.as_slice()).is_ok();

@@ -8,7 +8,7 @@ use Rattle.vparse.specs.Spells.{Spells, IsDeepTextAt}
 use Rattle.vparse.specs.declared.parse.ParseFault.{ParseFault}
 use Rattle.vparse.specs.declared.parse.ParseFault.TheVariants.{Byte, Syntax, Literal, Deep, Unsized, Memory}
 use Rattle.design.specs.Compiled.{Compiled, design_of}
-use Rattle.elaborate.specs.Faults.{IsFirstFault, IsToldRightly}
+use Rattle.elaborate.specs.Faults.{IsFirstFault}
 use Rattle.elaborate.specs.declared.fault.ElabFault.{ElabFault}
 use Rattle.elaborate.specs.declared.fault.ElabFault.TheVariants.{Unspelled}
 use Rattle.frontend.specs.declared.source.SourceFault.{SourceFault}
@@ -36,7 +36,6 @@ pub record HasModuleFault (source : List ℕ) (fault : ElabFault) : Type 0 where
   pub parsed : Module
   pub spells : Spells parsed source
   pub is_first : IsFirstFault fault (faults parsed)
-  pub is_told : IsToldRightly fault parsed
 
 -- a fault of a source, none of which is that no source spells the tree
 abbrev pub IsSourceFault : List ℕ → SourceFault → Type 0

@@ -149,10 +149,18 @@ fn work<K: Naming, R: Wait>(
     seat
 }
 
-// That threads may share a type, as contracts say it. The proof that a gate may be shared goes through a design as a whole.
+// That threads may share a type, as contracts say it.
 fn is_shared<T: Sync>()
     ensures { IsSync T.row }
 {}
+
+// That threads may share a design. The proof that they may share a gate goes through a design as a whole. A function of its
+// own leaves little in scope for the search that finds this.
+fn design_is_shared()
+    ensures { IsSync design_rows.the_row }
+{
+    is_shared::<Design>();
+}
 
 // Starts a worker for each seat and joins them all. Where one can't be started the run is stopped.
 fn work_all<K: Naming + Send + Sync, R: Threads + Wait + Sync>(
@@ -167,7 +175,7 @@ fn work_all<K: Naming + Send + Sync, R: Threads + Wait + Sync>(
     let Some(mut own) = seats.pop() else {
         return Ok(left);
     };
-    is_shared::<Design>();
+    design_is_shared();
     thread::scope(
         thread::scope_env(),
         rt,

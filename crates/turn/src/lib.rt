@@ -5,7 +5,8 @@
 //! 2. Expressions are steps on a stack of vectors. A register that the turn wrote has the value written; any other is
 //!    asked of a `RegReader` at its first use, and recorded.
 //! 3. A `TurnLog` says what was read, written and printed, what is left of the process, and what that waits for.
-//! 4. `run_turn_in` works in a `Workspace` that its caller keeps, so that a short turn takes no memory but its log's.
+//! 4. `run_turn_in` works in a `Workspace` that its caller keeps, so that a short turn takes no memory but its log's, and
+//!    none at all where the log of an earlier turn was given back to it.
 //!
 //! What the layer above uses: on every store that has the values recorded, the log is the turn of the definitions, and a
 //! turn that is too long has none (`specs/Answers.antt`). So values of registers that weren't read count for nothing.

@@ -8,7 +8,7 @@ use crate::workspace::Known;
 use design::RegId;
 use indexmap::IndexMap;
 use logic4::bits::Bits;
-use std::alloc::{AllocError, Global};
+use std::alloc::AllocError;
 
 /// What a read of a register saw: the version that it had, and its value.
 #[derive(Clone, Copy, PartialEq, Eq, Debug)]
@@ -40,16 +40,18 @@ pub(crate) struct Memory {
 
 impl Memory {
     /// Nothing is known of this many registers, whatever the table held.
-    pub fn new(alloc: Global, known: Known, registers: u32) -> Result<Self, AllocError>
+    pub fn new(
+        known: Known,
+        reads: IndexMap<RegId, Seen>,
+        registers: u32,
+    ) -> Result<Self, AllocError>
+        requires { reads.entries ≡ [] }
         ensures known { IfOk result (λ m. m.known ≡ replicate registers None) }
         ensures reads { IfOk result (λ m. m.reads.entries ≡ []) }
     {
         let mut known = known;
         known.begin(registers)?;
-        Ok(Memory {
-            known,
-            reads: IndexMap::new(alloc),
-        })
+        Ok(Memory { known, reads })
     }
 
     /// Knows this value of a register.
@@ -71,6 +73,8 @@ impl Memory {
     }
 
     /// The value of a register: the one that is known, or else the one that is read now, and recorded.
+    // A call would hand the value back through memory, which costs a third of the time of an expression.
+    #[inline(always)]
     pub fn look<R: RegReader>(
         &mut self,
         reader: &mut R,

@@ -1,5 +1,5 @@
 //! A turn under way.
-ghost use Rattle.std.specs.Prelude.{◌≡◌, ◌++◌, OnOk, IfOk};
+ghost use Rattle.std.specs.Prelude.{◌≡◌, ◌++◌, [], string_bytes, OnOk, IfOk};
 ghost use Rattle.design.specs.Steps.{piece};
 ghost use Rattle.turn.specs.Reads.{GaveAll};
 ghost use Rattle.turn.specs.Progress.{status_of, fresh, at, writing, holding, delaying, printing, Valued};
@@ -7,7 +7,7 @@ ghost use Rattle.turn.specs.Progress.{status_of, fresh, at, writing, holding, de
 use crate::evaluate::evaluate;
 use crate::log::{Nba, Suspend, TurnLog};
 use crate::memory::{Memory, RegReader};
-use crate::workspace::Known;
+use crate::workspace::Room;
 use design::code::{Op, Span};
 use design::{ProcState, RegId};
 use logic4::bits::Bits;
@@ -37,23 +37,34 @@ pub(crate) fn part<T>(list: &[T], span: Span) -> &[T]
 }
 
 impl Progress {
-    /// A turn that begins, over this many registers, with this table and this stack to work with.
+    /// A turn that begins, over this many registers, in this room.
     pub fn new(
         alloc: Global,
-        known: Known,
-        stack: Vec<Bits>,
+        room: Room,
         state: ProcState,
         registers: u32,
     ) -> Result<Self, AllocError>
+        requires reads { room.reads.entries ≡ [] }
+        requires writes { room.writes.items ≡ [] }
+        requires nbas { room.nbas.items ≡ [] }
+        requires lines { string_bytes room.lines ≡ [] }
         ensures { IfOk result (λ p. status_of p ≡ fresh state registers) }
     {
+        let Room {
+            known,
+            stack,
+            reads,
+            writes,
+            nbas,
+            lines,
+        } = room;
         Ok(Progress {
             alloc,
             state,
-            memory: Memory::new(alloc, known, registers)?,
-            writes: Vec::new(alloc),
-            nbas: Vec::new(alloc),
-            lines: String::new(alloc),
+            memory: Memory::new(known, reads, registers)?,
+            writes,
+            nbas,
+            lines,
             stack,
         })
     }

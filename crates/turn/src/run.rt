@@ -83,8 +83,8 @@ pub fn run_turn_in<R: RegReader>(
     let nodes = design.nodes();
     let ops = design.ops();
     let shown = design.shown();
-    let (known, stack) = workspace.take(alloc);
-    let mut progress = Progress::new(alloc, known, stack, *state, design.registers())?;
+    let room = workspace.take(alloc);
+    let mut progress = Progress::new(alloc, room, *state, design.registers())?;
     for count in 0..MOST_STEPS {
         match progress.take(nodes, ops, shown, now, reader)? {
             Step::Goes => {}

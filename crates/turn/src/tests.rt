@@ -1,14 +1,15 @@
 //! Steps of turns over registers that a test holds.
 use crate::evaluate::evaluate;
-use crate::log::Suspend;
+use crate::log::{Nba, Suspend, TurnLog};
 use crate::machine::Step;
 use crate::memory::{Memory, RegReader, Seen};
 use crate::operate::{binary, choose, join, unary};
 use crate::progress::{Progress, part};
-use crate::workspace::Workspace;
+use crate::workspace::{Room, Workspace};
 use design::code::{Node, Op, Shown, Size, Span};
 use design::tree::Conversion;
 use design::{ProcState, RegId};
+use indexmap::IndexMap;
 use logic4::bits::Bits;
 use model::tree::{BinaryOperator, UnaryOperator};
 use std::alloc::{AllocError, Global};
@@ -46,8 +47,8 @@ fn begin(alloc: Global) -> Result<Progress, AllocError> {
         place: 0,
         pending: None,
     };
-    let (known, stack) = Workspace::new(alloc).take(alloc);
-    Progress::new(alloc, known, stack, state, 2)
+    let room = Workspace::new(alloc).take(alloc);
+    Progress::new(alloc, room, state, 2)
 }
 
 #[test]
@@ -178,8 +179,13 @@ fn reads_a_register_once(rt: HostRuntime) -> Result<(), Fail> {
             asked: size,
         },
     ];
-    let (known, mut stack) = Workspace::new(alloc).take(alloc);
-    let mut memory = Memory::new(alloc, known, 2)?;
+    let Room {
+        known,
+        mut stack,
+        reads,
+        ..
+    } = Workspace::new(alloc).take(alloc);
+    let mut memory = Memory::new(known, reads, 2)?;
     let mut reader = reader_of(Bits::from_u64(4, 3));
     let value = evaluate(ops.as_slice(), &mut memory, &mut reader, &mut stack)?;
     assert_eq!(rt; value, Bits::from_u64(8, 9));
@@ -197,8 +203,13 @@ fn knows_nothing_of_the_turn_before(rt: HostRuntime) -> Result<(), Fail> {
     let mut reader = reader_of(Bits::from_u64(4, 3));
     // Registers of a turn, and the reads after it: each turn writes register 0 and looks at registers 0 and 1.
     for (registers, reads) in [(2, 1), (2, 2), (3, 3), (2, 4)] {
-        let (known, stack) = workspace.take(alloc);
-        let mut memory = Memory::new(alloc, known, registers)?;
+        let Room {
+            known,
+            stack,
+            reads: seen,
+            ..
+        } = workspace.take(alloc);
+        let mut memory = Memory::new(known, seen, registers)?;
         memory.set(0, Bits::from_u64(4, 5));
         assert_eq!(rt; memory.look(&mut reader, 0)?, Bits::from_u64(4, 5));
         assert_eq!(rt; memory.look(&mut reader, 1)?, Bits::from_u64(4, 3));
@@ -206,6 +217,47 @@ fn knows_nothing_of_the_turn_before(rt: HostRuntime) -> Result<(), Fail> {
         let Memory { known, .. } = memory;
         workspace.put_back(known, stack);
     }
+    Ok(())
+}
+
+/// A log of one read, one write, one nonblocking assignment and one line.
+fn full_log(alloc: Global) -> Result<TurnLog, AllocError> {
+    let value = Bits::from_u64(4, 3);
+    let mut reads = IndexMap::new(alloc);
+    reads.insert(1, Seen { version: 1, value })?;
+    let nba = Nba {
+        register: 0,
+        value,
+        due: 2,
+    };
+    Ok(TurnLog {
+        reads,
+        writes: Vec::from_slice(alloc, [(0, value)].as_slice())?,
+        nbas: Vec::from_slice(alloc, [nba].as_slice())?,
+        lines: String::from_str(alloc, "3\n")?,
+        next: ProcState {
+            place: 0,
+            pending: None,
+        },
+        suspend: Suspend::Ended,
+        finish: false,
+        count: 1,
+    })
+}
+
+#[test]
+fn empties_a_log_that_was_given_back(rt: HostRuntime) -> Result<(), Fail> {
+    let alloc = rt.alloc();
+    let mut workspace = Workspace::new(alloc);
+    workspace.give_back(Some(full_log(alloc)?));
+    let room = workspace.take(alloc);
+    assert!(rt; room.reads.is_empty());
+    assert!(rt; room.writes.is_empty());
+    assert!(rt; room.nbas.is_empty());
+    assert!(rt; room.lines.is_empty());
+    assert!(rt; room.writes.capacity() >= 1);
+    workspace.give_back(None);
+    assert!(rt; workspace.take(alloc).writes.is_empty());
     Ok(())
 }
 

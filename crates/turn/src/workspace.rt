@@ -1,9 +1,12 @@
 //! Room for turns, which is kept between them.
-ghost use Rattle.std.specs.Prelude.{◌≡◌, ◌<◌, ◌≤◌, [], None, Some, replicate, slice_index_or, slice_set, OnOk};
+ghost use Rattle.std.specs.Prelude.{◌≡◌, ◌<◌, ◌≤◌, [], None, Some, replicate, slice_index_or, slice_set, string_bytes, OnOk};
 ghost use Rattle.std.specs.List.{All};
 ghost use Rattle.turn.specs.Slots.{known_in};
 
+use crate::log::{Nba, TurnLog};
+use crate::memory::Seen;
 use design::RegId;
+use indexmap::IndexMap;
 use logic4::bits::Bits;
 use std::alloc::{AllocError, Global};
 use std::marker::Model;
@@ -107,12 +110,51 @@ impl Known {
     }
 }
 
-/// Room that turns work in. It is kept between them, so that a short turn takes no memory but that of its log. What an
-/// earlier turn left in it counts for nothing.
+/// What a turn fills: the table of what it knows, the stack of its expressions, and the parts of its log.
+#[derive(Drop)]
+pub(crate) struct Room {
+    pub known: Known,
+    pub stack: Vec<Bits>,
+    pub reads: IndexMap<RegId, Seen>,
+    pub writes: Vec<(RegId, Bits)>,
+    pub nbas: Vec<Nba>,
+    pub lines: String,
+}
+
+impl Room {
+    // Room that holds nothing yet.
+    fn new(alloc: Global) -> Room {
+        Room {
+            known: Known::new(alloc),
+            stack: Vec::new(alloc),
+            reads: IndexMap::new(alloc),
+            writes: Vec::new(alloc),
+            nbas: Vec::new(alloc),
+            lines: String::new(alloc),
+        }
+    }
+
+    // Empties all but the table, whose stamp is raised by each turn.
+    fn clear(&mut self)
+        ensures stack { self.new.stack.items ≡ [] }
+        ensures reads { self.new.reads.entries ≡ [] }
+        ensures writes { self.new.writes.items ≡ [] }
+        ensures nbas { self.new.nbas.items ≡ [] }
+        ensures lines { string_bytes self.new.lines ≡ [] }
+    {
+        self.stack.clear();
+        self.reads.clear();
+        self.writes.clear();
+        self.nbas.clear();
+        self.lines.clear();
+    }
+}
+
+/// Room that turns work in. It is kept between them, so that a short turn takes no memory but that of its log, and none
+/// at all where the log of an earlier one was given back. What an earlier turn left in it counts for nothing.
 #[derive(Drop)]
 pub struct Workspace {
-    known: Known,
-    stack: Vec<Bits>,
+    room: Room,
 }
 
 impl Model for Workspace {
@@ -125,23 +167,43 @@ impl Workspace {
     /// Room that grows with the first turn.
     pub fn new(alloc: Global) -> Workspace {
         Workspace {
-            known: Known::new(alloc),
-            stack: Vec::new(alloc),
+            room: Room::new(alloc),
         }
     }
 
-    /// Takes the table and the stack out, for a turn. The stack is empty.
-    pub(crate) fn take(&mut self, alloc: Global) -> (Known, Vec<Bits>)
-        ensures { result.1.items ≡ [] }
+    /// Takes the room out, for a turn. All of it is empty but the table.
+    pub(crate) fn take(&mut self, alloc: Global) -> Room
+        ensures stack { result.stack.items ≡ [] }
+        ensures reads { result.reads.entries ≡ [] }
+        ensures writes { result.writes.items ≡ [] }
+        ensures nbas { result.nbas.items ≡ [] }
+        ensures lines { string_bytes result.lines ≡ [] }
     {
-        let Workspace { known, stack } = mem::replace(self, Workspace::new(alloc));
-        let mut stack = stack;
-        stack.clear();
-        (known, stack)
+        let mut room = mem::replace(&mut self.room, Room::new(alloc));
+        room.clear();
+        room
     }
 
-    /// Puts them back, after a turn.
+    /// Puts back what no log has, after a turn.
     pub(crate) fn put_back(&mut self, known: Known, stack: Vec<Bits>) {
-        *self = Workspace { known, stack };
+        self.room.known = known;
+        self.room.stack = stack;
+    }
+
+    /// Takes the room of a log that nobody needs any more, where there is one, for the next turn.
+    pub fn give_back(&mut self, log: Option<TurnLog>) {
+        if let Some(log) = log {
+            let TurnLog {
+                reads,
+                writes,
+                nbas,
+                lines,
+                ..
+            } = log;
+            self.room.reads = reads;
+            self.room.writes = writes;
+            self.room.nbas = nbas;
+            self.room.lines = lines;
+        }
     }
 }

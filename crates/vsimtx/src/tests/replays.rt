@@ -22,6 +22,22 @@ const COPIES: &str =
 const FINISH: &str =
     "module t; initial begin $display(\"a\"); $finish; $display(\"b\"); end initial $display(\"c\"); endmodule";
 
+/// A register goes down and up again within one turn.
+const GLITCH: &str =
+    "module t; reg a; initial begin a=1'b1; #1 a=1'b0; a=1'b1; end initial #0 @(posedge a) $display(\"glitch\"); endmodule";
+
+/// One change wakes two processes.
+const WAITERS: &str =
+    "module t; reg a; initial #0 a=1'b1; initial @(a) $display(\"p1\"); initial @(posedge a) $display(\"p2\"); endmodule";
+
+/// Two updates of one register.
+const UPDATES: &str =
+    "module t; reg a; initial begin a<=1'b0; a<=1'b1; end initial @(posedge a) $display(\"up %b\",a); endmodule";
+
+/// A nonblocking assignment and a delay that are due at the same time.
+const DUE: &str =
+    "module t; reg a; initial begin a=1'b0; a <= #2 1'b1; #2 $display(\"%b\",a); #1 $display(\"%b\",a); end endmodule";
+
 #[test]
 fn prints_the_lines_of_a_lawful_journal(rt: HostRuntime) -> Result<(), Fail> {
     let cases = [
@@ -39,6 +55,11 @@ fn prints_the_lines_of_a_lawful_journal(rt: HostRuntime) -> Result<(), Fail> {
             "0 0\n",
         ),
         (FINISH, "T 1\nT 0\n", "c\na\n"),
+        (GLITCH, "T 0\nT 1\nI\nT 3\nA 1\nT 2\nT 4\n", "glitch\n"),
+        (WAITERS, "T 0\nT 1\nT 2\nI\nT 3\nT 4\nT 5\n", "p1\np2\n"),
+        (WAITERS, "T 0\nT 1\nT 2\nI\nT 3\nT 5\nT 4\n", "p2\np1\n"),
+        (UPDATES, "T 0\nT 1\nN\nU 2\nU 3\nT 4\n", "up 1\n"),
+        (DUE, "T 0\nA 2\nT 2\nN\nU 1\nA 3\nT 3\n", "0\n1\n"),
     ];
     for (source, entries, out) in cases {
         let text = format!(in rt.alloc(); "vsimtx-journal 1\n{entries}")?;
@@ -69,6 +90,21 @@ fn tells_the_fault_of_a_journal(rt: HostRuntime) -> Result<(), Fail> {
             FINISH,
             "vsimtx-journal 1\nT 0\nT 1\n",
             "entry 2: J6 finished",
+        ),
+        (
+            UPDATES,
+            "vsimtx-journal 1\nT 0\nT 1\nN\nU 3\n",
+            "entry 4: J2 earlier update active",
+        ),
+        (
+            DUE,
+            "vsimtx-journal 1\nA 2\n",
+            "entry 1: J3 region change not due",
+        ),
+        (
+            DUE,
+            "vsimtx-journal 1\nT 0\nA 3\n",
+            "entry 2: J4 wrong time",
         ),
         (HI, "T 0\n", "Q1 journal header"),
         (HI, "vsimtx-journal 1\nT 00\n", "Q2 journal line 2"),
