@@ -15,17 +15,13 @@ use Rattle.design.specs.Places.{remainder_at, statement_count, end_place, IsPlac
 use Rattle.design.specs.Compiled.{Compiled, design_of}
 use Rattle.design.specs.Meaning.{IsFine, IsCompiled}
 use Rattle.design.specs.Extents.{all_extents, extents, IsMeasured}
-use Rattle.design.specs.Emit.{Emitted, with_bodies, starts_of, end_nodes}
+use Rattle.design.specs.Emit.{Emitted, nothing_yet, with_bodies, starts_of, end_nodes, all_code}
 use Rattle.design.proofs.Growing.{Grows}
 use Rattle.design.proofs.Placed.{Leads}
 use Rattle.design.proofs.Fine.{code_of, FineAt, Done}
 use Rattle.design.proofs.Ends.{AreSoundProcesses, length_bodies, done_bodies, starts_there, length_starts, length_ends, done_ends}
 use Rattle.design.proofs.Reading.{AreOps, bodies_ops}
 use Rattle.design.proofs.Measured.{length_extents, measured_processes}
-
--- no code
-abbrev pub nothing_yet : Emitted
-nothing_yet = record { nodes = []; ops = []; shown = []; controls = [] }
 
 sound_each : (widths : List ℕ) (ps : List model.Process) → All (λ p. AreSoundStatements widths p.body) ps → AreSoundProcesses widths ps
 sound_each widths [] h = tt
@@ -51,13 +47,9 @@ get_map (p ∷ ps) zero d = refl
 get_map (p ∷ ps) (suc k) d = get_map ps k d
 
 -- the statements of the program's tree are sound
-sound_each_tree : (widths : List ℕ) (ps : List Process) → All (λ p. AreSoundStatements widths p.body) (map process_of ps) → All (λ p. AreSoundStatements widths (process_of p).body) ps
-sound_each_tree widths ps h k d lt =
+pub sound_trees : (widths : List ℕ) (ps : List Process) → All (λ p. AreSoundStatements widths p.body) (map process_of ps) → All (λ p. AreSoundStatements widths (process_of p).body) ps
+sound_trees widths ps h k d lt =
     subst (λ q. AreSoundStatements widths q.body) (get_map ps k d) (h k (process_of d) (omega (arith, length_processes ps)))
-
-pub sound_trees : (widths ws : List ℕ) (ps qs : List Process) → ws ≡ widths → qs ≡ ps → All (λ p. AreSoundStatements widths p.body) (map process_of ps) → All (λ p. AreSoundStatements ws (process_of p).body) qs
-sound_trees widths ws ps qs e f h =
-    subst (λ w. All (λ p. AreSoundStatements w (process_of p).body) qs) (sym e) (subst (λ l. All (λ p. AreSoundStatements widths (process_of p).body) l) (sym f) (sound_each_tree widths ps h))
 
 -- the code of a design, from what was emitted for it
 pub compiled : (code : Compiled) (e : Emitted) → IsSound (design_of code) → length code.names ≡ length code.widths
@@ -95,17 +87,32 @@ compiled code e sound named emitted nodes ops shown controls starts =
       starts = λ p place is. let l = at p place is in (l.own, l.left);
     }
 
--- the same, from each step
-pub made : (code : Compiled) (table : List Extent) (e0 e : Emitted) (count : ℕ) → IsSound (design_of code) → length code.names ≡ length code.widths
-    → table ≡ all_extents 0 (design_of code).processes → count ≡ length table → e0 ≡ nothing_yet
-    → e ≡ with_bodies code.widths count e0 (design_of code).processes
-    → code_of code ≡ record e { nodes = e.nodes ++ end_nodes (design_of code).processes code.starts }
-    → code.starts ≡ starts_of (length e0.nodes) count (design_of code).processes
+-- the same, from the code of its processes
+pub made : (code : Compiled) → IsSound (design_of code) → length code.names ≡ length code.widths
+    → code_of code ≡ all_code code.widths (statement_count (design_of code)) (design_of code).processes
+    → code.starts ≡ starts_of 0 (statement_count (design_of code)) (design_of code).processes
     → IsCompiled code
-made code table e0 e count sound named tabled counted none emitted all starts =
+made code sound named all starts =
     let ps = (design_of code).processes in
-    let long : count ≡ statement_count (design_of code) = counted ∙ ap length tabled ∙ length_all_extents 0 ps in
-    compiled code e sound named
-    (emitted ∙ ap (λ k. with_bodies code.widths k e0 ps) long ∙ ap (λ x. with_bodies code.widths (statement_count (design_of code)) x ps) none)
-    (ap (λ x. x.nodes) all) (ap (λ x. x.ops) all) (ap (λ x. x.shown) all) (ap (λ x. x.controls) all)
-    (starts ∙ ap (λ k. starts_of (length e0.nodes) k ps) long ∙ ap (λ x. starts_of (length x.nodes) (statement_count (design_of code)) ps) none)
+    let e = with_bodies code.widths (statement_count (design_of code)) nothing_yet ps in
+    compiled code e sound named refl
+    (ap (λ x. x.nodes) all ∙ ap (λ l. e.nodes ++ end_nodes ps l) (sym starts)) (ap (λ x. x.ops) all) (ap (λ x. x.shown) all) (ap (λ x. x.controls) all) starts
+
+-- the place behind all statements is as far as the table reaches
+pub behind_all : (table : List Extent) (ps : List model.Process) (count : ℕ) → table ≡ all_extents 0 ps → count ≡ length table → count ≡ length (statements_of ps)
+behind_all table ps count tabled counted = counted ∙ ap length tabled ∙ length_all_extents 0 ps
+
+-- where processes begin, where nothing stands before them
+pub begun_there : (e0 : Emitted) (ps : List model.Process) (count total : ℕ) (starts : List ℕ) → e0 ≡ nothing_yet → count ≡ total
+    → starts ≡ starts_of (length e0.nodes) count ps → starts ≡ starts_of 0 total ps
+begun_there e0 ps count total starts none long is =
+    is ∙ ap (λ k. starts_of (length e0.nodes) k ps) long ∙ ap (λ x. starts_of (length x.nodes) total ps) none
+
+-- and their code
+pub all_there : (widths : List ℕ) (e0 e e1 : Emitted) (ps : List model.Process) (count total : ℕ) (starts : List ℕ) → e0 ≡ nothing_yet → count ≡ total
+    → starts ≡ starts_of 0 total ps → e ≡ with_bodies widths count e0 ps → e1 ≡ record e { nodes = e.nodes ++ end_nodes ps starts }
+    → e1 ≡ all_code widths total ps
+all_there widths e0 e e1 ps count total starts none long begun emitted ended =
+    ended
+    ∙ ap (λ (x : Emitted). record x { nodes = x.nodes ++ end_nodes ps starts }) (emitted ∙ ap (λ k. with_bodies widths k e0 ps) long ∙ ap (λ x. with_bodies widths total x ps) none)
+    ∙ ap (λ l. record (with_bodies widths total nothing_yet ps) { nodes = (with_bodies widths total nothing_yet ps).nodes ++ end_nodes ps l }) begun

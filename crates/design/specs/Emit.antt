@@ -123,3 +123,12 @@ abbrev pub end_nodes : List Process → List ℕ → List Node
 end_nodes [] starts = []
 end_nodes (p ∷ ps) [] = []
 end_nodes (p ∷ ps) (start ∷ starts) = end_node p.repeats start ∷ end_nodes ps starts
+
+-- no code
+abbrev pub nothing_yet : Emitted
+nothing_yet = record { nodes = []; ops = []; shown = []; controls = [] }
+
+-- the code of processes: their statements, and behind all of them the ends, the first of them at this place
+abbrev pub all_code : List ℕ → ℕ → List Process → Emitted
+all_code widths end ps =
+    record (with_bodies widths end nothing_yet ps) { nodes = (with_bodies widths end nothing_yet ps).nodes ++ end_nodes ps (starts_of 0 end ps) }

@@ -11,7 +11,7 @@ use std::alloc::{AllocError, Global};
 use std::marker::Model;
 
 /// A width, from 1 to the greatest.
-#[derive(Clone, Copy, Debug)]
+#[derive(Clone, Copy)]
 pub struct Size {
     digits: u32,
 }
@@ -52,7 +52,7 @@ impl Size {
 }
 
 /// One step of an expression, on a stack of vectors. Each says the sizes of what it makes.
-#[derive(Clone, Copy, Debug)]
+#[derive(Clone, Copy)]
 pub enum Op {
     /// The value of a register, extended or cut.
     Load {
@@ -93,21 +93,21 @@ pub enum Op {
 }
 
 /// A part of the steps of expressions, or of the pieces of lines.
-#[derive(Clone, Copy, Debug)]
+#[derive(Clone, Copy)]
 pub struct Span {
     pub from: usize,
     pub to: usize,
 }
 
 /// A piece of a line (17.1.1): a byte as it is, or the value of an expression.
-#[derive(Clone, Copy, Debug)]
+#[derive(Clone, Copy)]
 pub enum Shown {
     Byte(u8),
     Value { conversion: Conversion, value: Span },
 }
 
 /// What a process does at one place, and where that leads.
-#[derive(Clone, Copy, Debug)]
+#[derive(Clone, Copy)]
 pub enum Node {
     /// The end of an initial construct.
     Over,

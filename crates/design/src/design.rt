@@ -11,7 +11,7 @@ ghost use Rattle.design.specs.Standing.{remainder_of, controls_of, IsStateOf};
 use crate::code::{Code, Node, Op, ProcState, Shown};
 use crate::control::{Control, RegId};
 use crate::emitter::Emitter;
-use crate::extents::extents_of;
+use crate::processes::emit_processes;
 use crate::tree::Process;
 use indexmap::IndexSet;
 use std::alloc::{AllocError, Global};
@@ -62,10 +62,7 @@ impl Design {
         ensures design { IfOk result (λ d. design_of d ≡ tree_design widths.items processes.items) }
         ensures names { IfOk result (λ d. d.names ≡ map string_bytes names.keys) }
     {
-        let table = extents_of(alloc, &processes)?;
-        let mut emitter = Emitter::new(alloc);
-        let starts = emitter.emit_bodies(alloc, &widths, &table, &processes, table.len())?;
-        emitter.emit_ends(&processes, &starts)?;
+        let (emitter, starts) = emit_processes(alloc, &widths, &processes)?;
         let Emitter {
             nodes,
             ops,

@@ -8,7 +8,7 @@ use crate::tree::{Process, Statement};
 use std::alloc::{AllocError, Global};
 
 /// The places behind the first body of a statement, and behind all statements inside it.
-#[derive(Clone, Copy, Debug)]
+#[derive(Clone, Copy)]
 pub struct Extent {
     pub body: usize,
     pub whole: usize,

@@ -1,21 +1,22 @@
 //! The code of processes: their statements, and behind all of them the node of the end of each.
 ghost use Rattle.std.specs.Prelude.{◌≡◌, ◌<◌, ◌≤◌, ◌+◌, ◌^◌, ◌++◌, length, map, OnOk, IfOk};
 ghost use Rattle.std.specs.List.{All};
-ghost use Rattle.design.specs.Sound.{AreSoundStatements};
-ghost use Rattle.design.specs.Trees.{statements_of, process_of};
+ghost use Rattle.design.specs.Sound.{IsSound, AreSoundStatements};
+ghost use Rattle.design.specs.Trees.{statements_of, process_of, tree_design};
 ghost use Rattle.design.specs.Extents.{IsMeasured};
-ghost use Rattle.design.specs.Emit.{with_node, with_bodies, starts_of, end_node, end_nodes};
+ghost use Rattle.design.specs.Emit.{with_node, with_bodies, starts_of, end_node, end_nodes, all_code};
+ghost use Rattle.design.specs.Places.{statement_count};
 ghost use Rattle.design.specs.Emitter.{emitted_of};
 
 use crate::code::Node;
 use crate::emitter::{Emitter, first_of};
-use crate::extents::Extent;
+use crate::extents::{Extent, extents_of};
 use crate::tree::Process;
 use std::alloc::{AllocError, Global};
 
 impl Emitter {
-    /// The statements of processes, each of which ends at its own place behind all statements, and where they begin.
-    pub fn emit_bodies(
+    // The statements of processes, each of which ends at its own place behind all statements, and where they begin.
+    fn emit_bodies(
         &mut self,
         alloc: Global,
         widths: &[u32],
@@ -50,8 +51,8 @@ impl Emitter {
         }
     }
 
-    /// The ends of processes, which begin at these places.
-    pub fn emit_ends(&mut self, processes: &[Process], starts: &[usize]) -> Result<(), AllocError>
+    // The ends of processes, which begin at these places.
+    fn emit_ends(&mut self, processes: &[Process], starts: &[usize]) -> Result<(), AllocError>
         requires { length starts.now ≡ length processes.now }
         ensures { OnOk result (emitted_of self.new ≡ record (emitted_of self.old) { nodes = self.old.nodes.items ++ end_nodes (map process_of processes.now) starts.now }) }
     {
@@ -60,4 +61,21 @@ impl Emitter {
         }
         Ok(())
     }
+}
+
+/// The code of the processes of a design, and where they begin.
+pub fn emit_processes(
+    alloc: Global,
+    widths: &[u32],
+    processes: &[Process],
+) -> Result<(Emitter, Vec<usize>), AllocError>
+    requires { IsSound (tree_design widths.now processes.now) }
+    ensures code { IfOk result (λ made. emitted_of made.0 ≡ all_code widths.now (statement_count (tree_design widths.now processes.now)) (map process_of processes.now)) }
+    ensures starts { IfOk result (λ made. made.1.items ≡ starts_of 0 (statement_count (tree_design widths.now processes.now)) (map process_of processes.now)) }
+{
+    let table = extents_of(alloc, processes)?;
+    let mut emitter = Emitter::new(alloc);
+    let starts = emitter.emit_bodies(alloc, widths, &table, processes, table.len())?;
+    emitter.emit_ends(processes, &starts)?;
+    Ok((emitter, starts))
 }

@@ -17,7 +17,7 @@ pub enum Expression {
 }
 
 /// How an argument is shown (17.1.1.2): `%b`, `%h` or `%0d`.
-#[derive(Clone, Copy, PartialEq, Eq, Debug)]
+#[derive(Clone, Copy, PartialEq, Eq)]
 pub enum Conversion {
     Binary,
     Hex,
@@ -25,7 +25,7 @@ pub enum Conversion {
 }
 
 /// A piece of a display format (17.1.1): a byte as it is, or a place where the next argument is shown.
-#[derive(Clone, Copy, PartialEq, Eq, Debug)]
+#[derive(Clone, Copy, PartialEq, Eq)]
 pub enum Piece {
     Byte(u8),
     Argument(Conversion),

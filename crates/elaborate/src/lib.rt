@@ -10,8 +10,6 @@ mod format;
 mod names;
 mod registers;
 mod resolve;
-#[cfg(test)]
-mod tests;
 mod uses;
 
 pub use elaboration::elaborate;

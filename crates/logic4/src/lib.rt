@@ -19,6 +19,3 @@ pub mod digit;
 
 pub use bits::Bits;
 pub use digit::{Digit, Edge, Truth};
-
-#[cfg(test)]
-mod tests;

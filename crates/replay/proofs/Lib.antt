@@ -1,3 +1,4 @@
+pub mod Rows
 pub mod Times
 pub mod Given
 pub mod Runs

@@ -15,8 +15,6 @@ mod bytes;
 mod fault;
 mod laws;
 mod replayed;
-#[cfg(test)]
-mod tests;
 mod turn_log;
 
 pub use bytes::replay_bytes;

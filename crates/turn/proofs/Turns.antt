@@ -31,6 +31,7 @@ use Rattle.turn.specs.declared.machine.Step.TheVariants as step
 use Rattle.turn.specs.Reads.{registers, AreDeclared, Agrees}
 use Rattle.turn.specs.Progress.{Status, fresh}
 use Rattle.turn.specs.Machine.{Takes, TakesSome, TakesPending, IsEndNode, IsAtEnd}
+use Rattle.turn.specs.Nets.{nets_of}
 use Rattle.turn.specs.Logs.{later_of, wait_of, IsLogOf}
 use Rattle.turn.specs.Answers.{IsTurnLog}
 use Rattle.turn.proofs.Steps.{going_of, turn_of, Sound, takes_follows, not_past, place_within}
@@ -118,6 +119,7 @@ ends_counted code is p now count s s' suspend finish takes sound =
 pub record Logs (log : TurnLog) (s : Status) (suspend : Suspend) (finish : Bool) (n : ℕ) : Type 0 where
   pub reads : log.reads.entries ≡ s.reads
   pub writes : log.writes.items ≡ s.writes
+  pub nets : log.nets.items ≡ nets_of s.writes
   pub nbas : log.nbas.items ≡ s.nbas
   pub lines : string_bytes log.lines ≡ s.lines
   pub next : log.next ≡ s.state
@@ -158,6 +160,7 @@ is_log code state now count s s' suspend finish n log reached ends short l = rec
       let f = (ends p (reached p start).sound).sound in
       record {
         writes = subst (All (λ w. FitsRegister code.widths w.0 w.1)) (sym l.writes) f.writes;
+        nets = l.nets ∙ ap nets_of (sym l.writes);
         nbas = subst (All (λ n. FitsRegister code.widths n.register n.value)) (sym l.nbas) f.nbas;
       };
 }

@@ -1,5 +1,5 @@
 -- Expressions and lines on every store that agrees with what was read.
-use Rattle.std.proofs.Common.{◌≡◌, ℕ, zero, suc, ◌<◌, Bool, true, false, ◌&&◌, ◌||◌, nat_le, if◌then◌else◌, List, [], ◌∷◌, ◌++◌, map, length, drop, Option, Some, None, refl, sym, ap, ◌∙◌, subst, ⊎_elim, append_assoc, get_or-set_same, get_or-set_other}
+use Rattle.std.proofs.Common.{◌≡◌, ℕ, zero, suc, ◌<◌, ◌≤◌, arith, get_or, Bool, true, false, ◌&&◌, ◌||◌, nat_le, if◌then◌else◌, List, [], ◌∷◌, ◌++◌, map, length, drop, Option, Some, None, refl, sym, ap, ◌∙◌, subst, ⊎_elim, append_assoc, get_or-set_same, get_or-set_other}
 use Rattle.std.specs.Prelude.{slice_range, slice_index_or, slice_set, is_some}
 use Rattle.std.specs.List.{All}
 use Rattle.std.proofs.lemmas.List.{length-set}
@@ -12,15 +12,17 @@ use Rattle.model.specs.Design.{Piece, Byte, Argument}
 use Rattle.model.specs.Expressions.{Store, value_of, own_value, assigned_value}
 use Rattle.model.specs.Turns.{contains, line_text, own_values}
 use Rattle.design.specs.declared.code.Op.{Op}
+use Rattle.design.specs.declared.code.Op.TheVariants.{Load, Pick, Constant, Unary, Binary, Join, Resize, Choose}
 use Rattle.design.specs.declared.code.Span.{Span}
 use Rattle.design.specs.declared.code.Shown.{Shown}
 use Rattle.design.specs.declared.code.Shown.TheVariants as pieces
 use Rattle.design.specs.Steps.{topmost, Computes, IsOpOf, piece}
 use Rattle.design.specs.Trees.{conversion_of}
-use Rattle.design.specs.Meaning.{IsLine}
+use Rattle.design.specs.Compiled.{Compiled}
+use Rattle.design.specs.Meaning.{IsLine, IsCompiled}
 use Rattle.turn.specs.declared.memory.Seen.{Seen}
 use Rattle.turn.specs.Reads.{registers, AreDeclared, Agrees}
-use Rattle.turn.specs.Evaluate.{Holds, Knows, Continues, written, written_in}
+use Rattle.turn.specs.Evaluate.{NamesDeclared, Holds, Knows, Continues, written, written_in}
 use Rattle.turn.specs.Progress.{Status, printing, Valued, Prints}
 use Rattle.turn.proofs.Known.{known_same, known_other, same_or_not, written-append, length-written, there, or_true, or_false, ne_of}
 use Rattle.turn.proofs.Runs.{continues_none, continues_both}
@@ -31,6 +33,20 @@ all_piece P xs span h = cases (nat_le span.from span.to && nat_le span.to (lengt
   cases : (b : Bool) → All P (if b then slice_range xs span.from span.to else [])
   cases true = All-take P _ (drop span.from xs) (All-drop P span.from xs h)
   cases false = All-nil P
+
+op_within : (n m : ℕ) (op : Op) → n ≤ m → IsOpOf n op → IsOpOf m op
+op_within n m (Load r size) le lt = omega (arith, le, lt)
+op_within n m (Pick r i size) le lt = omega (arith, le, lt)
+op_within n m (Constant v) le h = tt
+op_within n m (Unary op asked) le h = tt
+op_within n m (Binary op size asked) le h = tt
+op_within n m Join le h = tt
+op_within n m (Resize size) le h = tt
+op_within n m (Choose size) le h = tt
+
+-- the code of a design reads declared registers alone, also where more are
+pub code_declared : (code : Compiled) (n : ℕ) → IsCompiled code → length code.widths ≤ n → NamesDeclared n code.ops
+code_declared code n is le = λ i op lt. op_within (length code.widths) n (get_or code.ops i op) le (is.ops i op lt)
 
 -- a vector, or none where it isn't known
 abbrev value_or_none : Option Vector → Vector

@@ -12,6 +12,10 @@ use Rattle.turn.specs.declared.memory.Seen.{Seen}
 use Rattle.turn.specs.Reads.{registers, AreDeclared, Agrees}
 use Rattle.turn.specs.Memory.{Looks}
 
+-- each register that these steps read is declared, where there are this many
+abbrev pub NamesDeclared : ℕ → List Op → Type 0
+NamesDeclared n ops = All (IsOpOf n) ops
+
 -- one step, with its look at a register if it reads one
 abbrev pub Acts : Op → List (Option Vector) → List (ℕ × Seen) → List Vector → List (Option Vector) → List (ℕ × Seen) → List Vector → Type 0
 Acts (Load r size) k s st k' s' st' = (v : Vector) × (Looks k s r v k' s' × (st' ≡ resize size v ∷ st))
@@ -53,5 +57,5 @@ pub record Ran (ops : List Op) (known : List (Option Vector)) (reads : List (ℕ
 -- the value of steps that read declared registers, from some stack
 abbrev pub Evaluates : List Op → List (Option Vector) → List (ℕ × Seen) → Vector → List (Option Vector) → List (ℕ × Seen) → Type 0
 Evaluates ops known reads v known' reads' =
-    All (IsOpOf (length known)) ops
+    NamesDeclared (length known) ops
     → (st : List Vector) × ((st' : List Vector) × ((v ≡ topmost st') × Ran ops known reads st known' reads' st'))

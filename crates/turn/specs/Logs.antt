@@ -11,6 +11,7 @@ use Rattle.turn.specs.declared.log.Suspend.{Suspend}
 use Rattle.turn.specs.declared.log.Suspend.TheVariants as suspends
 use Rattle.turn.specs.declared.log.TurnLog.{TurnLog}
 use Rattle.turn.specs.Reads.{registers}
+use Rattle.turn.specs.Nets.{nets_of}
 
 -- a nonblocking assignment of the definitions for one of the log
 abbrev pub later_of : Nba → Later
@@ -34,7 +35,8 @@ pub record IsLogOf (rem : ProcState → Remainder) (controls : List (List Trigge
   pub finish : log.finish ≡ turn.finish
   pub count : log.count ≡ turn.count
 
--- what a log keeps to: each register is declared, and each value has its register's width
+-- what a log keeps to: each register is declared, each value has its register's width, and the nets are those of the writes
 pub record LogFits (widths : List ℕ) (log : TurnLog) : Type 0 where
   pub writes : All (λ w. FitsRegister widths w.0 w.1) log.writes.items
+  pub nets : log.nets.items ≡ nets_of log.writes.items
   pub nbas : All (λ n. FitsRegister widths n.register n.value) log.nbas.items

@@ -33,7 +33,7 @@ status_of p = record {
   state = p.state;
   known = p.memory.known;
   reads = p.memory.reads.entries;
-  writes = p.writes.items;
+  writes = p.writes;
   nbas = p.nbas.items;
   lines = string_bytes p.lines;
 }

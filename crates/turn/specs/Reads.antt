@@ -21,3 +21,7 @@ Agrees (r ∷ reads) store = (value_of store r.0 ≡ r.1.value) × Agrees reads 
 abbrev pub GaveAll : (ℕ → Seen → Type 0) → List (ℕ × Seen) → Type 0
 GaveAll gave [] = Unit {0}
 GaveAll gave (r ∷ reads) = gave r.0 r.1 × GaveAll gave reads
+
+-- each pair that was given before is also given after
+abbrev pub Keeps : (ℕ → Seen → Type 0) → (ℕ → Seen → Type 0) → Type 0
+Keeps before after = (r : ℕ) (s : Seen) → before r s → after r s

@@ -2,7 +2,8 @@
 ghost use Rattle.std.specs.Prelude.{◌≡◌, ◌++◌, ◌∷◌, [], string_bytes, OnOk, IfOk};
 ghost use Rattle.logic4.specs.Display as display;
 ghost use Rattle.design.specs.Trees.{conversion_of};
-ghost use Rattle.turn.specs.Reads.{GaveAll};
+ghost use Rattle.turn.specs.Reads.{GaveAll, Keeps};
+ghost use Rattle.turn.specs.Evaluate.{NamesDeclared};
 ghost use Rattle.turn.specs.Progress.{status_of, printing, PrintsPiece, Prints};
 
 use crate::memory::RegReader;
@@ -50,8 +51,10 @@ impl Progress {
         piece: &Shown,
         reader: &mut R,
     ) -> Result<(), AllocError>
+        requires { NamesDeclared R.registers ops.now }
         ensures prints { OnOk result (PrintsPiece ops.now piece.now (status_of self.old) (status_of self.new)) }
         ensures gave { OnOk result (GaveAll (R.gave reader.old) self.old.memory.reads.entries → GaveAll (R.gave reader.new) self.new.memory.reads.entries) }
+        ensures keeps { Keeps (R.gave reader.old) (R.gave reader.new) }
     {
         match piece {
             Shown::Byte(byte) => self.print_byte(*byte),
@@ -70,8 +73,10 @@ impl Progress {
         pieces: &[Shown],
         reader: &mut R,
     ) -> Result<(), AllocError>
+        requires { NamesDeclared R.registers ops.now }
         ensures prints { OnOk result (Prints ops.now pieces.now (status_of self.old) (status_of self.new)) }
         ensures gave { OnOk result (GaveAll (R.gave reader.old) self.old.memory.reads.entries → GaveAll (R.gave reader.new) self.new.memory.reads.entries) }
+        ensures keeps { Keeps (R.gave reader.old) (R.gave reader.new) }
     {
         for piece in pieces {
             self.print_piece(ops, piece, reader)?;

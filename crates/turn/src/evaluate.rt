@@ -1,9 +1,9 @@
 //! The steps of an expression, on a stack of vectors.
 ghost use Rattle.std.specs.Prelude.{◌≡◌, ◌∷◌, [], length, reverse, OnOk, IfOk};
 ghost use Rattle.logic4.specs.Operators.{select_digit};
-ghost use Rattle.design.specs.Steps.{topmost, below};
-ghost use Rattle.turn.specs.Reads.{GaveAll};
-ghost use Rattle.turn.specs.Evaluate.{Acts, Evaluates};
+ghost use Rattle.design.specs.Steps.{topmost, below, IsOpOf};
+ghost use Rattle.turn.specs.Reads.{GaveAll, Keeps};
+ghost use Rattle.turn.specs.Evaluate.{NamesDeclared, Acts, Evaluates};
 
 use crate::memory::{Memory, RegReader};
 use crate::operate::{binary, choose, join, unary};
@@ -47,8 +47,10 @@ fn step<R: RegReader>(
     reader: &mut R,
     stack: &mut Vec<Bits>,
 ) -> Result<(), AllocError>
+    requires { IsOpOf R.registers op.now }
     ensures acts { OnOk result (Acts op.now memory.old.known memory.old.reads.entries (reverse stack.old.items) memory.new.known memory.new.reads.entries (reverse stack.new.items)) }
     ensures gave { OnOk result (GaveAll (R.gave reader.old) memory.old.reads.entries → GaveAll (R.gave reader.new) memory.new.reads.entries) }
+    ensures keeps { Keeps (R.gave reader.old) (R.gave reader.new) }
 {
     match op {
         Op::Load { register, size } => {
@@ -102,8 +104,10 @@ pub(crate) fn evaluate<R: RegReader>(
     reader: &mut R,
     stack: &mut Vec<Bits>,
 ) -> Result<Bits, AllocError>
+    requires { NamesDeclared R.registers ops.now }
     ensures value { IfOk result (λ v. Evaluates ops.now memory.old.known memory.old.reads.entries v memory.new.known memory.new.reads.entries) }
     ensures gave { OnOk result (GaveAll (R.gave reader.old) memory.old.reads.entries → GaveAll (R.gave reader.new) memory.new.reads.entries) }
+    ensures keeps { Keeps (R.gave reader.old) (R.gave reader.new) }
 {
     for op in ops {
         step(op, memory, reader, stack)?;

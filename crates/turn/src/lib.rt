@@ -4,7 +4,8 @@
 //!    one of them ends the turn. Each is a counted step, and there are at most 65,536 of them.
 //! 2. Expressions are steps on a stack of vectors. A register that the turn wrote has the value written; any other is
 //!    asked of a `RegReader` at its first use, and recorded.
-//! 3. A `TurnLog` says what was read, written and printed, what is left of the process, and what that waits for.
+//! 3. A `TurnLog` says what was read, written and printed, what is left of the process, and what that waits for. It has
+//!    each write, and for each register the net of its writes, which is kept as the turn runs.
 //! 4. `run_turn_in` works in a `Workspace` that its caller keeps, so that a short turn takes no memory but its log's, and
 //!    none at all where the log of an earlier turn was given back to it.
 //!
@@ -21,11 +22,10 @@ mod operate;
 mod progress;
 mod run;
 mod statements;
-#[cfg(test)]
-mod tests;
 mod workspace;
+mod writes;
 
-pub use log::{Nba, Suspend, TurnFault, TurnLog};
+pub use log::{Nba, Net, Suspend, TurnFault, TurnLog};
 pub use memory::{RegReader, Seen};
 pub use run::{run_turn, run_turn_in};
 pub use workspace::Workspace;

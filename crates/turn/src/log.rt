@@ -15,6 +15,16 @@ pub struct Nba {
     pub due: u64,
 }
 
+/// The net of a turn's writes of one register: the first value written, how many of the later writes changed it, and the last
+/// value.
+#[derive(Clone, Copy)]
+pub struct Net {
+    pub register: RegId,
+    pub first: Bits,
+    pub changes: u64,
+    pub last: Bits,
+}
+
 /// What a process waits for once its turn is over: nothing any more, the inactive region, a time, or the event
 /// control with a number.
 #[derive(Clone, Copy)]
@@ -26,12 +36,14 @@ pub enum Suspend {
 }
 
 /// A turn that is over: the registers that it read, in the order of their first use, each with what it saw; its writes,
-/// its nonblocking assignments and its lines, in the order of the text; where the process goes on and what it waits for;
+/// its nonblocking assignments and its lines, in the order of the text; the nets of its writes, in the order of the first
+/// write of each register; where the process goes on and what it waits for;
 /// whether it met `$finish`; and the number of its counted steps.
 #[derive(Drop)]
 pub struct TurnLog {
     pub reads: IndexMap<RegId, Seen>,
     pub writes: Vec<(RegId, Bits)>,
+    pub nets: Vec<Net>,
     pub nbas: Vec<Nba>,
     pub lines: String,
     pub next: ProcState,

@@ -1,6 +1,7 @@
 //! One step of a turn.
 ghost use Rattle.std.specs.Prelude.{◌≡◌, ◌≤◌, ◌^◌, ◌↔◌, IsTrue, OnOk, IfOk};
-ghost use Rattle.turn.specs.Reads.{GaveAll};
+ghost use Rattle.turn.specs.Reads.{GaveAll, Keeps};
+ghost use Rattle.turn.specs.Evaluate.{NamesDeclared};
 ghost use Rattle.turn.specs.Progress.{status_of, wait_for};
 ghost use Rattle.turn.specs.Machine.{TakesNode, Takes, IsAtEnd};
 
@@ -40,9 +41,11 @@ impl Progress {
         node: &Node,
         reader: &mut R,
     ) -> Result<Step, AllocError>
-        requires { now ≤ 2 ^ 48 }
+        requires now { now ≤ 2 ^ 48 }
+        requires declared { NamesDeclared R.registers ops.now }
         ensures takes { IfOk result (λ r. TakesNode ops.now shown.now now node.now (status_of self.old) r (status_of self.new)) }
         ensures gave { OnOk result (GaveAll (R.gave reader.old) self.old.memory.reads.entries → GaveAll (R.gave reader.new) self.new.memory.reads.entries) }
+        ensures keeps { Keeps (R.gave reader.old) (R.gave reader.new) }
     {
         match node {
             Node::Over => return Ok(Step::Over),
@@ -114,9 +117,11 @@ impl Progress {
         now: u64,
         reader: &mut R,
     ) -> Result<Step, AllocError>
-        requires { now ≤ 2 ^ 48 }
+        requires now { now ≤ 2 ^ 48 }
+        requires declared { NamesDeclared R.registers ops.now }
         ensures takes { IfOk result (λ r. Takes nodes.now ops.now shown.now now (status_of self.old) r (status_of self.new)) }
         ensures gave { OnOk result (GaveAll (R.gave reader.old) self.old.memory.reads.entries → GaveAll (R.gave reader.new) self.new.memory.reads.entries) }
+        ensures keeps { Keeps (R.gave reader.old) (R.gave reader.new) }
     {
         let place = self.state.place;
         if let Some((register, value)) = self.state.pending {

@@ -1,7 +1,7 @@
 //! What a turn knows of the registers: what it wrote, and what it read.
-ghost use Rattle.std.specs.Prelude.{◌≡◌, ℕ, None, Some, [], replicate, nat_eq, slice_set, OnOk, IfOk};
+ghost use Rattle.std.specs.Prelude.{◌≡◌, ◌<◌, ℕ, None, Some, [], replicate, nat_eq, slice_set, OnOk, IfOk};
 ghost use Rattle.indexmap.specs.IndexMap.{insert_entry};
-ghost use Rattle.turn.specs.Reads.{GaveAll};
+ghost use Rattle.turn.specs.Reads.{GaveAll, Keeps};
 ghost use Rattle.turn.specs.Memory.{Looks};
 
 use crate::workspace::Known;
@@ -19,14 +19,18 @@ pub struct Seen {
 
 /// Gives the values of registers, each with its version. A reader knows the pairs that it gave.
 pub trait RegReader {
-    ghost use Rattle.std.specs.Prelude.{ℕ};
+    ghost use Rattle.std.specs.Prelude.{ℕ, ◌<◌};
     ghost use Rattle.turn.specs.declared.memory.Seen.{Seen};
+
+    /// The registers that it may be asked for are those with a number below this one.
+    ghost registers: { ℕ };
 
     /// The pairs given so far, by register.
     ghost gave: { Self → ℕ → Seen → Type 0 };
 
     /// The value that a register has now, and its version.
     fn read(&mut self, register: RegId) -> Seen
+        requires { register < registers }
         ensures adds { gave self.new register result }
         ensures keeps { (r : ℕ) (s : Seen) → gave self.old r s → gave self.new r s };
 }
@@ -80,8 +84,10 @@ impl Memory {
         reader: &mut R,
         register: RegId,
     ) -> Result<Bits, AllocError>
+        requires { register < R.registers }
         ensures value { IfOk result (λ v. Looks self.old.known self.old.reads.entries register v self.new.known self.new.reads.entries) }
         ensures gave { OnOk result (GaveAll (R.gave reader.old) self.old.reads.entries → GaveAll (R.gave reader.new) self.new.reads.entries) }
+        ensures keeps { Keeps (R.gave reader.old) (R.gave reader.new) }
     {
         if let Some(value) = self.known.get(register) {
             return Ok(value);

@@ -1,13 +1,15 @@
 //! A turn under way.
 ghost use Rattle.std.specs.Prelude.{◌≡◌, ◌++◌, [], string_bytes, OnOk, IfOk};
 ghost use Rattle.design.specs.Steps.{piece};
-ghost use Rattle.turn.specs.Reads.{GaveAll};
+ghost use Rattle.turn.specs.Reads.{GaveAll, Keeps};
+ghost use Rattle.turn.specs.Evaluate.{NamesDeclared};
 ghost use Rattle.turn.specs.Progress.{status_of, fresh, at, writing, holding, delaying, printing, Valued};
 
 use crate::evaluate::evaluate;
 use crate::log::{Nba, Suspend, TurnLog};
 use crate::memory::{Memory, RegReader};
 use crate::workspace::Room;
+use crate::writes::Writes;
 use design::code::{Op, Span};
 use design::{ProcState, RegId};
 use logic4::bits::Bits;
@@ -19,7 +21,7 @@ pub(crate) struct Progress {
     pub alloc: Global,
     pub state: ProcState,
     pub memory: Memory,
-    pub writes: Vec<(RegId, Bits)>,
+    pub writes: Writes,
     pub nbas: Vec<Nba>,
     pub lines: String,
     pub stack: Vec<Bits>,
@@ -46,6 +48,7 @@ impl Progress {
     ) -> Result<Self, AllocError>
         requires reads { room.reads.entries ≡ [] }
         requires writes { room.writes.items ≡ [] }
+        requires nets { room.nets.items ≡ [] }
         requires nbas { room.nbas.items ≡ [] }
         requires lines { string_bytes room.lines ≡ [] }
         ensures { IfOk result (λ p. status_of p ≡ fresh state registers) }
@@ -55,6 +58,8 @@ impl Progress {
             stack,
             reads,
             writes,
+            nets,
+            places,
             nbas,
             lines,
         } = room;
@@ -62,7 +67,7 @@ impl Progress {
             alloc,
             state,
             memory: Memory::new(known, reads, registers)?,
-            writes,
+            writes: Writes::new(writes, nets, places),
             nbas,
             lines,
             stack,
@@ -84,7 +89,7 @@ impl Progress {
         ensures { OnOk result (status_of self.new ≡ writing (status_of self.old) register value next) }
     {
         self.memory.set(register, value);
-        self.writes.push((register, value))?;
+        self.writes.push(register, value)?;
         self.go(next);
         Ok(())
     }
@@ -115,8 +120,10 @@ impl Progress {
         span: Span,
         reader: &mut R,
     ) -> Result<Bits, AllocError>
+        requires { NamesDeclared R.registers ops.now }
         ensures value { IfOk result (λ v. Valued (piece ops.now span) (status_of self.old) v (status_of self.new)) }
         ensures gave { OnOk result (GaveAll (R.gave reader.old) self.old.memory.reads.entries → GaveAll (R.gave reader.new) self.new.memory.reads.entries) }
+        ensures keeps { Keeps (R.gave reader.old) (R.gave reader.new) }
     {
         evaluate(part(ops, span), &mut self.memory, reader, &mut self.stack)
     }

@@ -1,6 +1,7 @@
 //! A whole turn.
-ghost use Rattle.std.specs.Prelude.{◌≡◌, ◌≤◌, ◌^◌, MatchResult, string_bytes};
-ghost use Rattle.turn.specs.Reads.{GaveAll};
+ghost use Rattle.std.specs.Prelude.{◌≡◌, ◌≤◌, ◌^◌, length, MatchResult, string_bytes};
+ghost use Rattle.turn.specs.Reads.{GaveAll, Keeps};
+ghost use Rattle.turn.specs.Nets.{nets_of};
 ghost use Rattle.turn.specs.Answers.{IsTurnLog, IsNoTurn, reads_of_fault};
 
 use crate::log::{Suspend, TurnFault, TurnLog};
@@ -24,7 +25,8 @@ fn log_of(
     count: u32,
 ) -> TurnLog
     ensures reads { result.reads ≡ progress.memory.reads }
-    ensures writes { result.writes.items ≡ progress.writes.items }
+    ensures writes { result.writes.items ≡ progress.writes }
+    ensures nets { result.nets.items ≡ nets_of progress.writes }
     ensures nbas { result.nbas.items ≡ progress.nbas.items }
     ensures lines { string_bytes result.lines ≡ string_bytes progress.lines }
     ensures next { result.next ≡ progress.state }
@@ -42,10 +44,12 @@ fn log_of(
         ..
     } = progress;
     let Memory { known, reads } = memory;
-    workspace.put_back(known, stack);
+    let (writes, nets, places) = writes.into_parts();
+    workspace.put_back(known, stack, places);
     TurnLog {
         reads,
         writes,
+        nets,
         nbas,
         lines,
         next: state,
@@ -59,15 +63,22 @@ fn log_of(
 fn reads_of(workspace: &mut Workspace, progress: Progress) -> IndexMap<RegId, Seen>
     ensures { result ≡ progress.memory.reads }
 {
-    let Progress { memory, stack, .. } = progress;
+    let Progress {
+        memory,
+        writes,
+        stack,
+        ..
+    } = progress;
     let Memory { known, reads } = memory;
-    workspace.put_back(known, stack);
+    let (_, _, places) = writes.into_parts();
+    workspace.put_back(known, stack, places);
     reads
 }
 
 /// The turn at this time of the process in this state. A register that the turn hasn't written is read once, at its first
-/// use. `TooLong` where the turn has more than 65,536 counted steps, with its reads so far; `Memory` where the log couldn't
-/// grow. The turn works in the room that its caller keeps; what that holds changes nothing but the time that it takes.
+/// use, and the reader keeps what it gave before, whatever comes of the turn. `TooLong` where the turn has more than 65,536
+/// counted steps, with its reads so far; `Memory` where the log couldn't grow. The turn works in the room that its caller
+/// keeps; what that holds changes nothing but the time that it takes.
 pub fn run_turn_in<R: RegReader>(
     alloc: Global,
     workspace: &mut Workspace,
@@ -77,8 +88,10 @@ pub fn run_turn_in<R: RegReader>(
     reader: &mut R,
 ) -> Result<TurnLog, TurnFault>
     requires now { now ≤ 2 ^ 48 }
+    requires registers { length design.now.widths ≤ R.registers }
     ensures turn { MatchResult result (IsTurnLog design.now state.now now) (IsNoTurn design.now state.now now) }
     ensures gave { MatchResult result (λ log. GaveAll (R.gave reader.new) log.reads.entries) (λ fault. GaveAll (R.gave reader.new) (reads_of_fault fault)) }
+    ensures keeps { Keeps (R.gave reader.old) (R.gave reader.new) }
 {
     let nodes = design.nodes();
     let ops = design.ops();
@@ -114,8 +127,10 @@ pub fn run_turn<R: RegReader>(
     reader: &mut R,
 ) -> Result<TurnLog, TurnFault>
     requires now { now ≤ 2 ^ 48 }
+    requires registers { length design.now.widths ≤ R.registers }
     ensures turn { MatchResult result (IsTurnLog design.now state.now now) (IsNoTurn design.now state.now now) }
     ensures gave { MatchResult result (λ log. GaveAll (R.gave reader.new) log.reads.entries) (λ fault. GaveAll (R.gave reader.new) (reads_of_fault fault)) }
+    ensures keeps { Keeps (R.gave reader.old) (R.gave reader.new) }
 {
     let mut workspace = Workspace::new(alloc);
     run_turn_in(alloc, &mut workspace, design, state, now, reader)

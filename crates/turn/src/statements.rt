@@ -1,6 +1,7 @@
 //! The statements that compute something.
 ghost use Rattle.std.specs.Prelude.{◌≡◌, OnOk};
-ghost use Rattle.turn.specs.Reads.{GaveAll};
+ghost use Rattle.turn.specs.Reads.{GaveAll, Keeps};
+ghost use Rattle.turn.specs.Evaluate.{NamesDeclared};
 ghost use Rattle.turn.specs.Progress.{status_of, chosen_place};
 ghost use Rattle.turn.specs.Machine.{Assigns, AssignsAfter, AssignsLater, Branches, Displays};
 
@@ -33,8 +34,10 @@ impl Progress {
         next: usize,
         reader: &mut R,
     ) -> Result<(), AllocError>
+        requires { NamesDeclared R.registers ops.now }
         ensures takes { OnOk result (Assigns ops.now value register next (status_of self.old) (status_of self.new)) }
         ensures gave { OnOk result (GaveAll (R.gave reader.old) self.old.memory.reads.entries → GaveAll (R.gave reader.new) self.new.memory.reads.entries) }
+        ensures keeps { Keeps (R.gave reader.old) (R.gave reader.new) }
     {
         let value = self.value(ops, value, reader)?;
         self.write(register, value, next)?;
@@ -50,8 +53,10 @@ impl Progress {
         next: usize,
         reader: &mut R,
     ) -> Result<(), AllocError>
+        requires { NamesDeclared R.registers ops.now }
         ensures takes { OnOk result (AssignsAfter ops.now value register next (status_of self.old) (status_of self.new)) }
         ensures gave { OnOk result (GaveAll (R.gave reader.old) self.old.memory.reads.entries → GaveAll (R.gave reader.new) self.new.memory.reads.entries) }
+        ensures keeps { Keeps (R.gave reader.old) (R.gave reader.new) }
     {
         let value = self.value(ops, value, reader)?;
         self.hold(register, value, next);
@@ -68,8 +73,10 @@ impl Progress {
         next: usize,
         reader: &mut R,
     ) -> Result<(), AllocError>
+        requires { NamesDeclared R.registers ops.now }
         ensures takes { OnOk result (AssignsLater ops.now value register due next (status_of self.old) (status_of self.new)) }
         ensures gave { OnOk result (GaveAll (R.gave reader.old) self.old.memory.reads.entries → GaveAll (R.gave reader.new) self.new.memory.reads.entries) }
+        ensures keeps { Keeps (R.gave reader.old) (R.gave reader.new) }
     {
         let value = self.value(ops, value, reader)?;
         let nba = Nba {
@@ -90,8 +97,10 @@ impl Progress {
         missed: usize,
         reader: &mut R,
     ) -> Result<(), AllocError>
+        requires { NamesDeclared R.registers ops.now }
         ensures takes { OnOk result (Branches ops.now condition taken missed (status_of self.old) (status_of self.new)) }
         ensures gave { OnOk result (GaveAll (R.gave reader.old) self.old.memory.reads.entries → GaveAll (R.gave reader.new) self.new.memory.reads.entries) }
+        ensures keeps { Keeps (R.gave reader.old) (R.gave reader.new) }
     {
         let value = self.value(ops, condition, reader)?;
         self.go(choose_place(value.truth(), taken, missed));
@@ -107,8 +116,10 @@ impl Progress {
         next: usize,
         reader: &mut R,
     ) -> Result<(), AllocError>
+        requires { NamesDeclared R.registers ops.now }
         ensures takes { OnOk result (Displays ops.now shown.now pieces next (status_of self.old) (status_of self.new)) }
         ensures gave { OnOk result (GaveAll (R.gave reader.old) self.old.memory.reads.entries → GaveAll (R.gave reader.new) self.new.memory.reads.entries) }
+        ensures keeps { Keeps (R.gave reader.old) (R.gave reader.new) }
     {
         self.print_pieces(ops, part(shown, pieces), reader)?;
         self.lines.push('\n')?;

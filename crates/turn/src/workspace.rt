@@ -3,7 +3,7 @@ ghost use Rattle.std.specs.Prelude.{◌≡◌, ◌<◌, ◌≤◌, [], None, Som
 ghost use Rattle.std.specs.List.{All};
 ghost use Rattle.turn.specs.Slots.{known_in};
 
-use crate::log::{Nba, TurnLog};
+use crate::log::{Nba, Net, TurnLog};
 use crate::memory::Seen;
 use design::RegId;
 use indexmap::IndexMap;
@@ -117,6 +117,8 @@ pub(crate) struct Room {
     pub stack: Vec<Bits>,
     pub reads: IndexMap<RegId, Seen>,
     pub writes: Vec<(RegId, Bits)>,
+    pub nets: Vec<Net>,
+    pub places: Vec<usize>,
     pub nbas: Vec<Nba>,
     pub lines: String,
 }
@@ -129,6 +131,8 @@ impl Room {
             stack: Vec::new(alloc),
             reads: IndexMap::new(alloc),
             writes: Vec::new(alloc),
+            nets: Vec::new(alloc),
+            places: Vec::new(alloc),
             nbas: Vec::new(alloc),
             lines: String::new(alloc),
         }
@@ -139,12 +143,14 @@ impl Room {
         ensures stack { self.new.stack.items ≡ [] }
         ensures reads { self.new.reads.entries ≡ [] }
         ensures writes { self.new.writes.items ≡ [] }
+        ensures nets { self.new.nets.items ≡ [] }
         ensures nbas { self.new.nbas.items ≡ [] }
         ensures lines { string_bytes self.new.lines ≡ [] }
     {
         self.stack.clear();
         self.reads.clear();
         self.writes.clear();
+        self.nets.clear();
         self.nbas.clear();
         self.lines.clear();
     }
@@ -176,6 +182,7 @@ impl Workspace {
         ensures stack { result.stack.items ≡ [] }
         ensures reads { result.reads.entries ≡ [] }
         ensures writes { result.writes.items ≡ [] }
+        ensures nets { result.nets.items ≡ [] }
         ensures nbas { result.nbas.items ≡ [] }
         ensures lines { string_bytes result.lines ≡ [] }
     {
@@ -185,9 +192,10 @@ impl Workspace {
     }
 
     /// Puts back what no log has, after a turn.
-    pub(crate) fn put_back(&mut self, known: Known, stack: Vec<Bits>) {
+    pub(crate) fn put_back(&mut self, known: Known, stack: Vec<Bits>, places: Vec<usize>) {
         self.room.known = known;
         self.room.stack = stack;
+        self.room.places = places;
     }
 
     /// Takes the room of a log that nobody needs any more, where there is one, for the next turn.
@@ -196,12 +204,14 @@ impl Workspace {
             let TurnLog {
                 reads,
                 writes,
+                nets,
                 nbas,
                 lines,
                 ..
             } = log;
             self.room.reads = reads;
             self.room.writes = writes;
+            self.room.nets = nets;
             self.room.nbas = nbas;
             self.room.lines = lines;
         }

@@ -21,5 +21,3 @@ mod nesting;
 pub mod parse;
 mod statement;
 mod strings;
-#[cfg(test)]
-mod tests;

@@ -22,7 +22,7 @@ use tokens::cut::{CutFault, cut};
 use tokens::token::Token;
 
 /// Why tokens aren't read, and at which one, counted from 1.
-#[derive(Clone, Copy, Debug, PartialEq, Eq)]
+#[derive(Clone, Copy)]
 struct Misfit {
     fault: Fault,
     token: usize,

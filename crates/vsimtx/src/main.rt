@@ -1,28 +1,9 @@
-//! The program `vsimtx`: it runs one Verilog module on several workers, or replays the journal of a
-//! run, and prints the lines.
-//!
-//! - `arguments` reads the command line into a request, whose options are proved to be in range.
-//! - `files` says where paths lead: to the system's files, or to a test's.
-//! - `reading` and `writing` take a file or a text whole.
-//! - `running` is a run, and `replaying` a replay.
-//! - `program` is the whole program as a function, `command`, which `main` calls.
-//! - `fault` has the lines on standard error and the exit statuses.
+//! The program `vsimtx`: it gives its words, the system's files, standard output and standard error to `command`, and ends
+//! with the status that `command` answers.
 #![tactic(auto)]
 
-mod arguments;
-mod fault;
-mod files;
-mod program;
-mod reading;
-mod replaying;
-mod running;
-#[cfg(test)]
-mod tests;
-mod writing;
-
-use files::SystemFiles;
 use journal::Counted;
-use program::{command, without_words};
+use program::{SystemFiles, command, without_words};
 use std::alloc::Global;
 use std::process::ExitCode;
 use std::{env, io};

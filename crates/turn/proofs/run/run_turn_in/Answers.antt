@@ -1,13 +1,20 @@
-use Rattle.std.proofs.Common.{◌≡◌, ◌+◌, ◌∙◌, length, ap, sym, false, true, refl, subst, arith}
+use Rattle.std.proofs.Common.{rules, ◌≡◌, ◌+◌, ◌∙◌, length, ap, sym, false, true, refl, subst, arith}
 use Rattle.turn.specs.Progress.{status_of, fresh}
 use Rattle.turn.specs.Reads.{GaveAll}
+use Rattle.turn.specs.Evaluate.{NamesDeclared}
 use Rattle.turn.specs.Machine.{IsAtEnd}
 use Rattle.turn.specs.Answers.{IsNoTurn}
 use Rattle.turn.specs.declared.log.TurnFault.TheVariants.{TooLong}
 use Rattle.turn.specs.declared.log.Suspend.TheVariants as suspends
 use Rattle.turn.specs.declared.machine.Step.TheVariants as step
+use Rattle.turn.proofs.Values.{code_declared}
 use Rattle.turn.proofs.Turns.{Reached, reached_none, reached_more, ends_over, ends_counted, is_log, end_takes, too_long, reads_declared, taken}
 use Rattle.turn.proofs.run.run_turn_in.Goals as goal
+
+pub take-requires-clause-declared : goal.take-requires-clause-declared
+take-requires-clause-declared g c =
+    let n = g.R.RegReader.registers in
+    subst (NamesDeclared n) (sym c.ops-ops.ensures) (code_declared c.args.design.now n c.registers.ensures.compiled c.requires.registers)
 
 pub loop-count-init : goal.loop-count-init
 loop-count-init g c =
@@ -16,7 +23,8 @@ loop-count-init g c =
     let begins : status_of c.in_ok-progress.progress ≡ fresh state (length design.widths) = c.in_ok-progress.ensures ∙ ap (λ n. fresh state n) c.registers.ensures.value in
     record {
       reached = subst (Reached design state c.args.now 0) (sym begins) (reached_none design state c.args.now);
-      gave = subst (λ reads. GaveAll (g.R.RegReader.gave c.args.reader.now) reads) (sym (ap (λ s. s.reads) begins)) tt;
+      gave = subst (GaveAll _) (sym (ap (λ s. s.reads) begins)) tt;
+      keeps = search rules;
     }
 
 pub returns-in-Over-clause-turn : goal.returns-in-Over-clause-turn
@@ -31,6 +39,7 @@ returns-in-Over-clause-turn g c =
     (record {
       reads = ap (λ m. m.entries) c.log_of.ensures.reads;
       writes = c.log_of.ensures.writes;
+      nets = c.log_of.ensures.nets;
       nbas = c.log_of.ensures.nbas;
       lines = c.log_of.ensures.lines;
       next = c.log_of.ensures.next;
@@ -51,6 +60,7 @@ returns-in-Ends-clause-turn g c =
     (record {
       reads = ap (λ m. m.entries) c.log_of-in-Ends.ensures.reads;
       writes = c.log_of-in-Ends.ensures.writes;
+      nets = c.log_of-in-Ends.ensures.nets;
       nbas = c.log_of-in-Ends.ensures.nbas;
       lines = c.log_of-in-Ends.ensures.lines;
       next = c.log_of-in-Ends.ensures.next;
@@ -65,6 +75,7 @@ loop-count-preserved g c = record {
       c.loop-count.invariant.reached
       (taken c.args.design.now c.nodes-nodes.result.now c.ops-ops.result.now c.shown-shown.result.now c.args.now (status_of c.loop-count.progress) _ step.Goes (status_of c.take.new.self) c.nodes-nodes.ensures c.ops-ops.ensures c.shown-shown.ensures c.in-Goes.is c.in_ok-take.ensures.takes);
   gave = c.in_ok-take.ensures.gave c.loop-count.invariant.gave;
+  keeps = λ r s h. c.in_ok-take.ensures.keeps r s (c.loop-count.invariant.keeps r s h);
 }
 
 pub returns-then-is_over-clause-turn : goal.returns-then-is_over-clause-turn
@@ -78,6 +89,7 @@ returns-then-is_over-clause-turn g c =
     (record {
       reads = ap (λ m. m.entries) c.log_of-then-is_over.ensures.reads;
       writes = c.log_of-then-is_over.ensures.writes;
+      nets = c.log_of-then-is_over.ensures.nets;
       nbas = c.log_of-then-is_over.ensures.nbas;
       lines = c.log_of-then-is_over.ensures.lines;
       next = c.log_of-then-is_over.ensures.next;

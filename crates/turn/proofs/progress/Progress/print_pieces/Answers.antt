@@ -6,4 +6,5 @@ pub loop-piece-preserved : goal.loop-piece-preserved
 loop-piece-preserved g c = record {
   prints = λ t. prints_more c.args.ops.now c.args.pieces.now c.loop-piece.piece-index _ (status_of c.args.self.now) (status_of c.loop-piece.self) (status_of c.print_piece.new.self) t c.loop-piece-test.true (c.loop-piece.invariant.prints t) c.in_ok-print_piece.ensures.prints;
   gave = λ h. c.in_ok-print_piece.ensures.gave (c.loop-piece.invariant.gave h);
+  keeps = λ r s h. c.in_ok-print_piece.ensures.keeps r s (c.loop-piece.invariant.keeps r s h);
 }

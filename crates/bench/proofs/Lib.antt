@@ -1,0 +1,2 @@
+mod GivenTurns
+pub mod Beginnings

@@ -1,0 +1,50 @@
+//! A turn of 60,003 counted steps, evaluated and not applied.
+
+use crate::sources::{adds, design_of};
+use crate::timing::{How, Measure, Stopwatch, Unit, tell};
+use design::{Code, Design};
+use journal::{PlainStore, turn_on};
+use std::io;
+use turn::Workspace;
+
+/// The first turn of a design's first process, in room that earlier turns may have left.
+fn turn(rt: &HostRuntime, workspace: &mut Workspace, design: &Design) -> io::Result<Measure> {
+    let widths = design.widths(rt.alloc())?;
+    let store = PlainStore::new(rt.alloc(), widths.as_slice())?;
+    if design.processes() == 0 {
+        return Ok(Measure::NONE);
+    }
+    let clock = Stopwatch::start(rt);
+    match turn_on(rt.alloc(), workspace, design, design.first(0), 0, &store) {
+        Ok(log) => {
+            let measure = clock.stop(rt, u64::from(log.count));
+            workspace.give_back(Some(log));
+            Ok(measure)
+        }
+        Err(_) => Err(io::Error::from(io::ErrorKind::InvalidData)),
+    }
+}
+
+/// The fastest of several turns.
+fn least_turn(rt: &HostRuntime, how: How, design: &Design) -> io::Result<Measure> {
+    let mut workspace = Workspace::new(rt.alloc());
+    let mut least = Measure::SLOWEST;
+    for _run in 0..how.runs() {
+        least = least.least(turn(rt, &mut workspace, design)?);
+    }
+    Ok(least)
+}
+
+/// Measures the steps of a loop with 20,000 turns.
+pub fn measure(rt: &HostRuntime, how: How) -> io::Result<()> {
+    let source = adds(rt.alloc(), how.size(20_000, 10))?;
+    let design = design_of(rt.alloc(), source.as_str())?;
+    let least = least_turn(rt, how, &design)?;
+    tell(
+        rt,
+        how,
+        "counted steps of one turn",
+        Unit::MillionASecond,
+        least,
+    )
+}

@@ -1,0 +1,86 @@
+-- Laws of a deque's log.
+use Rattle.std.proofs.Common.{◌≡◌, ◌≢◌, ℕ, suc, ◌+◌, ◌<◌, ◌≤◌, true, false, cond, eqb, List, [], ◌∷◌, ◌++◌, length, refl, sym, ap, ◌∙◌, arith, append_assoc, length-append, ⊎_elim}
+use Rattle.std.specs.Prelude.{◌==◌}
+use Rattle.std.proofs.lemmas.Bool.Decides.{eqb_tells}
+use mathlib.Core.List.{IsPrefix}
+use Rattle.eventpool.specs.Logs.{tickets_of, own, got_by, NamedBelow, AreHands}
+
+-- beginnings
+module _ {A : Type 0} where
+  pub begins_self : (xs : List A) → IsPrefix xs xs
+  begins_self [] = ([], refl)
+  begins_self (x ∷ xs) = let r = begins_self xs in (r.0, ap (λ ys. x ∷ ys) r.1)
+
+  pub begins_none : (xs : List A) → IsPrefix [] xs
+  begins_none xs = (xs, refl)
+
+  pub begins_on : (xs ys zs : List A) → IsPrefix xs ys → IsPrefix xs (ys ++ zs)
+  begins_on xs ys zs p = (p.0 ++ zs, sym (append_assoc xs p.0 zs) ∙ ap (λ w. w ++ zs) p.1)
+
+  pub begins_length : (xs ys : List A) → IsPrefix xs ys → length xs ≤ length ys
+  begins_length xs ys p = omega (arith, sym (ap length p.1) ∙ length-append xs p.0)
+
+pub eqb_self : (k : ℕ) → (k == k) ≡ true
+eqb_self k = ⊎_elim (λ (t : (eqb k k ≡ true) × (k ≡ k)). t.0) (λ (f : (eqb k k ≡ false) × (k ≢ k)). absurd (f.1 refl)) (eqb_tells k k)
+
+pub eqb_off : (j k : ℕ) → j ≢ k → (j == k) ≡ false
+eqb_off j k n = ⊎_elim (λ (t : (eqb j k ≡ true) × (j ≡ k)). absurd (n t.1)) (λ (f : (eqb j k ≡ false) × (j ≢ k)). f.0) (eqb_tells j k)
+
+module _ {T : Type 0} where
+  own_same : (k : ℕ) (x : T) → own k (k, x) ≡ x ∷ []
+  own_same k x = ap (λ b. cond b (x ∷ []) []) (eqb_self k)
+
+  own_off : (j k : ℕ) (x : T) → j ≢ k → own j (k, x) ≡ []
+  own_off j k x n = ap (λ b. cond b (x ∷ []) []) (eqb_off j k n)
+
+  got_append : (k : ℕ) (xs ys : List (ℕ × T)) → got_by k (xs ++ ys) ≡ got_by k xs ++ got_by k ys
+  got_append k [] ys = refl
+  got_append k (e ∷ es) ys = ap (λ l. own k e ++ l) (got_append k es ys) ∙ sym (append_assoc (own k e) (got_by k es) (got_by k ys))
+
+  append_nothing : (xs : List T) → xs ++ [] ≡ xs
+  append_nothing [] = refl
+  append_nothing (x ∷ xs) = ap (λ l. x ∷ l) (append_nothing xs)
+
+  -- one more ticket of a name is its last
+  pub got_more : (k : ℕ) (log : List (ℕ × T)) (x : T) → got_by k (log ++ (k, x) ∷ []) ≡ got_by k log ++ x ∷ []
+  got_more k log x = got_append k log ((k, x) ∷ []) ∙ ap (λ l. got_by k log ++ l) (append_nothing (own k (k, x)) ∙ own_same k x)
+
+  pub got_other : (j k : ℕ) (log : List (ℕ × T)) (x : T) → j ≢ k → got_by j (log ++ (k, x) ∷ []) ≡ got_by j log
+  got_other j k log x n = got_append j log ((k, x) ∷ []) ∙ ap (λ l. got_by j log ++ l) (append_nothing (own j (k, x)) ∙ own_off j k x n) ∙ append_nothing (got_by j log)
+
+  -- a name that was not given has nothing
+  pub got_none : (k n : ℕ) (log : List (ℕ × T)) → NamedBelow n log → n ≤ k → got_by k log ≡ []
+  got_none k n [] h le = refl
+  got_none k n (e ∷ es) h le = let off : k ≢ e.0 = (λ same. let below = h.0 in absurd (omega arith)) in ap (λ l. l ++ got_by k es) (own_off k e.0 e.1 off) ∙ got_none k n es h.1 le
+
+  pub named_more : (n k : ℕ) (log : List (ℕ × T)) (x : T) → NamedBelow n log → k < n → NamedBelow n (log ++ (k, x) ∷ [])
+  named_more n k [] x h lt = (lt, tt)
+  named_more n k (e ∷ es) x h lt = (h.0, named_more n k es x h.1 lt)
+
+  pub named_wider : (n m : ℕ) (log : List (ℕ × T)) → n ≤ m → NamedBelow n log → NamedBelow m log
+  named_wider n m [] le h = tt
+  named_wider n m (e ∷ es) le h = (let lt = h.0 in omega arith, named_wider n m es le h.1)
+
+  -- hands that came back get nothing more
+  pub hands_more : (name k : ℕ) (hands : List (List T × List (ℕ × T))) (log : List (ℕ × T)) (x : T) → AreHands name hands log → k < name → AreHands name hands (log ++ (k, x) ∷ [])
+  hands_more name k [] log x h lt = tt
+  hands_more name k (b ∷ bs) log x h lt = (
+    h.0 ∙ sym (got_other name k log x (λ same. absurd (omega arith))),
+    begins_on b.1 log ((k, x) ∷ []) h.1,
+    hands_more (name + 1) k bs log x h.2 (omega arith),
+  )
+
+  pub tickets_more : (log : List (ℕ × T)) (k : ℕ) (x : T) (items : List T) → tickets_of (log ++ (k, x) ∷ []) ++ items ≡ tickets_of log ++ x ∷ items
+  tickets_more [] k x items = refl
+  tickets_more (e ∷ es) k x items = ap (λ l. e.1 ∷ l) (tickets_more es k x items)
+
+  pub got_no_more : (k : ℕ) (log : List (ℕ × T)) → length (got_by k log) ≤ length log
+  got_no_more k [] = omega arith
+  got_no_more k (e ∷ es) = elim (k == e.0) as (λ b. length (cond b (e.1 ∷ []) [] ++ got_by k es) ≤ length (e ∷ es)) [
+    | true ↦ omega (arith, got_no_more k es)
+    | false ↦ omega (arith, got_no_more k es)
+  ]
+
+  pub tickets_length : (log : List (ℕ × T)) → length (tickets_of log) ≡ length log
+  tickets_length [] = refl
+  tickets_length (e ∷ es) = ap suc (tickets_length es)

@@ -1,0 +1,106 @@
+// The rule of one deque: what was put is what has left, in order, and then what is in it.
+use crossbeam_deque::protocol::{Join, Lesson, Outcome, Protocol, Split};
+use crossbeam_deque::{Pass, Stealer, Worker};
+use std::alloc::Global;
+use std::collections::LinkedList;
+
+/// What an end knows of its deque. No value of it is made.
+pub struct Hand<T> {
+    /// It is the owner's: it knows all that was put, how many names were given, and what came back.
+    pub owns: bool,
+    /// It has a name, by which the log calls it. The owner's is 0.
+    pub named: bool,
+    pub name: u64,
+    pub given: u64,
+    pub put: LinkedList<T>,
+    /// What it removed.
+    pub mine: LinkedList<T>,
+    /// The beginning of the log that it saw.
+    pub seen: LinkedList<(u64, T)>,
+    /// Of each thief that came back, by rising name: what it removed, and what it saw.
+    pub back: LinkedList<(LinkedList<T>, LinkedList<(u64, T)>)>,
+}
+
+/// What was put left in that order, or is still in the deque.
+pub struct FirstInFirstOut;
+
+impl<T> Protocol<T, Hand<T>> for FirstInFirstOut {
+    ghost use Rattle.std.specs.Prelude.{[]};
+    ghost use Rattle.eventpool.specs.Rules.{owner, nobody, Kept};
+
+    ghost holds = { Kept };
+
+    ghost first = { owner 1 [] [] [] [] };
+
+    ghost guest = { nobody };
+}
+
+/// A put by the owner.
+pub struct Puts;
+
+impl<T> Outcome<T, Hand<T>> for Puts {
+    ghost use Rattle.std.specs.Prelude.{◌≡◌, ◌++◌};
+
+    ghost then = { λ v xs w. w ≡ record v { put = v.put ++ xs } };
+}
+
+/// A removal at the front by the owner.
+pub struct Takes;
+
+impl<T> Outcome<T, Hand<T>> for Takes {
+    ghost use Rattle.eventpool.specs.Rules.{Removed, AllGone};
+
+    ghost then = { Removed };
+
+    ghost empty = { AllGone };
+}
+
+/// A removal at the front by a thief.
+pub struct Steals;
+
+impl<T> Outcome<T, Hand<T>> for Steals {
+    ghost use Rattle.eventpool.specs.Rules.{Removed, Bare};
+
+    ghost then = { Removed };
+
+    ghost empty = { Bare };
+}
+
+/// Makes the thief of the next name.
+pub struct Names;
+
+impl<T> Split<Hand<T>> for Names {
+    ghost use Rattle.std.specs.Prelude.{[], ◌+◌};
+    ghost use Rattle.eventpool.specs.Rules.{thief};
+
+    ghost left = { λ v. record v { given = v.given + 1 } };
+
+    ghost right = { λ v. thief v.given [] [] };
+}
+
+/// Takes a thief back, the last name first.
+pub struct Returns;
+
+impl<T> Join<Hand<T>> for Returns {
+    ghost use Rattle.std.specs.Prelude.{◌∷◌};
+    ghost use Rattle.eventpool.specs.Rules.{nobody};
+
+    ghost both = { λ v u. record v { back = (u.mine, u.seen) ∷ v.back } };
+
+    ghost spent = { nobody };
+}
+
+/// What the owner learns of the deque at one moment.
+pub struct Counts;
+
+impl<T> Lesson<T, Hand<T>> for Counts {
+    ghost use Rattle.eventpool.specs.Rules.{Accounts};
+
+    ghost fact = { Accounts };
+}
+
+pub type OwnerEnd<T> = Worker<T, Global, Hand<T>, FirstInFirstOut>;
+
+pub type ThiefEnd<T> = Stealer<T, Global, Hand<T>, FirstInFirstOut>;
+
+pub type ThiefPass<T> = Pass<T, Hand<T>>;

@@ -1,0 +1,18 @@
+use Rattle.std.proofs.Common.{refl, None, true, codes}
+use Rattle.clap.specs.Built.{IsParsedFrom}
+use Rattle.clap.specs.Matches.{found_of}
+use Rattle.program.specs.Arguments.{GivesReplay, replay_rules, rule}
+use Rattle.program.proofs.GivenLemmas.{if_ok, required_text}
+use Rattle.program.proofs.arguments.replay_matches.Goals as goal
+
+pub returns : goal.returns
+returns c =
+    let cmd = c.in_ok-replay_command.field-0 in
+    let h = c.in_ok-replay_command.ensures.rules in
+    record {
+      given = if_ok (IsParsedFrom cmd) (λ m. GivesReplay (found_of m)) c.try_get_matches_from.result
+          (λ m p. record {
+            file = required_text cmd m replay_rules 0 (rule (codes "FILE") true None) p h refl refl refl refl;
+            journal = required_text cmd m replay_rules 1 (rule (codes "JOURNAL") true None) p h refl refl refl refl;
+          }) c.try_get_matches_from.ensures.parsed;
+    }

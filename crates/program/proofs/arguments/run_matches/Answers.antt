@@ -1,0 +1,20 @@
+use Rattle.std.proofs.Common.{refl, Some, None, true, false, codes}
+use Rattle.clap.specs.Built.{IsParsedFrom}
+use Rattle.clap.specs.Matches.{found_of}
+use Rattle.program.specs.Arguments.{GivesRun, run_rules, rule, workers_parser, until_parser, entries_parser}
+use Rattle.program.proofs.GivenLemmas.{given, if_ok, required_text}
+use Rattle.program.proofs.arguments.run_matches.Goals as goal
+
+pub returns : goal.returns
+returns c =
+    let cmd = c.in_ok-run_command.field-0 in
+    let h = c.in_ok-run_command.ensures.rules in
+    record {
+      given = if_ok (IsParsedFrom cmd) (λ m. GivesRun (found_of m)) c.try_get_matches_from.result
+          (λ m p. record {
+            file = required_text cmd m run_rules 0 (rule (codes "FILE") true None) p h refl refl refl refl;
+            workers = given cmd m run_rules 1 (rule (codes "workers") false (Some workers_parser)) workers_parser p h refl refl refl refl;
+            until = given cmd m run_rules 2 (rule (codes "until") false (Some until_parser)) until_parser p h refl refl refl refl;
+            max_entries = given cmd m run_rules 3 (rule (codes "max-entries") false (Some entries_parser)) entries_parser p h refl refl refl refl;
+          }) c.try_get_matches_from.ensures.parsed;
+    }

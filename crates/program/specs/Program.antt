@@ -1,0 +1,97 @@
+-- The exit statuses of the program.
+use Rattle.std.specs.Prelude.{◌≡◌, ◌⊎◌, ℕ, List, [], Option, Some, None, Result, Ok, Err, string_bytes}
+use Rattle.model.specs.declared.end.End.{End}
+use Rattle.model.specs.declared.end.End.TheVariants as end
+use Rattle.model.specs.declared.end.Why.{Why}
+use Rattle.model.specs.declared.end.Why.TheVariants as why
+use Rattle.program.specs.declared.arguments.Refusal.{Refusal}
+use Rattle.program.specs.declared.arguments.Refusal.TheVariants as refusal
+use Rattle.program.specs.declared.fault.Fault.{Fault}
+use Rattle.program.specs.declared.fault.Fault.TheVariants as fault
+use Rattle.program.specs.declared.fault.Stop.{Stop}
+use Rattle.program.specs.declared.fault.Stop.TheVariants as stop
+use Rattle.simulate.specs.declared.run.SimFault.{SimFault}
+use Rattle.vparse.specs.declared.parse.ParseFault.TheVariants as parsing
+use Rattle.elaborate.specs.declared.fault.ElabFault.TheVariants as elaboration
+use Rattle.frontend.specs.declared.source.SourceFault.{SourceFault}
+use Rattle.frontend.specs.declared.source.SourceFault.TheVariants as source
+use Rattle.journal.specs.declared.text.fault.ReadFault.{ReadFault}
+use Rattle.journal.specs.declared.text.fault.ReadFault.TheVariants as reading
+use Rattle.replay.specs.declared.fault.Cause.{Cause}
+use Rattle.replay.specs.declared.fault.Cause.TheVariants as cause
+use Rattle.replay.specs.declared.fault.BytesFault.{BytesFault}
+use Rattle.replay.specs.declared.fault.BytesFault.TheVariants as replaying
+
+-- a source that isn't run, or no memory for it
+abbrev pub source_status_of : SourceFault → ℕ
+source_status_of (source.Parse parsing.Memory) = 6
+source_status_of (source.Elaborate elaboration.Memory) = 6
+source_status_of f = 3
+
+-- memory, or a worker that couldn't be started
+abbrev pub simulate_status_of : SimFault → ℕ
+simulate_status_of f = 6
+
+-- a journal whose reading failed, or no memory for it, or a malformed one
+abbrev pub read_status_of : ReadFault → ℕ
+read_status_of reading.Read = 1
+read_status_of reading.Memory = 6
+read_status_of f = 5
+
+-- no memory for a replay, or an unlawful journal
+abbrev pub cause_status_of : Cause → ℕ
+cause_status_of cause.Memory = 6
+cause_status_of c = 5
+
+-- a fault of the source or of the journal, or one of output
+abbrev pub replay_status_of : BytesFault → ℕ
+replay_status_of (replaying.Source f) = source_status_of f
+replay_status_of (replaying.Read f) = read_status_of f
+replay_status_of (replaying.Replay f) = cause_status_of f.cause
+replay_status_of replaying.CannotWrite = 1
+
+-- 1 files and output, 3 a source, 5 a journal, 6 memory or a worker that couldn't be started
+abbrev pub status_of : Fault → ℕ
+status_of (fault.CannotRead path) = 1
+status_of fault.CannotWrite = 1
+status_of fault.Memory = 6
+status_of (fault.Source f) = source_status_of f
+status_of (fault.Simulate f) = simulate_status_of f
+status_of (fault.Replay f) = replay_status_of f
+
+-- what is told of a stop: `$finish` is none
+abbrev pub stop_for : Why → Option Stop
+stop_for why.Finish = None
+stop_for why.Until = Some stop.Until
+stop_for why.Entries = Some stop.Entries
+stop_for (why.TooLong process) = Some (stop.TooLong process)
+stop_for why.Time = Some stop.Time
+stop_for why.Memory = Some stop.Memory
+
+-- what is told of an end: a stop, and that a run has events left; nothing of a quiet end
+abbrev pub stop_of : End → Option Stop
+stop_of (end.Stopped w) = stop_for w
+stop_of end.Running = Some stop.Unended
+stop_of end.Quiet = None
+
+-- 4 for a limit and for events left, 6 for memory
+abbrev pub stop_status : Stop → ℕ
+stop_status stop.Memory = 6
+stop_status s = 4
+
+-- a run that came to its end, was stopped, or met a fault
+abbrev pub ended_status : Result (Option Stop) Fault → ℕ
+ended_status (Ok None) = 0
+ended_status (Ok (Some s)) = stop_status s
+ended_status (Err f) = status_of f
+
+-- words that make no request: 2 for wrong ones, and 1 for help that can't be shown
+abbrev pub IsRefusalStatus : Refusal → ℕ → Type 0
+IsRefusalStatus (refusal.Help text) n = (n ≡ 0) ⊎ (n ≡ 1)
+IsRefusalStatus (refusal.Usage text) n = n ≡ 2
+IsRefusalStatus refusal.Memory n = n ≡ 6
+
+-- what is shown on standard output of words that make no request
+abbrev pub help_text : Refusal → List ℕ
+help_text (refusal.Help text) = string_bytes text
+help_text r = []

@@ -1,0 +1,147 @@
+//! What can go wrong in a command, with its line on standard error and its exit status.
+
+ghost use Rattle.std.specs.Prelude.{◌≡◌};
+ghost use Rattle.program.specs.Program.{status_of, stop_of, stop_for, stop_status, source_status_of, simulate_status_of, read_status_of, cause_status_of, replay_status_of};
+
+use elaborate::ElabFault;
+use frontend::SourceFault;
+use journal::ReadFault;
+use model::end::{End, Why};
+use replay::{BytesFault, Cause};
+use simulate::SimFault;
+use thiserror::Error;
+use vparse::parse::ParseFault;
+
+/// A file, output or memory fault, or a fault of a layer.
+#[derive(Debug, Drop, Error)]
+pub enum Fault<'a> {
+    #[error("cannot read {0}")]
+    CannotRead(&'a str),
+    #[error("cannot write")]
+    CannotWrite,
+    #[error("memory")]
+    Memory,
+    #[error(transparent)]
+    Source(#[from] SourceFault),
+    #[error(transparent)]
+    Simulate(#[from] SimFault),
+    #[error(transparent)]
+    Replay(BytesFault),
+}
+
+/// The reason of a stop, as it is told.
+#[derive(Debug, Drop, Error)]
+pub enum Stop {
+    #[error("stopped: until")]
+    Until,
+    #[error("stopped: entries")]
+    Entries,
+    #[error("stopped: process {0} too long")]
+    TooLong(u32),
+    #[error("stopped: time")]
+    Time,
+    #[error("stopped: memory")]
+    Memory,
+    #[error("stopped: events left")]
+    Unended,
+}
+
+impl Stop {
+    /// What is told of an end: nothing of a quiet one, and nothing of `$finish`. A run that has events left and no reason to
+    /// stop is told too, though its lines are those of a lawful journal.
+    pub fn of(end: End) -> Option<Stop>
+        ensures { result ≡ stop_of end }
+    {
+        match end {
+            End::Stopped(why) => Stop::why(why),
+            End::Running => Some(Stop::Unended),
+            End::Quiet => None,
+        }
+    }
+
+    fn why(why: Why) -> Option<Stop>
+        ensures { result ≡ stop_for why }
+    {
+        match why {
+            Why::Finish => None,
+            Why::Until => Some(Stop::Until),
+            Why::Entries => Some(Stop::Entries),
+            Why::TooLong(process) => Some(Stop::TooLong(process)),
+            Why::Time => Some(Stop::Time),
+            Why::Memory => Some(Stop::Memory),
+        }
+    }
+
+    /// The exit status of a stopped run.
+    pub fn status(&self) -> u8
+        ensures { result ≡ stop_status self.now }
+    {
+        match self {
+            Stop::Memory => 6,
+            _ => 4,
+        }
+    }
+}
+
+impl Fault<'_> {
+    /// The exit status: 1 for files and output, 3 for a source, 5 for a journal, and 6 for memory or
+    /// a worker that couldn't be started.
+    pub fn status(&self) -> u8
+        ensures { result ≡ status_of self.now }
+    {
+        match self {
+            Fault::CannotRead(_) | Fault::CannotWrite => 1,
+            Fault::Memory => 6,
+            Fault::Source(fault) => source_status(fault),
+            Fault::Simulate(fault) => simulate_status(fault),
+            Fault::Replay(fault) => replay_status(fault),
+        }
+    }
+}
+
+fn source_status(fault: &SourceFault) -> u8
+    ensures { result ≡ source_status_of fault.now }
+{
+    match fault {
+        SourceFault::Parse(ParseFault::Memory) | SourceFault::Elaborate(ElabFault::Memory) => 6,
+        _ => 3,
+    }
+}
+
+fn simulate_status(fault: &SimFault) -> u8
+    ensures { result ≡ simulate_status_of fault.now }
+{
+    match fault {
+        SimFault::Memory | SimFault::NoWorker => 6,
+    }
+}
+
+fn replay_status(fault: &BytesFault) -> u8
+    ensures { result ≡ replay_status_of fault.now }
+{
+    match fault {
+        BytesFault::Source(fault) => source_status(fault),
+        BytesFault::Read(fault) => read_status(*fault),
+        BytesFault::Replay(fault) => cause_status(fault.cause),
+        BytesFault::CannotWrite => 1,
+    }
+}
+
+fn read_status(fault: ReadFault) -> u8
+    ensures { result ≡ read_status_of fault }
+{
+    match fault {
+        ReadFault::Read => 1,
+        ReadFault::Memory => 6,
+        _ => 5,
+    }
+}
+
+fn cause_status(cause: Cause) -> u8
+    ensures { result ≡ cause_status_of cause }
+{
+    match cause {
+        Cause::Memory => 6,
+        _ => 5,
+    }
+}

@@ -1,0 +1,22 @@
+//! The program `vsimtx` as a library: it runs one Verilog module on several workers, or replays the journal of a run, and
+//! prints the lines.
+//!
+//! 1. `arguments` reads the command line into a request, whose options are proved to be in range.
+//! 2. `files` says where paths lead: to the system's files, or to a test's.
+//! 3. `reading` and `writing` take a file or a text whole.
+//! 4. `running` is a run, and `replaying` a replay.
+//! 5. `program` is the whole program as a function, `command`, which `main` calls.
+//! 6. `fault` has the lines on standard error and the exit statuses.
+#![tactic(auto)]
+
+mod arguments;
+mod fault;
+mod files;
+mod program;
+mod reading;
+mod replaying;
+mod running;
+mod writing;
+
+pub use files::{Files, SystemFiles};
+pub use program::{command, without_words};

@@ -1,0 +1,149 @@
+-- The last value of a list, and a list after some values were given.
+use Rattle.std.proofs.Common.{◌≡◌, ℕ, zero, suc, ◌+◌, ◌<◌, ◌≤◌, List, [], ◌∷◌, ◌++◌, length, Some, Bool, true, false, if◌then◌else◌, refl, sym, ap, ◌∙◌, subst, arith, length-append}
+use Rattle.std.specs.Prelude.{slice_get}
+use Rattle.std.specs.List.{All}
+use Rattle.std.proofs.lemmas.List.{append-nil}
+use Rattle.std.proofs.lemmas.List.Elements.{All-head, All-tail}
+use Rattle.crossbeam_utils.specs.Seq.{cell_view}
+use Rattle.logic4.specs.Vector.{Vector}
+use Rattle.logic4.specs.Operators.{same_vector}
+use Rattle.logic4.specs.Sameness.{same_vector-true}
+use Rattle.turn.specs.declared.log.Net.{Net}
+use Rattle.turn.specs.Nets.{altered}
+use Rattle.journal.specs.Past.{last_of, IsNetOf}
+use Rattle.regcells.specs.Rules.{holder}
+use Rattle.regcells.specs.Values.{width_of, last_value, values_after}
+use Rattle.regcells.specs.Passes.{RegPass, seen_by, IsHolding}
+
+-- ---- the end of a list
+
+last_from : (v : Vector) (log : List Vector) (k : ℕ) (x : Vector) → slice_get log k ≡ Some x → length log ≡ k + 1 → x ≡ last_of v log
+last_from v [] k x e n = absurd (omega arith)
+last_from v (y ∷ []) zero x e n = cc
+last_from v (y ∷ []) (suc k) x e n = absurd (omega arith)
+last_from v (y ∷ z ∷ zs) zero x e n = absurd (omega arith)
+last_from v (y ∷ z ∷ zs) (suc k) x e n = last_from y (z ∷ zs) k x e (omega arith)
+
+-- the value at the end is the last
+pub last_at : (log : List Vector) (k : ℕ) (x : Vector) → slice_get log k ≡ Some x → length log ≡ k + 1 → x ≡ last_value log
+last_at log k x e n = last_from [] log k x e n
+
+end_from : (v : Vector) (log : List Vector) (k : ℕ) → length log ≡ k + 1 → slice_get log k ≡ Some (last_of v log)
+end_from v [] k n = absurd (omega arith)
+end_from v (y ∷ []) zero n = refl
+end_from v (y ∷ []) (suc k) n = absurd (omega arith)
+end_from v (y ∷ z ∷ zs) zero n = absurd (omega arith)
+end_from v (y ∷ z ∷ zs) (suc k) n = end_from y (z ∷ zs) k (omega arith)
+
+-- the last value is at the end
+pub at_end : (log : List Vector) (k : ℕ) → length log ≡ k + 1 → slice_get log k ≡ Some (last_value log)
+at_end log k n = end_from [] log k n
+
+last_of-append : (v : Vector) (xs ys : List Vector) → last_of v (xs ++ ys) ≡ last_of (last_of v xs) ys
+last_of-append v [] ys = refl
+last_of-append v (x ∷ xs) ys = last_of-append x xs ys
+
+-- ---- values that differ from the one before
+
+altered_here : (b : Bool) (v u : Vector) (us : List Vector) → same_vector v u ≡ b → altered v (u ∷ us) ≡ (if b then altered v us else u ∷ altered u us)
+altered_here b v u us is = ap (λ t. if t then altered v us else u ∷ altered u us) is
+
+last_here : (b : Bool) (v u : Vector) (us : List Vector) → same_vector v u ≡ b → ((w : Vector) → last_of w (altered w us) ≡ last_of w us) → last_of v (altered v (u ∷ us)) ≡ last_of u us
+last_here true v u us is rest = ap (last_of v) (altered_here true v u us is) ∙ rest v ∙ ap (λ w. last_of w us) (same_vector-true v u is)
+last_here false v u us is rest = ap (last_of v) (altered_here false v u us is) ∙ rest u
+
+last_of-altered : (v : Vector) (us : List Vector) → last_of v (altered v us) ≡ last_of v us
+last_of-altered v [] = refl
+last_of-altered v (u ∷ us) = last_here (same_vector v u) v u us refl (λ w. last_of-altered w us)
+
+-- the last of the values that were given is the last
+pub last_given : (log given : List Vector) → last_value (values_after log given) ≡ last_of (last_value log) given
+last_given log given = last_of-append [] log (altered (last_value log) given) ∙ last_of-altered (last_value log) given
+
+-- a longer list is as wide
+pub width_given : (log given : List Vector) → 0 < length log → width_of (values_after log given) ≡ width_of log
+width_given [] given h = absurd (omega arith)
+width_given (y ∷ ys) given h = refl
+
+-- the first value of a register
+pub first_given : (v : Vector) → 0 < length v → values_after [] (v ∷ []) ≡ v ∷ []
+first_given [] h = absurd (omega arith)
+first_given (d ∷ ds) h = refl
+
+-- nothing that differs
+pub none_given : (log given : List Vector) → length (altered (last_value log) given) ≡ 0 → values_after log given ≡ log
+none_given log given none = by_list (altered (last_value log) given) none
+  where
+    by_list : (more : List Vector) → length more ≡ 0 → log ++ more ≡ log
+    by_list [] n = append-nil log
+    by_list (v ∷ more) n = absurd (omega arith)
+
+pub length-given : (log given : List Vector) → length (values_after log given) ≡ length log + length (altered (last_value log) given)
+length-given log given = length-append log (altered (last_value log) given)
+
+-- ---- nets
+
+-- the net has the last of its values
+pub net_last : (given : List Vector) (net : Net) (v : Vector) → IsNetOf given net → last_of v given ≡ net.last
+net_last [] net v h = absurd h
+net_last (u ∷ us) net v h = sym h.2
+
+last_wide : (u : Vector) (us : List Vector) (w : ℕ) → length u ≡ w → All (λ v. length v ≡ w) us → length (last_of u us) ≡ w
+last_wide u [] w h all = h
+last_wide u (v ∷ us) w h all = last_wide v us w (All-head (λ v. length v ≡ w) v us all) (All-tail (λ v. length v ≡ w) v us all)
+
+-- where all values of a net have a width, its last has it
+pub net_width : (given : List Vector) (net : Net) (w : ℕ) → IsNetOf given net → All (λ v. length v ≡ w) given → length net.last ≡ w
+net_width [] net w h all = absurd h
+net_width (u ∷ us) net w h all = ap length h.2 ∙ last_wide u us w (All-head (λ v. length v ≡ w) u us all) (All-tail (λ v. length v ≡ w) u us all)
+
+-- how many values a net adds
+pub net_changes : (b : Bool) (given : List Vector) (net : Net) (v : Vector) → same_vector v net.first ≡ b → IsNetOf given net → length (altered v given) ≡ (if b then net.changes else net.changes + 1)
+net_changes b [] net v is h = absurd h
+net_changes true (u ∷ us) net v is h =
+    let same : v ≡ u = same_vector-true v net.first is ∙ h.0 in
+    let is' : same_vector v u ≡ true = ap (same_vector v) (sym h.0) ∙ is in
+    ap length (altered_here true v u us is') ∙ ap (λ w. length (altered w us)) same ∙ sym h.1
+net_changes false (u ∷ us) net v is h =
+    let is' : same_vector v u ≡ false = ap (same_vector v) (sym h.0) ∙ is in
+    let more : length (altered v (u ∷ us)) ≡ length (u ∷ altered u us) = ap length (altered_here false v u us is') in
+    omega (arith, more, h.1)
+
+-- at most one more than its later values that differ
+pub few_changes : (b : Bool) (given : List Vector) (net : Net) (v : Vector) → same_vector v net.first ≡ b → IsNetOf given net → length (altered v given) ≤ net.changes + 1
+few_changes true given net v is h = omega (arith, net_changes true given net v is h)
+few_changes false given net v is h = omega (arith, net_changes false given net v is h)
+
+-- ---- the holder's pass
+
+-- the holder's pass, with the view that it had
+pub same_holding : (p q : RegPass) → IsHolding p → cell_view q ≡ cell_view p → IsHolding q
+same_holding p q h same =
+    let seen : seen_by q ≡ seen_by p = ap (λ v. v.seen) same in
+    record {
+      all = same ∙ h.all ∙ ap holder (sym seen);
+      begun = subst (λ l. 0 < length l) (sym seen) h.begun;
+      width = subst (λ l. length (last_value l) ≡ width_of l) (sym seen) h.width;
+    }
+
+-- the holder's pass, after some values of the register's width were given
+pub given_holding : (p q : RegPass) (given : List Vector) (net : Net) (w : ℕ) → IsHolding p → cell_view q ≡ holder (values_after (seen_by p) given) → IsNetOf given net → All (λ v. length v ≡ w) given → w ≡ width_of (seen_by p) → IsHolding q
+given_holding p q given net w h more is all wide =
+    let log = values_after (seen_by p) given in
+    let seen : seen_by q ≡ log = ap (λ u. u.seen) more in
+    let last : last_value log ≡ net.last = last_given (seen_by p) given ∙ net_last given net (last_value (seen_by p)) is in
+    record {
+      all = more ∙ ap holder (sym seen);
+      begun = subst (λ l. 0 < length l) (sym seen) (let b = h.begun in omega (arith, length-given (seen_by p) given));
+      width = subst (λ l. length (last_value l) ≡ width_of l) (sym seen) (ap length last ∙ net_width given net w is all ∙ wide ∙ sym (width_given (seen_by p) given h.begun));
+    }
+
+-- the holder's pass of a new register
+pub new_holding : (p : RegPass) (v : Vector) → cell_view p ≡ holder (v ∷ []) → IsHolding p
+new_holding p v is =
+    let seen : seen_by p ≡ v ∷ [] = ap (λ u. u.seen) is in
+    record {
+      all = is ∙ ap holder (sym seen);
+      begun = subst (λ l. 0 < length l) (sym seen) (omega arith);
+      width = subst (λ l. length (last_value l) ≡ width_of l) (sym seen) refl;
+    }

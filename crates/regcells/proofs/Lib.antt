@@ -1,0 +1,5 @@
+pub mod Beginnings
+pub mod Lasts
+pub mod Moves
+pub mod Tables
+pub mod LastValues

@@ -1,0 +1,54 @@
+use Rattle.std.proofs.Common.{◌≡◌, ◌+◌, List, length, sym, ap, ◌∙◌, arith}
+use Rattle.crossbeam_utils.specs.Seq.{cell_view}
+use Rattle.logic4.specs.Vector.{Vector}
+use Rattle.turn.specs.Nets.{altered}
+use Rattle.regcells.specs.Rules.{holder}
+use Rattle.regcells.specs.Values.{width_of, last_value, values_after}
+use Rattle.regcells.specs.Passes.{seen_by}
+use Rattle.regcells.proofs.Lasts.{last_at, none_given, net_last, last_given, length-given, width_given, net_width, given_holding}
+use Rattle.regcells.proofs.register.Register.write.Goals as goal
+
+pub returns-then-more-eq0-clause-given : goal.returns-then-more-eq0-clause-given
+returns-then-more-eq0-clause-given g c =
+    let k = c.check-last.ensures in
+    let log = seen_by c.args.pass.now in
+    let given = g.X.Giving.given in
+    let last : c.check-last.result.value ≡ last_value log = last_at log c.check-last.result.version c.check-last.result.value k.entry k.version in
+    let seen : seen_by c.check-last.new.pass ≡ log = ap (λ v. v.seen) k.same in
+    let more = c.changes_after-more.ensures.value given c.requires.net in
+    seen ∙ sym (none_given log given (ap (λ (v : Vector). length (altered v given)) (sym last) ∙ sym more ∙ c.if-more-eq0.true))
+
+pub put-requires-clause-last : goal.put-requires-clause-last
+put-requires-clause-last g c =
+    let log = seen_by c.check-last.new.pass in
+    sym (last_given log g.X.Giving.given ∙ net_last g.X.Giving.given c.args.net (last_value log) c.requires.net)
+
+pub put-requires-clause-version : goal.put-requires-clause-version
+put-requires-clause-version g c =
+    let k = c.check-last.ensures in
+    let log = seen_by c.args.pass.now in
+    let given = g.X.Giving.given in
+    let last : c.check-last.result.value ≡ last_value log = last_at log c.check-last.result.version c.check-last.result.value k.entry k.version in
+    let seen : seen_by c.check-last.new.pass ≡ log = ap (λ v. v.seen) k.same in
+    let more : c.changes_after-more.result ≡ length (altered (last_value log) given) = c.changes_after-more.ensures.value given c.requires.net ∙ ap (λ (v : Vector). length (altered v given)) last in
+    let longer : length (values_after (seen_by c.check-last.new.pass) given) ≡ length log + length (altered (last_value log) given) = ap (λ (l : List Vector). length (values_after l given)) seen ∙ length-given log given in
+    omega (arith, longer, more, k.version)
+
+pub put-requires-clause-width : goal.put-requires-clause-width
+put-requires-clause-width g c =
+    let log = seen_by c.args.pass.now in
+    let given = g.X.Giving.given in
+    let seen : seen_by c.check-last.new.pass ≡ log = ap (λ v. v.seen) c.check-last.ensures.same in
+    let wide : width_of log ≡ c.args.self.now.width = ap (λ n. n.width) c.requires.register in
+    ap (λ (l : List Vector). width_of (values_after l given)) seen
+    ∙ width_given log given c.requires.holding.begun
+    ∙ wide
+    ∙ sym (net_width given c.args.net c.args.self.now.width c.requires.net c.requires.widths)
+
+pub returns-clause-holding : goal.returns-clause-holding
+returns-clause-holding g c =
+    let given = g.X.Giving.given in
+    let seen : seen_by c.check-last.new.pass ≡ seen_by c.args.pass.now = ap (λ v. v.seen) c.check-last.ensures.same in
+    let wide : width_of (seen_by c.args.pass.now) ≡ c.args.self.now.width = ap (λ n. n.width) c.requires.register in
+    let more : cell_view c.put.new.pass ≡ holder (values_after (seen_by c.args.pass.now) given) = c.put.ensures.given ∙ ap (λ (l : List Vector). holder (values_after l given)) seen in
+    given_holding c.args.pass.now c.put.new.pass given c.args.net c.args.self.now.width c.requires.holding more c.requires.net c.requires.widths (sym wide)

@@ -1,0 +1,62 @@
+//! The cells and their holder as a store, for the calls that change the values of the registers.
+ghost use Rattle.std.specs.Prelude.{◌≡◌};
+ghost use Rattle.regcells.specs.Seats.{IsOf};
+
+use crate::cells::{Holder, RegCells};
+use design::RegId;
+use journal::Store;
+use logic4::bits::Bits;
+use std::sync::Wait;
+use turn::Net;
+
+/// The values of the registers in their cells, and the holder, which changes them.
+#[derive(Drop)]
+pub struct HeldStore<'a, R: Wait> {
+    pub rt: &'a R,
+    pub cells: &'a RegCells,
+    pub holder: &'a mut Holder,
+}
+
+impl<'a, R: Wait> HeldStore<'a, R> {
+    /// The store of these cells, which is ready.
+    pub fn new(rt: &'a R, cells: &'a RegCells, holder: &'a mut Holder) -> HeldStore<'a, R>
+        requires { holder.old.cells ≡ cells.now }
+        ensures holder { result.holder.ghost_name ≡ holder.entry.ghost_name }
+        ensures same { result.holder.now ≡ holder.old }
+        ensures cells { result.cells.now ≡ cells.entry.now }
+        ensures ready { IsOf cells.entry.now holder.old }
+    {
+        // the widths of its last values are known by this call
+        holder.registers();
+        HeldStore { rt, cells, holder }
+    }
+}
+
+impl<'a, R: Wait> Store for HeldStore<'a, R> {
+    ghost use Rattle.std.specs.Prelude.{◌≡◌, List, ℕ};
+    ghost use Rattle.regcells.specs.Seats.{Named, seen_of, last_values, changes_left, IsOf};
+
+    ghost values = { λ s. last_values s.holder.now };
+
+    ghost had = { λ s r values. values ≡ seen_of s.holder.now r };
+
+    ghost left = { λ s r. changes_left s.holder.now r };
+
+    ghost Name = { ℕ × List Named };
+
+    ghost which = { λ s. (s.holder.ghost_name, s.cells.now) };
+
+    ghost ready = { λ s. IsOf s.cells.now s.holder.now };
+
+    fn get(&mut self, register: RegId) -> Bits {
+        self.cells.get_held(self.rt, self.holder, register).value
+    }
+
+    fn set(&mut self, register: RegId, value: Bits) {
+        self.cells.store(self.rt, self.holder, register, value);
+    }
+
+    fn set_net(&mut self, net: Net, writes: &[(RegId, Bits)]) {
+        self.cells.store_net(self.rt, self.holder, net, writes);
+    }
+}

@@ -1,0 +1,157 @@
+//! One register: its cell, and the steps of a pass of it.
+ghost use Rattle.std.specs.Prelude.{◌≡◌, ◌+◌, ◌<◌, ◌≤◌, ◌-◌, ◌^◌, true, List, [], ◌∷◌, length, Some, slice_get, IfOk};
+ghost use Rattle.std.specs.List.{All};
+ghost use mathlib.Core.List.{IsPrefix};
+ghost use Rattle.crossbeam_utils.specs.Seq.{cell_view};
+ghost use Rattle.logic4.specs.Vector.{Vector, unknown};
+ghost use Rattle.logic4.specs.Words.{max_width};
+ghost use Rattle.turn.specs.Nets.{altered};
+ghost use Rattle.journal.specs.Past.{IsNetOf};
+ghost use Rattle.regcells.specs.Values.{width_of, last_value, values_after, room_of};
+ghost use Rattle.regcells.specs.Rules.{holder};
+ghost use Rattle.regcells.specs.Passes.{seen_by, name_of_pass, name_of_register, IsBegun, IsHolding};
+
+use crate::rule::{Cell, Checks, Giving, Looks, Notes, RegPass, Stores};
+use crate::words::{WORDS, seen_in, words_of};
+use design::RegId;
+use logic4::bits::Bits;
+use std::alloc::{AllocError, Global};
+use std::marker::Brand;
+use std::sync::Wait;
+use turn::{Net, Seen};
+
+/// A register's cell, and the width of its values.
+#[derive(Drop)]
+pub struct Register {
+    cell: Cell,
+    width: u32,
+}
+
+// How many of the values of which the net is known differ from the one before, where this one stands before the first.
+fn changes_after(last: Bits, net: Net) -> u64
+    requires { net.changes < 2 ^ 64 - 1 }
+    ensures value { (given : List Vector) → IsNetOf given net → result ≡ length (altered last given) }
+    ensures few { result ≤ net.changes + 1 }
+{
+    if last == net.first {
+        return net.changes;
+    }
+    net.changes + 1
+}
+
+impl Register {
+    /// A register of this width, all x, and the pass that stores.
+    pub fn new<R: Wait>(
+        rt: &R,
+        alloc: Global,
+        width: u32,
+    ) -> Result<(Register, RegPass), AllocError>
+        requires some { 1 ≤ width }
+        requires within { width ≤ max_width }
+        ensures { IfOk result (λ r. (name_of_pass r.1 ≡ name_of_register r.0) × (r.0.width ≡ width) × (cell_view r.1 ≡ holder (unknown width ∷ []))) }
+    {
+        let (cell, mut pass) = Cell::ruled(alloc, [0; WORDS])?;
+        let register = Register { cell, width };
+        register.put::<Brand, R>(rt, &mut pass, 0, Bits::unknown(width));
+        Ok((register, pass))
+    }
+
+    /// One load by a seat.
+    pub fn look<R: Wait>(&self, rt: &R, pass: &mut RegPass) -> Seen
+        requires register { name_of_pass pass.old ≡ name_of_register self.now }
+        requires begun { IsBegun pass.old }
+        ensures name { name_of_pass pass.new ≡ name_of_pass pass.old }
+        ensures later { IsPrefix (seen_by pass.old) (seen_by pass.new) }
+        ensures entry { slice_get (seen_by pass.new) result.version ≡ Some result.value }
+        ensures version { length (seen_by pass.new) ≡ result.version + 1 }
+        ensures width { length result.value ≡ self.now.width }
+    {
+        let words = self.cell.load_as::<Looks, R>(rt, pass);
+        seen_in(self.width, words)
+    }
+
+    /// One load by the holder.
+    pub fn check<R: Wait>(&self, rt: &R, pass: &mut RegPass) -> Seen
+        requires register { name_of_pass pass.old ≡ name_of_register self.now }
+        requires begun { IsBegun pass.old }
+        requires holds { (cell_view pass.old).holds ≡ true }
+        ensures name { name_of_pass pass.new ≡ name_of_pass pass.old }
+        ensures same { cell_view pass.new ≡ holder (seen_by pass.old) }
+        ensures told { IsPrefix (cell_view pass.old).shown (seen_by pass.old) }
+        ensures entry { slice_get (seen_by pass.old) result.version ≡ Some result.value }
+        ensures version { length (seen_by pass.old) ≡ result.version + 1 }
+        ensures width { length result.value ≡ self.now.width }
+    {
+        let words = self.cell.load_as::<Checks, R>(rt, pass);
+        seen_in(self.width, words)
+    }
+
+    // One store by the holder: the last of the values, with its place as the version.
+    fn put<X: Giving, R: Wait>(&self, rt: &R, pass: &mut RegPass, version: u64, value: Bits)
+        requires cell { pass.old.table_id ≡ self.now.cell.table.shared.table_id }
+        requires holds { cell_view pass.old ≡ holder (seen_by pass.old) }
+        requires last { value ≡ last_value (values_after (seen_by pass.old) X.given) }
+        requires version { length (values_after (seen_by pass.old) X.given) ≡ version + 1 }
+        requires width { width_of (values_after (seen_by pass.old) X.given) ≡ length value }
+        ensures cell { pass.new.table_id ≡ pass.old.table_id }
+        ensures given { cell_view pass.new ≡ holder (values_after (seen_by pass.old) X.given) }
+    {
+        let words = words_of(value, version);
+        self.cell.swap_as::<Stores<X>, R>(rt, pass, words);
+    }
+
+    /// The holder gives the register values, one after another, of which the net is known. One store of the last of them
+    /// adds all that differ from the one before, and where none does there is no store. The writes are what the caller
+    /// names the values by.
+    pub fn write<X: Giving, R: Wait>(
+        &self,
+        rt: &R,
+        pass: &mut RegPass,
+        net: Net,
+        _writes: &[(RegId, Bits)],
+    )
+        requires register { name_of_pass pass.old ≡ name_of_register self.now }
+        requires holding { IsHolding pass.old }
+        requires net { IsNetOf X.given net }
+        requires widths { All (λ v. length v ≡ self.now.width) X.given }
+        requires room { net.changes < room_of (seen_by pass.old) }
+        ensures name { name_of_pass pass.new ≡ name_of_pass pass.old }
+        ensures holding { IsHolding pass.new }
+        ensures given { seen_by pass.new ≡ values_after (seen_by pass.old) X.given }
+    {
+        let value = net.last;
+        let last = self.check(rt, pass);
+        let more = changes_after(last.value, net);
+        if more == 0 {
+            return;
+        }
+        self.put::<X, R>(rt, pass, last.version + more, value);
+    }
+
+    /// What a pass has seen, for another.
+    pub fn note(&self, pass: &mut RegPass) -> RegPass
+        requires { name_of_pass pass.old ≡ name_of_register self.now }
+        ensures name { (name_of_pass pass.new ≡ name_of_pass pass.old) × (name_of_pass result ≡ name_of_pass pass.old) }
+        ensures same { cell_view pass.new ≡ cell_view pass.old }
+        ensures seen { seen_by result ≡ seen_by pass.old }
+    {
+        self.cell.split_pass::<Notes>(pass)
+    }
+
+    /// The seat's pass has then seen all that the holder's has. A join alone tells nothing: what the seat has seen is
+    /// compared with the holder's values at the next load.
+    pub fn tell<R: Wait>(&self, rt: &R, pass: &mut RegPass, all: &mut RegPass)
+        requires register { name_of_pass pass.old ≡ name_of_register self.now }
+        requires all { name_of_pass all.old ≡ name_of_register self.now }
+        requires holding { IsHolding all.old }
+        ensures name { (name_of_pass pass.new ≡ name_of_pass pass.old) × (name_of_pass all.new ≡ name_of_pass all.old) }
+        ensures seen { seen_by pass.new ≡ seen_by all.old }
+        ensures later { IsPrefix (seen_by pass.old) (seen_by all.old) }
+        ensures same { cell_view all.new ≡ cell_view all.old }
+    {
+        let note = self.cell.split_pass::<Notes>(pass);
+        self.cell.join_pass::<Notes>(all, note);
+        self.check(rt, all);
+        *pass = self.cell.split_pass::<Notes>(all);
+    }
+}

@@ -1,0 +1,5 @@
+//! Vectors, sources and modules.
+
+mod elaboration;
+mod parsing;
+mod vectors;

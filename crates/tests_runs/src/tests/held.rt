@@ -1,0 +1,82 @@
+//! Registers that a test holds, and turns of the first process of a source on them.
+
+use design::{Code, Design, ProcState, RegId};
+use frontend::read_design;
+use logic4::bits::Bits;
+use std::alloc::Global;
+use std::process::Abort;
+use turn::{RegReader, Seen, TurnLog, run_turn};
+
+/// The value of each register by its number, and how many were read. The version of a read is its number, from 1.
+#[derive(Drop)]
+pub struct Held {
+    pub values: [Bits; 4],
+    pub reads: u64,
+}
+
+impl Held {
+    /// Every register has the same value.
+    pub fn all(value: Bits) -> Held {
+        Held {
+            values: [value; 4],
+            reads: 0,
+        }
+    }
+}
+
+impl RegReader for Held {
+    ghost use Rattle.std.specs.Prelude.{ℕ};
+    ghost use Rattle.turn.specs.declared.memory.Seen.{Seen};
+
+    ghost registers = { 1024 };
+
+    ghost gave = { λ s r x. Unit {0} };
+
+    fn read(&mut self, register: RegId) -> Seen {
+        self.reads = self.reads.wrapping_add(1);
+        let value = match self.values.get(register as usize) {
+            Some(value) => *value,
+            None => Bits::unknown(1),
+        };
+        Seen {
+            version: self.reads,
+            value,
+        }
+    }
+}
+
+/// The design of a source.
+pub fn design_of(rt: &impl Abort, alloc: Global, source: &str) -> Design {
+    read_design(alloc, source.as_bytes())
+        .ok()
+        .expect(rt, "a module without faults")
+}
+
+/// Where the first process of a design begins.
+pub fn beginning(rt: &impl Abort, design: &Design) -> ProcState {
+    assert!(rt; design.processes() > 0, "no process");
+    design.first(0)
+}
+
+/// The turn of a process in a state, at a time below 2 to the 32.
+pub fn turn_from(
+    rt: &impl Abort,
+    alloc: Global,
+    design: &Design,
+    state: ProcState,
+    now: u32,
+    held: &mut Held,
+) -> TurnLog {
+    // The answer tells that there are at most 1,024, which is what the reader takes.
+    let _registers = design.registers();
+    run_turn(alloc, design, &state, u64::from(now), held)
+        .ok()
+        .expect(rt, "a short turn")
+}
+
+/// The first turn of the first process of a source, at time 7.
+pub fn first_turn(rt: &impl Abort, alloc: Global, source: &str, held: &mut Held) -> TurnLog {
+    let design = design_of(rt, alloc, source);
+    let state = beginning(rt, &design);
+    turn_from(rt, alloc, &design, state, 7, held)
+}

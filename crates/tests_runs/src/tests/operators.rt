@@ -1,0 +1,75 @@
+//! The values of operators (5.1), as a turn computes and prints them.
+
+use super::held::{Held, first_turn};
+use frontend::read_design;
+use logic4::bits::Bits;
+use std::alloc::Global;
+use std::process::Abort;
+
+/// The registers of each row: those of 8 digits are known but for `x`, which is unknown as `u` is, and `q`, `b` and `w`
+/// take the value.
+const HEAD: &str =
+    "module t; reg [7:0] two, top, zero, x, q; reg u, b; reg [15:0] w; initial begin two = 8'd2; top = 8'd255; zero = 8'd0; ";
+
+// The value of an expression that a register takes, digit by digit, and a newline.
+fn assert_value(rt: &impl Abort, alloc: Global, target: &str, value: &str, line: &str) {
+    let source = format!(in alloc;
+        "{HEAD} {target} = {value}; $display(\"%b\", {target}); end endmodule"
+    ).expect(rt, "memory");
+    let mut held = Held::all(Bits::unknown(8));
+    let log = first_turn(rt, alloc, source.as_str(), &mut held);
+    assert!(rt; log.lines.as_str() == line, "{value}");
+}
+
+#[test]
+fn computes_binary_operators(rt: HostRuntime) {
+    for (target, value, line) in [
+        ("q", "top + two", "00000001\n"),
+        ("q", "two - top", "00000011\n"),
+        ("q", "top & two", "00000010\n"),
+        ("q", "top | two", "11111111\n"),
+        ("q", "top ^ two", "11111101\n"),
+        ("q", "top << two", "11111100\n"),
+        ("q", "top >> two", "00111111\n"),
+        ("b", "two < top", "1\n"),
+        ("b", "top <= two", "0\n"),
+        ("b", "top > two", "1\n"),
+        ("b", "two >= two", "1\n"),
+        ("b", "two == x", "x\n"),
+        ("b", "two != top", "1\n"),
+        ("b", "x === x", "1\n"),
+        ("q", "x !== two", "00000001\n"),
+        ("b", "two && x", "x\n"),
+        ("b", "two || x", "1\n"),
+    ] {
+        assert_value(&rt, rt.alloc(), target, value, line);
+    }
+}
+
+#[test]
+fn computes_other_operators(rt: HostRuntime) {
+    for (target, value, line) in [
+        ("q", "~two", "11111101\n"),
+        ("q", "!zero", "00000001\n"),
+        ("b", "&two", "0\n"),
+        ("b", "|two", "1\n"),
+        ("b", "^two", "1\n"),
+        ("w", "{two, zero}", "0000001000000000\n"),
+        ("q", "two ? zero : two", "00000000\n"),
+        ("q", "zero ? zero : two", "00000010\n"),
+        ("q", "u ? two : two", "00000010\n"),
+    ] {
+        assert_value(&rt, rt.alloc(), target, value, line);
+    }
+}
+
+// No design joins more than 64 digits.
+#[test]
+fn refuses_to_join_too_many_digits(rt: HostRuntime) {
+    let source = "module t; reg [59:0] a; reg [7:0] b; reg [59:0] q; initial q = {a, b}; endmodule";
+    let fault = read_design(rt.alloc(), source.as_bytes())
+        .err()
+        .expect(&rt, "a fault");
+    let line = format!(in rt.alloc(); "{fault}").expect(&rt, "memory");
+    assert_eq!(rt; line.as_str(), "E7 concatenation over 64 bits");
+}

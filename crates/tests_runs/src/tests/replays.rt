@@ -1,0 +1,171 @@
+//! What a fault prints, and replays from bytes to bytes: their lines, or the line that tells of the fault.
+
+use super::streams::{ByteReader, ByteWriter};
+use design::Design;
+use frontend::read_design;
+use journal::Counted;
+use model::entry::{Entry, Refusal};
+use replay::{Cause, ReplayFault, replay, replay_bytes};
+use std::alloc::Global;
+use std::io::ErrorKind;
+use std::process::Abort;
+
+/// Two processes write one register, and a third shows it once both are over.
+const RACE: &[u8] =
+    b"module t; reg a; initial a=1'b0; initial a=1'b1; initial #0 $display(\"%b\",a); endmodule";
+
+/// One process, which prints a line.
+const HI: &[u8] = b"module t; initial $display(\"hi\"); endmodule";
+
+/// A process that finishes the simulation, and another.
+const FINISH: &[u8] =
+    b"module t; initial begin $display(\"a\"); $finish; $display(\"b\"); end initial $display(\"c\"); endmodule";
+
+/// What is left of a replay by a reader and a writer that fail after so many bytes: what was written, and then the line
+/// that tells of the fault, if there is one.
+fn left_of(
+    rt: &impl Abort,
+    alloc: Global,
+    both: (&[u8], &[u8]),
+    reads: usize,
+    writes: usize,
+) -> String {
+    let (source, text) = both;
+    let mut journal = Counted::new(ByteReader {
+        text,
+        left: reads,
+        kind: ErrorKind::BrokenPipe,
+    });
+    let mut out = Counted::new(ByteWriter {
+        taken: Vec::new(alloc),
+        left: writes,
+        answers_zero: false,
+    });
+    let told = replay_bytes(alloc, source, &mut journal, &mut out);
+    let taken = out.into_inner().taken;
+    let written = str::from_utf8(&taken).ok().expect(rt, "text");
+    match told {
+        Ok(()) => String::from_str(alloc, written).expect(rt, "memory"),
+        Err(fault) => format!(in alloc; "{written}{fault}").expect(rt, "memory"),
+    }
+}
+
+// What a fault prints.
+fn assert_line(rt: &impl Abort, alloc: Global, entry: u64, cause: Cause, want: &str) {
+    let fault = ReplayFault { entry, cause };
+    let line = format!(in alloc; "{fault}").expect(rt, "memory");
+    assert_eq!(rt; line.as_str(), want);
+}
+
+#[test]
+fn says_why(rt: HostRuntime) {
+    for (entry, refusal, want) in [
+        (3, Refusal::NotActive, "entry 3: J1 event not active"),
+        (
+            4,
+            Refusal::EarlierUpdate,
+            "entry 4: J2 earlier update active",
+        ),
+        (1, Refusal::NotDue, "entry 1: J3 region change not due"),
+        (12, Refusal::WrongTime, "entry 12: J4 wrong time"),
+        (9, Refusal::PastLimit, "entry 9: J5 time limit"),
+        (8, Refusal::Finished, "entry 8: J6 finished"),
+    ] {
+        assert_line(&rt, rt.alloc(), entry, Cause::Refused(refusal), want);
+    }
+    for (entry, cause, want) in [
+        (2, Cause::TooLong, "entry 2: turn too long"),
+        (
+            4294967296,
+            Cause::TooMany,
+            "entry 4294967296: too many entries",
+        ),
+        (0, Cause::Memory, "entry 0: memory"),
+    ] {
+        assert_line(&rt, rt.alloc(), entry, cause, want);
+    }
+}
+
+// A journal of the race is lawful, and leaves this line and nothing to do.
+fn assert_replayed(rt: &impl Abort, alloc: Global, design: &Design, journal: &[Entry], line: &str) {
+    let replayed = replay(alloc, design, journal).ok().expect(rt, "lawful");
+    assert!(rt; replayed.state.is_quiet());
+    assert_eq!(rt; replayed.lines.as_str(), line);
+}
+
+#[test]
+fn replays_entries(rt: HostRuntime) {
+    let design = read_design(rt.alloc(), RACE).ok().expect(&rt, "a source");
+    let mut journal = [
+        Entry::Turn(1),
+        Entry::Turn(0),
+        Entry::Turn(2),
+        Entry::ActivateInactive,
+        Entry::Turn(3),
+    ];
+    assert_replayed(&rt, rt.alloc(), &design, &journal, "0\n");
+    journal[4] = Entry::Turn(4);
+    let fault = replay(rt.alloc(), &design, &journal).err();
+    let cause = Cause::Refused(Refusal::NotActive);
+    assert!(rt; fault == Some(ReplayFault { entry: 5, cause }));
+}
+
+#[test]
+fn replays_bytes(rt: HostRuntime) {
+    let rows: [(&[u8], &[u8], &str); 14] = [
+        (RACE, b"vsimtx-journal 1\nT 0\nT 1\nT 2\nI\nT 3\n", "1\n"),
+        (RACE, b"vsimtx-journal 1\nT 1\nT 0\nT 2\nI\nT 3\n", "0\n"),
+        (
+            RACE,
+            b"vsimtx-journal 1\nT 0\nT 2\nI\n",
+            "entry 3: J3 region change not due",
+        ),
+        (HI, b"vsimtx-journal 1\nT 0\n", "hi\n"),
+        (
+            HI,
+            b"vsimtx-journal 1\nT 0\nT 0\n",
+            "entry 2: J1 event not active",
+        ),
+        (HI, b"vsimtx-journal 1\nT 00\n", "Q2 journal line 2"),
+        (
+            HI,
+            b"vsimtx-journal 1\nT 0",
+            "Q3 journal ends without newline",
+        ),
+        (HI, b"T 0\n", "Q1 journal header"),
+        (HI, b"vsimtx-journal 1\n", ""),
+        (FINISH, b"vsimtx-journal 1\nT 1\nT 0\n", "c\na\n"),
+        (
+            FINISH,
+            b"vsimtx-journal 1\nT 0\nT 1\n",
+            "entry 2: J6 finished",
+        ),
+        (b"", b"T 0\n", "P2 syntax at token 1"),
+        (
+            b"module t; initial #0 a=1'b0; endmodule",
+            b"",
+            "E1 undeclared a",
+        ),
+        (HI, b"", "Q1 journal header"),
+    ];
+    for (place, (source, text, want)) in rows.iter().enumerate() {
+        let left = left_of(&rt, rt.alloc(), (source, text), 100, 100);
+        assert_eq!(rt; left.as_str(), *want, "row {place}");
+    }
+}
+
+#[test]
+fn a_failed_read_or_write_is_told(rt: HostRuntime) {
+    let text: &[u8] = b"vsimtx-journal 1\nT 0\n";
+    for reads in 0..=text.len() {
+        let left = left_of(&rt, rt.alloc(), (HI, text), reads, 100);
+        assert_eq!(rt; left.as_str(), "Q4 journal read error", "read {reads}");
+    }
+    for (writes, want) in ["cannot write", "hcannot write", "hicannot write", "hi\n"]
+        .iter()
+        .enumerate()
+    {
+        let left = left_of(&rt, rt.alloc(), (HI, text), 100, writes);
+        assert_eq!(rt; left.as_str(), *want, "write {writes}");
+    }
+}

@@ -1,0 +1,101 @@
+//! Sources whose first turn is known.
+
+use super::held::{Held, beginning, design_of, first_turn};
+use design::RegId;
+use indexmap::IndexMap;
+use logic4::bits::Bits;
+use std::alloc::{AllocError, Global};
+use std::process::Abort;
+use turn::{Seen, TurnFault, run_turn};
+
+// The first turn of a process reads so many registers, prints this, and has so many counted steps, where every register
+// is unknown.
+fn assert_turn(
+    rt: &impl Abort,
+    alloc: Global,
+    source: &str,
+    reads: usize,
+    lines: &str,
+    count: u32,
+) {
+    let mut held = Held::all(Bits::unknown(1));
+    let log = first_turn(rt, alloc, source, &mut held);
+    assert_eq!(rt; log.reads.len(), reads);
+    assert_eq!(rt; log.lines.as_str(), lines);
+    assert_eq!(rt; log.count, count);
+}
+
+// The reads of the first turn of a process, which is too long.
+fn too_long(
+    rt: &impl Abort,
+    alloc: Global,
+    source: &str,
+    held: &mut Held,
+) -> IndexMap<RegId, Seen> {
+    let design = design_of(rt, alloc, source);
+    let state = beginning(rt, &design);
+    let _registers = design.registers();
+    match run_turn(alloc, &design, &state, 3, held) {
+        Err(TurnFault::TooLong(reads)) => reads,
+        _ => panic!(rt; "short"),
+    }
+}
+
+// `initial` and a block of this many empty statements.
+fn empty_statements(alloc: Global, count: usize) -> Result<String, AllocError> {
+    let mut source = String::from_str(alloc, "module t; initial begin ")?;
+    for _statement in 0..count {
+        source.push_str(";")?;
+    }
+    source.push_str(" end endmodule")?;
+    Ok(source)
+}
+
+#[test]
+fn prints_what_a_loop_adds(rt: HostRuntime) {
+    let source =
+        "module t; reg [7:0] i, s; initial begin i=8'd0; s=8'd0; while (i<8'd5) begin i=i+8'd1; s=s+i; end $display(\"%0d %0d\",i,s); end endmodule";
+    assert_turn(&rt, rt.alloc(), source, 0, "5 15\n", 19);
+}
+
+#[test]
+fn extends_to_the_size_of_the_context(rt: HostRuntime) {
+    let source =
+        "module t; reg [4:0] s; initial begin s = 4'hf+4'h1; $display(\"%0d %0d\", s, 4'hf+4'h1); end endmodule";
+    assert_turn(&rt, rt.alloc(), source, 0, "16 0\n", 2);
+}
+
+const DIFFER: &str = "module t; reg a, b; initial while (a!==b) begin end endmodule";
+
+#[test]
+fn unknown_digits_are_the_same(rt: HostRuntime) {
+    assert_turn(&rt, rt.alloc(), DIFFER, 2, "", 1);
+}
+
+#[test]
+fn reads_before_it_is_too_long(rt: HostRuntime) {
+    let mut held = Held::all(Bits::from_u64(1, 1));
+    held.values[0] = Bits::from_u64(1, 0);
+    let reads = too_long(&rt, rt.alloc(), DIFFER, &mut held);
+    assert_eq!(rt; reads.len(), 2);
+    for (register, version, value) in [(0, 1, 0), (1, 2, 1)] {
+        let value = Bits::from_u64(1, value);
+        assert_eq!(rt; reads.get_index_of(&register), Some(register as usize));
+        assert_eq!(rt;
+            reads.get(&register).copied(),
+            Some(Seen { version, value })
+        );
+    }
+}
+
+#[test]
+fn has_so_many_steps_and_no_more(rt: HostRuntime) {
+    let alloc = rt.alloc();
+    let mut held = Held::all(Bits::unknown(1));
+    let source = empty_statements(alloc, 65_536).expect(&rt, "memory");
+    assert_turn(&rt, alloc, source.as_str(), 0, "", 65_536);
+    let source = empty_statements(alloc, 65_537).expect(&rt, "memory");
+    assert!(rt; too_long(&rt, alloc, source.as_str(), &mut held).is_empty());
+    let source = "module t; always ; endmodule";
+    assert!(rt; too_long(&rt, alloc, source, &mut held).is_empty());
+}

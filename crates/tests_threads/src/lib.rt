@@ -1,0 +1,11 @@
+//! Runs in threads of the concurrent layers, each through its public calls. There are tests alone.
+//!
+//! 1. `deques` takes and steals tickets of pools of deques, by one thread and by four, and counts where each went.
+//! 2. `cells` stores and reads cells of registers, by one thread and by two: no read goes back, and each gives the value of
+//!    its version.
+#![tactic(auto)]
+
+#[cfg(test)]
+mod cells;
+#[cfg(test)]
+mod deques;
