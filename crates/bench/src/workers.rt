@@ -6,7 +6,7 @@ use crate::timing::{How, Measure, Stopwatch, Unit, tell};
 use design::Design;
 use model::entry::Entry;
 use replay::replay;
-use simulate::{Options, simulate};
+use simulate::{Options, Unobserved, simulate};
 use std::alloc::Global;
 use std::io;
 use std::sync::Wait;
@@ -29,7 +29,7 @@ fn journal_of<R: Threads + Wait + Sync>(
         until: None,
         max_entries,
     };
-    match simulate(threads, alloc, design, options) {
+    match simulate(threads, alloc, design, options, &Unobserved) {
         Ok(outcome) => Ok(outcome.closed.into_parts().0),
         Err(_) => Err(io::Error::from(io::ErrorKind::OutOfMemory)),
     }

@@ -1,8 +1,18 @@
-pub mod Clock
-pub mod Given
-pub mod Guards
-pub mod Currents
-pub mod Appended
-pub mod Firsts
-pub mod Rests
-pub mod Waits
+mod Agreeing
+mod Staying
+mod AtLock
+mod Currents
+mod Firsts
+mod Guards
+mod Standings
+mod Meetings
+mod Tellings
+mod Validating
+pub mod Crossing
+mod Rests
+mod Waits
+mod Resting
+mod Counting
+mod Openings
+mod Barring
+mod Evaluating

@@ -1,11 +1,46 @@
--- Seats.
-use Rattle.std.specs.Prelude.{ℕ}
+-- Seats: what a worker's seat has seen of its gate.
+use Rattle.std.specs.Prelude.{◌≡◌, ℕ, List, [], ◌∷◌, map, Option, None}
+use mathlib.Core.List.{IsPrefix}
+use Rattle.logic4.specs.Vector.{Vector, unknown}
+use Rattle.model.specs.declared.end.Why.{Why}
+use Rattle.design.specs.Compiled.{Compiled}
+use Rattle.gateparts.specs.Log.{Log}
+use Rattle.gateparts.specs.Fresh.{Rises}
 
--- what contracts see of a seat: its worker, and the number of entries that it last saw
+-- What contracts see of a seat: its worker; the beginning of the gate's log that it has seen; the positions in the
+-- journal of the entries that it appended, rising; the end that it stored, if it stored one; and of each register the
+-- beginning of its history that it has seen.
 pub record SeatView : Type 0 where
   pub worker : ℕ
-  pub seen : ℕ
+  pub seen : Log
+  pub mine : List ℕ
+  pub stored : Option Why
+  pub fresh : List (List Vector)
 
--- the seat of a worker that has seen nothing
-abbrev pub new_seat : ℕ → SeatView
-new_seat worker = record { worker = worker; seen = 0 }
+-- of each register all x alone
+abbrev pub first_values : Compiled → List (List Vector)
+first_values listing = map (λ w. unknown w ∷ []) listing.widths
+
+-- the seat of a worker that has seen nothing of the log, and of each register that it begins all x
+abbrev pub new_seat : Compiled → ℕ → SeatView
+new_seat listing worker = record { worker = worker; seen = []; mine = []; stored = None; fresh = first_values listing }
+
+-- a seat that read registers: it may only have seen more of them
+pub record ReadsOn (old new : SeatView) : Type 0 where
+  pub worker : new.worker ≡ old.worker
+  pub seen : new.seen ≡ old.seen
+  pub mine : new.mine ≡ old.mine
+  pub stored : new.stored ≡ old.stored
+  pub rises : Rises old.fresh new.fresh
+
+-- a call leaves a seat its worker's, and what it has seen is all that it had seen, with further items and values
+pub record Follows (old new : SeatView) : Type 0 where
+  pub worker : new.worker ≡ old.worker
+  pub later : IsPrefix old.seen new.seen
+  pub rises : Rises old.fresh new.fresh
+
+-- a call that neither appended nor stored anything in the seat's name
+pub record LooksOn (old new : SeatView) : Type 0 where
+  pub follows : Follows old new
+  pub mine : new.mine ≡ old.mine
+  pub stored : new.stored ≡ old.stored

@@ -1,19 +1,24 @@
-//! The commit gate: one lock, under which turns are evaluated and appended to one lawful journal.
+//! The commit gate.
 #![tactic(auto)]
 
+mod blank;
 mod closed;
 mod gate;
 mod naming;
-mod parts;
+mod reader;
 mod reply;
 mod seat;
+mod seated;
 mod state;
 mod ticket;
 
+pub use blank::Blank;
 pub use closed::Closed;
-pub use gate::{Blank, Gate};
+pub use gate::Gate;
 pub use naming::Naming;
+pub use reader::SeatReader;
 pub use reply::{Grant, Reply, Rest, UpdateReply};
 pub use seat::Seat;
+pub use seated::{SeatedReader, Seating};
 pub use state::GateState;
 pub use ticket::Ticket;

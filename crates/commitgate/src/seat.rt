@@ -1,38 +1,59 @@
 //! Seats, one for each worker.
-ghost use Rattle.std.specs.Prelude.{◌≡◌, ◌<◌};
+ghost use Rattle.std.specs.Prelude.{◌≡◌, ◌+◌, ◌<◌, [], None, length, slice_set};
+ghost use mathlib.Core.List.{IsPrefix};
+ghost use Rattle.crossbeam_utils.specs.Seq.{cell_view};
+ghost use Rattle.gateparts.specs.Log.{entries_of, positions_of, stored_of};
+ghost use Rattle.gateparts.specs.Marked.{seated};
+ghost use Rattle.gateparts.specs.Fresh.{fresh_of};
+ghost use Rattle.commitgate.specs.Seats.{ReadsOn, LooksOn};
+ghost use Rattle.gateparts.specs.Histories.{IsEntryOf};
 
 use crate::naming::Naming;
+use design::RegId;
+use gateparts::{MarkCell, MarkPass, look};
+use regcells::{RegCells, RegSeat};
 use std::marker::{Model, PhantomData};
+use std::sync::Wait;
+use turn::Seen;
 
-/// A worker's seat: its number, and the number of entries of the journal that it last saw.
+/// A worker's seat: its number, how many entries it has seen and how many it appended, and what it has seen of the
+/// registers and of the log.
 #[derive(Drop)]
 pub struct Seat<K: Naming> {
-    worker: u32,
-    seen: u64,
-    of: PhantomData<K>,
+    pub(crate) worker: u32,
+    pub(crate) entries: u64,
+    pub(crate) share: u64,
+    pub(crate) regs: RegSeat,
+    pub(crate) pass: MarkPass,
+    pub(crate) of: PhantomData<K>,
 }
 
 impl<K: Naming> Model for Seat<K> {
+    ghost use Rattle.crossbeam_utils.specs.Seq.{cell_view};
     ghost use Rattle.commitgate.specs.Seats.{SeatView};
+    ghost use Rattle.commitgate.specs.Sitting.{Sits};
 
     ghost Value = { SeatView };
 
-    ghost use Rattle.std.specs.Prelude.{◌<◌};
+    ghost view = { λ s. record { worker = s.worker; seen = (cell_view s.pass).seen; mine = (cell_view s.pass).mine; stored = (cell_view s.pass).stored; fresh = s.regs.seen } };
 
-    ghost view = { λ s. record { worker = s.worker; seen = s.seen } };
-
-    ghost invariant = { λ s. s.worker < K.named.workers };
+    ghost invariant = { λ s. Sits K.named s.worker s.entries s.share s.regs s.pass.table_id (cell_view s.pass) };
 }
 
 impl<K: Naming> Seat<K> {
-    /// The seat of a worker that has seen nothing.
-    pub(crate) fn new(worker: u32) -> Seat<K>
-        requires { worker < K.named.workers }
-        ensures { result ≡ record { worker = worker; seen = 0 } }
+    /// The seat of a worker that has seen nothing of the log.
+    pub(crate) fn new(worker: u32, regs: RegSeat, pass: MarkPass) -> Seat<K>
+        requires names { (regs.cells ≡ K.named.cells) × (pass.table_id ≡ K.named.mark) }
+        requires worker { worker < K.named.workers }
+        requires pass { cell_view pass ≡ seated worker [] None [] }
+        ensures { result ≡ record { worker = worker; seen = []; mine = []; stored = None; fresh = regs.seen } }
     {
         Seat {
             worker,
-            seen: 0,
+            entries: 0,
+            share: 0,
+            regs,
+            pass,
             of: PhantomData,
         }
     }
@@ -47,15 +68,42 @@ impl<K: Naming> Seat<K> {
 
     /// The number of entries that it last saw.
     pub fn seen(&self) -> u64
-        ensures { result ≡ self.now.seen }
+        ensures { result ≡ length (entries_of self.now.seen) }
     {
-        self.seen
+        self.entries
     }
 
-    /// It has seen so many entries.
-    pub(crate) fn see(&mut self, entries: u64)
-        ensures { self.new ≡ record self.old { seen = entries } }
+    /// The number of entries that it appended.
+    pub fn share(&self) -> u64
+        ensures share { result ≡ length self.now.mine }
+        ensures mine { self.now.mine ≡ positions_of self.now.worker self.now.seen }
+        ensures stored { self.now.stored ≡ stored_of self.now.worker self.now.seen }
     {
-        self.seen = entries;
+        self.share
+    }
+
+    /// Reads a register, without the lock.
+    pub(crate) fn read<R: Wait>(&mut self, rt: &R, cells: &RegCells, register: RegId) -> Seen
+        requires cells { cells.now ≡ K.named.cells }
+        requires register { register < length K.named.cells }
+        ensures later { IsPrefix (fresh_of self.old.fresh register) (fresh_of self.new.fresh register) }
+        ensures entry { IsEntryOf (fresh_of self.new.fresh register) result }
+        ensures version { length (fresh_of self.new.fresh register) ≡ result.version + 1 }
+        ensures others { self.new.fresh ≡ slice_set self.old.fresh register (fresh_of self.new.fresh register) }
+        ensures reads_on { ReadsOn self.old self.new }
+    {
+        cells.read(rt, &mut self.regs, register)
+    }
+
+    /// Loads the mark, without the lock: the number of entries, of which the seat has seen all.
+    pub(crate) fn load<R: Wait>(&mut self, rt: &R, mark: &MarkCell) -> u64
+        requires { mark.now.table.shared.table_id ≡ K.named.mark }
+        ensures looks_on { LooksOn self.old self.new }
+        ensures fresh { self.new.fresh ≡ self.old.fresh }
+        ensures count { result ≡ length (entries_of self.new.seen) }
+    {
+        let (entries, _code) = look(rt, mark, &mut self.pass);
+        self.entries = entries;
+        entries
     }
 }

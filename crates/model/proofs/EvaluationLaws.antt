@@ -17,7 +17,7 @@ use Rattle.model.specs.Expressions.{value_of}
 use Rattle.model.specs.Turns.{Remainder, Wait, Ended, Inactive, Until, OnChange, Later, Turn}
 use Rattle.model.specs.States.{State, Event, Action, Evaluate, Progress, start, unbegun, numbered, without, wakes, is_woken, woken, after_wake, with_nonblocking, with_due, with_future_nonblocking, with_value, with_progress, triggers_of, change, change_all, schedule, schedule_all, schedule_wait, taking, turned, inactive_activated, nonblocking_activated, advanced}
 use Rattle.model.specs.Runs.{Effect, silent, joined, step, run_from, run, action_in, has_any, refusal, entry_refusal, time_refusal, least_time, turn_of, turn_effect, update_effect, action_effect, effect, remainder_of, taken}
-use Rattle.model.specs.Laws.{times_in, evaluates, evaluations_in, evaluations_of, EachProcessHasOneEvent, ActiveEvaluationsStay}
+use Rattle.model.specs.Laws.{times_in, evaluates, evaluations_in, evaluations_of, EachProcessHasOneEvent, ActiveEvaluationsStay, ActiveEventsStay}
 use Rattle.model.proofs.RunLaws.{unless_some, where_none, either_false}
 
 -- 1 where it holds
@@ -576,3 +576,57 @@ pub active_evaluations_stay : ActiveEvaluationsStay
 active_evaluations_stay design journal entry e f n p ran h here free =
     let parts : (refusal e.state entry ≡ None) × (effect design e.state entry ≡ Some f) = unless_some (refusal e.state entry) (effect design e.state entry) f h in
     effect_stays design n p e.state entry f (where_none e.state.finished Finished (entry_refusal e.state entry) parts.0).1 parts.1 here free (each_one design journal e ran p)
+
+-- an active event that isn't taken stays, whatever it does
+event_stays-turned : (n m q : ℕ) (a : Action) (turn : Turn) (s : State) → (m == n) ≡ false → action_in s.active n ≡ Some a
+    → action_in (turned s m q turn).active n ≡ Some a
+event_stays-turned n m q a turn s other here =
+    let p : ℕ = q + 1 in
+    let next : (q == p) ≡ false = grind (arith, eqb_tells q (q + 1)) in
+    let rest : Remainder = remainder_of s p in
+    let t : State = taking m s in
+    let u : State = schedule_all (change_all t turn.writes) turn.laters in
+    (stays-with_progress n p a rest s.time q turn (schedule_wait q turn.wait u) next
+    (stays-schedule_wait n p a rest s.time q turn.wait u
+    (stays-schedule_all n p a rest s.time (change_all t turn.writes) turn.laters
+    (stays-change_all n p a rest s.time t turn.writes (stays-taking n p m a s other here))))).0
+
+event_turn_stays : (n m q : ℕ) (a : Action) (s : State) (f : Effect) (o : Option Turn) → (m == n) ≡ false → action_in s.active n ≡ Some a → option_map (turn_effect s m q) o ≡ Some f
+    → action_in f.state.active n ≡ Some a
+event_turn_stays n m q a s f None other here h = cc
+event_turn_stays n m q a s f (Some turn) other here h =
+    let same : turn_effect s m q turn ≡ f = cc in
+    rw (← same) (event_stays-turned n m q a turn s other here)
+
+event_action_stays : (design : Design) (n m : ℕ) (a : Action) (s : State) (f : Effect) (o : Option Action) → (m == n) ≡ false → action_in s.active n ≡ Some a → action_effect design s m o ≡ Some f
+    → action_in f.state.active n ≡ Some a
+event_action_stays design n m a s f None other here h = cc
+event_action_stays design n m a s f (Some (Evaluate q)) other here h = event_turn_stays n m q a s f (turn_of design s q) other here h
+event_action_stays design n m a s f (Some (Action.Update r v)) other here h =
+    let same : update_effect s m r v ≡ f = cc in
+    rw (← same) (stays-change n 0 a (remainder_of s 0) s.time (taking m s) r v (stays-taking n 0 m a s other here)).0
+
+event_silent_stays : (n : ℕ) (a : Action) (t : State) (f : Effect) → Some (silent t) ≡ Some f → action_in t.active n ≡ Some a → action_in f.state.active n ≡ Some a
+event_silent_stays n a t f h stays =
+    let same : silent t ≡ f = cc in
+    rw (← same) stays
+
+event_advance_stays : (n time : ℕ) (a : Action) (s : State) (f : Effect) → entry_refusal s (Advance time) ≡ None → action_in s.active n ≡ Some a → action_in f.state.active n ≡ Some a
+event_advance_stays n time a s f none here =
+    let empty : (has_any s.active || has_any s.inactive || has_any s.nonblocking) ≡ false =
+    (where_none (has_any s.active || has_any s.inactive || has_any s.nonblocking) NotDue (time_refusal time (least_time s)) none).0 in
+    let two : (has_any s.active || has_any s.inactive) ≡ false = (either_false (has_any s.active || has_any s.inactive) (has_any s.nonblocking) empty).0 in
+    absurd (nothing_there n a s.active (either_false (has_any s.active) (has_any s.inactive) two).0 here)
+
+event_stays : (design : Design) (n : ℕ) (a : Action) (s : State) (entry : Entry) (f : Effect) → entry_refusal s entry ≡ None → effect design s entry ≡ Some f → action_in s.active n ≡ Some a → times_in n (taken (entry ∷ [])) ≡ 0
+    → action_in f.state.active n ≡ Some a
+event_stays design n a s (Entry.Turn m) f none h here free = event_action_stays design n m a s f (action_in s.active m) (not_taken (m == n) free) here h
+event_stays design n a s (Update m) f none h here free = event_action_stays design n m a s f (action_in s.active m) (not_taken (m == n) free) here h
+event_stays design n a s ActivateInactive f none h here free = event_silent_stays n a (inactive_activated s) f h (action_in-append n a s.active s.inactive here)
+event_stays design n a s ActivateNba f none h here free = event_silent_stays n a (nonblocking_activated s) f h (action_in-append n a s.active s.nonblocking here)
+event_stays design n a s (Advance time) f none h here free = event_advance_stays n time a s f none here
+
+pub active_events_stay : ActiveEventsStay
+active_events_stay design s entry f n a h here free =
+    let parts : (refusal s entry ≡ None) × (effect design s entry ≡ Some f) = unless_some (refusal s entry) (effect design s entry) f h in
+    event_stays design n a s entry f (where_none s.finished Finished (entry_refusal s entry) parts.0).1 parts.1 here free

@@ -1,2 +1,3 @@
 pub mod GivenLemmas
 pub mod Statuses
+pub mod Endings

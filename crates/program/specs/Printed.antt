@@ -3,20 +3,23 @@ use Rattle.std.specs.Prelude.{◌≡◌, ℕ, List, Option, Some}
 use Rattle.std.specs.Io.KnownBytes.{Appends}
 use Rattle.design.specs.Compiled.{Compiled}
 use Rattle.frontend.specs.Sources.{IsDesignOf}
-use Rattle.commitgate.specs.Closing.{ClosedView, IsClosed}
+use Rattle.commitgate.specs.Closing.{ClosedView}
+use Rattle.eventpool.specs.Pools.{Counts}
 use Rattle.simulate.specs.declared.run.Options.{Options}
-use Rattle.simulate.specs.Named.{named}
+use Rattle.simulate.specs.Outcomes.{IsOutcome, limits_of}
 use Rattle.replay.specs.Bytes.{Prints}
 use Rattle.program.specs.declared.fault.Stop.{Stop}
 use Rattle.program.specs.Options.{CanRun}
 use Rattle.program.specs.Program.{stop_of}
 
--- a closed run, by these options, of the design that some source describes
+-- a run, by these options, of the design that some source describes, with its tickets and the evaluations of its workers
 pub record IsRun (options : Options) (closed : ClosedView) : Type 0 where
   pub source : List ℕ
   pub design : Compiled
   pub is_design : IsDesignOf source design
-  pub is_closed : IsClosed (named design options) closed
+  pub tally : Counts
+  pub evaluations : List ℕ
+  pub is_outcome : IsOutcome design (limits_of options) options.workers closed tally evaluations
 
 -- output grew by the lines of a lawful journal, and this is told of its end
 pub record HasPrinted (options : Options) (old new : Option (List ℕ)) (told : Option Stop) : Type 0 where

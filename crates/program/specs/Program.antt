@@ -68,13 +68,19 @@ stop_for (why.TooLong process) = Some (stop.TooLong process)
 stop_for why.Time = Some stop.Time
 stop_for why.Memory = Some stop.Memory
 
--- what is told of an end: a stop, and that a run has events left; nothing of a quiet end
+-- the run is quiet or stopped
+abbrev pub IsEnded : End → Type 0
+IsEnded (end.Stopped w) = Unit {0}
+IsEnded end.Running = ⊥
+IsEnded end.Quiet = Unit {0}
+
+-- what is told of an end: the reason of a stop
 abbrev pub stop_of : End → Option Stop
 stop_of (end.Stopped w) = stop_for w
-stop_of end.Running = Some stop.Unended
+stop_of end.Running = None
 stop_of end.Quiet = None
 
--- 4 for a limit and for events left, 6 for memory
+-- 4 for a limit, 6 for memory
 abbrev pub stop_status : Stop → ℕ
 stop_status stop.Memory = 6
 stop_status s = 4

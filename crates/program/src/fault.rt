@@ -1,7 +1,7 @@
 //! What can go wrong in a command, with its line on standard error and its exit status.
 
 ghost use Rattle.std.specs.Prelude.{◌≡◌};
-ghost use Rattle.program.specs.Program.{status_of, stop_of, stop_for, stop_status, source_status_of, simulate_status_of, read_status_of, cause_status_of, replay_status_of};
+ghost use Rattle.program.specs.Program.{status_of, IsEnded, stop_of, stop_for, stop_status, source_status_of, simulate_status_of, read_status_of, cause_status_of, replay_status_of};
 
 use elaborate::ElabFault;
 use frontend::SourceFault;
@@ -42,20 +42,18 @@ pub enum Stop {
     Time,
     #[error("stopped: memory")]
     Memory,
-    #[error("stopped: events left")]
-    Unended,
 }
 
 impl Stop {
-    /// What is told of an end: nothing of a quiet one, and nothing of `$finish`. A run that has events left and no reason to
-    /// stop is told too, though its lines are those of a lawful journal.
+    /// What is told of the end of a run: nothing of a quiet one, and nothing of `$finish`.
     pub fn of(end: End) -> Option<Stop>
+        requires { IsEnded end }
         ensures { result ≡ stop_of end }
     {
         match end {
             End::Stopped(why) => Stop::why(why),
-            End::Running => Some(Stop::Unended),
             End::Quiet => None,
+            End::Running => unreachable!(),
         }
     }
 

@@ -1,68 +1,14 @@
--- That threads may share a gate. `search` runs out of steps where it goes down through all of a gate's types at once, so
--- each large type is a step of its own.
+-- That threads may hand over a worker. `search` runs out of steps where it goes down through all of its types at once.
 use denote.RattleType.{RattleType}
-use denote.Ref.{NamedLft}
-use denote.Struct.Declared.{shape}
-use denote.Param.Send.{IsSend, IsSync, AllSend, AllSync, struct_send, struct_sync, recorded_send, recorded_sync, view_send, sendable}
+use denote.Param.Send.{IsSend, sendable}
 use Rattle.std.proofs.Crossing.{crosses}
-use Rattle.design.specs.contracts.design.Design as Design
-use Rattle.journal.specs.contracts.state.State as Regions
-use Rattle.journal.specs.contracts.store.PlainStore as Store
-use Rattle.turn.specs.contracts.workspace.Known as Known
-use Rattle.turn.specs.contracts.workspace.Workspace as Workspace
+use Rattle.eventpool.proofs.ends.Owner.TheSendSync as owner
+use Rattle.eventpool.proofs.ends.Thief.TheSendSync as thief
 use Rattle.commitgate.specs.declared.naming.Naming as Naming
-use Rattle.commitgate.specs.contracts.parts.Parts as Parts
-use Rattle.commitgate.specs.contracts.state.GateState as State
-use Rattle.commitgate.specs.contracts.state.GateState.TheInside as inside
-use Rattle.commitgate.specs.contracts.gate.Gate as Gate
+use Rattle.commitgate.proofs.seat.Seat.TheSendSync as seat
+use Rattle.commitgate.proofs.ticket.Ticket.TheSendSync as ticket
+use Rattle.simulate.specs.contracts.worker.Worker as Worker
 
-regions_send : IsSend Regions.the_row
-regions_send = search (crosses, sendable) depth 40 fits 5000
-
-store_send : IsSend Store.the_row
-store_send = search (crosses, sendable) depth 40 fits 5000
-
-known_send : IsSend Known.the_row
-known_send = search (crosses, sendable) depth 40 fits 5000
-
-workspace_send : IsSend Workspace.the_row
-workspace_send = search (known_send, crosses, sendable) depth 40 fits 5000
-
--- the design that they borrow may be shared
-module _ (l : NamedLft) (design : IsSync Design.the_row) where
-  parts_fields : AllSend (shape (Parts.the_type l)).fields
-  parts_fields = (
-    search sendable depth 20,
-    (
-      search sendable depth 20,
-      (
-        search (regions_send, sendable) depth 20,
-        (
-          search (store_send, sendable) depth 20,
-          (
-            search (crosses, sendable) depth 20,
-            (search (crosses, sendable) depth 20, (search sendable depth 20, (search (workspace_send, sendable) depth 20, tt))),
-          ),
-        ),
-      ),
-    ),
-  )
-
-  parts_send : IsSend (Parts.the_field l).row
-  parts_send = struct_send (shape (Parts.the_type l)) parts_fields
-
-  module _ (K : RattleType) (n : Naming.Ghosts K.Denot) (k : IsSend K) where
-    state_fields : AllSend (shape (inside.the_type l K n)).fields
-    state_fields = (parts_send, (search (crosses, sendable) depth 40 fits 5000, (search (crosses, sendable) depth 40, tt)))
-
-    inside_send : IsSend (inside.the_field l K n).row
-    inside_send = struct_send (shape (inside.the_type l K n)) state_fields
-
-    state_send : IsSend (State.the_row l K n)
-    state_send = search (inside_send, view_send, recorded_send) depth 20
-
-    gate_fields : AllSync (shape (Gate.the_type l K n)).fields
-    gate_fields = (search (state_send, crosses, sendable) depth 20, (search (crosses, sendable) depth 20, tt))
-
-    pub gate_sync : IsSync (Gate.the_row l K n)
-    gate_sync = recorded_sync (Gate.the_field l K n).row _ _ (Gate.the_type l K n).to_one (struct_sync (shape (Gate.the_type l K n)) gate_fields)
+module _ (K : RattleType) (n : Naming.Ghosts K.Denot) (k : IsSend K) where
+  pub worker_send : IsSend (Worker.the_row K n)
+  worker_send = search (seat.the_send, ticket.the_send, owner.the_send, thief.the_send, crosses, sendable) depth 40 fits 5000

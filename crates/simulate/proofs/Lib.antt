@@ -1,1 +1,8 @@
-mod Crossing
+pub mod Crossing
+pub mod Counting
+pub mod Seats
+pub mod Rows
+pub mod Told
+pub mod Rounds
+pub mod Joining
+pub mod Outcomes

@@ -12,8 +12,12 @@ use std::sync::Wait;
 use std::test::Fail;
 use std::thread::Threads;
 
+mod counts;
+mod examples;
 mod journals;
 mod limits;
+mod placing;
+mod probes;
 mod replays;
 mod runs;
 mod sources;

@@ -1,9 +1,10 @@
 //! The steps of an expression, on a stack of vectors.
 ghost use Rattle.std.specs.Prelude.{◌≡◌, ◌∷◌, [], length, reverse, OnOk, IfOk};
 ghost use Rattle.logic4.specs.Operators.{select_digit};
-ghost use Rattle.design.specs.Steps.{topmost, below, IsOpOf};
+ghost use Rattle.model.specs.Expressions.{Store};
+ghost use Rattle.design.specs.Steps.{topmost, below, run_ops, IsOpOf};
 ghost use Rattle.turn.specs.Reads.{GaveAll, Keeps};
-ghost use Rattle.turn.specs.Evaluate.{NamesDeclared, Acts, Evaluates};
+ghost use Rattle.turn.specs.Evaluate.{NamesDeclared, Holds, Acts, Evaluates};
 
 use crate::memory::{Memory, RegReader};
 use crate::operate::{binary, choose, join, unary};
@@ -97,7 +98,7 @@ fn step<R: RegReader>(
     }
 }
 
-/// The value of an expression, whose steps are these.
+/// The value of an expression, whose steps are these. The stack keeps what stands below it.
 pub(crate) fn evaluate<R: RegReader>(
     ops: &[Op],
     memory: &mut Memory,
@@ -106,6 +107,7 @@ pub(crate) fn evaluate<R: RegReader>(
 ) -> Result<Bits, AllocError>
     requires { NamesDeclared R.registers ops.now }
     ensures value { IfOk result (λ v. Evaluates ops.now memory.old.known memory.old.reads.entries v memory.new.known memory.new.reads.entries) }
+    ensures rest { OnOk result ((values : Store) → NamesDeclared (length memory.old.known) ops.now → Holds memory.new.known values → reverse stack.new.items ≡ below (run_ops values ops.now (reverse stack.old.items))) }
     ensures gave { OnOk result (GaveAll (R.gave reader.old) memory.old.reads.entries → GaveAll (R.gave reader.new) memory.new.reads.entries) }
     ensures keeps { Keeps (R.gave reader.old) (R.gave reader.new) }
 {

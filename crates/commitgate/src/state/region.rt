@@ -1,16 +1,24 @@
 //! The change of the regions that is due where nothing is active.
-ghost use Rattle.std.specs.Prelude.{◌≡◌, MatchOption};
-ghost use Rattle.commitgate.specs.Held.{state_in};
-ghost use Rattle.commitgate.specs.Answers.{IsResting, IsTimely};
+ghost use Rattle.std.specs.Prelude.{◌≡◌, ◌≤◌, ◌↔◌, true, None, length, IsTrue, IfSome, IfNone, MatchOption};
+ghost use Rattle.model.specs.Runs.{has_any};
+ghost use Rattle.gateparts.specs.Log.{entries_of};
+ghost use Rattle.gateparts.specs.Held.{state_in};
+ghost use Rattle.commitgate.specs.Answers.{HasNoUpdate, IsResting, IsTimely};
 ghost use Rattle.commitgate.specs.Regions.{IsDueChange, IsPassed};
+ghost use Rattle.commitgate.specs.Closing.{IsEndOf};
 ghost use Rattle.commitgate.specs.Replies.{RestAnswered};
+ghost use Rattle.commitgate.specs.Told.{RestAnsweredTo, StoppedTo};
 
 use crate::naming::Naming;
 use crate::reply::Rest;
+use crate::seat::Seat;
 use crate::state::GateState;
+use gateparts::MarkCell;
 use model::end::{End, Limits, Why};
 use model::entry::Entry;
+use regcells::RegCells;
 use std::alloc::Global;
+use std::sync::Wait;
 
 // No advance goes past this time.
 const LAST_TIME: u64 = 281_474_976_710_656;
@@ -31,6 +39,33 @@ fn passed_limit(limits: Limits, change: Entry) -> Option<Why>
 }
 
 impl<'d, K: Naming> GateState<'d, K> {
+    /// Whether a worker without a ticket waits: the run goes on, evaluations alone are active, and the journal has no
+    /// entry past those that it has seen.
+    pub fn must_wait(&self, seen: u64) -> bool
+        ensures { IsTrue result ↔ ((self.now.end ≡ None) × (has_any self.now.core.active ≡ true) × HasNoUpdate self.now.core × (length self.now.journal ≤ seen)) }
+    {
+        self.parts.end.is_none()
+            & self.parts.regions.is_active()
+            & self.parts.regions.first_update().is_none()
+            & (self.entries() <= seen)
+    }
+
+    /// How the run ended, if it did: by the stored end, or else quiet where no event is left.
+    pub(crate) fn end(&self) -> End
+        ensures { IsEndOf K.named.listing self.now result }
+    {
+        match self.parts.end {
+            Some(why) => End::Stopped(why),
+            None => {
+                if self.parts.regions.is_quiet() {
+                    End::Quiet
+                } else {
+                    End::Running
+                }
+            }
+        }
+    }
+
     /// The first change of the regions that is due, where nothing is active and an event is left (11.4).
     fn due_change(&self) -> Entry
         requires { IsResting K.named.listing self.now }
@@ -52,9 +87,22 @@ impl<'d, K: Naming> GateState<'d, K> {
     /// Makes the change of the regions that is due and appends it, where the run goes on, an event is left, none is
     /// active, and the journal isn't full (11.4). A journal that is full stops the run, and so does an advance past the
     /// limit of time.
-    pub fn change_region(&mut self, alloc: Global) -> Rest<K>
-        ensures { RestAnswered K.named.listing K.named.limits self.old self.new result }
+    pub fn change_region<R: Wait>(
+        &mut self,
+        rt: &R,
+        cells: &RegCells,
+        mark: &MarkCell,
+        alloc: Global,
+        seat: &mut Seat<K>,
+    ) -> Rest<K>
+        requires cells { cells.now ≡ K.named.cells }
+        requires mark { mark.now.table.shared.table_id ≡ K.named.mark }
+        requires awake { (self.old.end ≡ None) → (has_any self.old.core.active ≡ true) → HasNoUpdate self.old.core → length self.old.journal ≤ length (entries_of seat.old.seen) → ⊥ }
+        ensures state { RestAnswered K.named.listing K.named.limits seat.old.worker self.old self.new result }
+        ensures seat { RestAnsweredTo K.named seat.old seat.new result }
     {
+        self.known();
+        self.greet(rt, mark, seat);
         match self.end() {
             End::Stopped(why) => return Rest::Stopped(why),
             End::Quiet => return Rest::Quiet,
@@ -64,17 +112,60 @@ impl<'d, K: Naming> GateState<'d, K> {
             return Rest::Busy;
         }
         if self.is_full() {
-            self.stop(Why::Entries);
+            self.stop(rt, mark, seat, Why::Entries);
+            self.known();
             return Rest::Stopped(Why::Entries);
         }
         let change = self.due_change();
         if let Some(why) = passed_limit(self.parts.limits, change) {
-            self.stop(why);
+            self.stop(rt, mark, seat, why);
+            self.known();
             return Rest::Stopped(why);
         }
-        match self.append(alloc, change, None) {
-            Ok(grant) => Rest::Changed(grant),
+        match self.append(rt, cells, mark, alloc, seat, change, &None) {
+            Ok(grant) => {
+                self.known();
+                Rest::Changed(grant)
+            }
             Err(_) => Rest::NoMemory,
+        }
+    }
+
+    /// Makes the change of the regions that is due, or tells a worker without a ticket to wait, and then changes nothing.
+    pub fn rest<R: Wait>(
+        &mut self,
+        rt: &R,
+        cells: &RegCells,
+        mark: &MarkCell,
+        alloc: Global,
+        seat: &mut Seat<K>,
+    ) -> Option<Rest<K>>
+        requires cells { cells.now ≡ K.named.cells }
+        requires mark { mark.now.table.shared.table_id ≡ K.named.mark }
+        ensures some { IfSome result (λ rest. RestAnsweredTo K.named seat.old seat.new rest) }
+        ensures none { IfNone result ((seat.new ≡ seat.old) × (self.new ≡ self.old)) }
+        ensures waits { IfNone result ((self.old.end ≡ None) × (has_any self.old.core.active ≡ true) × HasNoUpdate self.old.core × (length self.old.journal ≤ length (entries_of seat.old.seen))) }
+    {
+        if self.must_wait(seat.seen()) {
+            return None;
+        }
+        Some(self.change_region(rt, cells, mark, alloc, seat))
+    }
+
+    /// Stops a run that goes on and has events left, for want of memory.
+    pub fn stop_for_memory<R: Wait>(&mut self, rt: &R, mark: &MarkCell, seat: &mut Seat<K>)
+        requires mark { mark.now.table.shared.table_id ≡ K.named.mark }
+        ensures seat { StoppedTo K.named seat.old seat.new }
+    {
+        self.known();
+        self.greet(rt, mark, seat);
+        match self.end() {
+            End::Running => {
+                self.stop(rt, mark, seat, Why::Memory);
+                self.known();
+            }
+            End::Quiet => {}
+            End::Stopped(_) => {}
         }
     }
 }

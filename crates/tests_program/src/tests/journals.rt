@@ -22,6 +22,19 @@ fn keeps_the_journal_of_a_run(rt: HostRuntime) -> Result<(), Fail> {
     Ok(())
 }
 
+/// One worker takes the tickets in the order in which they were put, and a ticket before an update.
+#[test]
+fn one_worker_has_one_journal(rt: HostRuntime) -> Result<(), Fail> {
+    let line = "vsimtx run t.v --workers 1 --journal OUT";
+    let source =
+        b"module t; reg a, b; initial a<=1'b1; initial b<=1'b1; initial @(a) $display(\"%b\",b); endmodule";
+    let left = run_line(&rt, rt.alloc(), line, source)?;
+    assert_left(&rt, line, &left, 0, "x\n", "");
+    let journal = b"vsimtx-journal 1\nT 0\nT 1\nT 2\nN\nU 3\nT 5\nU 4\n";
+    assert!(rt; left.made.as_slice() == journal.as_slice());
+    Ok(())
+}
+
 #[test]
 fn writes_no_line_after_a_cut_journal(rt: HostRuntime) -> Result<(), Fail> {
     for room in 0..JOURNAL.len() {

@@ -45,3 +45,29 @@ fn takes_the_greatest_limits(rt: HostRuntime) -> Result<(), Fail> {
     assert_left(&rt, line, &left, 0, "hi\n", "");
     Ok(())
 }
+
+#[test]
+fn the_most_entries_stop_a_run_with_events_left(rt: HostRuntime) -> Result<(), Fail> {
+    let line = "vsimtx run t.v --max-entries 1";
+    let source = b"module t; initial $display(\"hi\"); endmodule";
+    let left = run_line(&rt, rt.alloc(), line, source)?;
+    assert_left(&rt, "quiet", &left, 0, "hi\n", "");
+    // The first of the two that runs is the run's only entry.
+    let source =
+        b"module t; initial begin $display(\"a\"); $finish; $display(\"b\"); end initial $display(\"c\"); endmodule";
+    let left = run_line(&rt, rt.alloc(), line, source)?;
+    if left.status == 0 {
+        assert_left(&rt, "finish", &left, 0, "a\n", "");
+    } else {
+        let text = "vsimtx: stopped: entries\n";
+        assert_left(&rt, "another", &left, 4, "c\n", text);
+    }
+    // The next entry is an update.
+    let line = "vsimtx run t.v --max-entries 3";
+    let source =
+        b"module t; reg a; initial begin a<=1'b0; a<=1'b1; end initial @(posedge a) $display(\"up %b\",a); endmodule";
+    let left = run_line(&rt, rt.alloc(), line, source)?;
+    let text = "vsimtx: stopped: entries\n";
+    assert_left(&rt, "update", &left, 4, "", text);
+    Ok(())
+}

@@ -1,19 +1,53 @@
-//! Runs on several workers, many times over: each ends, prints one of the texts of its design, and leaves a journal
-//! that one thread replays to the same text.
+//! Runs on several workers, many times over: each prints one of the texts of its design, leaves a journal that one thread
+//! replays to the same text, and evaluates no turn more than four times.
 
 ghost use Rattle.std.specs.Prelude.{◌≤◌};
 
 use design::Design;
 use frontend::read_design;
-use model::end::End;
+use journal::State;
+use model::entry::Entry;
 use replay::replay;
-use simulate::{Options, simulate};
+use simulate::{Options, Unobserved, simulate};
 use std::alloc::Global;
 use std::process::Abort;
 use std::sync::Wait;
 use std::thread::Threads;
 
-/// A run ends, prints one of the texts, and replays to it.
+/// No event of these short runs has a number as great.
+const EVENTS: u64 = 100;
+
+fn turns_in(entries: &[Entry]) -> u64 {
+    let mut turns = 0u64;
+    for entry in entries {
+        if matches!(entry, Entry::Turn(_)) {
+            turns = turns.saturating_add(1);
+        }
+    }
+    turns
+}
+
+fn total(numbers: &[u64]) -> u64 {
+    let mut sum = 0u64;
+    for number in numbers {
+        sum = sum.saturating_add(*number);
+    }
+    sum
+}
+
+/// How many evaluations are still active.
+fn active_in(state: &State) -> u64 {
+    let mut active = 0u64;
+    for event in 0..EVENTS {
+        if state.evaluation(event).is_some() {
+            active = active.saturating_add(1);
+        }
+    }
+    active
+}
+
+/// A run prints one of the texts, and replays to it. There are at most four evaluations of a turn, and of an evaluation that
+/// is still active at the end.
 fn assert_run<R: Abort + Threads + Wait + Sync>(
     rt: &R,
     alloc: Global,
@@ -29,37 +63,47 @@ fn assert_run<R: Abort + Threads + Wait + Sync>(
         until: Some(25),
         max_entries: 1_000,
     };
-    let outcome = simulate(rt, alloc, design, options).expect(rt, "workers and memory");
-    let (entries, lines, end) = outcome.closed.into_parts();
-    assert!(rt; !matches!(end, End::Running), "the end");
-    assert!(rt;
-        lines.as_str() == texts[0] || lines.as_str() == texts[1],
-        "the lines"
+    let outcome = simulate(rt, alloc, design, options, &Unobserved).expect(
+        rt,
+        "workers and memory",
     );
+    let (entries, lines, _end, _committed) = outcome.closed.into_parts();
     let again = replay(alloc, design, entries.as_slice()).expect(rt, "a lawful journal");
     assert!(rt;
         again.lines.as_str() == lines.as_str(),
         "the lines of the replay"
     );
+    assert!(rt;
+        lines.as_str() == texts[0] || lines.as_str() == texts[1],
+        "the lines"
+    );
+    let turns = turns_in(entries.as_slice());
+    let evaluations = total(outcome.evaluations.as_slice());
+    assert!(rt; turns <= evaluations, "evaluations of all turns");
+    let most = turns
+        .saturating_add(active_in(&again.state))
+        .saturating_mul(4);
+    assert!(rt; evaluations <= most, "four evaluations of a turn");
 }
 
-/// A thousand runs on so many workers.
+/// So many runs on so many workers.
 fn assert_runs<R: Abort + Threads + Wait + Sync>(
     rt: &R,
     alloc: Global,
     design: &Design,
     workers: u32,
+    runs: u32,
     texts: [&str; 2],
 )
     requires some { 1 ≤ workers }
     requires few { workers ≤ 16 }
 {
-    for _ in 0..1000u32 {
+    for _ in 0..runs {
         assert_run(rt, alloc, design, workers, texts);
     }
 }
 
-/// A thousand runs of a source on 1, 2, 4 and 16 workers.
+/// A thousand runs of a source on 2, 4 and 16 workers each, and a hundred on 1, 3 and 8.
 fn assert_source<R: Abort + Threads + Wait + Sync>(
     rt: &R,
     alloc: Global,
@@ -67,10 +111,12 @@ fn assert_source<R: Abort + Threads + Wait + Sync>(
     texts: [&str; 2],
 ) {
     let design = read_design(alloc, source.as_bytes()).expect(rt, "a design");
-    assert_runs(rt, alloc, &design, 1, texts);
-    assert_runs(rt, alloc, &design, 2, texts);
-    assert_runs(rt, alloc, &design, 4, texts);
-    assert_runs(rt, alloc, &design, 16, texts);
+    assert_runs(rt, alloc, &design, 1, 100, texts);
+    assert_runs(rt, alloc, &design, 2, 1_000, texts);
+    assert_runs(rt, alloc, &design, 3, 100, texts);
+    assert_runs(rt, alloc, &design, 4, 1_000, texts);
+    assert_runs(rt, alloc, &design, 8, 100, texts);
+    assert_runs(rt, alloc, &design, 16, 1_000, texts);
 }
 
 #[test]

@@ -7,18 +7,18 @@ use std::alloc::Global;
 use std::process::Abort;
 use turn::{RegReader, Seen, TurnLog, run_turn};
 
-/// The value of each register by its number, and how many were read. The version of a read is its number, from 1.
+/// The version and the value of each register by its number, and how many were read.
 #[derive(Drop)]
 pub struct Held {
-    pub values: [Bits; 4],
+    pub registers: [Seen; 4],
     pub reads: u64,
 }
 
 impl Held {
-    /// Every register has the same value.
+    /// Every register has the same value, at version 0.
     pub fn all(value: Bits) -> Held {
         Held {
-            values: [value; 4],
+            registers: [Seen { version: 0, value }; 4],
             reads: 0,
         }
     }
@@ -34,13 +34,12 @@ impl RegReader for Held {
 
     fn read(&mut self, register: RegId) -> Seen {
         self.reads = self.reads.wrapping_add(1);
-        let value = match self.values.get(register as usize) {
-            Some(value) => *value,
-            None => Bits::unknown(1),
-        };
-        Seen {
-            version: self.reads,
-            value,
+        match self.registers.get(register as usize) {
+            Some(seen) => *seen,
+            None => Seen {
+                version: 0,
+                value: Bits::unknown(1),
+            },
         }
     }
 }

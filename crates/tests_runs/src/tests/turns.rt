@@ -1,9 +1,12 @@
 //! What small processes do in a turn.
 
 ghost use Rattle.std.specs.Prelude.{◌≡◌, ℕ, [], ◌∷◌};
-ghost use Rattle.logic4.specs.Vector.{unknown};
+ghost use Rattle.logic4.specs.Vector.{vector};
 ghost use Rattle.design.specs.Operate.{joined_two};
-ghost use Rattle.design.specs.Steps.{piece};
+ghost use Rattle.model.specs.Expressions.{Store};
+ghost use Rattle.model.specs.declared.tree.BinaryOperator.TheVariants.{Add};
+ghost use Rattle.design.specs.declared.code.Op.TheVariants.{Load, Binary};
+ghost use Rattle.design.specs.Steps.{below, piece, run_ops};
 
 use super::held::{Held, beginning, design_of, first_turn, turn_from};
 use design::RegId;
@@ -16,8 +19,14 @@ fn three() -> Held {
     Held::all(Bits::from_u64(4, 3))
 }
 
+/// The steps of `b + a + b` leave one vector on an empty stack, and so nothing below it.
+fn one_value_is_left()
+    ensures { (values : Store) → below (run_ops values (Load 1 8 ∷ Load 0 8 ∷ Binary Add 8 8 ∷ Load 1 8 ∷ Binary Add 8 8 ∷ []) []) ≡ [] }
+{}
+
 #[test]
 fn reads_a_register_once(rt: HostRuntime) {
+    one_value_is_left();
     let source = "module t; reg [7:0] a, b, q; initial q = b + a + b; endmodule";
     let mut held = three();
     let log = first_turn(&rt, rt.alloc(), source, &mut held);
@@ -95,21 +104,24 @@ fn empties_a_log_that_was_given_back(rt: HostRuntime) {
     assert_eq!(rt; sizes(&empty), [0; 5]);
 }
 
+// After a write of `b` a turn shows values, of which it reads so many, and ends behind its two statements.
+fn assert_known(rt: &impl Abort, alloc: Global, source: &str, line: &str, reads: u64) {
+    let mut held = three();
+    let log = first_turn(rt, alloc, source, &mut held);
+    assert_eq!(rt; log.lines.as_str(), line);
+    assert_eq!(rt; held.reads, reads);
+    assert_eq!(rt; log.next.place, 2);
+    assert_eq!(rt; (log.writes.len(), log.nets.len()), (1, 1));
+}
+
 #[test]
 fn knows_what_it_wrote(rt: HostRuntime) {
     let source =
-        "module t; reg [3:0] a, b; initial begin b = 4'd5; $display(\"%0d\", b); #1 $display(\"%0d\", a); end endmodule";
-    let design = design_of(&rt, rt.alloc(), source);
-    let mut held = three();
-    let state = beginning(&rt, &design);
-    let log = turn_from(&rt, rt.alloc(), &design, state, 7, &mut held);
-    assert_eq!(rt; log.lines.as_str(), "5\n");
-    assert_eq!(rt; held.reads, 0);
-    assert_eq!(rt; log.next.place, 3);
-    assert_eq!(rt; (log.writes.len(), log.nets.len()), (1, 1));
-    let log = turn_from(&rt, rt.alloc(), &design, log.next, 8, &mut held);
-    assert_eq!(rt; log.lines.as_str(), "3\n");
-    assert_eq!(rt; held.reads, 1);
+        "module t; reg [3:0] a, b; initial begin b = 4'd5; $display(\"%0d\", b); end endmodule";
+    assert_known(&rt, rt.alloc(), source, "5\n", 0);
+    let source =
+        "module t; reg [3:0] a, b; initial begin b = 4'd5; $display(\"%0d %0d\", b, a); end endmodule";
+    assert_known(&rt, rt.alloc(), source, "5 3\n", 1);
 }
 
 // A net is of this register, first value, number of changes, and last value.
@@ -139,7 +151,7 @@ fn parts_are_known()
     ensures inside { piece {A = ℕ} (1 ∷ 2 ∷ 3 ∷ []) (record { from = 1; to = 3 }) ≡ 2 ∷ 3 ∷ [] }
     ensures turned { piece {A = ℕ} (1 ∷ 2 ∷ 3 ∷ []) (record { from = 2; to = 1 }) ≡ [] }
     ensures past { piece {A = ℕ} (1 ∷ 2 ∷ 3 ∷ []) (record { from = 1; to = 4 }) ≡ [] }
-    ensures joined { joined_two (unknown 60) (unknown 8) ≡ unknown 60 }
+    ensures joined { joined_two (vector 60 7) (vector 8 2) ≡ vector 60 7 }
 {}
 
 #[test]

@@ -74,17 +74,25 @@ fn unknown_digits_are_the_same(rt: HostRuntime) {
 
 #[test]
 fn reads_before_it_is_too_long(rt: HostRuntime) {
-    let mut held = Held::all(Bits::from_u64(1, 1));
-    held.values[0] = Bits::from_u64(1, 0);
+    let known = [
+        Seen {
+            version: 1,
+            value: Bits::from_u64(1, 0),
+        },
+        Seen {
+            version: 0,
+            value: Bits::from_u64(1, 1),
+        },
+    ];
+    let mut held = Held::all(Bits::unknown(1));
+    held.registers[0] = known[0];
+    held.registers[1] = known[1];
     let reads = too_long(&rt, rt.alloc(), DIFFER, &mut held);
-    assert_eq!(rt; reads.len(), 2);
-    for (register, version, value) in [(0, 1, 0), (1, 2, 1)] {
-        let value = Bits::from_u64(1, value);
-        assert_eq!(rt; reads.get_index_of(&register), Some(register as usize));
-        assert_eq!(rt;
-            reads.get(&register).copied(),
-            Some(Seen { version, value })
-        );
+    assert_eq!(rt; reads.len(), known.len());
+    for (place, seen) in known.iter().enumerate() {
+        let register = place as RegId;
+        assert_eq!(rt; reads.get_index_of(&register), Some(place));
+        assert_eq!(rt; reads.get(&register).copied(), Some(*seen));
     }
 }
 

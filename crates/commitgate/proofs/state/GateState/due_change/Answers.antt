@@ -1,10 +1,11 @@
 -- Each region that may not become active is empty, and then only the future is left.
-use Rattle.std.proofs.Common.{◌≡◌, ◌∙◌, true, sym, subst, None, Some}
+use Rattle.regcells.specs.Values.{last_value}
+use Rattle.std.proofs.Common.{map, ◌≡◌, ◌∙◌, true, sym, subst, None, Some}
 use Rattle.model.specs.declared.entry.Entry.TheVariants.{ActivateInactive, ActivateNba}
 use Rattle.model.specs.Runs.{refusal, is_idle, least_time}
 use Rattle.design.specs.Standing.{remainder_of}
-use Rattle.commitgate.specs.Held.{Held, state_in}
-use Rattle.commitgate.specs.Parts.{held_of}
+use Rattle.gateparts.specs.Held.{Held, state_in}
+use Rattle.gateparts.specs.Parts.{held_of}
 use Rattle.commitgate.specs.Answers.{IsResting}
 use Rattle.commitgate.proofs.Rests.{only_future, some_time}
 use Rattle.commitgate.proofs.state.GateState.due_change.Goals as goal
@@ -12,13 +13,13 @@ use Rattle.commitgate.proofs.state.GateState.due_change.Goals as goal
 pub returns-then-legal : goal.returns-then-legal
 returns-then-legal g c =
     let listing = g.K.Naming.named.listing in
-    let due = (c.legal.ensures (remainder_of listing) c.self.inside.parts.store).0 c.if-legal.true in
+    let due = (c.legal.ensures (remainder_of listing) (map last_value c.self.inside.parts.holder.seen)).0 c.if-legal.true in
     subst (λ (h : Held). refusal (state_in listing h) ActivateInactive ≡ None) c.self.view_is due
 
 pub returns-then-legal-2 : goal.returns-then-legal-2
 returns-then-legal-2 g c =
     let listing = g.K.Naming.named.listing in
-    let due = (c.legal-2.ensures (remainder_of listing) c.self.inside.parts.store).0 c.if-legal-2.true in
+    let due = (c.legal-2.ensures (remainder_of listing) (map last_value c.self.inside.parts.holder.seen)).0 c.if-legal-2.true in
     subst (λ (h : Held). refusal (state_in listing h) ActivateNba ≡ None) c.self.view_is due
 
 pub unreachable-requires : goal.unreachable-requires
@@ -27,8 +28,8 @@ unreachable-requires g c =
     let parts = c.self.inside.parts in
     let rests = subst (λ (h : Held). IsResting n.listing h) (sym c.self.view_is) c.requires in
     some_time (state_in n.listing (held_of parts))
-    (only_future n.listing n.limits (held_of parts) c.legal.result c.legal-2.result c.self.invariant.2 rests (c.legal.ensures (remainder_of n.listing) parts.store) c.if-legal.false (c.legal-2.ensures (remainder_of n.listing) parts.store) c.if-legal-2.false)
-    (sym (c.next_time.ensures (remainder_of n.listing) parts.store) ∙ c.in-None.is)
+    (only_future n.listing n.limits (held_of parts) c.legal.result c.legal-2.result c.self.invariant.guarded rests (c.legal.ensures (remainder_of n.listing) (map last_value parts.holder.seen)) c.if-legal.false (c.legal-2.ensures (remainder_of n.listing) (map last_value parts.holder.seen)) c.if-legal-2.false)
+    (sym (c.next_time.ensures (remainder_of n.listing) (map last_value parts.holder.seen)) ∙ c.in-None.is)
 
 pub returns : goal.returns
 returns g c =
@@ -36,6 +37,6 @@ returns g c =
     let parts = c.self.inside.parts in
     let rests = subst (λ (h : Held). IsResting n.listing h) (sym c.self.view_is) c.requires in
     let idle =
-    only_future n.listing n.limits (held_of parts) c.legal.result c.legal-2.result c.self.invariant.2 rests (c.legal.ensures (remainder_of n.listing) parts.store) c.if-legal.false (c.legal-2.ensures (remainder_of n.listing) parts.store) c.if-legal-2.false in
-    let least = sym (c.next_time.ensures (remainder_of n.listing) parts.store) ∙ c.in-Some.is in
+    only_future n.listing n.limits (held_of parts) c.legal.result c.legal-2.result c.self.invariant.guarded rests (c.legal.ensures (remainder_of n.listing) (map last_value parts.holder.seen)) c.if-legal.false (c.legal-2.ensures (remainder_of n.listing) (map last_value parts.holder.seen)) c.if-legal-2.false in
+    let least = sym (c.next_time.ensures (remainder_of n.listing) (map last_value parts.holder.seen)) ∙ c.in-Some.is in
     subst (λ (h : Held). (is_idle (state_in n.listing h) ≡ true) × (least_time (state_in n.listing h) ≡ Some c.in-Some.time)) c.self.view_is (idle, least)

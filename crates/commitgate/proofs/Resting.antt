@@ -1,0 +1,119 @@
+-- What a worker at rest is told.
+use Rattle.std.proofs.Common.{◌≡◌, ℕ, ◌<◌, ◌≤◌, Bool, true, false, not, List, [], ◌∷◌, ◌++◌, map, length, Option, Some, None, refl, sym, ap, ◌∙◌, subst, inl, inr, arith}
+use Rattle.std.specs.Prelude.{IsSomeAnd, IsTrue, ◌↔◌}
+use Rattle.std.specs.List.{filter}
+use mathlib.Core.List.{IsPrefix}
+use Rattle.model.specs.declared.entry.Entry.{Entry}
+use Rattle.model.specs.declared.entry.Entry.TheVariants.{Turn, Update, ActivateInactive, ActivateNba, Advance}
+use Rattle.model.specs.declared.end.Why.{Why}
+use Rattle.model.specs.declared.end.End.TheVariants.{Quiet}
+use Rattle.model.specs.States.{State, Event, is_evaluation}
+use Rattle.model.specs.Runs.{run, has_any, is_quiet, Ends}
+use Rattle.design.specs.Compiled.{design_of}
+use Rattle.gateparts.specs.declared.log.Item.TheVariants.{Ended}
+use Rattle.commitgate.specs.Named.{Named}
+use Rattle.gateparts.specs.Log.{Log, entries_of}
+use Rattle.gateparts.specs.Held.{Held, state_in}
+use Rattle.gateparts.specs.Guarded.{Guarded}
+use Rattle.commitgate.specs.Kept.{Kept}
+use Rattle.gateparts.specs.Fresh.{Rises}
+use Rattle.commitgate.specs.Seats.{SeatView}
+use Rattle.commitgate.specs.Journals.{Stays}
+use Rattle.commitgate.specs.Answers.{HasNoUpdate, IsRegionChange, stopped}
+use Rattle.commitgate.specs.Regions.{IsDueChange, IsPassed, why_past}
+use Rattle.commitgate.specs.Told.{IsQuietTo, IsBusy, IsRefused, IsStopped, HasMetEntry}
+use Rattle.commitgate.specs.Told.{RestCauses}
+use Rattle.logic4.specs.Vector.{Vector}
+use Rattle.model.specs.declared.end.Limits.{Limits}
+use Rattle.gateparts.proofs.Beginnings.{prefix_trans}
+use Rattle.commitgate.proofs.Guards.{unfinished}
+use Rattle.commitgate.proofs.Meetings.{rises_self}
+use Rattle.commitgate.proofs.Staying.{quiet_stays}
+use Rattle.commitgate.proofs.Tellings.{after_log, tell_refused, tell_ended}
+
+-- no event is left
+pub tell_quiet : (n : Named) (old : SeatView) (held : Held) → Guarded n.listing n.limits held → Kept n held → IsPrefix old.seen held.log → (new : SeatView) → new ≡ record old { seen = held.log }
+    → held.end ≡ None → is_quiet (state_in n.listing held) ≡ true → IsQuietTo n old new
+tell_quiet n old held g k later new is running quiet = record {
+  refused = tell_refused n old held g k later new old.fresh is (rises_self old.fresh) running;
+  quiet =
+      subst (λ (v : SeatView). Ends (design_of n.listing) n.limits (entries_of v.seen) Quiet) (sym is)
+      (subst (λ (o : Option State). IsSomeAnd o (λ s. (is_quiet s ≡ true) × (s.finished ≡ false))) (sym (after_log n held g k)) (quiet, unfinished n.listing n.limits held g running));
+  stays =
+      subst (λ (v : SeatView). Stays n v.seen) (sym is)
+      (quiet_stays n held.log g.ran.effect (ap (run (design_of n.listing)) (sym k.journal_is) ∙ g.ran.is_run) (ap is_quiet g.ran.state_is ∙ quiet));
+}
+
+-- the call stored the end
+pub tell_stop : (n : Named) (causes : Why → Type 0) (old mid new : SeatView) (why : Why) (held same held' : Held) → Guarded n.listing n.limits held' → Kept n held' → IsPrefix old.seen held.log
+    → same ≡ held → mid ≡ record old { seen = held.log } → held' ≡ stopped mid.worker why same → new ≡ record mid { seen = held'.log; stored = Some why } → causes why → IsStopped n causes old why new
+tell_stop n causes old mid new why held same held' g' k' later same_is mid_is state new_is cause =
+    let log : held'.log ≡ held.log ++ (mid.worker, Ended why) ∷ [] = ap (λ (h : Held). h.log) state ∙ ap (λ (h : Held). h.log ++ (mid.worker, Ended why) ∷ []) same_is in
+    let seen : new.seen ≡ held'.log = ap (λ (v : SeatView). v.seen) new_is in
+    tell_ended n causes old new why held' g' k'
+    (record {
+      worker = ap (λ (v : SeatView). v.worker) new_is ∙ ap (λ (v : SeatView). v.worker) mid_is;
+      later = prefix_trans old.seen held.log new.seen later ((mid.worker, Ended why) ∷ [], sym (seen ∙ log));
+      rises = subst (λ f. Rises old.fresh f) (sym (ap (λ (v : SeatView). v.fresh) new_is ∙ ap (λ (v : SeatView). v.fresh) mid_is)) (rises_self old.fresh);
+    })
+    (ap (λ (v : SeatView). v.mine) new_is ∙ ap (λ (v : SeatView). v.mine) mid_is)
+    seen
+    (ap (λ (h : Held). h.end) state)
+    (inr (ap (λ (v : SeatView). v.stored) new_is, cause))
+
+none_of : (xs : List Event) → has_any xs ≡ false → map (λ e. e.0) xs ≡ []
+none_of [] h = refl
+none_of (x ∷ xs) h = cc
+
+below_or : (a b : ℕ) → (a ≤ b → ⊥) → b < a
+below_or a b h = omega (arith, h)
+
+-- an event is active, and the worker was not to wait
+pub tell_busy : (n : Named) (old : SeatView) (held : Held) → Guarded n.listing n.limits held → Kept n held → IsPrefix old.seen held.log → (new : SeatView) → new ≡ record old { seen = held.log }
+    → held.end ≡ None → has_any held.core.active ≡ true
+    → (held.end ≡ None → has_any held.core.active ≡ true → HasNoUpdate held.core → length held.journal ≤ length (entries_of old.seen) → ⊥)
+    → IsRefused n old new × IsBusy n old new
+tell_busy n old held g k later new is running active awake = (
+  tell_refused n old held g k later new old.fresh is (rises_self old.fresh) running,
+  subst (λ (v : SeatView). IsBusy n old v) (sym is) (by_case (has_any (filter (λ e. not (is_evaluation e.1)) held.core.active)) refl),
+)
+  where
+    by_case : (b : Bool) → has_any (filter (λ e. not (is_evaluation e.1)) held.core.active) ≡ b → IsBusy n old (record old { seen = held.log })
+    by_case true e = inl (state_in n.listing held, after_log n held g k, e)
+    by_case false e =
+        let none : HasNoUpdate held.core = none_of (filter (λ e. not (is_evaluation e.1)) held.core.active) e in
+        inr (below_or (length (entries_of held.log)) (length (entries_of old.seen)) (λ few. awake running active none (rw k.journal_is few)))
+
+pub due_is_change : (s : State) (change : Entry) → IsDueChange s change → IsRegionChange change
+due_is_change s (Turn event) h = h
+due_is_change s (Update event) h = h
+due_is_change s ActivateInactive h = tt
+due_is_change s ActivateNba h = tt
+due_is_change s (Advance time) h = tt
+
+pub met_change : (n : Named) (s : State) (change : Entry) (log : Log) (fresh : List (List Vector)) → IsRegionChange change → HasMetEntry n s change log fresh
+met_change n s (Turn event) log fresh h = absurd h
+met_change n s (Update event) log fresh h = absurd h
+met_change n s ActivateInactive log fresh h = tt
+met_change n s ActivateNba log fresh h = tt
+met_change n s (Advance time) log fresh h = tt
+
+past_cause : (until : Option ℕ) → RestCauses (why_past until)
+past_cause None = inr (inr refl)
+past_cause (Some until) = inr (inl refl)
+
+-- the causes of a stop at rest
+pub passed_cause : (limits : Limits) (change : Entry) (why : Why) → IsPassed limits change why → RestCauses why
+passed_cause limits (Turn event) why h = absurd h
+passed_cause limits (Update event) why h = absurd h
+passed_cause limits ActivateInactive why h = absurd h
+passed_cause limits ActivateNba why h = absurd h
+passed_cause limits (Advance time) why h = subst RestCauses (sym h.1) (past_cause limits.until)
+
+-- a test that fails refutes what it stands for
+pub not_so : (b : Bool) (P : Type 0) → (IsTrue b ↔ P) → b ≡ false → P → ⊥
+not_so true P h f = cc
+not_so false P h f = λ p. clash (h.1 p)
+  where
+    clash : false ≡ true → ⊥
+    clash e = cc

@@ -1,0 +1,144 @@
+-- A turn's reads against the histories, and what the seat has met once the turn is appended.
+use Rattle.std.proofs.Common.{◌≡◌, ℕ, zero, suc, ◌+◌, ◌<◌, List, [], ◌∷◌, map, length, Option, Some, None, refl, sym, ap, ◌∙◌, subst, arith}
+use Rattle.std.specs.Prelude.{slice_get, option_and_then, IfNone}
+use Rattle.std.specs.List.{All}
+use mathlib.Core.List.{IsPrefix}
+use Rattle.logic4.specs.Vector.{Vector}
+use Rattle.model.specs.declared.entry.Entry.TheVariants as entries
+use Rattle.model.specs.States.{Evaluate}
+use Rattle.model.specs.Runs.{action_in, turn_of, least}
+use Rattle.journal.specs.Find.{update_numbers}
+use Rattle.design.specs.Compiled.{Compiled, design_of}
+use Rattle.design.specs.Standing.{IsStateOf}
+use Rattle.design.specs.Fits.{FitsRegister}
+use Rattle.turn.specs.declared.memory.Seen.{Seen}
+use Rattle.turn.specs.declared.log.TurnLog.{TurnLog}
+use Rattle.turn.specs.Answers.{IsTurnLog}
+use Rattle.turn.specs.Reads.{Agrees, GaveAll}
+use Rattle.regcells.specs.Values.{last_value}
+use Rattle.commitgate.specs.Named.{Named}
+use Rattle.gateparts.specs.Log.{Log, entries_of}
+use Rattle.gateparts.specs.Held.{Held, state_in}
+use Rattle.commitgate.specs.Kept.{Kept}
+use Rattle.gateparts.specs.Fresh.{fresh_of}
+use Rattle.commitgate.specs.Tickets.{TicketView, IsCurrent}
+use Rattle.gateparts.specs.Histories.{hist, IsRead, IsFirstMovedIn}
+use Rattle.gateparts.specs.Working.{IsCurrentOf, IsFirstMovedOf, AreReadsIn, AreWritesIn, IsLogIn, register_in, updated_register, HasMetLog}
+use Rattle.gateparts.specs.Evaluated.{IsLogOfEvent}
+use Rattle.commitgate.specs.Answers.{AreCurrent}
+use Rattle.commitgate.specs.Told.{HasMet, HasMetEntry}
+use Rattle.gateparts.proofs.Beginnings.{prefix_get}
+use Rattle.gateparts.proofs.Places.{or_of, within}
+use Rattle.commitgate.proofs.Agreeing.{agrees}
+use Rattle.gateparts.proofs.Given.{turn_of-is}
+use Rattle.commitgate.proofs.AtLock.{at_lock}
+
+pub if_none : {A : Type 0} (o : Option A) (P Q : Type 0) → IfNone o P → (P → Q) → IfNone o Q
+if_none None P Q h f = f h
+if_none (Some x) P Q h f = tt
+
+pub get_all : {A : Type 0} (P : A → Type 0) (xs : List A) → All P xs → (k : ℕ) (x : A) → slice_get xs k ≡ Some x → P x
+get_all P xs all k x at = subst P (or_of xs k x x at) (all k x (within xs k x at))
+
+pub all_of : {A : Type 0} (P : A → Type 0) (xs : List A) → ((k : ℕ) (x : A) → slice_get xs k ≡ Some x → P x) → All P xs
+all_of P [] h k d low = absurd (omega arith)
+all_of P (x ∷ xs) h zero d low = h 0 x refl
+all_of P (x ∷ xs) h (suc k) d low = all_of P xs (λ j y at. h (suc j) y at) k d (omega arith)
+
+all_map : {A : Type 0} (P : ℕ → Type 0) (xs : List (ℕ × A)) → ((k : ℕ) (x : ℕ × A) → slice_get xs k ≡ Some x → P x.0) → All P (map (λ x. x.0) xs)
+all_map P [] h k d low = absurd (omega arith)
+all_map P (x ∷ xs) h zero d low = h 0 x refl
+all_map P (x ∷ xs) h (suc k) d low = all_map P xs (λ j y at. h (suc j) y at) k d (omega arith)
+
+pub gave_at : (P : ℕ → Seen → Type 0) (reads : List (ℕ × Seen)) → GaveAll P reads → (k : ℕ) (d : ℕ × Seen) → slice_get reads k ≡ Some d → P d.0 d.1
+gave_at P [] gave k d at = absurd (cc)
+gave_at P (x ∷ xs) gave zero d at = let same : x ≡ d = cc at in subst (λ (y : ℕ × Seen). P y.0 y.1) same gave.0
+gave_at P (x ∷ xs) gave (suc k) d at = gave_at P xs gave.1 k d at
+
+-- what was read is of declared registers
+pub reads_in : (listing : Compiled) (m : ℕ) (ticket : TicketView) (log : TurnLog) → m ≡ length listing.widths → IsStateOf listing ticket.process ticket.state → IsTurnLog listing ticket.state ticket.time log → AreReadsIn m log.reads.entries
+reads_in listing m ticket log e own turn k d at =
+    subst (λ j. d.0 < j) (sym e) (get_all (λ (r : ℕ × Seen). r.0 < length listing.widths) log.reads.entries (turn.declared ticket.process own) k d at)
+
+pub log_in : (listing : Compiled) (m : ℕ) (ticket : TicketView) (log : TurnLog) → m ≡ length listing.widths → IsStateOf listing ticket.process ticket.state → IsTurnLog listing ticket.state ticket.time log → IsLogIn m (Some log)
+log_in listing m ticket log e own turn = (
+  reads_in listing m ticket log e own turn,
+  λ k d at. subst (λ j. d.0 < j) (sym e) (get_all (λ (w : ℕ × Vector). FitsRegister listing.widths w.0 w.1) log.writes.items (turn.fits ticket.process own).writes k d at).0,
+)
+
+-- current by the lists is current by the journal
+pub current_by : (n : Named) (held : Held) (reads : List (ℕ × Seen)) → Kept n held → AreReadsIn (length n.listing.widths) reads
+    → ((k : ℕ) (d : ℕ × Seen) → slice_get reads k ≡ Some d → IsCurrentOf held.histories d) → AreCurrent n.listing held reads
+current_by n held reads kept low cur k d at = ap length (sym (kept.histories d.0 (low k d at))) ∙ cur k d at
+
+-- and moved by the lists is moved by the journal
+pub moved_by : (n : Named) (held : Held) (reads : List (ℕ × Seen)) (r : ℕ) (fresh : List (List Vector)) → Kept n held → AreReadsIn (length n.listing.widths) reads
+    → IsFirstMovedOf held.histories reads r → GaveAll (IsRead n.listing fresh) reads → IsPrefix (fresh_of fresh r) (fresh_of held.histories r)
+    → IsFirstMovedIn (design_of n.listing) held.journal reads r
+moved_by n held reads r fresh kept low m gave begins =
+    let d = m.read in
+    let here = low m.at d m.there in
+    let pair = gave_at (IsRead n.listing fresh) reads gave m.at d m.there here in
+    let begins' : IsPrefix (fresh_of fresh d.0) (fresh_of held.histories d.0) = subst (λ q. IsPrefix (fresh_of fresh q) (fresh_of held.histories q)) (sym m.register) begins in
+    let there = prefix_get (fresh_of fresh d.0) (fresh_of held.histories d.0) d.1.version d.1.value begins' pair in
+    let long = within (fresh_of held.histories d.0) d.1.version d.1.value there in
+    let same = ap length (kept.histories d.0 here) in
+    record {
+      at = m.at;
+      read = d;
+      there = m.there;
+      register = m.register;
+      moved = apart (length (fresh_of held.histories d.0)) d.1.version (length (hist (design_of n.listing) held.journal d.0)) long m.moved same;
+      before = λ k e lt at. ap length (sym (kept.histories e.0 (low k e at))) ∙ m.before k e lt at;
+    }
+  where
+    apart : (len version other : ℕ) → version < len → (len ≡ version + 1 → ⊥) → len ≡ other → version + 1 < other
+    apart len version other lt ne same = omega (arith, lt, ne, same)
+
+-- the log is that of the ticket's turn
+pub given_by : (n : Named) (held : Held) (ticket : TicketView) (log : TurnLog) (fresh : List (List Vector)) → Kept n held → IsCurrent held.core ticket → IsStateOf n.listing ticket.process ticket.state
+    → IsTurnLog n.listing ticket.state ticket.time log → GaveAll (IsRead n.listing fresh) log.reads.entries → AreCurrent n.listing held log.reads.entries
+    → length held.values ≡ length n.listing.widths
+    → ((k : ℕ) (d : ℕ × Seen) → slice_get log.reads.entries k ≡ Some d → IsPrefix (fresh_of fresh d.0) (fresh_of held.histories d.0))
+    → IsLogOfEvent n.listing held ticket.event log
+given_by n held ticket log fresh kept current own turn gave cur count begins =
+    let low = reads_in n.listing (length n.listing.widths) ticket log refl own turn in
+    let agree : Agrees log.reads.entries (map last_value held.histories) =
+    agrees n.listing fresh held.histories log.reads.entries gave (turn.declared ticket.process own) begins (λ k d at. ap length (kept.histories d.0 (low k d at)) ∙ cur k d at) in
+    record {
+      process = ticket.process;
+      state = ticket.state;
+      evaluation = current.evaluation;
+      turn = at_lock n.listing held ticket.process ticket.state log own count
+          (subst (λ t. IsTurnLog n.listing ticket.state t log) (sym current.time) turn)
+          (subst (Agrees log.reads.entries) (sym kept.values) agree);
+    }
+
+same_number : (p q : ℕ) → Some (Evaluate p) ≡ Some (Evaluate q) → p ≡ q
+same_number p q e = cc
+
+-- the seat has met what the turn read and wrote
+pub met_turn : (n : Named) (held held' : Held) (event : ℕ) (log : TurnLog) (seen : Log) (fresh : List (List Vector)) (m : ℕ) → Kept n held' → seen ≡ held'.log
+    → IsLogOfEvent n.listing held event log → AreReadsIn (length n.listing.widths) log.reads.entries → AreWritesIn (length n.listing.widths) log.writes.items
+    → HasMetLog held'.histories fresh m None (Some log) → HasMetEntry n (state_in n.listing held) (entries.Turn event) seen fresh
+met_turn n held held' event log seen fresh m kept is h reads writes met p turn action found =
+    let process : h.process ≡ p = same_number h.process p (sym h.evaluation.0 ∙ action) in
+    let both : Some h.turn.turn ≡ Some turn = sym h.turn.is_turn ∙ sym (turn_of-is n.listing held event h.process h.state h.evaluation) ∙ ap (turn_of (design_of n.listing) (state_in n.listing held)) process ∙ found in
+    let same : h.turn.turn ≡ turn = cc in
+    let whole : (r : ℕ) → r < length n.listing.widths → fresh_of held'.histories r ≡ hist (design_of n.listing) (entries_of seen) r =
+    λ r low. kept.histories r low ∙ ap (λ j. hist (design_of n.listing) j r) (kept.journal_is ∙ ap entries_of (sym is)) in
+    record {
+      uses = subst (All (HasMet n seen fresh)) (h.turn.is_log.uses ∙ ap (λ t. t.uses) same)
+          (all_map (HasMet n seen fresh) log.reads.entries (λ k d at. met.0 k d at ∙ whole d.0 (reads k d at)));
+      writes = subst (All (λ (w : ℕ × Vector). HasMet n seen fresh w.0)) (h.turn.is_log.writes ∙ ap (λ t. t.writes) same)
+          (all_of (λ (w : ℕ × Vector). HasMet n seen fresh w.0) log.writes.items (λ k d at. met.1 k d at ∙ whole d.0 (writes k d at)));
+    }
+
+-- the seat has met the register of an update
+pub met_update : (n : Named) (held held' : Held) (number : ℕ) (seen : Log) (fresh : List (List Vector)) (m : ℕ) → m ≡ length n.listing.widths → Kept n held' → seen ≡ held'.log
+    → least (update_numbers held.core.active) ≡ Some number
+    → HasMetLog held'.histories fresh m (updated_register held.core.active (entries.Update number)) None → HasMetEntry n (state_in n.listing held) (entries.Update number) seen fresh
+met_update n held held' number seen fresh m e kept is first met r v action low =
+    let register : updated_register held.core.active (entries.Update number) ≡ Some r =
+    ap (λ o. register_in (option_and_then (action_in held.core.active) o)) first ∙ ap register_in action in
+    met r register (subst (λ j. r < j) (sym e) low) ∙ kept.histories r low ∙ ap (λ j. hist (design_of n.listing) j r) (kept.journal_is ∙ ap entries_of (sym is))

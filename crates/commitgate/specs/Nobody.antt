@@ -1,0 +1,7 @@
+-- The seat of nobody.
+use Rattle.std.specs.Prelude.{[], None}
+use Rattle.commitgate.specs.Seats.{SeatView}
+
+-- a seat that belongs to no gate
+abbrev pub nobody : SeatView
+nobody = record { worker = 0; seen = []; mine = []; stored = None; fresh = [] }

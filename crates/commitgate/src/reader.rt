@@ -1,0 +1,75 @@
+//! A seat as the reader of a turn.
+ghost use Rattle.std.specs.Prelude.{◌≡◌, ℕ, ◌+◌, ◌<◌, length};
+ghost use Rattle.turn.specs.declared.memory.Seen as seens;
+ghost use Rattle.gateparts.specs.Fresh.{fresh_of};
+ghost use Rattle.commitgate.specs.Seats.{ReadsOn};
+ghost use Rattle.gateparts.specs.Histories.{IsRead};
+
+use crate::naming::Naming;
+use crate::seat::Seat;
+use design::RegId;
+use regcells::RegCells;
+use std::marker::Model;
+use std::sync::Wait;
+use turn::{RegReader, Seen};
+
+/// A seat that reads the registers of its gate, without the lock. Contracts see the seat.
+#[derive(Drop)]
+pub struct SeatReader<'g, K: Naming, R: Wait> {
+    rt: &'g R,
+    cells: &'g RegCells,
+    seat: Seat<K>,
+}
+
+impl<'g, K: Naming, R: Wait> Model for SeatReader<'g, K, R> {
+    ghost use Rattle.std.specs.Prelude.{◌≡◌, length};
+    ghost use Rattle.commitgate.specs.Seats.{SeatView};
+
+    ghost Value = { SeatView };
+
+    ghost view = { λ r. r.seat };
+
+    ghost invariant = { λ r. (r.cells.now ≡ K.named.cells) × (length K.named.cells ≡ length K.named.listing.widths) };
+}
+
+impl<'g, K: Naming, R: Wait> SeatReader<'g, K, R> {
+    /// The reader of a seat.
+    pub(crate) fn new(rt: &'g R, cells: &'g RegCells, seat: Seat<K>) -> SeatReader<'g, K, R>
+        requires cells { cells.now ≡ K.named.cells }
+        requires widths { length K.named.cells ≡ length K.named.listing.widths }
+        ensures { result ≡ seat }
+    {
+        SeatReader { rt, cells, seat }
+    }
+
+    /// Gives the seat back.
+    pub fn into_seat(self) -> Seat<K>
+        ensures { result ≡ self.entry }
+    {
+        let SeatReader {
+            rt: _,
+            cells: _,
+            seat,
+        } = self;
+        seat
+    }
+}
+
+impl<'g, K: Naming, R: Wait> RegReader for SeatReader<'g, K, R> {
+    ghost use Rattle.std.specs.Prelude.{length};
+    ghost use Rattle.gateparts.specs.Histories.{IsRead};
+
+    ghost registers = { length K.named.listing.widths };
+
+    ghost gave = { λ s r seen. IsRead K.named.listing s.fresh r seen };
+
+    fn read(&mut self, register: RegId) -> Seen
+        requires { register < length K.named.listing.widths }
+        ensures adds { IsRead K.named.listing self.new.fresh register result }
+        ensures keeps { (r : ℕ) (s : seens.Seen) → IsRead K.named.listing self.old.fresh r s → IsRead K.named.listing self.new.fresh r s }
+        ensures version { length (fresh_of self.new.fresh register) ≡ result.version + 1 }
+        ensures reads_on { ReadsOn self.old self.new }
+    {
+        self.seat.read(self.rt, self.cells, register)
+    }
+}

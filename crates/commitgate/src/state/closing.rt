@@ -1,0 +1,54 @@
+//! The seats that are given back, and what a gate leaves.
+ghost use Rattle.std.specs.Prelude.{◌≡◌, length};
+ghost use mathlib.Core.List.{IsPrefix};
+ghost use Rattle.gateparts.specs.Log.{entries_of, positions_of};
+ghost use Rattle.commitgate.specs.Journals.{IsLog};
+ghost use Rattle.commitgate.specs.Closing.{IsClosed, IsEndIn};
+
+use crate::closed::Closed;
+use crate::naming::Naming;
+use crate::seat::Seat;
+use crate::state::GateState;
+use gateparts::{MarkCell, Parts};
+use std::sync::Wait;
+
+impl<'d, K: Naming> GateState<'d, K> {
+    /// The number of entries that a seat appended. The log extends what it has seen, and has in its name just those.
+    pub(crate) fn settle<R: Wait>(&mut self, rt: &R, mark: &MarkCell, mut seat: Seat<K>) -> u64
+        requires { mark.now.table.shared.table_id ≡ K.named.mark }
+        ensures same { self.new ≡ self.old }
+        ensures share { result ≡ length seat.mine }
+        ensures later { IsPrefix seat.seen self.old.log }
+        ensures mine { seat.mine ≡ positions_of seat.worker self.old.log }
+    {
+        self.greet(rt, mark, &mut seat);
+        seat.share()
+    }
+
+    /// The journal, the lines and the end, with these numbers of entries of the seats.
+    pub(crate) fn close(self, committed: Vec<u64>) -> Closed
+        ensures closed { IsClosed K.named result }
+        ensures log { IsLog K.named self.entry.log }
+        ensures entries { result.entries ≡ entries_of self.entry.log }
+        ensures end { IsEndIn self.entry.log result.end }
+        ensures committed { result.committed ≡ committed.items }
+    {
+        let end = self.end();
+        let GateState {
+            parts,
+            spare: _,
+            of: _,
+        } = self;
+        let Parts {
+            design: _,
+            limits: _,
+            regions: _,
+            holder: _,
+            journal,
+            lines,
+            end: _,
+            whole: _,
+        } = parts;
+        Closed::new(journal, lines, end, committed)
+    }
+}

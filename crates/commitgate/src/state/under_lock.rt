@@ -1,0 +1,88 @@
+//! A ticket's turn that is evaluated under the lock, and so can't be stale.
+ghost use Rattle.std.specs.Prelude.{◌≡◌, MatchResult};
+ghost use Rattle.commitgate.specs.Tickets.{IsCurrent};
+ghost use Rattle.commitgate.specs.HeldTurns.{is_refused, IsHeldTurn, IsNoHeldTurn};
+ghost use Rattle.commitgate.specs.Replies.{HeldAnswered};
+ghost use Rattle.commitgate.specs.Told.{HeldAnsweredTo};
+
+use crate::naming::Naming;
+use crate::reply::Reply;
+use crate::seat::Seat;
+use crate::state::GateState;
+use crate::ticket::Ticket;
+use gateparts::MarkCell;
+use regcells::RegCells;
+use std::alloc::Global;
+use std::sync::Wait;
+use turn::{TurnFault, TurnLog, Workspace};
+
+// Whether memory was refused, and the turn isn't too long.
+fn is_memory(fault: &TurnFault) -> bool
+    ensures { result ≡ is_refused fault.now }
+{
+    match fault {
+        TurnFault::TooLong(_) => false,
+        TurnFault::Memory => true,
+    }
+}
+
+impl<'d, K: Naming> GateState<'d, K> {
+    /// The turn of a ticket's active evaluation, on the values under the lock.
+    fn evaluate<R: Wait>(
+        &mut self,
+        rt: &R,
+        cells: &RegCells,
+        alloc: Global,
+        workspace: &mut Workspace,
+        ticket: &Ticket<K>,
+    ) -> Result<TurnLog, TurnFault>
+        requires cells { cells.now ≡ K.named.cells }
+        requires current { IsCurrent self.old.core ticket.now }
+        ensures same { self.new ≡ self.old }
+        ensures turn { MatchResult result (IsHeldTurn K.named.listing self.old ticket.now) (IsNoHeldTurn K.named.listing self.old ticket.now) }
+    {
+        self.known();
+        ticket.known();
+        let state = ticket.state();
+        let now = ticket.time();
+        self.parts.evaluate(rt, cells, alloc, workspace, state, now)
+    }
+
+    /// Evaluates the turn of a ticket that was refused as stale three times, and appends it. A journal that is full stops
+    /// the run, and so does a turn that is too long, or one with `$finish`, which is appended first. Where memory is
+    /// refused nothing changes.
+    pub fn commit_held<R: Wait>(
+        &mut self,
+        rt: &R,
+        cells: &RegCells,
+        mark: &MarkCell,
+        alloc: Global,
+        workspace: &mut Workspace,
+        seat: &mut Seat<K>,
+        ticket: Ticket<K>,
+    ) -> Reply<K>
+        requires cells { cells.now ≡ K.named.cells }
+        requires mark { mark.now.table.shared.table_id ≡ K.named.mark }
+        requires tries { ticket.tries ≡ 3 }
+        ensures state { HeldAnswered K.named.listing K.named.limits seat.old.worker self.old ticket self.new result }
+        ensures seat { HeldAnsweredTo K.named seat.old ticket seat.new result }
+    {
+        self.known();
+        ticket.known();
+        if let Some(reply) = self.barred(rt, mark, seat, &ticket) {
+            return reply;
+        }
+        match self.evaluate(rt, cells, alloc, workspace, &ticket) {
+            Ok(log) => {
+                self.show_reads(rt, cells, seat, &log.reads);
+                self.accept(rt, cells, mark, alloc, workspace, seat, ticket, log)
+            }
+            Err(fault) => {
+                if is_memory(&fault) {
+                    return Reply::NoMemory(ticket);
+                }
+                Reply::Stopped(self.stop_long(rt, mark, seat, &ticket))
+            }
+        }
+    }
+}

@@ -1,0 +1,11 @@
+pub mod Alone
+pub mod Lists
+pub mod Tickets
+pub mod Steps
+pub mod Ending
+pub mod Judging
+pub mod Leading
+pub mod Firsts
+pub mod Running
+pub mod Seats
+pub mod Splits

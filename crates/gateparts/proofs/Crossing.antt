@@ -1,0 +1,40 @@
+-- That threads may share the parts under the lock. `search` runs out of steps where it goes down through all of their types
+-- at once, so each large type is a step of its own.
+use denote.Ref.{NamedLft}
+use denote.Struct.Declared.{shape}
+use denote.Param.Send.{IsSend, IsSync, AllSend, struct_send, sendable}
+use Rattle.std.proofs.Crossing.{crosses}
+use Rattle.atomic_table.proofs.shared.Seat.TheSendSync as pass
+use Rattle.design.specs.contracts.design.Design as Design
+use Rattle.journal.specs.contracts.state.State as Regions
+use Rattle.regcells.proofs.cells.Holder.TheSendSync as holder
+use Rattle.gateparts.specs.contracts.parts.Parts as Parts
+
+regions_send : IsSend Regions.the_row
+regions_send = search (crosses, sendable) depth 40 fits 5000
+
+-- the design that they borrow may be shared
+module _ (l : NamedLft) (design : IsSync Design.the_row) where
+  parts_fields : AllSend (shape (Parts.the_type l)).fields
+  parts_fields = (
+    search sendable depth 20,
+    (
+      search sendable depth 20,
+      (
+        search (regions_send, sendable) depth 20,
+        (
+          search (holder.the_send, sendable) depth 20,
+          (
+            search (crosses, sendable) depth 20,
+            (
+              search (crosses, sendable) depth 20,
+              (search sendable depth 20, (search (pass.the_send, sendable) depth 20, tt)),
+            ),
+          ),
+        ),
+      ),
+    ),
+  )
+
+  pub parts_send : IsSend (Parts.the_field l).row
+  parts_send = struct_send (shape (Parts.the_type l)) parts_fields

@@ -1,0 +1,13 @@
+use Rattle.std.proofs.Common.{◌≡◌, ◌<◌, ℕ, Some}
+use Rattle.std.specs.Prelude.{slice_get}
+use Rattle.logic4.specs.Vector.{Vector}
+use Rattle.gateparts.specs.Fresh.{fresh_of}
+use Rattle.gateparts.specs.Working.{Met}
+use Rattle.gateparts.proofs.work.meet_writes.Given as goal
+
+abbrev pub invariant-loop-place : goal.invariant-loop-place
+invariant-loop-place g l =
+    (l.holder ≡ l.initial.holder)
+    × (l.seat.cells ≡ l.initial.seat.cells)
+    × Met l.initial.seat.seen l.initial.holder.seen l.seat.seen
+    × ((k : ℕ) (d : ℕ × Vector) → k < l.place → slice_get l.writes k ≡ Some d → fresh_of l.seat.seen d.0 ≡ fresh_of l.initial.holder.seen d.0)

@@ -1,0 +1,13 @@
+pub mod Log
+pub mod Marked
+pub mod Fresh
+pub mod Held
+pub mod Guarded
+pub mod Storing
+pub mod Working
+pub mod Steps
+pub mod Histories
+pub mod Holding
+pub mod Parts
+pub mod Evaluated
+pub mod Entries

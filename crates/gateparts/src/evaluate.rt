@@ -1,0 +1,92 @@
+//! A turn that is evaluated under the lock, on the last value of each register.
+ghost use Rattle.std.specs.Prelude.{◌≡◌, ◌≤◌, ◌^◌, length, MatchResult};
+ghost use Rattle.turn.specs.Answers.{IsTurnLog, IsNoTurn, reads_of_fault};
+ghost use Rattle.turn.specs.Reads.{GaveAll};
+ghost use Rattle.gateparts.specs.Holding.{IsLastIn};
+
+use design::{Design, ProcState, RegId};
+use regcells::{Holder, RegCells};
+use std::alloc::Global;
+use std::marker::{Brand, Model, PhantomData};
+use std::sync::Wait;
+use turn::{RegReader, Seen, TurnFault, TurnLog, Workspace, run_turn_in};
+
+/// What the holder has seen, in contracts alone.
+pub trait Holding {
+    ghost use Rattle.regcells.specs.Seats.{Fresh};
+
+    ghost holds: { Fresh };
+}
+
+impl Holding for Brand {
+    ghost use Rattle.gateparts.specs.Holding.{no_registers};
+
+    ghost holds = { no_registers };
+}
+
+// Reads the last value of each register, of which the holder has seen what its type names.
+#[derive(Drop)]
+struct HeldReader<'g, H: Holding, R: Wait> {
+    rt: &'g R,
+    cells: &'g RegCells,
+    holder: Holder,
+    of: PhantomData<H>,
+}
+
+impl<'g, H: Holding, R: Wait> Model for HeldReader<'g, H, R> {
+    ghost use Rattle.std.specs.Prelude.{◌≡◌};
+
+    ghost Value = { Unit {0} };
+
+    ghost view = { λ r. tt };
+
+    ghost invariant = { λ r. (r.cells.now ≡ H.holds.cells) × (r.holder ≡ H.holds) };
+}
+
+impl<'g, H: Holding, R: Wait> RegReader for HeldReader<'g, H, R> {
+    ghost use Rattle.std.specs.Prelude.{length};
+    ghost use Rattle.gateparts.specs.Holding.{IsLastIn};
+
+    ghost registers = { length H.holds.cells };
+
+    ghost gave = { λ s r seen. IsLastIn H.holds r seen };
+
+    fn read(&mut self, register: RegId) -> Seen {
+        self.cells.get_held(self.rt, &mut self.holder, register)
+    }
+}
+
+/// The turn from a process state on, on the last value of each register. The holder comes back as it was.
+pub fn held_turn<H: Holding, R: Wait>(
+    rt: &R,
+    alloc: Global,
+    cells: &RegCells,
+    holder: Holder,
+    workspace: &mut Workspace,
+    design: &Design,
+    state: ProcState,
+    now: u64,
+) -> (Holder, Result<TurnLog, TurnFault>)
+    requires cells { cells.now ≡ H.holds.cells }
+    requires holder { holder ≡ H.holds }
+    requires registers { length design.now.widths ≡ length H.holds.cells }
+    requires now { now ≤ 2 ^ 48 }
+    ensures same { result.0 ≡ H.holds }
+    ensures turn { MatchResult result.1 (IsTurnLog design.now state now) (IsNoTurn design.now state now) }
+    ensures gave { MatchResult result.1 (λ log. GaveAll (IsLastIn H.holds) log.reads.entries) (λ fault. GaveAll (IsLastIn H.holds) (reads_of_fault fault)) }
+{
+    let mut reader: HeldReader<'_, H, R> = HeldReader {
+        rt,
+        cells,
+        holder,
+        of: PhantomData,
+    };
+    let turn = run_turn_in(alloc, workspace, design, &state, now, &mut reader);
+    let HeldReader {
+        rt: _,
+        cells: _,
+        holder,
+        of: _,
+    } = reader;
+    (holder, turn)
+}

@@ -1,0 +1,120 @@
+//! What is done under the lock with the registers: what was read is compared with them, and the seat meets them.
+ghost use Rattle.std.specs.Prelude.{◌≡◌, ℕ, ◌<◌, length, Some, slice_get, IfSome, IfNone};
+ghost use Rattle.turn.specs.declared.memory.Seen as seens;
+ghost use Rattle.gateparts.specs.Fresh.{fresh_of};
+ghost use Rattle.gateparts.specs.Working.{IsCurrentOf, IsFirstMovedOf, Met, HasMetReads, HasMetWrites, AreReadsIn, AreWritesIn};
+
+use design::RegId;
+use indexmap::IndexMap;
+use logic4::bits::Bits;
+use regcells::{Holder, RegCells, RegSeat};
+use std::sync::Wait;
+use turn::Seen;
+
+// A recorded read, by its place.
+fn read_at(reads: &IndexMap<RegId, Seen>, place: usize) -> (RegId, Seen)
+    requires { place < length reads.now.entries }
+    ensures { slice_get reads.now.entries place ≡ Some result }
+{
+    match reads.get_index(place) {
+        Some((register, seen)) => (*register, *seen),
+        None => unreachable!(),
+    }
+}
+
+// A write, by its place.
+fn write_at(writes: &[(RegId, Bits)], place: usize) -> (RegId, Bits)
+    requires { place < length writes.now }
+    ensures { slice_get writes.now place ≡ Some result }
+{
+    writes[place]
+}
+
+/// The first register that has changed since it was read.
+pub fn first_moved<R: Wait>(
+    rt: &R,
+    cells: &RegCells,
+    holder: &mut Holder,
+    reads: &IndexMap<RegId, Seen>,
+) -> Option<RegId>
+    requires cells { holder.old.cells ≡ cells.now }
+    requires reads { AreReadsIn (length cells.now) reads.now.entries }
+    ensures same { holder.new ≡ holder.old }
+    ensures none { IfNone result ((k : ℕ) (d : ℕ × seens.Seen) → slice_get reads.now.entries k ≡ Some d → IsCurrentOf holder.old.seen d) }
+    ensures some { IfSome result (IsFirstMovedOf holder.old.seen reads.now.entries) }
+{
+    for place in 0..reads.len() {
+        let (register, seen) = read_at(reads, place);
+        let last = cells.get_held(rt, holder, register);
+        if last.version != seen.version {
+            return Some(register);
+        }
+    }
+    None
+}
+
+/// The seat has then seen all values of the registers that were read.
+pub fn meet_reads<R: Wait>(
+    rt: &R,
+    cells: &RegCells,
+    seat: &mut RegSeat,
+    holder: &mut Holder,
+    reads: &IndexMap<RegId, Seen>,
+)
+    requires seat { seat.old.cells ≡ cells.now }
+    requires holder { holder.old.cells ≡ cells.now }
+    requires reads { AreReadsIn (length cells.now) reads.now.entries }
+    ensures holder { holder.new ≡ holder.old }
+    ensures cells { seat.new.cells ≡ seat.old.cells }
+    ensures met { Met seat.old.seen holder.old.seen seat.new.seen }
+    ensures all { HasMetReads holder.old.seen seat.new.seen reads.now.entries }
+{
+    for place in 0..reads.len() {
+        let (register, _) = read_at(reads, place);
+        cells.meet(rt, seat, holder, register);
+    }
+}
+
+/// The seat has then seen all values of the registers that were written.
+pub fn meet_writes<R: Wait>(
+    rt: &R,
+    cells: &RegCells,
+    seat: &mut RegSeat,
+    holder: &mut Holder,
+    writes: &[(RegId, Bits)],
+)
+    requires seat { seat.old.cells ≡ cells.now }
+    requires holder { holder.old.cells ≡ cells.now }
+    requires writes { AreWritesIn (length cells.now) writes.now }
+    ensures holder { holder.new ≡ holder.old }
+    ensures cells { seat.new.cells ≡ seat.old.cells }
+    ensures met { Met seat.old.seen holder.old.seen seat.new.seen }
+    ensures all { HasMetWrites holder.old.seen seat.new.seen writes.now }
+{
+    for place in 0..writes.len() {
+        let (register, _) = write_at(writes, place);
+        cells.meet(rt, seat, holder, register);
+    }
+}
+
+/// The seat has then seen all values of a register, if it is one of so many.
+pub fn meet_one<R: Wait>(
+    rt: &R,
+    cells: &RegCells,
+    seat: &mut RegSeat,
+    holder: &mut Holder,
+    registers: u32,
+    register: RegId,
+)
+    requires seat { seat.old.cells ≡ cells.now }
+    requires holder { holder.old.cells ≡ cells.now }
+    requires registers { registers ≡ length cells.now }
+    ensures holder { holder.new ≡ holder.old }
+    ensures cells { seat.new.cells ≡ seat.old.cells }
+    ensures met { Met seat.old.seen holder.old.seen seat.new.seen }
+    ensures here { register < registers → fresh_of seat.new.seen register ≡ fresh_of holder.old.seen register }
+{
+    if register < registers {
+        cells.meet(rt, seat, holder, register);
+    }
+}

@@ -1,0 +1,62 @@
+//! Journals through a gate of one seat.
+
+use design::Design;
+use drive::{DriveFault, drive};
+use frontend::read_design;
+use model::entry::Entry;
+use replay::replay;
+use std::alloc::Global;
+use std::process::Abort;
+use std::sync::Wait;
+
+mod generated;
+mod worked;
+
+/// The design of a source.
+fn design_of(rt: &impl Abort, alloc: Global, source: &str) -> Design {
+    read_design(alloc, source.as_bytes())
+        .ok()
+        .expect(rt, "a module without faults")
+}
+
+// The lines of a lawful journal.
+fn assert_lines(rt: &impl Abort, alloc: Global, design: &Design, entries: &[Entry], lines: &str) {
+    let replayed = replay(alloc, design, entries)
+        .ok()
+        .expect(rt, "a lawful journal");
+    assert_eq!(rt; lines, replayed.lines.as_str());
+}
+
+// The first entry that isn't lawful.
+fn assert_refused(rt: &impl Abort, alloc: Global, design: &Design, entries: &[Entry], entry: u64) {
+    let fault = replay(alloc, design, entries)
+        .err()
+        .expect(rt, "no lawful journal");
+    assert_eq!(rt; entry, fault.entry);
+}
+
+/// A journal that is led through a gate gives the lines of its replay, or the entry that the replay names. Answers that
+/// entry, or 0 for lines.
+fn entry_refused<R: Abort + Wait>(
+    rt: &R,
+    alloc: Global,
+    design: &Design,
+    entries: &[Entry],
+) -> u64 {
+    assert!(rt; entries.len() < 1_000_000, "a short journal");
+    match drive(rt, alloc, design, entries) {
+        Ok(closed) => {
+            assert!(rt; closed.entries() == entries, "the entries");
+            assert_lines(rt, alloc, design, entries, closed.lines());
+            0
+        }
+        Err(DriveFault::Unlawful(entry)) => {
+            assert_refused(rt, alloc, design, entries, entry);
+            entry
+        }
+        Err(DriveFault::Memory) => {
+            assert!(rt; false, "memory");
+            0
+        }
+    }
+}

@@ -1,0 +1,124 @@
+//! Journals that a generator makes from a seed: lawful ones, and ones that were cut, shuffled or changed.
+ghost use Rattle.std.specs.Prelude.{◌<◌};
+
+use super::{design_of, entry_refused};
+use design::Design;
+use model::entry::Entry;
+use replay::replay;
+use std::alloc::Global;
+use std::process::Abort;
+
+/// Designs with races, waits of each kind, and updates.
+const SOURCES: [&str; 5] = [
+    "module t; reg a; initial a=1'b0; initial a=1'b1; initial #0 $display(\"%b\",a); endmodule",
+    "module t; reg a, b; initial begin a=1'b0; b=1'b1; end initial #1 a=b; initial #1 b=a; initial #2 $display(\"%b %b\",a,b); endmodule",
+    "module t; reg a; initial #0 a=1'b1; initial @(a) $display(\"p1\"); initial @(posedge a) $display(\"p2\"); endmodule",
+    "module t; reg a, b; initial begin #0 a=1'b1; b<=1'b1; #5 b<= #2 1'b0; end always @(a or b) $display(\"%b %b\",a,b); always begin #3 a<=b; #1 ; end endmodule",
+    "module t; reg a; initial begin a=1'b0; #4 $finish; end always begin #1 a<=1'b1; a<=1'b0; end always @(posedge a) $display(\"up\"); endmodule",
+];
+
+/// Numbers that a seed determines.
+#[derive(Drop)]
+struct Numbers {
+    state: u64,
+}
+
+impl Numbers {
+    // A number below a bound, which isn't 0.
+    fn below(&mut self, bound: u64) -> u64
+        requires { 0 < bound }
+        ensures { result < bound }
+    {
+        self.state = self
+            .state
+            .wrapping_mul(6_364_136_223_846_793_005)
+            .wrapping_add(1_442_695_040_888_963_407);
+        (self.state >> 33) % bound
+    }
+}
+
+// The entries that are permitted after these, of those whose numbers and times are below 24.
+fn permitted(rt: &impl Abort, alloc: Global, design: &Design, entries: &[Entry]) -> Vec<Entry> {
+    let replayed = replay(alloc, design, entries)
+        .ok()
+        .expect(rt, "a lawful journal");
+    let mut found = Vec::new(alloc);
+    for entry in [Entry::ActivateInactive, Entry::ActivateNba] {
+        if replayed.state.legal(&entry) {
+            found.push(entry).expect(rt, "memory");
+        }
+    }
+    for number in 0..24 {
+        for entry in [
+            Entry::Turn(number),
+            Entry::Update(number),
+            Entry::Advance(number),
+        ] {
+            if replayed.state.legal(&entry) {
+                found.push(entry).expect(rt, "memory");
+            }
+        }
+    }
+    found
+}
+
+// A lawful journal of at most 20 entries.
+fn lawful(rt: &impl Abort, alloc: Global, design: &Design, numbers: &mut Numbers) -> Vec<Entry> {
+    let mut entries = Vec::new(alloc);
+    for _ in 0..20 {
+        let found = permitted(rt, alloc, design, &entries);
+        if found.is_empty() {
+            return entries;
+        }
+        let place = numbers.below(found.len() as u64) as usize;
+        entries.push(found[place]).expect(rt, "memory");
+    }
+    entries
+}
+
+// The same entry with another number.
+fn changed(entry: Entry, number: u64) -> Entry {
+    match entry {
+        Entry::Turn(_) => Entry::Turn(number),
+        Entry::Update(_) => Entry::Update(number),
+        Entry::Advance(_) => Entry::Advance(number),
+        Entry::ActivateInactive | Entry::ActivateNba => entry,
+    }
+}
+
+// The journal as it is, cut, with two of its entries exchanged, or with a number changed.
+fn altered(mut entries: Vec<Entry>, numbers: &mut Numbers) -> Vec<Entry> {
+    if entries.is_empty() {
+        return entries;
+    }
+    let count = entries.len() as u64;
+    let place = numbers.below(count) as usize;
+    match numbers.below(4) {
+        0 => entries.truncate(place),
+        1 => {
+            let other = numbers.below(count) as usize;
+            entries.swap(place, other);
+        }
+        2 => entries[place] = changed(entries[place], numbers.below(24)),
+        _ => {}
+    }
+    entries
+}
+
+#[test]
+fn a_journal_is_answered_as_its_replay(rt: HostRuntime) {
+    let mut numbers = Numbers { state: 2005 };
+    let mut refused = 0u32;
+    for source in SOURCES {
+        let design = design_of(&rt, rt.alloc(), source);
+        for _ in 0..60 {
+            let entries = lawful(&rt, rt.alloc(), &design, &mut numbers);
+            let entries = altered(entries, &mut numbers);
+            if entry_refused(&rt, rt.alloc(), &design, &entries) > 0 {
+                refused = refused.saturating_add(1);
+            }
+        }
+    }
+    assert!(rt; refused >= 50, "journals that aren't lawful: {refused}");
+    assert!(rt; refused <= 250, "lawful journals: {refused}");
+}

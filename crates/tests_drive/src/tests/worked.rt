@@ -1,0 +1,175 @@
+//! Journals that were written by hand.
+
+use super::{design_of, entry_refused};
+use drive::drive;
+use model::entry::Entry;
+use std::alloc::Global;
+use std::process::Abort;
+use std::sync::Wait;
+
+const I: Entry = Entry::ActivateInactive;
+
+const N: Entry = Entry::ActivateNba;
+
+const T0: Entry = Entry::Turn(0);
+
+const T1: Entry = Entry::Turn(1);
+
+const T2: Entry = Entry::Turn(2);
+
+const T3: Entry = Entry::Turn(3);
+
+const T4: Entry = Entry::Turn(4);
+
+const T5: Entry = Entry::Turn(5);
+
+const T6: Entry = Entry::Turn(6);
+
+const U0: Entry = Entry::Update(0);
+
+const U1: Entry = Entry::Update(1);
+
+const U2: Entry = Entry::Update(2);
+
+const U3: Entry = Entry::Update(3);
+
+const U4: Entry = Entry::Update(4);
+
+const A1: Entry = Entry::Advance(1);
+
+const A2: Entry = Entry::Advance(2);
+
+const A3: Entry = Entry::Advance(3);
+
+const A5: Entry = Entry::Advance(5);
+
+/// One process, which prints a line.
+const HI: &str = "module t; initial $display(\"hi\"); endmodule";
+
+/// Two processes write a register, and a third shows it once both are over.
+const RACE: &str =
+    "module t; reg a; initial a=1'b0; initial a=1'b1; initial #0 $display(\"%b\",a); endmodule";
+
+/// Two processes copy two registers into each other at one time.
+const COPIES: &str =
+    "module t; reg a, b; initial begin a=1'b0; b=1'b1; end initial #1 a=b; initial #1 b=a; initial #2 $display(\"%b %b\",a,b); endmodule";
+
+/// A process that finishes the simulation, and another.
+const FINISH: &str =
+    "module t; initial begin $display(\"a\"); $finish; $display(\"b\"); end initial $display(\"c\"); endmodule";
+
+/// A register goes down and up again within one turn.
+const GLITCH: &str =
+    "module t; reg a; initial begin a=1'b1; #1 a=1'b0; a=1'b1; end initial #0 @(posedge a) $display(\"glitch\"); endmodule";
+
+/// One change wakes two processes.
+const WAITERS: &str =
+    "module t; reg a; initial #0 a=1'b1; initial @(a) $display(\"p1\"); initial @(posedge a) $display(\"p2\"); endmodule";
+
+/// Two updates of one register.
+const UPDATES: &str =
+    "module t; reg a; initial begin a<=1'b0; a<=1'b1; end initial @(posedge a) $display(\"up %b\",a); endmodule";
+
+/// A nonblocking assignment and a delay that are due at the same time.
+const DUE: &str =
+    "module t; reg a; initial begin a=1'b0; a <= #2 1'b1; #2 $display(\"%b\",a); #1 $display(\"%b\",a); end endmodule";
+
+/// A process that swaps the values of its registers at time 1.
+const SWAP: &str =
+    "module t; reg a, b; initial begin a=1'b0; b=1'b1; #1 a<=b; b<=a; #1 $display(\"%b %b\",a,b); end endmodule";
+
+/// A process with a wait of each kind, and one that waits for a change.
+const NUMBERED: &str =
+    "module t; reg a, b; initial begin #0 a = 1'b1; b <= 1'b1; #5 ; end initial @(a) ; endmodule";
+
+/// A line every ten units of time.
+const CLOCK: &str = "module t; always #10 $display(\"t\"); endmodule";
+
+/// A turn that never ends.
+const ENDLESS: &str = "module t; always ; endmodule";
+
+// The journal is driven to its end, with these lines.
+fn assert_driven<R: Abort + Wait>(
+    rt: &R,
+    alloc: Global,
+    source: &str,
+    entries: &[Entry],
+    lines: &str,
+) {
+    let design = design_of(rt, alloc, source);
+    assert_eq!(rt; entry_refused(rt, alloc, &design, entries), 0, "{source}");
+    assert!(rt; entries.len() < 1_000_000, "a short journal");
+    let closed = drive(rt, alloc, &design, entries).ok().expect(rt, "lawful");
+    assert_eq!(rt; closed.lines(), lines, "{source}");
+}
+
+#[test]
+fn leads_along_a_lawful_journal(rt: HostRuntime) {
+    let rows: [(&str, &[Entry], &str); 13] = [
+        (HI, &[], ""),
+        (HI, &[T0], "hi\n"),
+        (COPIES, &[T0, T1, T2, T3, A1, T4, T5, A2, T6], "1 1\n"),
+        (COPIES, &[T0, T1, T2, T3, A1, T5, T4, A2, T6], "0 0\n"),
+        (FINISH, &[T1, T0], "c\na\n"),
+        (GLITCH, &[T0, T1, I, T3, A1, T2, T4], "glitch\n"),
+        (WAITERS, &[T0, T1, T2, I, T3, T4, T5], "p1\np2\n"),
+        (WAITERS, &[T0, T1, T2, I, T3, T5, T4], "p2\np1\n"),
+        (UPDATES, &[T0, T1, N, U2, U3, T4], "up 1\n"),
+        (DUE, &[T0, A2, T2, N, U1, A3, T3], "0\n1\n"),
+        (SWAP, &[T0, A1, T1, N, U2, U3, A2, T4], "1 0\n"),
+        (NUMBERED, &[T0, T1, I, T2, T3, N, U4, A5, T5], ""),
+        (CLOCK, &[T0, Entry::Advance(10), T1], "t\n"),
+    ];
+    for (source, entries, lines) in rows {
+        assert_driven(&rt, rt.alloc(), source, entries, lines);
+    }
+}
+
+#[test]
+fn two_writers_either_order(rt: HostRuntime) {
+    assert_driven(&rt, rt.alloc(), RACE, &[T0, T1, T2, I, T3], "1\n");
+    assert_driven(&rt, rt.alloc(), RACE, &[T1, T0, T2, I, T3], "0\n");
+}
+
+#[test]
+fn names_the_first_entry_that_is_not_lawful(rt: HostRuntime) {
+    let rows: [(&str, &[Entry], u64); 16] = [
+        (RACE, &[T0, T2, I], 3),
+        (RACE, &[T0, T1, T2, N], 4),
+        (RACE, &[T1, T0, T2, I, T4], 5),
+        (HI, &[T0, T0], 2),
+        (HI, &[T0, I], 2),
+        (HI, &[U0], 1),
+        (FINISH, &[T0, T1], 2),
+        (FINISH, &[T0, A1], 2),
+        (UPDATES, &[T0, T1, N, U3], 4),
+        (UPDATES, &[T0, T1, N, T2], 4),
+        (UPDATES, &[T0, T1, N, I], 4),
+        (DUE, &[A2], 1),
+        (DUE, &[T0, A3], 2),
+        (CLOCK, &[T0, A1], 2),
+        (CLOCK, &[T0, Entry::Advance(10), Entry::Advance(20)], 3),
+        (ENDLESS, &[T0], 1),
+    ];
+    for (source, entries, entry) in rows {
+        let design = design_of(&rt, rt.alloc(), source);
+        assert_eq!(rt;
+            entry_refused(&rt, rt.alloc(), &design, entries),
+            entry,
+            "{source}"
+        );
+    }
+}
+
+#[test]
+fn no_time_is_past_the_last(rt: HostRuntime) {
+    let source = "module t; always #4294967295 ; endmodule";
+    let design = design_of(&rt, rt.alloc(), source);
+    let mut entries = Vec::new(rt.alloc());
+    for count in 0..65_537u64 {
+        entries.push(Entry::Turn(count)).expect(&rt, "memory");
+        let time = (count + 1) * 4_294_967_295;
+        entries.push(Entry::Advance(time)).expect(&rt, "memory");
+    }
+    assert_eq!(rt; entry_refused(&rt, rt.alloc(), &design, &entries), 131_074);
+}

@@ -1,0 +1,188 @@
+// The steps of a worker at an open gate.
+ghost use Rattle.std.specs.Prelude.{◌≡◌, ◌<◌, ◌∷◌, []};
+ghost use Rattle.turn.specs.declared.log.TurnFault.TheVariants.{TooLong};
+ghost use Rattle.turn.specs.Answers.{IsTurnLog, IsNoTurn};
+ghost use Rattle.turn.specs.Reads.{GaveAll};
+ghost use Rattle.gateparts.specs.Histories.{IsRead};
+
+use commitgate::{Closed, Gate, Grant, Naming, Reply, Seat, Ticket};
+use design::{Design, RegId};
+use frontend::read_design;
+use indexmap::IndexMap;
+use std::alloc::Global;
+use std::process::Abort;
+use std::sync::Wait;
+use turn::{RegReader, Seen, TurnLog, Workspace, run_turn};
+
+/// An open gate, and its design.
+#[derive(Drop)]
+pub struct Course<'g, 'd, K: Naming, R: Wait + Abort> {
+    pub rt: &'g R,
+    pub alloc: Global,
+    pub gate: &'g Gate<'d, K>,
+    pub design: &'d Design,
+    ghost design_is: { design.now ≡ K.named.listing },
+}
+
+impl<'g, 'd, K: Naming, R: Wait + Abort> Course<'g, 'd, K, R> {
+    /// The turn of a ticket, evaluated without the lock.
+    pub fn evaluate(&self, seat: Seat<K>, ticket: &Ticket<K>) -> (Seat<K>, TurnLog)
+        ensures turn { IsTurnLog K.named.listing ticket.now.state ticket.now.time result.1 }
+        ensures gave { GaveAll (IsRead K.named.listing result.0.fresh) result.1.reads.entries }
+    {
+        let mut reader = self.gate.reader(self.rt, seat);
+        let state = ticket.state();
+        let now = ticket.time();
+        let Ok(log) = run_turn(self.alloc, self.design, &state, now, &mut reader) else {
+            panic!(self.rt; "no short turn")
+        };
+        (reader.into_seat(), log)
+    }
+
+    /// Commits a turn that was evaluated without the lock.
+    pub fn commit(&self, mut seat: Seat<K>, ticket: Ticket<K>, log: TurnLog) -> (Seat<K>, Reply<K>)
+        requires turn { IsTurnLog K.named.listing ticket.state ticket.time log }
+        requires gave { GaveAll (IsRead K.named.listing seat.fresh) log.reads.entries }
+    {
+        assert!(self.rt; ticket.tries() < 3, "refused three times");
+        let mut workspace = Workspace::new(self.alloc);
+        let reply = self.gate.commit(self.rt, self.alloc, &mut workspace, &mut seat, ticket, log);
+        (seat, reply)
+    }
+
+    /// The same, after a look at the number of entries, which is answered too.
+    pub fn look_and_commit(
+        &self,
+        mut seat: Seat<K>,
+        ticket: Ticket<K>,
+        log: TurnLog,
+    ) -> (Seat<K>, u64, Reply<K>)
+        requires turn { IsTurnLog K.named.listing ticket.state ticket.time log }
+        requires gave { GaveAll (IsRead K.named.listing seat.fresh) log.reads.entries }
+    {
+        assert!(self.rt; ticket.tries() < 3, "refused three times");
+        let count = self.gate.entries(self.rt, &mut seat);
+        let mut workspace = Workspace::new(self.alloc);
+        let reply = self.gate.commit(self.rt, self.alloc, &mut workspace, &mut seat, ticket, log);
+        (seat, count, reply)
+    }
+
+    /// Evaluates the turn of a ticket without the lock, and commits it at once.
+    pub fn serve(&self, seat: Seat<K>, ticket: Ticket<K>) -> (Seat<K>, Reply<K>) {
+        let (seat, log) = self.evaluate(seat, &ticket);
+        self.commit(seat, ticket, log)
+    }
+
+    /// Gives up a turn that was evaluated without the lock and is too long.
+    pub fn give_up(
+        &self,
+        mut seat: Seat<K>,
+        ticket: Ticket<K>,
+        reads: IndexMap<RegId, Seen>,
+    ) -> (Seat<K>, Reply<K>)
+        requires turn { IsNoTurn K.named.listing ticket.state ticket.time (TooLong reads) }
+        requires gave { GaveAll (IsRead K.named.listing seat.fresh) reads.entries }
+    {
+        assert!(self.rt; ticket.tries() < 3, "refused three times");
+        let reply = self.gate.too_long(self.rt, &mut seat, ticket, reads);
+        (seat, reply)
+    }
+
+    /// Evaluates under the lock, and commits, the turn of a ticket that was refused three times.
+    pub fn commit_held(&self, mut seat: Seat<K>, ticket: Ticket<K>) -> (Seat<K>, Reply<K>) {
+        assert!(self.rt; ticket.tries() == 3, "not refused three times");
+        let mut workspace = Workspace::new(self.alloc);
+        let reply = self
+            .gate
+            .commit_held(self.rt, self.alloc, &mut workspace, &mut seat, ticket);
+        (seat, reply)
+    }
+
+    /// What a seat reads of a register.
+    pub fn read(&self, seat: Seat<K>, register: RegId) -> (Seat<K>, Seen) {
+        assert!(self.rt; register < self.design.registers(), "no such register");
+        let mut reader = self.gate.reader(self.rt, seat);
+        let seen = reader.read(register);
+        (reader.into_seat(), seen)
+    }
+}
+
+/// The design of a source.
+pub fn design_of(rt: &impl Abort, alloc: Global, source: &str) -> Design {
+    read_design(alloc, source.as_bytes())
+        .ok()
+        .expect(rt, "a module without faults")
+}
+
+/// The last ticket of those that are left.
+pub fn last<K: Naming>(rt: &impl Abort, tickets: &mut Vec<Ticket<K>>) -> Ticket<K> {
+    tickets.pop().expect(rt, "a ticket")
+}
+
+/// The grant of an accepted entry. Any other answer ends the test.
+pub fn accepted<K: Naming>(rt: &impl Abort, reply: Reply<K>) -> Grant<K> {
+    match reply {
+        Reply::Accepted(grant) => grant,
+        _ => panic!(rt; "not accepted"),
+    }
+}
+
+/// The register and the ticket of a stale turn. Any other answer ends the test.
+pub fn stale<K: Naming>(rt: &impl Abort, reply: Reply<K>) -> (RegId, Ticket<K>) {
+    match reply {
+        Reply::Stale(register, ticket) => (register, ticket),
+        _ => panic!(rt; "not stale"),
+    }
+}
+
+// One seat.
+fn alone<K: Naming>(rt: &impl Abort, alloc: Global, seat: Seat<K>) -> Vec<Seat<K>>
+    ensures { result.items ≡ seat ∷ [] }
+{
+    match vec![in alloc; seat] {
+        Ok(seats) => seats,
+        Err(_) => panic!(rt; "memory"),
+    }
+}
+
+// Two seats, in this order.
+fn both<K: Naming>(rt: &impl Abort, alloc: Global, one: Seat<K>, two: Seat<K>) -> Vec<Seat<K>>
+    ensures { result.items ≡ one ∷ two ∷ [] }
+{
+    match vec![in alloc; one, two] {
+        Ok(seats) => seats,
+        Err(_) => panic!(rt; "memory"),
+    }
+}
+
+/// Closes the gate of one worker.
+#[tactic(auto, using(crate::proofs::Seats::one_seat))]
+pub fn close_one<K: Naming, R: Wait + Abort>(
+    rt: &R,
+    alloc: Global,
+    gate: Gate<'_, K>,
+    seat: Seat<K>,
+) -> Closed
+    requires { K.named.workers ≡ 1 }
+{
+    assert!(rt; seat.worker() == 0, "another seat");
+    let seats = alone(rt, alloc, seat);
+    gate.close(rt, seats)
+}
+
+/// Closes the gate of two workers.
+#[tactic(auto, using(crate::proofs::Seats::two_seats))]
+pub fn close_two<K: Naming, R: Wait + Abort>(
+    rt: &R,
+    alloc: Global,
+    gate: Gate<'_, K>,
+    one: Seat<K>,
+    two: Seat<K>,
+) -> Closed
+    requires { K.named.workers ≡ 2 }
+{
+    assert!(rt; one.worker() == 0, "another seat");
+    assert!(rt; two.worker() == 1, "another seat");
+    let seats = both(rt, alloc, one, two);
+    gate.close(rt, seats)
+}

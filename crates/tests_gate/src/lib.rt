@@ -1,0 +1,16 @@
+//! Gates that tests lead step by step, each through its public calls. There are tests alone.
+//!
+//! 1. `course` has the steps of a worker: a turn is evaluated, committed, found too long, or evaluated under the lock.
+//! 2. `between` has a reader that lets another seat commit a turn between two reads.
+//! 3. `examples` has worked examples of one and of two seats: what each call answers, and what the gate leaves.
+//! 4. `held` reads registers while another thread has the lock.
+#![tactic(auto)]
+
+#[cfg(test)]
+mod between;
+#[cfg(test)]
+mod course;
+#[cfg(test)]
+mod examples;
+#[cfg(test)]
+mod held;

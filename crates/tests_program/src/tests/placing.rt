@@ -1,0 +1,177 @@
+//! Where tickets are put, and in which order workers look for them. Probes hold workers, so that each ticket can be got in
+//! one way alone.
+
+use super::counts::Count;
+use design::RegId;
+use frontend::read_design;
+use simulate::{Options, Outcome, Probe, ReplyKind, simulate};
+use std::alloc::Global;
+use std::process::Abort;
+use std::sync::Wait;
+use std::thread::Threads;
+
+/// What each of four workers evaluated, in order: a digit for each evaluation, which is the number of its event and one.
+#[derive(Drop)]
+struct Looked {
+    workers: [Count; 4],
+    evaluations: Count,
+    given_up: Count,
+}
+
+impl Looked {
+    fn new() -> Looked {
+        Looked {
+            workers: [Count::new(), Count::new(), Count::new(), Count::new()],
+            evaluations: Count::new(),
+            given_up: Count::new(),
+        }
+    }
+
+    fn add(&self, worker: u32, event: u64) {
+        if let Some(digits) = self.workers.get(worker as usize) {
+            digits.push(event.saturating_add(1));
+        }
+        self.evaluations.add();
+    }
+
+    /// Waits until so many evaluations have begun.
+    fn wait(&self, least: u64) {
+        self.evaluations.wait(least, &self.given_up);
+    }
+
+    fn assert(&self, rt: &impl Abort, digits: [u64; 4]) {
+        assert!(rt; self.given_up.get() == 0, "the waits ended");
+        for (worker, wanted) in self.workers.iter().zip(digits) {
+            assert!(rt; worker.get() == wanted, "{} and not {wanted}", worker.get());
+        }
+    }
+}
+
+/// Keeps the evaluation of each event open until so many evaluations have begun as the list has at its number.
+#[derive(Drop)]
+struct HoldsEvaluations<'a> {
+    begun: &'a [u64],
+    looked: Looked,
+}
+
+impl Probe for HoldsEvaluations<'_> {
+    fn evaluation(&self, worker: u32, event: u64, _tries: u8) {
+        self.looked.add(worker, event);
+        if let Some(least) = self.begun.get(event as usize) {
+            self.looked.wait(*least);
+        }
+    }
+
+    fn read(&self, _worker: u32, _register: RegId) {}
+
+    fn replied(&self, _worker: u32, _event: u64, _kind: ReplyKind) {}
+}
+
+/// Runs a source on two or four workers.
+fn run<P: Probe, R: Abort + Threads + Wait + Sync>(
+    rt: &R,
+    alloc: Global,
+    source: &str,
+    four: bool,
+    probe: &P,
+) -> Outcome {
+    let design = read_design(alloc, source.as_bytes()).expect(rt, "a design");
+    let options = Options {
+        workers: if four { 4 } else { 2 },
+        until: None,
+        max_entries: 100,
+    };
+    simulate(rt, alloc, &design, options, probe).expect(rt, "a run")
+}
+
+/// So many tickets were put, of which so many were stolen, and none is left.
+fn assert_tally(rt: &impl Abort, outcome: &Outcome, puts: u128, steals: u128) {
+    assert!(rt; outcome.tally.puts() == puts, "the puts");
+    assert!(rt; outcome.tally.steals() == steals, "the steals");
+    assert!(rt; outcome.tally.left() == 0, "what is left");
+}
+
+const EIGHT_PROCESSES: &str =
+    "module t; initial ; initial ; initial ; initial ; initial ; initial ; initial ; initial ; endmodule";
+
+#[test]
+fn first_tickets_are_placed_round_and_round(rt: HostRuntime) {
+    for _ in 0..100u32 {
+        let probe = HoldsEvaluations {
+            begun: &[4, 4, 4, 4, 8, 8, 8, 8],
+            looked: Looked::new(),
+        };
+        let outcome = run(&rt, rt.alloc(), EIGHT_PROCESSES, true, &probe);
+        probe.looked.assert(&rt, [15, 26, 37, 48]);
+        assert_tally(&rt, &outcome, 8, 0);
+    }
+}
+
+#[test]
+fn a_worker_steals_from_the_next_first(rt: HostRuntime) {
+    for _ in 0..100u32 {
+        let probe = HoldsEvaluations {
+            begun: &[8, 8, 4, 8],
+            looked: Looked::new(),
+        };
+        let outcome = run(&rt, rt.alloc(), EIGHT_PROCESSES, true, &probe);
+        probe.looked.assert(&rt, [1, 2, 37_856, 4]);
+        assert_tally(&rt, &outcome, 8, 3);
+    }
+}
+
+#[test]
+fn a_later_ticket_goes_to_the_worker_that_made_it(rt: HostRuntime) {
+    let source = "module t; reg a; initial a=1'b1; initial @(a) ; initial ; initial ; endmodule";
+    for _ in 0..100u32 {
+        let probe = HoldsEvaluations {
+            begun: &[3, 0, 0, 5],
+            looked: Looked::new(),
+        };
+        let outcome = run(&rt, rt.alloc(), source, false, &probe);
+        probe.looked.assert(&rt, [135, 24, 0, 0]);
+        assert_tally(&rt, &outcome, 5, 0);
+    }
+}
+
+/// Keeps the evaluation of event 0 open until the second read of event 1 has begun, that read until event 2 is evaluated,
+/// and event 2's evaluation until event 1 is evaluated again.
+#[derive(Drop)]
+struct HoldsOther {
+    looked: Looked,
+    reads: Count,
+}
+
+impl Probe for HoldsOther {
+    fn evaluation(&self, worker: u32, event: u64, _tries: u8) {
+        self.looked.add(worker, event);
+        if event == 0 {
+            self.reads.wait(2, &self.looked.given_up);
+        } else if event == 2 {
+            self.looked.wait(4);
+        }
+    }
+
+    fn read(&self, _worker: u32, _register: RegId) {
+        if self.reads.add() == 1 {
+            self.looked.wait(3);
+        }
+    }
+
+    fn replied(&self, _worker: u32, _event: u64, _kind: ReplyKind) {}
+}
+
+#[test]
+fn a_stale_ticket_goes_back_to_its_worker(rt: HostRuntime) {
+    let source =
+        "module t; reg a, b; initial begin a=1'b0; b=1'b0; end initial if (a!==b) begin end initial ; endmodule";
+    for _ in 0..100u32 {
+        let probe = HoldsOther {
+            looked: Looked::new(),
+            reads: Count::new(),
+        };
+        let outcome = run(&rt, rt.alloc(), source, false, &probe);
+        probe.looked.assert(&rt, [13, 22, 0, 0]);
+        assert_tally(&rt, &outcome, 4, 0);
+    }
+}
