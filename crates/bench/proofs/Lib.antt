@@ -1,2 +1,2 @@
-mod GivenTurns
+-- The lists that cells begin with.
 pub mod Beginnings

@@ -1,20 +1,19 @@
 //! Cells of registers: reads, stores, and a turn of 24,001 writes that is applied to them where nobody waits.
-ghost use Rattle.std.specs.Prelude.{◌≡◌, ℕ, ◌<◌, ◌≤◌, ◌^◌, map, length};
+ghost use Rattle.std.specs.Prelude.{◌≡◌, ℕ, ◌<◌, ◌≤◌, map, length};
 ghost use Rattle.model.specs.declared.entry.Entry.TheVariants as entries;
-ghost use Rattle.design.specs.Compiled.{design_of};
 ghost use Rattle.design.specs.Standing.{remainder_of, controls_of};
-ghost use Rattle.journal.specs.Queue.{state_of};
-ghost use Rattle.journal.specs.Logs.{IsTurnGiven};
+ghost use Rattle.regions.specs.Queue.{state_of};
+ghost use Rattle.regions.specs.Logs.{IsTurnGiven};
 ghost use Rattle.regcells.specs.Seats.{seen_of, last_values};
 
 use crate::run::log_of;
 use crate::sources::design_of;
 use crate::timing::{How, Measure, Stopwatch, Unit, must, tell};
-use design::{Code, Design};
-use journal::{PlainStore, State};
+use design::Design;
 use logic4::Bits;
 use model::entry::Entry;
 use regcells::{HeldStore, Holder, RegCells, RegSeat};
+use regions::{Made, PlainStore, State};
 use std::alloc::{AllocError, Global};
 use std::io;
 use std::sync::Wait;
@@ -103,27 +102,28 @@ fn apply_first<R: Wait>(
     requires values { map length (last_values holder) ≡ design.now.widths }
     requires first { state.entries ≡ 0 }
     requires room { (r : ℕ) → length (seen_of holder r) ≤ 1 }
-    requires given { IsTurnGiven (design_of design.now) (remainder_of design.now) (controls_of design.now) (state_of (remainder_of design.now) (last_values holder) state) (entries.Turn 0) log.now }
+    requires given { IsTurnGiven design.now (state_of (remainder_of design.now) (last_values holder) state) (entries.Turn 0) log.now }
 {
+    let mut made = Made::new(rt.alloc());
     let clock = Stopwatch::start(rt);
     let mut held = HeldStore::new(threads, cells, &mut holder);
-    let made = state.apply_borrowed(rt.alloc(), design, &mut held, Entry::Turn(0), log);
+    let applied = state.apply(design, &mut held, Entry::Turn(0), log, &mut made);
     let measure = clock.stop(rt, 1);
-    must(made.is_ok())?;
+    must(applied.is_ok())?;
     Ok(measure)
 }
 
 /// Applies the first turn of a design's run to new cells.
 fn turn_row<R: Wait>(rt: &HostRuntime, threads: &R, design: &Design) -> io::Result<Measure> {
     let alloc = rt.alloc();
-    let widths = design.widths(alloc)?;
-    let store = PlainStore::new(alloc, widths.as_slice())?;
+    let widths = design.widths();
+    let store = PlainStore::new(alloc, widths)?;
     let state = State::start(alloc, design)?;
     if state.time() != 0 {
         return Err(io::Error::from(io::ErrorKind::InvalidData));
     }
     let mut workspace = Workspace::new(alloc);
-    let (cells, holder, _) = RegCells::new(threads, alloc, widths.as_slice(), 1)?;
+    let (cells, holder, _) = RegCells::new(threads, alloc, widths, 1)?;
     match log_of(
         alloc,
         &mut workspace,

@@ -43,8 +43,8 @@ impl Driven {
     /// Applies an entry. False where it isn't permitted.
     fn apply(&mut self, alloc: Global, entry: Entry) -> bool {
         match self.run.apply(alloc, entry) {
-            Ok(made) => {
-                for event in made.events.iter() {
+            Ok(()) => {
+                for event in self.run.made() {
                     if self.active.push_back(event.number).is_err() {
                         return false;
                     }

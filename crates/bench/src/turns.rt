@@ -2,20 +2,19 @@
 
 use crate::sources::{adds, design_of};
 use crate::timing::{How, Measure, Stopwatch, Unit, tell};
-use design::{Code, Design};
-use journal::{PlainStore, turn_on};
+use design::Design;
+use regions::{PlainStore, turn_on};
 use std::io;
 use turn::Workspace;
 
 /// The first turn of a design's first process, in room that earlier turns may have left.
 fn turn(rt: &HostRuntime, workspace: &mut Workspace, design: &Design) -> io::Result<Measure> {
-    let widths = design.widths(rt.alloc())?;
-    let store = PlainStore::new(rt.alloc(), widths.as_slice())?;
+    let store = PlainStore::new(rt.alloc(), design.widths())?;
     if design.processes() == 0 {
         return Ok(Measure::NONE);
     }
     let clock = Stopwatch::start(rt);
-    match turn_on(rt.alloc(), workspace, design, design.first(0), 0, &store) {
+    match turn_on(rt.alloc(), workspace, design, design.start(0), 0, &store) {
         Ok(log) => {
             let measure = clock.stop(rt, u64::from(log.count));
             workspace.give_back(Some(log));

@@ -18,7 +18,7 @@ use Rattle.commitgate.specs.declared.reply.Reply.TheVariants as replies
 use Rattle.commitgate.specs.declared.reply.Reply.TheVariants.{Accepted, Stale, Gone, NoMemory}
 use Rattle.commitgate.specs.Named.{Named}
 use Rattle.gateparts.specs.Log.{entries_of}
-use Rattle.gateparts.specs.Held.{Held}
+use Rattle.gateparts.specs.GateState.{GateState}
 use Rattle.gateparts.specs.Guarded.{Guarded}
 use Rattle.commitgate.specs.Kept.{Kept}
 use Rattle.gateparts.specs.Fresh.{fresh_of, Rises}
@@ -41,26 +41,26 @@ pub of_none : {A : Type 0} (o : Option A) (P : Type 0) → IfNone o P → o ≡ 
 of_none o P h is = subst (λ x. IfNone x P) is h
 
 -- Such an answer is one to a ticket with a log, and one to a ticket whose turn is too long.
-pub barred_answered : {A : Type 0} (listing : Compiled) (limits : Limits) (worker : ℕ) (old : Held) (ticket : TicketView) (reads : List (ℕ × Seen)) (new : Held) (r : Reply A)
-    → Barred listing limits worker old ticket new r → Answered listing limits worker old ticket reads new r
-barred_answered listing limits worker old ticket reads new (Accepted grant) h = absurd h
-barred_answered listing limits worker old ticket reads new (Stale register back) h = absurd h
-barred_answered listing limits worker old ticket reads new Gone h = h
-barred_answered listing limits worker old ticket reads new (replies.Stopped why) h = h
-barred_answered listing limits worker old ticket reads new (NoMemory back) h = absurd h
+pub barred_answered : {A : Type 0} (code : Compiled) (limits : Limits) (worker : ℕ) (old : GateState) (ticket : TicketView) (reads : List (ℕ × Seen)) (new : GateState) (r : Reply A)
+    → Barred code limits worker old ticket new r → Answered code limits worker old ticket reads new r
+barred_answered code limits worker old ticket reads new (Accepted grant) h = absurd h
+barred_answered code limits worker old ticket reads new (Stale register back) h = absurd h
+barred_answered code limits worker old ticket reads new Gone h = h
+barred_answered code limits worker old ticket reads new (replies.Stopped why) h = h
+barred_answered code limits worker old ticket reads new (NoMemory back) h = absurd h
 
-pub full_stopped : (listing : Compiled) (limits : Limits) (worker : ℕ) (old : Held) (ticket : TicketView) (why : Why) (new : Held)
-    → answers.IsFullStopped listing limits worker old ticket why new → answers.IsStopped listing limits worker old ticket why new
-full_stopped listing limits worker old ticket why new (inl h) = inl h
-full_stopped listing limits worker old ticket why new (inr h) = inr (h.0, h.1, subst (StopsAt listing limits old ticket) (sym h.3) (Full h.2), h.4)
+pub full_stopped : (code : Compiled) (limits : Limits) (worker : ℕ) (old : GateState) (ticket : TicketView) (why : Why) (new : GateState)
+    → answers.IsFullStopped code limits worker old ticket why new → answers.IsStopped code limits worker old ticket why new
+full_stopped code limits worker old ticket why new (inl h) = inl h
+full_stopped code limits worker old ticket why new (inr h) = inr (h.0, h.1, subst (StopsAt code limits old ticket) (sym h.3) (Full h.2), h.4)
 
-pub barred_long : {A : Type 0} (listing : Compiled) (limits : Limits) (worker : ℕ) (old : Held) (ticket : TicketView) (reads : List (ℕ × Seen)) (new : Held) (r : Reply A)
-    → Barred listing limits worker old ticket new r → LongAnswered listing limits worker old ticket reads new r
-barred_long listing limits worker old ticket reads new (Accepted grant) h = absurd h
-barred_long listing limits worker old ticket reads new (Stale register back) h = absurd h
-barred_long listing limits worker old ticket reads new Gone h = h
-barred_long listing limits worker old ticket reads new (replies.Stopped why) h = full_stopped listing limits worker old ticket why new h
-barred_long listing limits worker old ticket reads new (NoMemory back) h = absurd h
+pub barred_long : {A : Type 0} (code : Compiled) (limits : Limits) (worker : ℕ) (old : GateState) (ticket : TicketView) (reads : List (ℕ × Seen)) (new : GateState) (r : Reply A)
+    → Barred code limits worker old ticket new r → LongAnswered code limits worker old ticket reads new r
+barred_long code limits worker old ticket reads new (Accepted grant) h = absurd h
+barred_long code limits worker old ticket reads new (Stale register back) h = absurd h
+barred_long code limits worker old ticket reads new Gone h = h
+barred_long code limits worker old ticket reads new (replies.Stopped why) h = full_stopped code limits worker old ticket why new h
+barred_long code limits worker old ticket reads new (NoMemory back) h = absurd h
 
 -- a stop for a full journal is one of the causes of a call with a turn that is too long
 long_stored : (p : ℕ) (new old : Option Why) (why : Why) → (new ≡ old) ⊎ ((new ≡ Some why) × CommitCauses why) → (new ≡ old) ⊎ ((new ≡ Some why) × LongCauses p why)
@@ -95,41 +95,41 @@ barred_long_told n old ticket reads new (replies.Stopped why) h = stopped_long n
 barred_long_told n old ticket reads new (NoMemory back) h = absurd h
 
 -- a register that was read has changed
-pub tell_stale : (n : Named) (old : SeatView) (held : Held) → Guarded n.listing n.limits held → Kept n held → IsPrefix old.seen held.log
+pub tell_stale : (n : Named) (old : SeatView) (held : GateState) → Guarded n.code n.limits held → Kept n held → IsPrefix old.seen held.log
     → (ticket back : TicketView) (reads : List (ℕ × Seen)) (r : ℕ) (new : SeatView) → new ≡ record old { seen = held.log; fresh = new.fresh } → Rises old.fresh new.fresh → held.end ≡ None
-    → back ≡ again ticket → IsFirstMovedIn (design_of n.listing) held.journal reads r → fresh_of new.fresh r ≡ hist (design_of n.listing) held.journal r
+    → back ≡ again ticket → IsFirstMovedIn (design_of n.code) held.journal reads r → fresh_of new.fresh r ≡ hist (design_of n.code) held.journal r
     → IsStale n old ticket reads r back new
 tell_stale n old held g k later ticket back reads r new is rises running returned moved met =
     let journal : held.journal ≡ entries_of new.seen = k.journal_is ∙ ap entries_of (sym (ap (λ (v : SeatView). v.seen) is)) in
     record {
       refused = tell_refused n old held g k later new new.fresh is rises running;
       back_is = returned;
-      moved = subst (λ j. IsFirstMovedIn (design_of n.listing) j reads r) journal moved;
-      met = met ∙ ap (λ j. hist (design_of n.listing) j r) journal;
+      moved = subst (λ j. IsFirstMovedIn (design_of n.code) j reads r) journal moved;
+      met = met ∙ ap (λ j. hist (design_of n.code) j r) journal;
     }
 
 -- what was read of a turn that is too long is of declared registers
-pub long_reads_in : (listing : Compiled) (m : ℕ) (ticket : TicketView) (reads : _) → m ≡ length listing.widths → IsStateOf listing ticket.process ticket.state
-    → IsNoTurn listing ticket.state ticket.time (fault.TooLong reads) → AreReadsIn m reads.entries
-long_reads_in listing m ticket reads e own turn k d at =
-    subst (λ j. d.0 < j) (sym e) (get_all (λ (r : ℕ × Seen). r.0 < length listing.widths) reads.entries (turn ticket.process own).0 k d at)
+pub long_reads_in : (code : Compiled) (m : ℕ) (ticket : TicketView) (reads : _) → m ≡ length code.widths → IsStateOf code ticket.process ticket.state
+    → IsNoTurn code ticket.state ticket.time (fault.TooLong reads) → AreReadsIn m reads.entries
+long_reads_in code m ticket reads e own turn k d at =
+    subst (λ j. d.0 < j) (sym e) (get_all (λ (r : ℕ × Seen). r.0 < length code.widths) reads.entries (turn ticket.process own).0 k d at)
 
 -- where what was read is current, the ticket's evaluation has no short turn
-pub long_by : (n : Named) (held : Held) (ticket : TicketView) (reads : _) (fresh : List (List Vector)) → Kept n held → IsCurrent held.core ticket → IsStateOf n.listing ticket.process ticket.state
-    → IsNoTurn n.listing ticket.state ticket.time (fault.TooLong reads) → GaveAll (IsRead n.listing fresh) reads.entries → AreCurrent n.listing held reads.entries
-    → length held.values ≡ length n.listing.widths
+pub long_by : (n : Named) (held : GateState) (ticket : TicketView) (reads : _) (fresh : List (List Vector)) → Kept n held → IsCurrent held.core ticket → IsStateOf n.code ticket.process ticket.state
+    → IsNoTurn n.code ticket.state ticket.time (fault.TooLong reads) → GaveAll (IsRead n.code fresh) reads.entries → AreCurrent n.code held reads.entries
+    → length held.values ≡ length n.code.widths
     → ((k : ℕ) (d : ℕ × Seen) → slice_get reads.entries k ≡ Some d → IsPrefix (fresh_of fresh d.0) (fresh_of held.histories d.0))
-    → turn_at n.listing held ticket.process ticket.state ≡ None
+    → turn_at n.code held ticket.process ticket.state ≡ None
 long_by n held ticket reads fresh kept current own turn gave cur count begins =
-    let low = long_reads_in n.listing (length n.listing.widths) ticket reads refl own turn in
+    let low = long_reads_in n.code (length n.code.widths) ticket reads refl own turn in
     let agree : Agrees reads.entries (map last_value held.histories) =
-    agrees n.listing fresh held.histories reads.entries gave (turn ticket.process own).0 begins (λ k d at. ap length (kept.histories d.0 (low k d at)) ∙ cur k d at) in
-    long_at_lock n.listing held ticket.process ticket.state reads own count
-    (subst (λ t. IsNoTurn n.listing ticket.state t (fault.TooLong reads)) (sym current.time) turn)
+    agrees n.code fresh held.histories reads.entries gave (turn ticket.process own).0 begins (λ k d at. ap length (kept.histories d.0 (low k d at)) ∙ cur k d at) in
+    long_at_lock n.code held ticket.process ticket.state reads own count
+    (subst (λ t. IsNoTurn n.code ticket.state t (fault.TooLong reads)) (sym current.time) turn)
     (subst (Agrees reads.entries) (sym kept.values) agree)
 
 -- the run is stopped for a turn that is too long
-pub long_stopped : (listing : Compiled) (limits : Limits) (worker : ℕ) (old : Held) (ticket : TicketView) (process : ℕ) (new : Held) → process ≡ ticket.process → MayCommit limits old ticket
-    → turn_at listing old ticket.process ticket.state ≡ None → new ≡ stopped worker (TooLong process) old → answers.IsStopped listing limits worker old ticket (TooLong process) new
-long_stopped listing limits worker old ticket process new is may none same =
-    inr (may.running, may.current, subst (λ p. StopsAt listing limits old ticket (TooLong p)) (sym is) (Long may.room none), same)
+pub long_stopped : (code : Compiled) (limits : Limits) (worker : ℕ) (old : GateState) (ticket : TicketView) (process : ℕ) (new : GateState) → process ≡ ticket.process → MayCommit limits old ticket
+    → turn_at code old ticket.process ticket.state ≡ None → new ≡ stopped worker (TooLong process) old → answers.IsStopped code limits worker old ticket (TooLong process) new
+long_stopped code limits worker old ticket process new is may none same =
+    inr (may.running, may.current, subst (λ p. StopsAt code limits old ticket (TooLong p)) (sym is) (Long may.room none), same)

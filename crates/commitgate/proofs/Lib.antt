@@ -1,3 +1,4 @@
+-- Lemmas of the gate: what seats have seen, validation, what holds at the lock and after each step, rests, ends, and that a gate may cross threads.
 mod Agreeing
 mod Staying
 mod AtLock

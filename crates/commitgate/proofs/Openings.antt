@@ -1,50 +1,37 @@
 -- What the lock and the gate keep once a gate is opened.
-use Rattle.std.proofs.Common.{◌≡◌, ℕ, zero, suc, ◌-◌, List, [], ◌∷◌, ◌++◌, replicate, refl, sym, ap, ◌∙◌, subst, arith}
+use Rattle.std.proofs.Common.{◌≡◌, ℕ, zero, suc, ◌-◌, List, [], ◌∷◌, ◌++◌, replicate, refl, sym, ap, ◌∙◌, arith}
 use Rattle.crossbeam_utils.specs.Seq.{cell_view}
 use Rattle.crossbeam_utils.specs.declared.atomic.seq_cell.Doing.{Doing}
 use Rattle.atomic_table.specs.declared.shared.Seat.{Seat}
-use Rattle.model.specs.Design.{Trigger}
-use Rattle.design.specs.declared.code.ProcState.{ProcState}
-use Rattle.design.specs.Compiled.{Compiled}
-use Rattle.design.specs.Standing.{IsStateOf}
-use Rattle.journal.specs.Queue.{Core}
-use Rattle.journal.specs.Passing.{HasOwnStates}
-use Rattle.journal.specs.Evaluations.{IsEvaluation}
 use Rattle.regcells.specs.Seats as regs
 use Rattle.gateparts.specs.declared.mark.MarkView.{MarkView}
 use Rattle.gateparts.specs.declared.parts.Parts.{Parts}
 use Rattle.commitgate.specs.Named.{Named}
 use Rattle.gateparts.specs.Log.{Log}
-use Rattle.gateparts.specs.Parts.{held_of}
+use Rattle.gateparts.specs.Parts.{gate_state_of}
 use Rattle.gateparts.specs.Marked.{keeper}
 use Rattle.commitgate.specs.Standing.{Stands}
 use Rattle.commitgate.specs.Blanks.{IsBlank}
-use Rattle.commitgate.proofs.Standings.{process_below, guarded_same, kept_start}
+use Rattle.commitgate.proofs.Standings.{guarded_same, kept_start}
 
 abbrev pub MarkPass : Type 0
 MarkPass = Seat (List ℕ) (Doing (List ℕ) MarkView)
 
--- an active evaluation goes on from a state of its process's own
-pub evaluation_own : (listing : Compiled) (core : Core) (event p : ℕ) (st : ProcState) → HasOwnStates (IsStateOf listing) core → IsEvaluation core event (p, st) → IsStateOf listing p st
-evaluation_own listing core event p st own is =
-    let d : ProcState × List Trigger = (st, []) in
-    subst (λ (x : ProcState). IsStateOf listing p x) (is.1 d) (own p d (process_below core.processes p st is.1))
-
 -- The lock keeps what it is to keep, once the seats are made.
 pub stands_first : (n : Named) (room : ℕ) (committed : List ℕ) (seats : List regs.Fresh) (p : Parts) (whole : MarkPass) → IsBlank n room committed seats p
     → whole.table_id ≡ n.mark → cell_view whole ≡ keeper (cell_view whole).made []
-    → Stands n p.design.now p.limits p.holder whole.table_id (cell_view whole) (held_of (record p { whole = whole }))
+    → Stands n p.design.now p.limits p.holder whole.table_id (cell_view whole) (gate_state_of (record p { whole = whole }))
 stands_first n room committed seats p whole b mark keeps =
     let seen : (cell_view {V = MarkView} whole).seen ≡ [] = ap (λ (v : MarkView). v.seen) keeps in
     record {
-      listing_is = b.listing_is;
+      code_is = b.code_is;
       limits_is = b.limits_is;
       cells_are = ap (λ (f : regs.Fresh). f.cells) b.holder_is;
       widths_are = b.widths_are;
       mark_is = mark;
       keeps = keeps ∙ ap (λ (l : Log). keeper (cell_view {V = MarkView} whole).made l) (sym seen);
-      guarded = guarded_same n.listing n.limits (held_of p) p.holder.seen (cell_view {V = MarkView} whole).seen b.guarded;
-      kept = kept_start n (held_of (record p { whole = whole })) b.journal_is b.end_is seen (ap (λ (f : regs.Fresh). f.seen) b.holder_is) refl refl;
+      guarded = guarded_same n.code n.limits (gate_state_of p) p.holder.seen (cell_view {V = MarkView} whole).seen b.guarded;
+      kept = kept_start n (gate_state_of (record p { whole = whole })) b.journal_is b.end_is seen (ap (λ (f : regs.Fresh). f.seen) b.holder_is) refl refl;
     }
 
 -- the last of a list of like values is that value, and one fewer is left

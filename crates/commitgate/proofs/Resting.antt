@@ -13,7 +13,7 @@ use Rattle.design.specs.Compiled.{design_of}
 use Rattle.gateparts.specs.declared.log.Item.TheVariants.{Ended}
 use Rattle.commitgate.specs.Named.{Named}
 use Rattle.gateparts.specs.Log.{Log, entries_of}
-use Rattle.gateparts.specs.Held.{Held, state_in}
+use Rattle.gateparts.specs.GateState.{GateState, state_in}
 use Rattle.gateparts.specs.Guarded.{Guarded}
 use Rattle.commitgate.specs.Kept.{Kept}
 use Rattle.gateparts.specs.Fresh.{Rises}
@@ -32,23 +32,23 @@ use Rattle.commitgate.proofs.Staying.{quiet_stays}
 use Rattle.commitgate.proofs.Tellings.{after_log, tell_refused, tell_ended}
 
 -- no event is left
-pub tell_quiet : (n : Named) (old : SeatView) (held : Held) → Guarded n.listing n.limits held → Kept n held → IsPrefix old.seen held.log → (new : SeatView) → new ≡ record old { seen = held.log }
-    → held.end ≡ None → is_quiet (state_in n.listing held) ≡ true → IsQuietTo n old new
+pub tell_quiet : (n : Named) (old : SeatView) (held : GateState) → Guarded n.code n.limits held → Kept n held → IsPrefix old.seen held.log → (new : SeatView) → new ≡ record old { seen = held.log }
+    → held.end ≡ None → is_quiet (state_in n.code held) ≡ true → IsQuietTo n old new
 tell_quiet n old held g k later new is running quiet = record {
   refused = tell_refused n old held g k later new old.fresh is (rises_self old.fresh) running;
   quiet =
-      subst (λ (v : SeatView). Ends (design_of n.listing) n.limits (entries_of v.seen) Quiet) (sym is)
-      (subst (λ (o : Option State). IsSomeAnd o (λ s. (is_quiet s ≡ true) × (s.finished ≡ false))) (sym (after_log n held g k)) (quiet, unfinished n.listing n.limits held g running));
+      subst (λ (v : SeatView). Ends (design_of n.code) n.limits (entries_of v.seen) Quiet) (sym is)
+      (subst (λ (o : Option State). IsSomeAnd o (λ s. (is_quiet s ≡ true) × (s.finished ≡ false))) (sym (after_log n held g k)) (quiet, unfinished n.code n.limits held g running));
   stays =
       subst (λ (v : SeatView). Stays n v.seen) (sym is)
-      (quiet_stays n held.log g.ran.effect (ap (run (design_of n.listing)) (sym k.journal_is) ∙ g.ran.is_run) (ap is_quiet g.ran.state_is ∙ quiet));
+      (quiet_stays n held.log g.ran.effect (ap (run (design_of n.code)) (sym k.journal_is) ∙ g.ran.is_run) (ap is_quiet g.ran.state_is ∙ quiet));
 }
 
 -- the call stored the end
-pub tell_stop : (n : Named) (causes : Why → Type 0) (old mid new : SeatView) (why : Why) (held same held' : Held) → Guarded n.listing n.limits held' → Kept n held' → IsPrefix old.seen held.log
+pub tell_stop : (n : Named) (causes : Why → Type 0) (old mid new : SeatView) (why : Why) (held same held' : GateState) → Guarded n.code n.limits held' → Kept n held' → IsPrefix old.seen held.log
     → same ≡ held → mid ≡ record old { seen = held.log } → held' ≡ stopped mid.worker why same → new ≡ record mid { seen = held'.log; stored = Some why } → causes why → IsStopped n causes old why new
 tell_stop n causes old mid new why held same held' g' k' later same_is mid_is state new_is cause =
-    let log : held'.log ≡ held.log ++ (mid.worker, Ended why) ∷ [] = ap (λ (h : Held). h.log) state ∙ ap (λ (h : Held). h.log ++ (mid.worker, Ended why) ∷ []) same_is in
+    let log : held'.log ≡ held.log ++ (mid.worker, Ended why) ∷ [] = ap (λ (h : GateState). h.log) state ∙ ap (λ (h : GateState). h.log ++ (mid.worker, Ended why) ∷ []) same_is in
     let seen : new.seen ≡ held'.log = ap (λ (v : SeatView). v.seen) new_is in
     tell_ended n causes old new why held' g' k'
     (record {
@@ -58,7 +58,7 @@ tell_stop n causes old mid new why held same held' g' k' later same_is mid_is st
     })
     (ap (λ (v : SeatView). v.mine) new_is ∙ ap (λ (v : SeatView). v.mine) mid_is)
     seen
-    (ap (λ (h : Held). h.end) state)
+    (ap (λ (h : GateState). h.end) state)
     (inr (ap (λ (v : SeatView). v.stored) new_is, cause))
 
 none_of : (xs : List Event) → has_any xs ≡ false → map (λ e. e.0) xs ≡ []
@@ -69,7 +69,7 @@ below_or : (a b : ℕ) → (a ≤ b → ⊥) → b < a
 below_or a b h = omega (arith, h)
 
 -- an event is active, and the worker was not to wait
-pub tell_busy : (n : Named) (old : SeatView) (held : Held) → Guarded n.listing n.limits held → Kept n held → IsPrefix old.seen held.log → (new : SeatView) → new ≡ record old { seen = held.log }
+pub tell_busy : (n : Named) (old : SeatView) (held : GateState) → Guarded n.code n.limits held → Kept n held → IsPrefix old.seen held.log → (new : SeatView) → new ≡ record old { seen = held.log }
     → held.end ≡ None → has_any held.core.active ≡ true
     → (held.end ≡ None → has_any held.core.active ≡ true → HasNoUpdate held.core → length held.journal ≤ length (entries_of old.seen) → ⊥)
     → IsRefused n old new × IsBusy n old new
@@ -79,7 +79,7 @@ tell_busy n old held g k later new is running active awake = (
 )
   where
     by_case : (b : Bool) → has_any (filter (λ e. not (is_evaluation e.1)) held.core.active) ≡ b → IsBusy n old (record old { seen = held.log })
-    by_case true e = inl (state_in n.listing held, after_log n held g k, e)
+    by_case true e = inl (state_in n.code held, after_log n held g k, e)
     by_case false e =
         let none : HasNoUpdate held.core = none_of (filter (λ e. not (is_evaluation e.1)) held.core.active) e in
         inr (below_or (length (entries_of held.log)) (length (entries_of old.seen)) (λ few. awake running active none (rw k.journal_is few)))

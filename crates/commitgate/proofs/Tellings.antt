@@ -17,15 +17,15 @@ use Rattle.design.specs.Compiled.{Compiled, design_of}
 use Rattle.design.specs.Standing as standing
 use Rattle.design.specs.Standing.{IsStateOf}
 use Rattle.design.proofs.Numbered.{states_are_equal}
-use Rattle.journal.specs.Queue.{Core, state_of}
-use Rattle.journal.specs.Queue as queue
-use Rattle.journal.specs.Passing.{HasOwnStates}
-use Rattle.journal.specs.Find.{update_numbers}
+use Rattle.regions.specs.Queue.{Core, state_of}
+use Rattle.regions.specs.Queue as queue
+use Rattle.regions.specs.Passing.{HasOwnStates}
+use Rattle.regions.specs.Find.{update_numbers}
 use Rattle.turn.specs.declared.memory.Seen.{Seen}
 use Rattle.gateparts.specs.declared.log.Item.TheVariants.{Ended}
 use Rattle.commitgate.specs.Named.{Named}
 use Rattle.gateparts.specs.Log.{Log, entries_of, end_in, items_of}
-use Rattle.gateparts.specs.Held.{Held, state_in}
+use Rattle.gateparts.specs.GateState.{GateState, state_in}
 use Rattle.gateparts.specs.Guarded.{MayEnd, Guarded}
 use Rattle.commitgate.specs.Kept.{Kept}
 use Rattle.gateparts.specs.Fresh.{Rises}
@@ -45,32 +45,32 @@ use Rattle.commitgate.proofs.Staying.{end_stays}
 use Rattle.commitgate.proofs.Meetings.{rises_self, rises_both}
 
 -- the state after what the lock has
-pub after_log : (n : Named) (held : Held) → Guarded n.listing n.limits held → Kept n held → after (design_of n.listing) (entries_of held.log) ≡ Some (state_in n.listing held)
+pub after_log : (n : Named) (held : GateState) → Guarded n.code n.limits held → Kept n held → after (design_of n.code) (entries_of held.log) ≡ Some (state_in n.code held)
 after_log n held g k =
-    ap (after (design_of n.listing)) (sym k.journal_is) ∙ ap (option_map (λ e. e.state)) g.ran.is_run ∙ ap Some g.ran.state_is
+    ap (after (design_of n.code)) (sym k.journal_is) ∙ ap (option_map (λ e. e.state)) g.ran.is_run ∙ ap Some g.ran.state_is
 
 -- what holds of the state after a journal
 some_after : (o : Option State) (s : State) (P : State → Type 0) → o ≡ Some s → P s → IsSomeAnd o P
 some_after o s P is h = subst (λ (x : Option State). IsSomeAnd x P) (sym is) h
 
 -- the log under the lock is one of the gate's
-pub is_log : (n : Named) (held : Held) → Guarded n.listing n.limits held → Kept n held → IsLog n held.log
+pub is_log : (n : Named) (held : GateState) → Guarded n.code n.limits held → Kept n held → IsLog n held.log
 is_log n held g k = record {
-  lawful = subst (IsLawful (design_of n.listing)) k.journal_is (lawful_of n.listing n.limits held g);
+  lawful = subst (IsLawful (design_of n.code)) k.journal_is (lawful_of n.code n.limits held g);
   few = subst (λ (j : List Entry). length j ≤ n.limits.max_entries) k.journal_is g.few;
   last = k.last;
   end = holds held.end k.end_is g.ends;
   workers = k.workers;
 }
   where
-    holds : (end : Option Why) → end ≡ end_in held.log → MayEnd (design_of n.listing) n.limits (length held.journal) (state_in n.listing held) end → EndHolds n held.log (end_in held.log)
-    holds None is h = subst (EndHolds n held.log) is (some_after (after (design_of n.listing) (entries_of held.log)) (state_in n.listing held) (λ s. s.finished ≡ false) (after_log n held g k) h)
+    holds : (end : Option Why) → end ≡ end_in held.log → MayEnd (design_of n.code) n.limits (length held.journal) (state_in n.code held) end → EndHolds n held.log (end_in held.log)
+    holds None is h = subst (EndHolds n held.log) is (some_after (after (design_of n.code) (entries_of held.log)) (state_in n.code held) (λ s. s.finished ≡ false) (after_log n held g k) h)
     holds (Some why) is h =
         subst (EndHolds n held.log) is
-        (some_after (after (design_of n.listing) (entries_of held.log)) (state_in n.listing held) (λ s. EndsIn (design_of n.listing) n.limits (length (entries_of held.log)) s (Stopped why)) (after_log n held g k)
-        (subst (λ (j : List Entry). EndsIn (design_of n.listing) n.limits (length j) (state_in n.listing held) (Stopped why)) k.journal_is h))
+        (some_after (after (design_of n.code) (entries_of held.log)) (state_in n.code held) (λ s. EndsIn (design_of n.code) n.limits (length (entries_of held.log)) s (Stopped why)) (after_log n held g k)
+        (subst (λ (j : List Entry). EndsIn (design_of n.code) n.limits (length j) (state_in n.code held) (Stopped why)) k.journal_is h))
 
-module _ (n : Named) (old : SeatView) (held : Held) (g : Guarded n.listing n.limits held) (k : Kept n held) (later : IsPrefix old.seen held.log) where
+module _ (n : Named) (old : SeatView) (held : GateState) (g : Guarded n.code n.limits held) (k : Kept n held) (later : IsPrefix old.seen held.log) where
   -- a seat that has seen the log, and perhaps more of the registers
   abbrev pub greeted : List (List Vector) → SeatView
   greeted fresh = record old { seen = held.log; fresh = fresh }
@@ -93,9 +93,9 @@ module _ (n : Named) (old : SeatView) (held : Held) (g : Guarded n.listing n.lim
   })
 
   pub tell_stops : (causes : Why → Type 0) (why : Why) (new : SeatView) → new ≡ record old { seen = (stopped old.worker why held).log; stored = Some why } → held.end ≡ None
-      → EndsIn (design_of n.listing) n.limits (length held.journal) (state_in n.listing held) (Stopped why) → old.worker < n.workers → causes why → IsStopped n causes old why new
+      → EndsIn (design_of n.code) n.limits (length held.journal) (state_in n.code held) (Stopped why) → old.worker < n.workers → causes why → IsStopped n causes old why new
   tell_stops causes why new is running ends low cause =
-      let g' = guarded_stop n.listing n.limits old.worker held why g ends in
+      let g' = guarded_stop n.code n.limits old.worker held why g ends in
       let k' = kept_stop n held old.worker why k low running in
       subst (IsStopped n causes old why) (sym is) (record {
         log = is_log n (stopped old.worker why held) g' k';
@@ -123,19 +123,19 @@ AllEvaluate [] = Unit {0}
 AllEvaluate (e ∷ es) = (is_evaluation e.1 ≡ true) × AllEvaluate es
 
 -- a new ticket for each of these evaluations
-pub tickets_of : (listing : Compiled) (values : List Vector) (core : Core) (es : List Event) → AllEvaluate es
+pub tickets_of : (code : Compiled) (values : List Vector) (core : Core) (es : List Event) → AllEvaluate es
     → ((j : ℕ) (t : TicketView) → slice_get (map (ticket_for core) es) j ≡ Some t → t.process < length core.processes)
-    → AreTicketsOf listing (state_of (standing.remainder_of listing) values core) es (map (ticket_for core) es)
-tickets_of listing values core [] all within = tt
-tickets_of listing values core (e ∷ es) all within = (
+    → AreTicketsOf code (state_of (standing.remainder_of code) values core) es (map (ticket_for core) es)
+tickets_of code values core [] all within = tt
+tickets_of code values core (e ∷ es) all within = (
   record {
     event = refl;
     process = evaluates e.1 all.0;
-    remainder = remainder_at (standing.remainder_of listing) core.processes (process_in e.1) (record { place = 0; pending = None }, []) (within 0 (ticket_for core e) refl);
+    remainder = remainder_at (standing.remainder_of code) core.processes (process_in e.1) (record { place = 0; pending = None }, []) (within 0 (ticket_for core e) refl);
     time = refl;
     tries = refl;
   },
-  tickets_of listing values core es all.1 (λ j t at. within (suc j) t at),
+  tickets_of code values core es all.1 (λ j t at. within (suc j) t at),
 )
 
 evaluation_test : (p : Event → Bool) (e : Event) (es : List Event) (a b : Bool) → is_evaluation e.1 ≡ a → AllEvaluate es → AllEvaluate (if a && b then e ∷ es else es)
@@ -148,67 +148,67 @@ evaluations_only p [] = tt
 evaluations_only p (e ∷ es) = evaluation_test p e (filter (λ e. is_evaluation e.1 && p e) es) (is_evaluation e.1) (p e) refl (evaluations_only p es)
 
 -- an active ticket of the definitions is one under the lock, where its state is one of its process's own
-pub active_current : (listing : Compiled) (held : Held) (ticket : TicketView) → HasOwnStates (IsStateOf listing) held.core → IsStateOf listing ticket.process ticket.state
-    → ticket.process < length held.core.processes → IsActiveTicket listing (state_in listing held) ticket → IsCurrent held.core ticket
-active_current listing held ticket own mine low h = record {
+pub active_current : (code : Compiled) (held : GateState) (ticket : TicketView) → HasOwnStates (IsStateOf code) held.core → IsStateOf code ticket.process ticket.state
+    → ticket.process < length held.core.processes → IsActiveTicket code (state_in code held) ticket → IsCurrent held.core ticket
+active_current code held ticket own mine low h = record {
   evaluation = (
     h.evaluation,
     λ d.
-        let there : IsStateOf listing ticket.process (slice_index_or held.core.processes ticket.process d).0 = own ticket.process d low in
-        (states_are_equal listing ticket.process ticket.process (slice_index_or held.core.processes ticket.process d).0 ticket.state there mine).1
-        (refl, remainder_at (standing.remainder_of listing) held.core.processes ticket.process d low ∙ h.remainder),
+        let there : IsStateOf code ticket.process (slice_index_or held.core.processes ticket.process d).0 = own ticket.process d low in
+        (states_are_equal code ticket.process ticket.process (slice_index_or held.core.processes ticket.process d).0 ticket.state there mine).1
+        (refl, remainder_at (standing.remainder_of code) held.core.processes ticket.process d low ∙ h.remainder),
   );
   time = h.time;
 }
 
-pub current_active : (listing : Compiled) (held : Held) (ticket : TicketView) → ticket.process < length held.core.processes → IsCurrent held.core ticket → IsActiveTicket listing (state_in listing held) ticket
-current_active listing held ticket low h =
+pub current_active : (code : Compiled) (held : GateState) (ticket : TicketView) → ticket.process < length held.core.processes → IsCurrent held.core ticket → IsActiveTicket code (state_in code held) ticket
+current_active code held ticket low h =
     let d : ProcState × List Trigger = (ticket.state, []) in
     record {
       evaluation = h.evaluation.0;
-      remainder = sym (remainder_at (standing.remainder_of listing) held.core.processes ticket.process d low) ∙ ap (standing.remainder_of listing) (h.evaluation.1 d);
+      remainder = sym (remainder_at (standing.remainder_of code) held.core.processes ticket.process d low) ∙ ap (standing.remainder_of code) (h.evaluation.1 d);
       time = h.time;
     }
 
 pub current_below : (core : Core) (ticket : TicketView) → IsCurrent core ticket → ticket.process < length core.processes
 current_below core ticket h = process_below core.processes ticket.process ticket.state h.evaluation.1
 
-module _ (n : Named) (old : SeatView) (held : Held) (g : Guarded n.listing n.limits held) (k : Kept n held) (later : IsPrefix old.seen held.log) where
+module _ (n : Named) (old : SeatView) (held : GateState) (g : Guarded n.code n.limits held) (k : Kept n held) (later : IsPrefix old.seen held.log) where
   -- the entry was appended
-  abbrev pub tell_appended : (held' : Held) (g' : Guarded n.listing n.limits held') (k' : Kept n held') (entry : Entry) (position : ℕ) (named : Entry) (tickets : List TicketView) (new : SeatView)
-      → IsGranted n.listing old.worker held entry position named tickets held'
+  abbrev pub tell_appended : (held' : GateState) (g' : Guarded n.code n.limits held') (k' : Kept n held') (entry : Entry) (position : ℕ) (named : Entry) (tickets : List TicketView) (new : SeatView)
+      → IsGranted n.code old.worker held entry position named tickets held'
       → new.worker ≡ old.worker → new.seen ≡ held'.log → new.mine ≡ old.mine ++ position ∷ []
-      → new.stored ≡ (if (state_in n.listing held').finished then Some Finish else old.stored) → Rises old.fresh new.fresh
-      → HasMetEntry n (state_in n.listing held) entry new.seen new.fresh
+      → new.stored ≡ (if (state_in n.code held').finished then Some Finish else old.stored) → Rises old.fresh new.fresh
+      → HasMetEntry n (state_in n.code held) entry new.seen new.fresh
       → IsAppended n old entry position named tickets new
   tell_appended held' g' k' entry position named tickets new h worker seen mine stored rises met = record {
     log = subst (IsLog n) (sym seen) (is_log n held' g' k');
     follows = record {
       worker = worker;
-      later = prefix_trans old.seen held.log new.seen later (items_of old.worker entry (state_in n.listing held').finished, sym (seen ∙ h.log_is));
+      later = prefix_trans old.seen held.log new.seen later (items_of old.worker entry (state_in n.code held').finished, sym (seen ∙ h.log_is));
       rises = rises;
     };
     before = held.log;
     extends = later;
-    from = state_in n.listing held;
+    from = state_in n.code held;
     from_is = after_log n held g k;
-    to = state_in n.listing held';
-    to_is = ap (λ (l : Log). after (design_of n.listing) (entries_of l)) seen ∙ after_log n held' g' k';
+    to = state_in n.code held';
+    to_is = ap (λ (l : Log). after (design_of n.code) (entries_of l)) seen ∙ after_log n held' g' k';
     ends = seen ∙ h.log_is;
     mine = mine;
     stored = stored;
     position_is = h.position_is ∙ ap length k.journal_is;
     entry_is = h.entry_is;
     tickets_are =
-        subst (AreTicketsOf n.listing (state_in n.listing held') (made_active held.core.active held'.core.active)) (sym h.tickets_are)
-        (tickets_of n.listing held'.values held'.core (made_active held.core.active held'.core.active)
+        subst (AreTicketsOf n.code (state_in n.code held') (made_active held.core.active held'.core.active)) (sym h.tickets_are)
+        (tickets_of n.code held'.values held'.core (made_active held.core.active held'.core.active)
         (evaluations_only (λ e. not (has_event held.core.active e.0)) held'.core.active)
         (λ j t at. h.within j t (ap (λ ts. slice_get ts j) h.tickets_are ∙ at)));
     met = met;
   }
 
 -- the run is stopped for this reason, in what the seat has then seen
-pub tell_ended : (n : Named) (causes : Why → Type 0) (old new : SeatView) (why : Why) (held' : Held) → Guarded n.listing n.limits held' → Kept n held' → Follows old new → new.mine ≡ old.mine
+pub tell_ended : (n : Named) (causes : Why → Type 0) (old new : SeatView) (why : Why) (held' : GateState) → Guarded n.code n.limits held' → Kept n held' → Follows old new → new.mine ≡ old.mine
     → new.seen ≡ held'.log → held'.end ≡ Some why → (new.stored ≡ old.stored) ⊎ ((new.stored ≡ Some why) × causes why) → IsStopped n causes old why new
 tell_ended n causes old new why held' g' k' follows mine seen ended stored =
     let end : end_in new.seen ≡ Some why = ap end_in seen ∙ sym k'.end_is ∙ ended in
@@ -229,18 +229,18 @@ refused_by false P h f = λ p. clash (h.1 p)
     clash e = cc
 
 -- no active evaluation is the ticket's
-pub tell_gone : (n : Named) (old : SeatView) (held : Held) (ticket : TicketView) (current : Bool) (new : SeatView) → Guarded n.listing n.limits held → Kept n held → IsPrefix old.seen held.log
-    → new ≡ record old { seen = held.log } → held.end ≡ None → IsStateOf n.listing ticket.process ticket.state
+pub tell_gone : (n : Named) (old : SeatView) (held : GateState) (ticket : TicketView) (current : Bool) (new : SeatView) → Guarded n.code n.limits held → Kept n held → IsPrefix old.seen held.log
+    → new ≡ record old { seen = held.log } → held.end ≡ None → IsStateOf n.code ticket.process ticket.state
     → (IsTrue current ↔ IsCurrent held.core ticket) → current ≡ false
     → ((p : ℕ) → action_in held.core.active ticket.event ≡ Some (Evaluate p) → p < length held.core.processes)
     → IsGone n old ticket new
 tell_gone n old held ticket current new g k later is running own test isnt below = record {
   refused = tell_refused n old held g k later new old.fresh is (rises_self old.fresh) running;
   gone = (
-    state_in n.listing held,
-    ap (λ (v : SeatView). after (design_of n.listing) (entries_of v.seen)) is ∙ after_log n held g k,
+    state_in n.code held,
+    ap (λ (v : SeatView). after (design_of n.code) (entries_of v.seen)) is ∙ after_log n held g k,
     λ h. refused_by current (IsCurrent held.core ticket) test isnt
-        (active_current n.listing held ticket g.states own (below ticket.process h.evaluation) h),
+        (active_current n.code held ticket g.states own (below ticket.process h.evaluation) h),
   );
 }
 

@@ -7,7 +7,7 @@ use Rattle.logic4.specs.Vector.{Vector}
 use Rattle.model.specs.declared.entry.Entry.TheVariants as entries
 use Rattle.model.specs.States.{Evaluate}
 use Rattle.model.specs.Runs.{action_in, turn_of, least}
-use Rattle.journal.specs.Find.{update_numbers}
+use Rattle.regions.specs.Find.{update_numbers}
 use Rattle.design.specs.Compiled.{Compiled, design_of}
 use Rattle.design.specs.Standing.{IsStateOf}
 use Rattle.design.specs.Fits.{FitsRegister}
@@ -18,7 +18,7 @@ use Rattle.turn.specs.Reads.{Agrees, GaveAll}
 use Rattle.regcells.specs.Values.{last_value}
 use Rattle.commitgate.specs.Named.{Named}
 use Rattle.gateparts.specs.Log.{Log, entries_of}
-use Rattle.gateparts.specs.Held.{Held, state_in}
+use Rattle.gateparts.specs.GateState.{GateState, state_in}
 use Rattle.commitgate.specs.Kept.{Kept}
 use Rattle.gateparts.specs.Fresh.{fresh_of}
 use Rattle.commitgate.specs.Tickets.{TicketView, IsCurrent}
@@ -30,7 +30,7 @@ use Rattle.commitgate.specs.Told.{HasMet, HasMetEntry}
 use Rattle.gateparts.proofs.Beginnings.{prefix_get}
 use Rattle.gateparts.proofs.Places.{or_of, within}
 use Rattle.commitgate.proofs.Agreeing.{agrees}
-use Rattle.gateparts.proofs.Given.{turn_of-is}
+use Rattle.regions.proofs.Evaluated.{turn_of-is}
 use Rattle.commitgate.proofs.AtLock.{at_lock}
 
 pub if_none : {A : Type 0} (o : Option A) (P Q : Type 0) → IfNone o P → (P → Q) → IfNone o Q
@@ -56,29 +56,29 @@ gave_at P (x ∷ xs) gave zero d at = let same : x ≡ d = cc at in subst (λ (y
 gave_at P (x ∷ xs) gave (suc k) d at = gave_at P xs gave.1 k d at
 
 -- what was read is of declared registers
-pub reads_in : (listing : Compiled) (m : ℕ) (ticket : TicketView) (log : TurnLog) → m ≡ length listing.widths → IsStateOf listing ticket.process ticket.state → IsTurnLog listing ticket.state ticket.time log → AreReadsIn m log.reads.entries
-reads_in listing m ticket log e own turn k d at =
-    subst (λ j. d.0 < j) (sym e) (get_all (λ (r : ℕ × Seen). r.0 < length listing.widths) log.reads.entries (turn.declared ticket.process own) k d at)
+pub reads_in : (code : Compiled) (m : ℕ) (ticket : TicketView) (log : TurnLog) → m ≡ length code.widths → IsStateOf code ticket.process ticket.state → IsTurnLog code ticket.state ticket.time log → AreReadsIn m log.reads.entries
+reads_in code m ticket log e own turn k d at =
+    subst (λ j. d.0 < j) (sym e) (get_all (λ (r : ℕ × Seen). r.0 < length code.widths) log.reads.entries (turn.declared ticket.process own) k d at)
 
-pub log_in : (listing : Compiled) (m : ℕ) (ticket : TicketView) (log : TurnLog) → m ≡ length listing.widths → IsStateOf listing ticket.process ticket.state → IsTurnLog listing ticket.state ticket.time log → IsLogIn m (Some log)
-log_in listing m ticket log e own turn = (
-  reads_in listing m ticket log e own turn,
-  λ k d at. subst (λ j. d.0 < j) (sym e) (get_all (λ (w : ℕ × Vector). FitsRegister listing.widths w.0 w.1) log.writes.items (turn.fits ticket.process own).writes k d at).0,
+pub log_in : (code : Compiled) (m : ℕ) (ticket : TicketView) (log : TurnLog) → m ≡ length code.widths → IsStateOf code ticket.process ticket.state → IsTurnLog code ticket.state ticket.time log → IsLogIn m (Some log)
+log_in code m ticket log e own turn = (
+  reads_in code m ticket log e own turn,
+  λ k d at. subst (λ j. d.0 < j) (sym e) (get_all (λ (w : ℕ × Vector). FitsRegister code.widths w.0 w.1) log.writes.items (turn.fits ticket.process own).writes k d at).0,
 )
 
 -- current by the lists is current by the journal
-pub current_by : (n : Named) (held : Held) (reads : List (ℕ × Seen)) → Kept n held → AreReadsIn (length n.listing.widths) reads
-    → ((k : ℕ) (d : ℕ × Seen) → slice_get reads k ≡ Some d → IsCurrentOf held.histories d) → AreCurrent n.listing held reads
+pub current_by : (n : Named) (held : GateState) (reads : List (ℕ × Seen)) → Kept n held → AreReadsIn (length n.code.widths) reads
+    → ((k : ℕ) (d : ℕ × Seen) → slice_get reads k ≡ Some d → IsCurrentOf held.histories d) → AreCurrent n.code held reads
 current_by n held reads kept low cur k d at = ap length (sym (kept.histories d.0 (low k d at))) ∙ cur k d at
 
 -- and moved by the lists is moved by the journal
-pub moved_by : (n : Named) (held : Held) (reads : List (ℕ × Seen)) (r : ℕ) (fresh : List (List Vector)) → Kept n held → AreReadsIn (length n.listing.widths) reads
-    → IsFirstMovedOf held.histories reads r → GaveAll (IsRead n.listing fresh) reads → IsPrefix (fresh_of fresh r) (fresh_of held.histories r)
-    → IsFirstMovedIn (design_of n.listing) held.journal reads r
+pub moved_by : (n : Named) (held : GateState) (reads : List (ℕ × Seen)) (r : ℕ) (fresh : List (List Vector)) → Kept n held → AreReadsIn (length n.code.widths) reads
+    → IsFirstMovedOf held.histories reads r → GaveAll (IsRead n.code fresh) reads → IsPrefix (fresh_of fresh r) (fresh_of held.histories r)
+    → IsFirstMovedIn (design_of n.code) held.journal reads r
 moved_by n held reads r fresh kept low m gave begins =
     let d = m.read in
     let here = low m.at d m.there in
-    let pair = gave_at (IsRead n.listing fresh) reads gave m.at d m.there here in
+    let pair = gave_at (IsRead n.code fresh) reads gave m.at d m.there here in
     let begins' : IsPrefix (fresh_of fresh d.0) (fresh_of held.histories d.0) = subst (λ q. IsPrefix (fresh_of fresh q) (fresh_of held.histories q)) (sym m.register) begins in
     let there = prefix_get (fresh_of fresh d.0) (fresh_of held.histories d.0) d.1.version d.1.value begins' pair in
     let long = within (fresh_of held.histories d.0) d.1.version d.1.value there in
@@ -88,7 +88,7 @@ moved_by n held reads r fresh kept low m gave begins =
       read = d;
       there = m.there;
       register = m.register;
-      moved = apart (length (fresh_of held.histories d.0)) d.1.version (length (hist (design_of n.listing) held.journal d.0)) long m.moved same;
+      moved = apart (length (fresh_of held.histories d.0)) d.1.version (length (hist (design_of n.code) held.journal d.0)) long m.moved same;
       before = λ k e lt at. ap length (sym (kept.histories e.0 (low k e at))) ∙ m.before k e lt at;
     }
   where
@@ -96,21 +96,21 @@ moved_by n held reads r fresh kept low m gave begins =
     apart len version other lt ne same = omega (arith, lt, ne, same)
 
 -- the log is that of the ticket's turn
-pub given_by : (n : Named) (held : Held) (ticket : TicketView) (log : TurnLog) (fresh : List (List Vector)) → Kept n held → IsCurrent held.core ticket → IsStateOf n.listing ticket.process ticket.state
-    → IsTurnLog n.listing ticket.state ticket.time log → GaveAll (IsRead n.listing fresh) log.reads.entries → AreCurrent n.listing held log.reads.entries
-    → length held.values ≡ length n.listing.widths
+pub given_by : (n : Named) (held : GateState) (ticket : TicketView) (log : TurnLog) (fresh : List (List Vector)) → Kept n held → IsCurrent held.core ticket → IsStateOf n.code ticket.process ticket.state
+    → IsTurnLog n.code ticket.state ticket.time log → GaveAll (IsRead n.code fresh) log.reads.entries → AreCurrent n.code held log.reads.entries
+    → length held.values ≡ length n.code.widths
     → ((k : ℕ) (d : ℕ × Seen) → slice_get log.reads.entries k ≡ Some d → IsPrefix (fresh_of fresh d.0) (fresh_of held.histories d.0))
-    → IsLogOfEvent n.listing held ticket.event log
+    → IsLogOfEvent n.code held ticket.event log
 given_by n held ticket log fresh kept current own turn gave cur count begins =
-    let low = reads_in n.listing (length n.listing.widths) ticket log refl own turn in
+    let low = reads_in n.code (length n.code.widths) ticket log refl own turn in
     let agree : Agrees log.reads.entries (map last_value held.histories) =
-    agrees n.listing fresh held.histories log.reads.entries gave (turn.declared ticket.process own) begins (λ k d at. ap length (kept.histories d.0 (low k d at)) ∙ cur k d at) in
+    agrees n.code fresh held.histories log.reads.entries gave (turn.declared ticket.process own) begins (λ k d at. ap length (kept.histories d.0 (low k d at)) ∙ cur k d at) in
     record {
       process = ticket.process;
       state = ticket.state;
       evaluation = current.evaluation;
-      turn = at_lock n.listing held ticket.process ticket.state log own count
-          (subst (λ t. IsTurnLog n.listing ticket.state t log) (sym current.time) turn)
+      turn = at_lock n.code held ticket.process ticket.state log own count
+          (subst (λ t. IsTurnLog n.code ticket.state t log) (sym current.time) turn)
           (subst (Agrees log.reads.entries) (sym kept.values) agree);
     }
 
@@ -118,15 +118,15 @@ same_number : (p q : ℕ) → Some (Evaluate p) ≡ Some (Evaluate q) → p ≡ 
 same_number p q e = cc
 
 -- the seat has met what the turn read and wrote
-pub met_turn : (n : Named) (held held' : Held) (event : ℕ) (log : TurnLog) (seen : Log) (fresh : List (List Vector)) (m : ℕ) → Kept n held' → seen ≡ held'.log
-    → IsLogOfEvent n.listing held event log → AreReadsIn (length n.listing.widths) log.reads.entries → AreWritesIn (length n.listing.widths) log.writes.items
-    → HasMetLog held'.histories fresh m None (Some log) → HasMetEntry n (state_in n.listing held) (entries.Turn event) seen fresh
+pub met_turn : (n : Named) (held held' : GateState) (event : ℕ) (log : TurnLog) (seen : Log) (fresh : List (List Vector)) (m : ℕ) → Kept n held' → seen ≡ held'.log
+    → IsLogOfEvent n.code held event log → AreReadsIn (length n.code.widths) log.reads.entries → AreWritesIn (length n.code.widths) log.writes.items
+    → HasMetLog held'.histories fresh m None (Some log) → HasMetEntry n (state_in n.code held) (entries.Turn event) seen fresh
 met_turn n held held' event log seen fresh m kept is h reads writes met p turn action found =
     let process : h.process ≡ p = same_number h.process p (sym h.evaluation.0 ∙ action) in
-    let both : Some h.turn.turn ≡ Some turn = sym h.turn.is_turn ∙ sym (turn_of-is n.listing held event h.process h.state h.evaluation) ∙ ap (turn_of (design_of n.listing) (state_in n.listing held)) process ∙ found in
+    let both : Some h.turn.turn ≡ Some turn = sym h.turn.is_turn ∙ sym (turn_of-is n.code held.core held.values event h.process h.state h.evaluation) ∙ ap (turn_of (design_of n.code) (state_in n.code held)) process ∙ found in
     let same : h.turn.turn ≡ turn = cc in
-    let whole : (r : ℕ) → r < length n.listing.widths → fresh_of held'.histories r ≡ hist (design_of n.listing) (entries_of seen) r =
-    λ r low. kept.histories r low ∙ ap (λ j. hist (design_of n.listing) j r) (kept.journal_is ∙ ap entries_of (sym is)) in
+    let whole : (r : ℕ) → r < length n.code.widths → fresh_of held'.histories r ≡ hist (design_of n.code) (entries_of seen) r =
+    λ r low. kept.histories r low ∙ ap (λ j. hist (design_of n.code) j r) (kept.journal_is ∙ ap entries_of (sym is)) in
     record {
       uses = subst (All (HasMet n seen fresh)) (h.turn.is_log.uses ∙ ap (λ t. t.uses) same)
           (all_map (HasMet n seen fresh) log.reads.entries (λ k d at. met.0 k d at ∙ whole d.0 (reads k d at)));
@@ -135,10 +135,10 @@ met_turn n held held' event log seen fresh m kept is h reads writes met p turn a
     }
 
 -- the seat has met the register of an update
-pub met_update : (n : Named) (held held' : Held) (number : ℕ) (seen : Log) (fresh : List (List Vector)) (m : ℕ) → m ≡ length n.listing.widths → Kept n held' → seen ≡ held'.log
+pub met_update : (n : Named) (held held' : GateState) (number : ℕ) (seen : Log) (fresh : List (List Vector)) (m : ℕ) → m ≡ length n.code.widths → Kept n held' → seen ≡ held'.log
     → least (update_numbers held.core.active) ≡ Some number
-    → HasMetLog held'.histories fresh m (updated_register held.core.active (entries.Update number)) None → HasMetEntry n (state_in n.listing held) (entries.Update number) seen fresh
+    → HasMetLog held'.histories fresh m (updated_register held.core.active (entries.Update number)) None → HasMetEntry n (state_in n.code held) (entries.Update number) seen fresh
 met_update n held held' number seen fresh m e kept is first met r v action low =
     let register : updated_register held.core.active (entries.Update number) ≡ Some r =
     ap (λ o. register_in (option_and_then (action_in held.core.active) o)) first ∙ ap register_in action in
-    met r register (subst (λ j. r < j) (sym e) low) ∙ kept.histories r low ∙ ap (λ j. hist (design_of n.listing) j r) (kept.journal_is ∙ ap entries_of (sym is))
+    met r register (subst (λ j. r < j) (sym e) low) ∙ kept.histories r low ∙ ap (λ j. hist (design_of n.code) j r) (kept.journal_is ∙ ap entries_of (sym is))

@@ -6,29 +6,29 @@ use Rattle.design.specs.Compiled.{design_of}
 use Rattle.regcells.specs.Seats as regs
 use Rattle.gateparts.specs.declared.parts.Parts.{Parts}
 use Rattle.commitgate.specs.Named.{Named}
-use Rattle.gateparts.specs.Held.{state_in}
-use Rattle.gateparts.specs.Parts.{held_of}
+use Rattle.gateparts.specs.GateState.{state_in}
+use Rattle.gateparts.specs.Parts.{gate_state_of}
 use Rattle.gateparts.specs.Guarded.{Guarded}
 use Rattle.gateparts.specs.Marked.{keeper}
 use Rattle.commitgate.specs.Seats.{first_values}
 
 -- of each register of a gate all x alone was seen
 abbrev pub first_fresh : Named → regs.Fresh
-first_fresh n = record { cells = n.cells; seen = first_values n.listing }
+first_fresh n = record { cells = n.cells; seen = first_values n.code }
 
 -- The cells have the widths of the design's registers, and the holder and each worker's seat have seen that they are all x;
 -- the mark's pass knows the empty log; the journal is empty, the regions are at the start, and no end is stored; and
 -- there is room for a number of each worker.
 pub record IsBlank (n : Named) (room : ℕ) (committed : List ℕ) (seats : List regs.Fresh) (parts : Parts) : Type 0 where
-  pub listing_is : parts.design.now ≡ n.listing
+  pub code_is : parts.design.now ≡ n.code
   pub limits_is : parts.limits ≡ n.limits
-  pub widths_are : regs.widths_of n.cells ≡ n.listing.widths
+  pub widths_are : regs.widths_of n.cells ≡ n.code.widths
   pub seats_are : seats ≡ replicate n.workers (first_fresh n)
   pub holder_is : parts.holder ≡ first_fresh n
   pub mark_is : parts.whole.table_id ≡ n.mark
   pub keeps : cell_view parts.whole ≡ keeper 0 []
-  pub guarded : Guarded n.listing n.limits (held_of parts)
-  pub starts : state_in n.listing (held_of parts) ≡ start (design_of n.listing)
+  pub guarded : Guarded n.code n.limits (gate_state_of parts)
+  pub starts : state_in n.code (gate_state_of parts) ≡ start (design_of n.code)
   pub journal_is : parts.journal.items ≡ []
   pub end_is : parts.end ≡ None
   pub none_yet : committed ≡ []

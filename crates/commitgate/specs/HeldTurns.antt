@@ -6,17 +6,17 @@ use Rattle.turn.specs.declared.log.TurnFault.{TurnFault}
 use Rattle.turn.specs.declared.log.TurnFault.TheVariants.{TooLong, Memory}
 use Rattle.turn.specs.Answers.{IsTurnLog}
 use Rattle.turn.specs.Reads.{GaveAll}
-use Rattle.gateparts.specs.Held.{Held}
+use Rattle.gateparts.specs.GateState.{GateState}
 use Rattle.commitgate.specs.Tickets.{TicketView}
 use Rattle.gateparts.specs.Histories.{IsRead}
 use Rattle.gateparts.specs.Evaluated.{turn_at}
 use Rattle.commitgate.specs.Answers.{AreCurrent}
 
 -- the log is the turn from a ticket's state on, and what was read of it stands in the histories and is current
-pub record IsHeldTurn (listing : Compiled) (held : Held) (ticket : TicketView) (log : TurnLog) : Type 0 where
-  pub turn : IsTurnLog listing ticket.state ticket.time log
-  pub recorded : GaveAll (IsRead listing held.histories) log.reads.entries
-  pub current : AreCurrent listing held log.reads.entries
+pub record IsHeldTurn (code : Compiled) (held : GateState) (ticket : TicketView) (log : TurnLog) : Type 0 where
+  pub turn : IsTurnLog code ticket.state ticket.time log
+  pub recorded : GaveAll (IsRead code held.histories) log.reads.entries
+  pub current : AreCurrent code held log.reads.entries
 
 -- memory was refused
 abbrev pub is_refused : TurnFault → Bool
@@ -24,6 +24,6 @@ is_refused (TooLong reads) = false
 is_refused Memory = true
 
 -- a turn that is too long is no short turn from the ticket's state on
-abbrev pub IsNoHeldTurn : Compiled → Held → TicketView → TurnFault → Type 0
-IsNoHeldTurn listing held ticket (TooLong reads) = turn_at listing held ticket.process ticket.state ≡ None
-IsNoHeldTurn listing held ticket Memory = Unit {0}
+abbrev pub IsNoHeldTurn : Compiled → GateState → TicketView → TurnFault → Type 0
+IsNoHeldTurn code held ticket (TooLong reads) = turn_at code held ticket.process ticket.state ≡ None
+IsNoHeldTurn code held ticket Memory = Unit {0}

@@ -19,11 +19,11 @@ pub record SeatView : Type 0 where
 
 -- of each register all x alone
 abbrev pub first_values : Compiled → List (List Vector)
-first_values listing = map (λ w. unknown w ∷ []) listing.widths
+first_values code = map (λ w. unknown w ∷ []) code.widths
 
 -- the seat of a worker that has seen nothing of the log, and of each register that it begins all x
 abbrev pub new_seat : Compiled → ℕ → SeatView
-new_seat listing worker = record { worker = worker; seen = []; mine = []; stored = None; fresh = first_values listing }
+new_seat code worker = record { worker = worker; seen = []; mine = []; stored = None; fresh = first_values code }
 
 -- a seat that read registers: it may only have seen more of them
 pub record ReadsOn (old new : SeatView) : Type 0 where

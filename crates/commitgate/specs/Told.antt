@@ -31,7 +31,7 @@ use Rattle.commitgate.specs.Answers.{IsRegionChange, IsTimely}
 
 -- the seat has seen the whole history of a register by a log
 abbrev pub HasMet : Named → Log → List (List Vector) → ℕ → Type 0
-HasMet n log fresh r = fresh_of fresh r ≡ hist (design_of n.listing) (entries_of log) r
+HasMet n log fresh r = fresh_of fresh r ≡ hist (design_of n.code) (entries_of log) r
 
 -- the same of each register that a turn reads or writes
 pub record HasMetTurn (n : Named) (log : Log) (fresh : List (List Vector)) (turn : turns.Turn) : Type 0 where
@@ -41,10 +41,10 @@ pub record HasMetTurn (n : Named) (log : Log) (fresh : List (List Vector)) (turn
 -- the same of each register that an entry's turn reads, or that the entry writes
 abbrev pub HasMetEntry : Named → State → Entry → Log → List (List Vector) → Type 0
 HasMetEntry n s (Turn number) log fresh =
-    (p : ℕ) (turn : turns.Turn) → action_in s.active number ≡ Some (Evaluate p) → turn_of (design_of n.listing) s p ≡ Some turn
+    (p : ℕ) (turn : turns.Turn) → action_in s.active number ≡ Some (Evaluate p) → turn_of (design_of n.code) s p ≡ Some turn
     → HasMetTurn n log fresh turn
 HasMetEntry n s (Update number) log fresh =
-    (r : ℕ) (v : Vector) → action_in s.active number ≡ Some (states.Update r v) → r < length n.listing.widths → HasMet n log fresh r
+    (r : ℕ) (v : Vector) → action_in s.active number ≡ Some (states.Update r v) → r < length n.code.widths → HasMet n log fresh r
 HasMetEntry n s ActivateInactive log fresh = Unit {0}
 HasMetEntry n s ActivateNba log fresh = Unit {0}
 HasMetEntry n s (Advance time) log fresh = Unit {0}
@@ -60,15 +60,15 @@ pub record IsAppended (n : Named) (old : SeatView) (entry : Entry) (position : �
   pub before : Log
   pub extends : IsPrefix old.seen before
   pub from : State
-  pub from_is : after (design_of n.listing) (entries_of before) ≡ Some from
+  pub from_is : after (design_of n.code) (entries_of before) ≡ Some from
   pub to : State
-  pub to_is : after (design_of n.listing) (entries_of new.seen) ≡ Some to
+  pub to_is : after (design_of n.code) (entries_of new.seen) ≡ Some to
   pub ends : new.seen ≡ before ++ items_of old.worker entry to.finished
   pub mine : new.mine ≡ old.mine ++ position ∷ []
   pub stored : new.stored ≡ (if to.finished then Some Finish else old.stored)
   pub position_is : position ≡ length (entries_of before)
   pub entry_is : named ≡ entry
-  pub tickets_are : AreTicketsOf n.listing to (made_active from.active to.active) tickets
+  pub tickets_are : AreTicketsOf n.code to (made_active from.active to.active) tickets
   pub met : HasMetEntry n from entry new.seen new.fresh
 
 -- the run goes on, the call appended nothing, and what the seat has seen is lawful
@@ -102,20 +102,20 @@ RestCauses why = (why ≡ Entries) ⊎ ((why ≡ Until) ⊎ (why ≡ Time))
 -- the turn of the ticket's event stands in the journal, and the ticket was of an active evaluation
 pub record IsAccepted (n : Named) (old : SeatView) (ticket : TicketView) (position : ℕ) (named : Entry) (tickets : List TicketView) (new : SeatView) : Type 0 where
   pub appended : IsAppended n old (Turn ticket.event) position named tickets new
-  pub was : IsActiveTicket n.listing appended.from ticket
+  pub was : IsActiveTicket n.code appended.from ticket
 
 -- A register that was read has changed since in what the seat has seen, those recorded before it haven't, and of this
 -- register the seat has seen the whole history.
 pub record IsStale (n : Named) (old : SeatView) (ticket : TicketView) (reads : List (ℕ × Seen)) (r : ℕ) (back : TicketView) (new : SeatView) : Type 0 where
   pub refused : IsRefused n old new
   pub back_is : back ≡ again ticket
-  pub moved : IsFirstMovedIn (design_of n.listing) (entries_of new.seen) reads r
+  pub moved : IsFirstMovedIn (design_of n.code) (entries_of new.seen) reads r
   pub met : HasMet n new.seen new.fresh r
 
 -- after what the seat has seen no active evaluation has the ticket's event, process, remainder and time
 pub record IsGone (n : Named) (old : SeatView) (ticket : TicketView) (new : SeatView) : Type 0 where
   pub refused : IsRefused n old new
-  pub gone : After n new.seen (λ s. IsActiveTicket n.listing s ticket → ⊥)
+  pub gone : After n new.seen (λ s. IsActiveTicket n.code s ticket → ⊥)
 
 -- The answers to a ticket whatever its turn is, by their cases.
 abbrev pub BarredTo : {A : Type 0} → Named → SeatView → TicketView → SeatView → Reply A → Type 0
@@ -175,7 +175,7 @@ IsBusy n old new = After n new.seen HasUpdate ⊎ (length (entries_of old.seen) 
 -- no event is left, and the journal stays as it is
 pub record IsQuietTo (n : Named) (old new : SeatView) : Type 0 where
   pub refused : IsRefused n old new
-  pub quiet : Ends (design_of n.listing) n.limits (entries_of new.seen) Quiet
+  pub quiet : Ends (design_of n.code) n.limits (entries_of new.seen) Quiet
   pub stays : Stays n new.seen
 
 -- The answers to a worker at rest.

@@ -2,12 +2,13 @@
 ghost use Rattle.std.specs.Prelude.{◌≡◌, ℕ, ◌+◌, ◌<◌, ◌≤◌, ◌^◌, [], map, length, replicate, IfOk, IfSome};
 ghost use Rattle.std.specs.List.{range_with_len};
 ghost use Rattle.crossbeam_utils.specs.Seq.{cell_view};
+ghost use Rattle.model.specs.Runs.{last_time};
 ghost use Rattle.model.specs.States.{start};
 ghost use Rattle.design.specs.Compiled.{design_of};
 ghost use Rattle.design.specs.Standing.{IsStateOf};
-ghost use Rattle.journal.specs.Passing.{HasOwnStates};
-ghost use Rattle.gateparts.specs.Held.{state_in};
-ghost use Rattle.gateparts.specs.Parts.{held_of};
+ghost use Rattle.regions.specs.Passing.{HasOwnStates};
+ghost use Rattle.gateparts.specs.GateState.{state_in};
+ghost use Rattle.gateparts.specs.Parts.{gate_state_of};
 ghost use Rattle.gateparts.specs.Marked.{keeper};
 ghost use Rattle.commitgate.specs.Blanks.{first_fresh};
 ghost use Rattle.commitgate.specs.Seats.{new_seat};
@@ -18,7 +19,7 @@ use crate::naming::Naming;
 use crate::seat::Seat;
 use crate::state::GateState;
 use crate::ticket::Ticket;
-use design::{Code, Design};
+use design::Design;
 use gateparts::{MarkCell, MarkPass, Parts, new_mark, next_seat};
 use model::end::Limits;
 use regcells::{RegCells, RegSeat};
@@ -51,9 +52,9 @@ impl<'d> Model for Blank<'d> {
     ghost use Rattle.std.specs.Vec.{vec_capacity};
     ghost use Rattle.commitgate.specs.Blanks.{IsBlank};
 
-    ghost view = { λ b. record { listing = b.parts.design.now; workers = b.workers; limits = b.parts.limits; cells = b.cells; mark = b.mark.table.shared.table_id } };
+    ghost view = { λ b. record { code = b.parts.design.now; workers = b.workers; limits = b.parts.limits; cells = b.cells; mark = b.mark.table.shared.table_id } };
 
-    ghost invariant = { λ b. IsBlank (record { listing = b.parts.design.now; workers = b.workers; limits = b.parts.limits; cells = b.cells; mark = b.mark.table.shared.table_id }) (vec_capacity b.committed) b.committed.items b.seats.items b.parts };
+    ghost invariant = { λ b. IsBlank (record { code = b.parts.design.now; workers = b.workers; limits = b.parts.limits; cells = b.cells; mark = b.mark.table.shared.table_id }) (vec_capacity b.committed) b.committed.items b.seats.items b.parts };
 }
 
 impl<'d> Gate<'d, Brand> {
@@ -68,13 +69,12 @@ impl<'d> Gate<'d, Brand> {
     ) -> Result<Blank<'d>, AllocError>
         requires some { 1 ≤ workers }
         requires few { workers ≤ 16 }
-        requires until { IfSome limits.until (λ until. until ≤ 2 ^ 48) }
-        ensures listing { IfOk result (λ b. b.listing ≡ design.now) }
+        requires until { IfSome limits.until (λ until. until ≤ last_time) }
+        ensures code { IfOk result (λ b. b.code ≡ design.now) }
         ensures workers { IfOk result (λ b. b.workers ≡ workers) }
         ensures limits { IfOk result (λ b. b.limits ≡ limits) }
     {
-        let widths = design.widths(alloc)?;
-        let (cells, holder, seats) = RegCells::new(rt, alloc, widths.as_slice(), workers)?;
+        let (cells, holder, seats) = RegCells::new(rt, alloc, design.widths(), workers)?;
         let (mark, whole) = new_mark(alloc)?;
         let committed = Vec::with_capacity(alloc, workers as usize)?;
         let parts = Parts::new(alloc, design, limits, holder, whole)?;
@@ -91,10 +91,10 @@ impl<'d> Gate<'d, Brand> {
 
 // A ticket for the first event of each process.
 fn first_tickets<K: Naming>(alloc: Global, parts: &Parts<'_>) -> Result<Vec<Ticket<K>>, AllocError>
-    requires listing { parts.now.design.now ≡ K.named.listing }
-    requires starts { state_in K.named.listing (held_of parts.now) ≡ start (design_of K.named.listing) }
-    requires states { HasOwnStates (IsStateOf K.named.listing) parts.now.regions }
-    ensures { IfOk result (λ tickets. IsFirstTickets K.named.listing tickets.items) }
+    requires code { parts.now.design.now ≡ K.named.code }
+    requires starts { state_in K.named.code (gate_state_of parts.now) ≡ start (design_of K.named.code) }
+    requires states { HasOwnStates (IsStateOf K.named.code) parts.now.regions }
+    ensures { IfOk result (λ tickets. IsFirstTickets K.named.code tickets.items) }
 {
     let time = parts.regions.time();
     let mut tickets = Vec::new(alloc);
@@ -122,7 +122,7 @@ fn seat_all<K: Naming>(
     requires regs { regs.items ≡ replicate K.named.workers (first_fresh K.named) }
     ensures marks { whole.new.table_id ≡ K.named.mark }
     ensures whole { cell_view whole.new ≡ keeper (cell_view whole.new).made [] }
-    ensures seats { IfOk result (λ seats. seats.items ≡ map (new_seat K.named.listing) (range_with_len 0 K.named.workers)) }
+    ensures seats { IfOk result (λ seats. seats.items ≡ map (new_seat K.named.code) (range_with_len 0 K.named.workers)) }
 {
     let mut seats = Vec::new(alloc);
     for worker in 0..workers {
@@ -142,8 +142,8 @@ impl<'d> Blank<'d> {
         alloc: Global,
     ) -> Result<(Gate<'d, K>, Vec<Seat<K>>, Vec<Ticket<K>>), AllocError>
         requires { self ≡ K.named }
-        ensures seats { IfOk result (λ r. r.1.items ≡ map (new_seat K.named.listing) (range_with_len 0 K.named.workers)) }
-        ensures tickets { IfOk result (λ r. IsFirstTickets K.named.listing r.2.items) }
+        ensures seats { IfOk result (λ r. r.1.items ≡ map (new_seat K.named.code) (range_with_len 0 K.named.workers)) }
+        ensures tickets { IfOk result (λ r. IsFirstTickets K.named.code r.2.items) }
     {
         let Blank {
             workers,

@@ -29,14 +29,14 @@ impl<'g, K: Naming, R: Wait> Model for SeatReader<'g, K, R> {
 
     ghost view = { λ r. r.seat };
 
-    ghost invariant = { λ r. (r.cells.now ≡ K.named.cells) × (length K.named.cells ≡ length K.named.listing.widths) };
+    ghost invariant = { λ r. (r.cells.now ≡ K.named.cells) × (length K.named.cells ≡ length K.named.code.widths) };
 }
 
 impl<'g, K: Naming, R: Wait> SeatReader<'g, K, R> {
     /// The reader of a seat.
     pub(crate) fn new(rt: &'g R, cells: &'g RegCells, seat: Seat<K>) -> SeatReader<'g, K, R>
         requires cells { cells.now ≡ K.named.cells }
-        requires widths { length K.named.cells ≡ length K.named.listing.widths }
+        requires widths { length K.named.cells ≡ length K.named.code.widths }
         ensures { result ≡ seat }
     {
         SeatReader { rt, cells, seat }
@@ -59,14 +59,14 @@ impl<'g, K: Naming, R: Wait> RegReader for SeatReader<'g, K, R> {
     ghost use Rattle.std.specs.Prelude.{length};
     ghost use Rattle.gateparts.specs.Histories.{IsRead};
 
-    ghost registers = { length K.named.listing.widths };
+    ghost registers = { length K.named.code.widths };
 
-    ghost gave = { λ s r seen. IsRead K.named.listing s.fresh r seen };
+    ghost gave = { λ s r seen. IsRead K.named.code s.fresh r seen };
 
     fn read(&mut self, register: RegId) -> Seen
-        requires { register < length K.named.listing.widths }
-        ensures adds { IsRead K.named.listing self.new.fresh register result }
-        ensures keeps { (r : ℕ) (s : seens.Seen) → IsRead K.named.listing self.old.fresh r s → IsRead K.named.listing self.new.fresh r s }
+        requires { register < length K.named.code.widths }
+        ensures adds { IsRead K.named.code self.new.fresh register result }
+        ensures keeps { (r : ℕ) (s : seens.Seen) → IsRead K.named.code self.old.fresh r s → IsRead K.named.code self.new.fresh r s }
         ensures version { length (fresh_of self.new.fresh register) ≡ result.version + 1 }
         ensures reads_on { ReadsOn self.old self.new }
     {

@@ -67,9 +67,9 @@ impl<'g, K: Naming, S: Seating, R: Wait> RegReader for SeatedReader<'g, K, S, R>
     ghost use Rattle.std.specs.Prelude.{length};
     ghost use Rattle.gateparts.specs.Histories.{IsRead};
 
-    ghost registers = { length K.named.listing.widths };
+    ghost registers = { length K.named.code.widths };
 
-    ghost gave = { λ s r seen. IsRead K.named.listing s.fresh r seen };
+    ghost gave = { λ s r seen. IsRead K.named.code s.fresh r seen };
 
     fn read(&mut self, register: RegId) -> Seen {
         self.reader.read(register)

@@ -3,7 +3,7 @@ use Rattle.std.proofs.Common.{◌≡◌, ℕ, zero, suc, ◌+◌, ◌≤◌, max
 use Rattle.std.specs.Prelude.{slice_index}
 use Rattle.logic4.specs.declared.digit.Truth.{Truth}
 use Rattle.logic4.specs.declared.digit.Truth.TheVariants.{False, True, Unknown}
-use Rattle.logic4.specs.Vector.{Vector, resize}
+use Rattle.logic4.specs.Vector.{Vector, resize, greatest_width}
 use Rattle.logic4.specs.Operators.{conditional, concat_vector, truth}
 use Rattle.logic4.proofs.Lengths.{length-resize, length-each_digit, length-each_pair, length-where_known, length-shl_vector, length-shr_vector}
 use Rattle.model.specs.declared.tree.UnaryOperator.{UnaryOperator}
@@ -102,11 +102,11 @@ combined_value op asked l r v w a b =
     ap (λ x. binary_value op asked x (sized (sizing_of op) (left_size (sizing_of op) asked l r) w)) (sized_left (sizing_of op) asked l r v a)
     ∙ ap (binary_value op asked v) (sized_right (sizing_of op) asked l r w b)
 
-joined_value : (v w : Vector) → length v + length w ≤ 64 → joined_two v w ≡ concat_vector v w
+joined_value : (v w : Vector) → length v + length w ≤ greatest_width → joined_two v w ≡ concat_vector v w
 joined_value v w h = ap (λ b. if b then concat_vector v w else v) (le-leb (length v + length w) 64 h)
 
 -- one part more, in the least significant digits
-join_part : (v w x : Vector) → length v + length w ≤ 64 → concat_vector (joined_two v w) x ≡ concat_vector v (concat_vector w x)
+join_part : (v w x : Vector) → length v + length w ≤ greatest_width → concat_vector (joined_two v w) x ≡ concat_vector v (concat_vector w x)
 join_part v w x h = ap (λ y. concat_vector y x) (joined_value v w h) ∙ sym (append_assoc x w v)
 
 mutual
@@ -155,13 +155,13 @@ mutual
       ∙ ap (λ z. conditional (truth t) x z ∷ st) (resize_same asked y (length_eval widths values asked f))
 
   -- further parts are joined to the vector before them
-  run_parts : (widths : List ℕ) (values : Store) (es : Expressions ℕ) (v : Vector) (st : List Vector) → length v + total_size widths es ≤ 64 → AreSoundExpressions widths es → run_ops values (parts_code widths false es) (v ∷ st) ≡ concat_vector v (joined widths values es) ∷ st
+  run_parts : (widths : List ℕ) (values : Store) (es : Expressions ℕ) (v : Vector) (st : List Vector) → length v + total_size widths es ≤ greatest_width → AreSoundExpressions widths es → run_ops values (parts_code widths false es) (v ∷ st) ≡ concat_vector v (joined widths values es) ∷ st
   run_parts widths values tree.Nothing v st fit h = refl
   run_parts widths values (tree.Also e es) v st fit (h, all) =
       let w = eval widths values (own_size widths e) e in
       let len : length w ≡ own_size widths e = length_eval widths values (own_size widths e) e in
-      let both : length v + length w ≤ 64 = omega (arith, len) in
-      let sum : length (joined_two v w) + total_size widths es ≤ 64 = omega (arith, len, ap length (joined_value v w both), length-append w v) in
+      let both : length v + length w ≤ greatest_width = omega (arith, len) in
+      let sum : length (joined_two v w) + total_size widths es ≤ greatest_width = omega (arith, len, ap length (joined_value v w both), length-append w v) in
       run_ops-append values (expression_code widths (own_size widths e) e) (Join ∷ parts_code widths false es) (v ∷ st)
       ∙ ap (run_ops values (Join ∷ parts_code widths false es)) (run_expression widths values (own_size widths e) e (v ∷ st) h)
       ∙ run_parts widths values es (joined_two v w) st sum all

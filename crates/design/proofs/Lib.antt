@@ -1,3 +1,4 @@
+-- Lemmas of flat code: places, sizes, growing code, nodes that mean their statements, and the whole design.
 pub mod Generated
 pub mod Places
 pub mod Measured

@@ -1,7 +1,8 @@
 -- What a design without faults keeps, so that code can be made of it.
 use Rattle.std.specs.Prelude.{◌≡◌, ℕ, ◌+◌, ◌<◌, ◌≤◌, List, length}
 use Rattle.std.specs.List.{All}
-use Rattle.model.specs.Syntax.{greatest_width, Expression, Register, Select, Literal, Concat, Unary, Binary, Conditional, Expressions, Nothing, Also}
+use Rattle.model.specs.Syntax.{Expression, Register, Select, Literal, Concat, Unary, Binary, Conditional, Expressions, Nothing, Also}
+use Rattle.logic4.specs.Vector.{greatest_width, AreWithin}
 use Rattle.model.specs.Design.{Design, Statement, Empty, Assign, AssignAfter, AssignLater, Delay, Await, If, While, Display, Finish, Statements, End, Then}
 use Rattle.model.specs.Expressions.{total_size}
 use Rattle.model.specs.Elaboration.{argument_count, greatest_delay}
@@ -53,7 +54,7 @@ abbrev mutual
 -- at most 1,024 registers of 1 to 64 digits, and at most 256 processes of sound statements
 pub record IsSound (design : Design) : Type 0 where
   pub some_digit : All (λ w. 1 ≤ w) design.widths
-  pub few_digits : All (λ w. w ≤ 64) design.widths
+  pub few_digits : AreWithin design.widths
   pub few_registers : length design.widths ≤ 1024
   pub few_processes : length design.processes ≤ 256
   pub statements : All (λ p. AreSoundStatements design.widths p.body) design.processes

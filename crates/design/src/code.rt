@@ -1,7 +1,7 @@
 //! Flat code, and what the layers above are told of it.
 ghost use Rattle.std.specs.Prelude.{◌≡◌, ◌<◌, ◌≤◌, ◌↔◌, length, IfOk, IsTrue};
 ghost use Rattle.std.specs.List.{All};
-ghost use Rattle.logic4.specs.Words.{max_width};
+ghost use Rattle.logic4.specs.Vector.{greatest_width, AreWithin};
 
 use crate::control::{Control, RegId};
 use crate::tree::Conversion;
@@ -18,13 +18,13 @@ pub struct Size {
 
 impl Model for Size {
     ghost use Rattle.std.specs.Prelude.{ℕ, ◌≤◌};
-    ghost use Rattle.logic4.specs.Words.{max_width};
+    ghost use Rattle.logic4.specs.Vector.{greatest_width};
 
     ghost Value = { ℕ };
 
     ghost view = { λ s. s.digits };
 
-    ghost invariant = { λ s. (1 ≤ s.digits) × (s.digits ≤ max_width) };
+    ghost invariant = { λ s. (1 ≤ s.digits) × (s.digits ≤ greatest_width) };
 
     ghost inverse = { λ v. record { digits = v } };
 
@@ -35,7 +35,7 @@ impl Size {
     /// This many digits.
     pub fn new(digits: u32) -> Self
         requires some { 1 ≤ digits }
-        requires within { digits ≤ max_width }
+        requires within { digits ≤ greatest_width }
         ensures { result ≡ digits }
     {
         Size { digits }
@@ -45,7 +45,7 @@ impl Size {
     pub fn get(self) -> u32
         ensures value { result ≡ self }
         ensures some { 1 ≤ result }
-        ensures within { result ≤ max_width }
+        ensures within { result ≤ greatest_width }
     {
         self.digits
     }
@@ -191,45 +191,4 @@ fn same_pending(left: Option<(RegId, Bits)>, right: Option<(RegId, Bits)>) -> bo
         (Some(a), Some(b)) => (a.0 == b.0) & (a.1 == b.1),
         _ => false,
     }
-}
-
-/// What the layers above ask of a compiled design.
-pub trait Code {
-    ghost use Rattle.std.specs.Prelude.{List, ℕ};
-    ghost use Rattle.model.specs.Design.{Design, Trigger};
-    ghost use Rattle.model.specs.Turns.{Remainder, whole};
-    ghost use Rattle.design.specs.declared.code.ProcState.{ProcState};
-
-    /// The design that was compiled.
-    ghost design: { Self → Design };
-
-    /// What a process state stands for.
-    ghost remainder: { Self → ProcState → Remainder };
-
-    /// Which process states are states of the process with a number.
-    ghost is_state: { Self → ℕ → ProcState → Type 0 };
-
-    /// The triggers of each event control, by its number.
-    ghost controls: { Self → List (List Trigger) };
-
-    /// The width of each register, in the order of their numbers.
-    fn widths(&self, alloc: Global) -> Result<Vec<u32>, AllocError>
-        ensures widths { IfOk result (λ v. v.items ≡ (design self.now).widths) }
-        ensures some_digit { IfOk result (λ v. All (λ w. 1 ≤ w) v.items) }
-        ensures few_digits { IfOk result (λ v. All (λ w. w ≤ 64) v.items) };
-
-    /// The event controls, in the order of their numbers.
-    fn controls(&self, alloc: Global) -> Result<Vec<Control>, AllocError>
-        ensures { IfOk result (λ v. v.items ≡ controls self.now) };
-
-    /// The number of processes.
-    fn processes(&self) -> u32
-        ensures value { result ≡ length (design self.now).processes }
-        ensures few { result ≤ 256 };
-
-    /// Where a process begins.
-    fn first(&self, process: u32) -> ProcState
-        requires { process < length (design self.now).processes }
-        ensures whole { remainder self.now result ≡ whole (design self.now) process }
-        ensures own { is_state self.now process result };
 }

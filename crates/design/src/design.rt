@@ -1,6 +1,7 @@
 //! Designs.
 ghost use Rattle.std.specs.Prelude.{◌≡◌, ◌<◌, ◌≤◌, length, map, string_bytes, Some, slice_get, slice_index, IfOk};
 ghost use Rattle.std.specs.List.{All};
+ghost use Rattle.logic4.specs.Vector.{AreWithin, greatest_width};
 ghost use Rattle.model.specs.Turns.{whole};
 ghost use Rattle.design.specs.Trees.{tree_design};
 ghost use Rattle.design.specs.Sound.{IsSound};
@@ -8,7 +9,7 @@ ghost use Rattle.design.specs.Compiled.{design_of};
 ghost use Rattle.design.specs.Meaning.{IsCompiled};
 ghost use Rattle.design.specs.Standing.{remainder_of, controls_of, IsStateOf};
 
-use crate::code::{Code, Node, Op, ProcState, Shown};
+use crate::code::{Node, Op, ProcState, Shown};
 use crate::control::{Control, RegId};
 use crate::emitter::Emitter;
 use crate::processes::emit_processes;
@@ -115,7 +116,7 @@ impl Design {
         requires { register < length self.now.widths }
         ensures value { result ≡ slice_index self.now.widths register }
         ensures some { 1 ≤ result }
-        ensures within { result ≤ 64 }
+        ensures within { result ≤ greatest_width }
     {
         self.widths[register as usize]
     }
@@ -142,20 +143,20 @@ impl Design {
     }
 }
 
-impl Code for Design {
-    ghost design = { λ d. design_of d };
-
-    ghost remainder = { λ d s. remainder_of d s };
-
-    ghost is_state = { λ d p s. IsStateOf d p s };
-
-    ghost controls = { λ d. controls_of d };
-
-    fn widths(&self, alloc: Global) -> Result<Vec<u32>, AllocError> {
-        Vec::from_slice(alloc, self.widths.as_slice())
+impl Design {
+    /// The width of each register, in the order of their numbers: 1 to 64 digits (4.2).
+    pub fn widths(&self) -> &[u32]
+        ensures widths { result.now ≡ self.now.widths }
+        ensures some_digit { All (λ w. 1 ≤ w) result.now }
+        ensures few_digits { AreWithin result.now }
+    {
+        self.widths.as_slice()
     }
 
-    fn controls(&self, alloc: Global) -> Result<Vec<Control>, AllocError> {
+    /// The event controls, in the order of their numbers. Fails where memory is refused.
+    pub fn controls(&self, alloc: Global) -> Result<Vec<Control>, AllocError>
+        ensures { IfOk result (λ v. v.items ≡ controls_of self.now) }
+    {
         let mut controls = Vec::new(alloc);
         for control in &self.controls {
             controls.push(Control::new(Vec::from_slice(alloc, control.triggers())?))?;
@@ -163,11 +164,11 @@ impl Code for Design {
         Ok(controls)
     }
 
-    fn processes(&self) -> u32 {
+    /// The number of processes.
+    pub fn processes(&self) -> u32
+        ensures value { result ≡ length (design_of self.now).processes }
+        ensures few { result ≤ 256 }
+    {
         self.processes.len() as u32
-    }
-
-    fn first(&self, process: u32) -> ProcState {
-        self.start(process)
     }
 }

@@ -1,6 +1,7 @@
 //! The nodes of statements, in the order of the text: the node of a statement stands at the statement's place.
 ghost use Rattle.std.specs.Prelude.{◌≡◌, ◌<◌, ◌≤◌, ◌+◌, ◌++◌, ◌∷◌, [], length, map, drop, slice_get, Some, OnOk, IfOk, List};
 ghost use Rattle.std.specs.List.{All};
+ghost use Rattle.logic4.specs.Vector.{AreWithin};
 ghost use Rattle.model.specs.Design as model;
 ghost use Rattle.model.specs.Design.{inside, size};
 ghost use Rattle.design.specs.declared.code.Node.TheVariants as node;
@@ -105,7 +106,7 @@ impl Emitter {
     ) -> Result<(), AllocError>
         requires sound { IsSoundExpression widths.now (expression_of condition.now) }
         requires some_digit { All (λ w. 1 ≤ w) widths.now }
-        requires few_digits { All (λ w. w ≤ 64) widths.now }
+        requires few_digits { AreWithin widths.now }
         ensures node { OnOk result (emitted_of self.new ≡ with_valued (emitted_of self.old) (own_code widths.now (expression_of condition.now)) (λ s. node.Branch s taken missed)) }
         ensures length { OnOk result (length self.new.nodes.items ≡ length self.old.nodes.items + 1) }
     {
@@ -129,7 +130,7 @@ impl Emitter {
     ) -> Result<(), AllocError>
         requires sound { IsSoundExpression widths.now (expression_of condition.now) }
         requires some_digit { All (λ w. 1 ≤ w) widths.now }
-        requires few_digits { All (λ w. w ≤ 64) widths.now }
+        requires few_digits { AreWithin widths.now }
         requires measured { slice_get table.now (length self.old.nodes.items) ≡ Some (extent_of (length self.old.nodes.items) (model.If (expression_of condition.now) (statements_of body.now) (statements_of otherwise.now))) }
         ensures node { OnOk result (emitted_of self.new ≡ with_valued (emitted_of self.old) (own_code widths.now (expression_of condition.now)) (λ s. node.Branch s (first_of (length self.old.nodes.items + 1) (statements_of body.now) next) (first_of (length self.old.nodes.items + 1 + size (statements_of body.now)) (statements_of otherwise.now) next))) }
         ensures length { OnOk result (length self.new.nodes.items ≡ length self.old.nodes.items + 1) }
@@ -151,7 +152,7 @@ impl Emitter {
     ) -> Result<(), AllocError>
         requires sound { IsSoundStatement widths.now (statement_of statement.now) }
         requires some_digit { All (λ w. 1 ≤ w) widths.now }
-        requires few_digits { All (λ w. w ≤ 64) widths.now }
+        requires few_digits { AreWithin widths.now }
         requires measured { slice_get table.now (length self.old.nodes.items) ≡ Some (extent_of (length self.old.nodes.items) (statement_of statement.now)) }
         requires inside { AreMeasuredInside table.now (length self.old.nodes.items) (statement_of statement.now) }
         ensures code { OnOk result (emitted_of self.new ≡ with_statement widths.now next (emitted_of self.old) (statement_of statement.now)) }
@@ -228,7 +229,7 @@ impl Emitter {
     ) -> Result<(), AllocError>
         requires sound { AreSoundStatements widths.now (statements_of statements.now) }
         requires some_digit { All (λ w. 1 ≤ w) widths.now }
-        requires few_digits { All (λ w. w ≤ 64) widths.now }
+        requires few_digits { AreWithin widths.now }
         requires measured { AreMeasured table.now (length self.old.nodes.items) (statements_of statements.now) }
         ensures code { OnOk result (emitted_of self.new ≡ with_all widths.now after (emitted_of self.old) (statements_of statements.now)) }
         ensures length { OnOk result (length self.new.nodes.items ≡ length self.old.nodes.items + size (statements_of statements.now)) }

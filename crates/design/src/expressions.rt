@@ -1,6 +1,7 @@
 //! The steps of expressions: the operands from left to right, each at its size, and then the operator.
 ghost use Rattle.std.specs.Prelude.{◌≡◌, ◌<◌, ◌≤◌, ◌++◌, ◌∷◌, [], true, length, OnOk};
 ghost use Rattle.std.specs.List.{All};
+ghost use Rattle.logic4.specs.Vector.{AreWithin};
 ghost use Rattle.design.specs.Sound.{IsSoundExpression, AreSoundExpressions};
 ghost use Rattle.design.specs.Trees.{expression_of, expressions_of};
 ghost use Rattle.design.specs.Generate.{expression_code, parts_code, join_code, own_code, assigned_code};
@@ -33,7 +34,7 @@ fn emit(
 ) -> Result<(), AllocError>
     requires sound { IsSoundExpression widths.now (expression_of expression.now) }
     requires some_digit { All (λ w. 1 ≤ w) widths.now }
-    requires few_digits { All (λ w. w ≤ 64) widths.now }
+    requires few_digits { AreWithin widths.now }
     ensures { OnOk result (ops.new.items ≡ ops.old.items ++ expression_code widths.now asked (expression_of expression.now)) }
 {
     match expression {
@@ -103,7 +104,7 @@ fn emit(
 fn emit_parts(ops: &mut Vec<Op>, widths: &[u32], parts: &[Expression]) -> Result<(), AllocError>
     requires sound { AreSoundExpressions widths.now (expressions_of parts.now) }
     requires some_digit { All (λ w. 1 ≤ w) widths.now }
-    requires few_digits { All (λ w. w ≤ 64) widths.now }
+    requires few_digits { AreWithin widths.now }
     ensures { OnOk result (ops.new.items ≡ ops.old.items ++ parts_code widths.now true (expressions_of parts.now)) }
 {
     let mut is_first = true;
@@ -123,7 +124,7 @@ pub fn emit_own(
 ) -> Result<(), AllocError>
     requires sound { IsSoundExpression widths.now (expression_of expression.now) }
     requires some_digit { All (λ w. 1 ≤ w) widths.now }
-    requires few_digits { All (λ w. w ≤ 64) widths.now }
+    requires few_digits { AreWithin widths.now }
     ensures { OnOk result (ops.new.items ≡ ops.old.items ++ own_code widths.now (expression_of expression.now)) }
 {
     emit(ops, widths, own_size(widths, expression), expression)
@@ -139,7 +140,7 @@ pub fn emit_assigned(
     requires declared { register < length widths.now }
     requires sound { IsSoundExpression widths.now (expression_of expression.now) }
     requires some_digit { All (λ w. 1 ≤ w) widths.now }
-    requires few_digits { All (λ w. w ≤ 64) widths.now }
+    requires few_digits { AreWithin widths.now }
     ensures { OnOk result (ops.new.items ≡ ops.old.items ++ assigned_code widths.now register (expression_of expression.now)) }
 {
     let width = width_of(widths, register);

@@ -1,6 +1,7 @@
 //! The own sizes of expressions (5.4.1, table 5-22).
 ghost use Rattle.std.specs.Prelude.{◌≡◌, ◌<◌, ◌≤◌, ◌+◌, max, length, slice_index};
 ghost use Rattle.std.specs.List.{All};
+ghost use Rattle.logic4.specs.Vector.{AreWithin, greatest_width};
 ghost use Rattle.model.specs.Expressions as size;
 ghost use Rattle.model.specs.Expressions.{sizing_of};
 ghost use Rattle.design.specs.Sound.{IsSoundExpression, AreSoundExpressions, HasSome};
@@ -25,7 +26,7 @@ pub fn greater(left: Size, right: Size) -> Size
 pub fn width_of(widths: &[u32], register: RegId) -> Size
     requires declared { register < length widths.now }
     requires some_digit { All (λ w. 1 ≤ w) widths.now }
-    requires few_digits { All (λ w. w ≤ 64) widths.now }
+    requires few_digits { AreWithin widths.now }
     ensures { result ≡ slice_index widths.now register }
 {
     Size::new(widths[register as usize])
@@ -106,7 +107,7 @@ pub fn operand_size(operator: UnaryOperator, asked: Size, own: Size) -> Size
 pub fn own_size(widths: &[u32], expression: &Expression) -> Size
     requires sound { IsSoundExpression widths.now (expression_of expression.now) }
     requires some_digit { All (λ w. 1 ≤ w) widths.now }
-    requires few_digits { All (λ w. w ≤ 64) widths.now }
+    requires few_digits { AreWithin widths.now }
     ensures { result ≡ size.own_size widths.now (expression_of expression.now) }
 {
     match expression {
@@ -128,9 +129,9 @@ pub fn own_size(widths: &[u32], expression: &Expression) -> Size
 fn total_size(widths: &[u32], parts: &[Expression]) -> Size
     requires sound { AreSoundExpressions widths.now (expressions_of parts.now) }
     requires some { HasSome (expressions_of parts.now) }
-    requires within { size.total_size widths.now (expressions_of parts.now) ≤ 64 }
+    requires within { size.total_size widths.now (expressions_of parts.now) ≤ greatest_width }
     requires some_digit { All (λ w. 1 ≤ w) widths.now }
-    requires few_digits { All (λ w. w ≤ 64) widths.now }
+    requires few_digits { AreWithin widths.now }
     ensures { result ≡ size.total_size widths.now (expressions_of parts.now) }
 {
     let mut total = 0;

@@ -1,3 +1,4 @@
+-- Lemmas of a journal that is led through a gate: the one seat, its tickets, each step, and how the run is judged.
 pub mod Alone
 pub mod Lists
 pub mod Tickets

@@ -1,10 +1,10 @@
 -- What is found first among declared names.
 use Rattle.std.proofs.Common.{◌≡◌, List, [], ◌∷◌, ◌++◌, Option, Some, None, refl, sym, ap, ◌∙◌, append_assoc, append-nil}
-use Rattle.model.specs.Elaboration.{Declared}
-use Rattle.elaborate.specs.Findings.{Found, or_else, found_name, found_names}
+use Rattle.model.specs.Elaboration.{Declared, Fault}
+use Rattle.elaborate.specs.Findings.{or_else, found_name, found_names}
 
 -- one behind another
-pub or_else_assoc : (a b c : Option Found) → or_else (or_else a b) c ≡ or_else a (or_else b c)
+pub or_else_assoc : (a b c : Option Fault) → or_else (or_else a b) c ≡ or_else a (or_else b c)
 or_else_assoc None b c = refl
 or_else_assoc (Some f) b c = refl
 

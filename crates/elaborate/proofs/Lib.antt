@@ -1,3 +1,4 @@
+-- Lemmas of names, sizes and faults: what is looked up, what is found, and designs without faults.
 pub mod Bodies
 pub mod Found
 pub mod Lookups

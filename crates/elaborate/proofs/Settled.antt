@@ -1,87 +1,68 @@
 -- What the walks find first is the first of the faults.
-use Rattle.std.proofs.Common.{◌≡◌, ℕ, ◌≤◌, nat_lt, nat_le, Bool, true, false, not, ◌&&◌, List, [], ◌∷◌, ◌++◌, map, length, flat_map, Option, Some, None, refl, sym, ap, subst, ◌∙◌, append-nil, append_assoc, arith}
+use Rattle.std.proofs.Common.{◌≡◌, ℕ, nat_lt, nat_le, Bool, true, false, not, List, [], ◌∷◌, ◌++◌, map, length, flat_map, Option, Some, None, refl, sym, ap, subst, ◌∙◌, append-nil, append_assoc}
 use Rattle.std.proofs.lemmas.Grind.{flat_map-append}
-use Rattle.std.proofs.lemmas.Bool.Decides.{nat_tests}
 use Rattle.model.specs.Syntax as source
-use Rattle.model.specs.Syntax.{greatest_width, Text, Expression, Register, Select, Literal, Concat, Unary, Binary, Conditional, Expressions, Nothing, Also, Module, registers_of, all_registers_of}
+use Rattle.model.specs.Syntax.{Text, Expression, Register, Select, Literal, Concat, Unary, Binary, Conditional, Expressions, Nothing, Also, Module, registers_of, all_registers_of}
+use Rattle.logic4.specs.Vector.{greatest_width}
 use Rattle.model.specs.Elaboration as model
 use Rattle.model.specs.Elaboration.{Fault, Declared, is_declared, is_range, is_index, range_of, parts_size, most_registers, most_processes, greatest_delay, count_of, is_format_for, pieces_of, fault_where, undeclared, declaration_faults, expression_faults, all_expression_faults, delay_faults, statement_faults, all_statement_faults, names_in, all_names_in, faults, declared}
-use Rattle.logic4.specs.Vector.{Vector}
 use Rattle.elaborate.specs.declared.fault.ElabFault.{ElabFault}
 use Rattle.elaborate.specs.declared.fault.ElabFault.TheVariants as fault
 use Rattle.elaborate.specs.Faults.{first, IsFirstFault}
-use Rattle.elaborate.specs.Findings.{Found, Known, Unspelled, or_else, found_where, unknown, unknown_among, used, all_used, used_in, all_used_in, used_by, found_name, found_names, found_concat, is_literal, found, all_found, found_delay, found_format, found_in, all_found_in, found_by, found_among, found_module, IsFaultOf, IsFirstOf}
-use Rattle.elaborate.specs.Formed.{HasParts, IsFormed, AreFormed, IsFormedStatement, AreFormedStatements, AreFormedProcesses, IsFormedModule}
+use Rattle.elaborate.specs.Findings.{or_else, found_where, unknown, unknown_among, used, all_used, used_in, all_used_in, used_by, found_name, found_names, found_concat, found, all_found, found_delay, found_format, found_in, all_found_in, found_by, found_among, found_module, IsFirstOf}
 
--- What is found first settles the faults: where nothing is found there is none, and the tree is formed; a fault found is
--- the first; and what no source spells isn't formed.
-abbrev pub Settles : Option Found → List Fault → Type 0 → Type 0
-Settles None fs F = (fs ≡ []) × F
-Settles (Some (Known f)) fs F = first fs ≡ Some f
-Settles (Some Unspelled) fs F = F → ⊥
+-- What is found first settles the faults: where nothing is found there is none, and a fault that is found is the first.
+abbrev pub Settles : Option Fault → List Fault → Type 0
+Settles None fs = fs ≡ []
+Settles (Some f) fs = first fs ≡ Some f
 
 first_append : (fs gs : List Fault) (f : Fault) → first fs ≡ Some f → first (fs ++ gs) ≡ Some f
 first_append [] gs f h = absurd cc
 first_append (x ∷ fs) gs f h = h
 
-no_more : (fs gs : List Fault) → fs ≡ [] → gs ≡ [] → fs ++ gs ≡ []
-no_more fs gs p q = ap (λ xs. xs ++ gs) p ∙ q
-
 -- one walk behind another
-pub both : (o p : Option Found) (fs gs : List Fault) (F G : Type 0) → Settles o fs F → Settles p gs G → Settles (or_else o p) (fs ++ gs) (F × G)
-both None None fs gs F G x y = (no_more fs gs x.0 y.0, (x.1, y.1))
-both None (Some (Known f)) fs gs F G x y = ap (λ xs. first (xs ++ gs)) x.0 ∙ y
-both None (Some Unspelled) fs gs F G x y = λ h. y h.1
-both (Some (Known f)) p fs gs F G x y = first_append fs gs f x
-both (Some Unspelled) p fs gs F G x y = λ h. x h.0
-
--- the tree is formed just where another is
-pub as_formed : (o : Option Found) (fs : List Fault) (F G : Type 0) → (F → G) → (G → F) → Settles o fs F → Settles o fs G
-as_formed None fs F G to back x = (x.0, to x.1)
-as_formed (Some (Known f)) fs F G to back x = x
-as_formed (Some Unspelled) fs F G to back x = λ g. x (back g)
-
--- a walk that asks nothing of the form, and one behind it
-pub behind : (o p : Option Found) (fs gs : List Fault) (G : Type 0) → Settles o fs (Unit {0}) → Settles p gs G → Settles (or_else o p) (fs ++ gs) G
-behind o p fs gs G x y = as_formed (or_else o p) (fs ++ gs) (Unit {0} × G) G (λ h. h.1) (λ g. (tt, g)) (both o p fs gs (Unit {0}) G x y)
+pub behind : (o p : Option Fault) (fs gs : List Fault) → Settles o fs → Settles p gs → Settles (or_else o p) (fs ++ gs)
+behind None None fs gs x y = ap (λ xs. xs ++ gs) x ∙ y
+behind None (Some f) fs gs x y = ap (λ xs. first (xs ++ gs)) x ∙ y
+behind (Some f) p fs gs x y = first_append fs gs f x
 
 -- a fault where a condition holds
-pub at : (b : Bool) (f : Fault) → Settles (found_where b (Known f)) (fault_where b f) (Unit {0})
+pub at : (b : Bool) (f : Fault) → Settles (found_where b f) (fault_where b f)
 at true f = refl
-at false f = (refl, tt)
+at false f = refl
 
 -- the declarations
-pub declarations_settle : (before ds : List Declared) → Settles (found_names before ds) (declaration_faults before ds) (Unit {0})
-declarations_settle before [] = (refl, tt)
+pub declarations_settle : (before ds : List Declared) → Settles (found_names before ds) (declaration_faults before ds)
+declarations_settle before [] = refl
 declarations_settle before (d ∷ ds) =
     let twice = fault_where (is_declared before d.0) (model.DeclaredTwice d.0) in
     let range = fault_where (not (is_range d.1)) (model.BadRange d.0) in
     let many = fault_where (nat_le most_registers (length before)) model.TooManyRegisters in
-    let o1 = found_where (is_declared before d.0) (Known (model.DeclaredTwice d.0)) in
-    let o2 = found_where (not (is_range d.1)) (Known (model.BadRange d.0)) in
-    let o3 = found_where (nat_le most_registers (length before)) (Known model.TooManyRegisters) in
-    let one : Settles (found_name before d) (twice ++ (range ++ many)) (Unit {0}) =
-    behind o1 (or_else o2 o3) twice (range ++ many) (Unit {0}) (at (is_declared before d.0) (model.DeclaredTwice d.0))
-    (behind o2 o3 range many (Unit {0}) (at (not (is_range d.1)) (model.BadRange d.0)) (at (nat_le most_registers (length before)) model.TooManyRegisters)) in
+    let o1 = found_where (is_declared before d.0) (model.DeclaredTwice d.0) in
+    let o2 = found_where (not (is_range d.1)) (model.BadRange d.0) in
+    let o3 = found_where (nat_le most_registers (length before)) model.TooManyRegisters in
+    let one : Settles (found_name before d) (twice ++ (range ++ many)) =
+    behind o1 (or_else o2 o3) twice (range ++ many) (at (is_declared before d.0) (model.DeclaredTwice d.0))
+    (behind o2 o3 range many (at (not (is_range d.1)) (model.BadRange d.0)) (at (nat_le most_registers (length before)) model.TooManyRegisters)) in
     let rest = declaration_faults (before ++ d ∷ []) ds in
-    let whole = behind (found_name before d) (found_names (before ++ d ∷ []) ds) (twice ++ (range ++ many)) rest (Unit {0}) one (declarations_settle (before ++ d ∷ []) ds) in
-    subst (λ fs. Settles (found_names before (d ∷ ds)) fs (Unit {0})) (append_assoc twice (range ++ many) rest ∙ ap (λ fs. twice ++ fs) (append_assoc range many rest)) whole
+    let whole = behind (found_name before d) (found_names (before ++ d ∷ []) ds) (twice ++ (range ++ many)) rest one (declarations_settle (before ++ d ∷ []) ds) in
+    subst (λ fs. Settles (found_names before (d ∷ ds)) fs) (append_assoc twice (range ++ many) rest ∙ ap (λ fs. twice ++ fs) (append_assoc range many rest)) whole
 
 -- the names of an expression
-pub name_settles : (ds : List Declared) (name : Text) → Settles (unknown ds name) (flat_map (undeclared ds) (name ∷ [])) (Unit {0})
-name_settles ds name = subst (λ fs. Settles (unknown ds name) fs (Unit {0})) (sym (append-nil (undeclared ds name))) (at (not (is_declared ds name)) (model.Undeclared name))
+pub name_settles : (ds : List Declared) (name : Text) → Settles (unknown ds name) (flat_map (undeclared ds) (name ∷ []))
+name_settles ds name = subst (λ fs. Settles (unknown ds name) fs) (sym (append-nil (undeclared ds name))) (at (not (is_declared ds name)) (model.Undeclared name))
 
 -- names, and then others
-names_behind : (ds : List Declared) (o p : Option Found) (xs ys : List Text) → Settles o (flat_map (undeclared ds) xs) (Unit {0}) → Settles p (flat_map (undeclared ds) ys) (Unit {0})
-    → Settles (or_else o p) (flat_map (undeclared ds) (xs ++ ys)) (Unit {0})
+names_behind : (ds : List Declared) (o p : Option Fault) (xs ys : List Text) → Settles o (flat_map (undeclared ds) xs) → Settles p (flat_map (undeclared ds) ys)
+    → Settles (or_else o p) (flat_map (undeclared ds) (xs ++ ys))
 names_behind ds o p xs ys x y =
-    subst (λ fs. Settles (or_else o p) fs (Unit {0})) (sym (flat_map-append (undeclared ds) xs ys)) (behind o p (flat_map (undeclared ds) xs) (flat_map (undeclared ds) ys) (Unit {0}) x y)
+    subst (λ fs. Settles (or_else o p) fs) (sym (flat_map-append (undeclared ds) xs ys)) (behind o p (flat_map (undeclared ds) xs) (flat_map (undeclared ds) ys) x y)
 
 mutual
-  pub used_settles : (ds : List Declared) (e : Expression Text) → Settles (used ds e) (flat_map (undeclared ds) (registers_of e)) (Unit {0})
+  pub used_settles : (ds : List Declared) (e : Expression Text) → Settles (used ds e) (flat_map (undeclared ds) (registers_of e))
   used_settles ds (Register name) = name_settles ds name
   used_settles ds (Select name i) = name_settles ds name
-  used_settles ds (Literal v) = (refl, tt)
+  used_settles ds (Literal v) = refl
   used_settles ds (Concat parts) = all_used_settle ds parts
   used_settles ds (Unary op e) = used_settles ds e
   used_settles ds (Binary op e f) = names_behind ds (used ds e) (used ds f) (registers_of e) (registers_of f) (used_settles ds e) (used_settles ds f)
@@ -89,17 +70,17 @@ mutual
       names_behind ds (used ds c) (or_else (used ds e) (used ds f)) (registers_of c) (registers_of e ++ registers_of f) (used_settles ds c)
       (names_behind ds (used ds e) (used ds f) (registers_of e) (registers_of f) (used_settles ds e) (used_settles ds f))
 
-  pub all_used_settle : (ds : List Declared) (es : Expressions Text) → Settles (all_used ds es) (flat_map (undeclared ds) (all_registers_of es)) (Unit {0})
-  all_used_settle ds Nothing = (refl, tt)
+  pub all_used_settle : (ds : List Declared) (es : Expressions Text) → Settles (all_used ds es) (flat_map (undeclared ds) (all_registers_of es))
+  all_used_settle ds Nothing = refl
   all_used_settle ds (Also e es) = names_behind ds (used ds e) (all_used ds es) (registers_of e) (all_registers_of es) (used_settles ds e) (all_used_settle ds es)
 
-pub names_settle : (ds : List Declared) (names : List Text) → Settles (unknown_among ds names) (flat_map (undeclared ds) names) (Unit {0})
-names_settle ds [] = (refl, tt)
-names_settle ds (name ∷ names) = behind (unknown ds name) (unknown_among ds names) (undeclared ds name) (flat_map (undeclared ds) names) (Unit {0}) (at (not (is_declared ds name)) (model.Undeclared name)) (names_settle ds names)
+pub names_settle : (ds : List Declared) (names : List Text) → Settles (unknown_among ds names) (flat_map (undeclared ds) names)
+names_settle ds [] = refl
+names_settle ds (name ∷ names) = behind (unknown ds name) (unknown_among ds names) (undeclared ds name) (flat_map (undeclared ds) names) (at (not (is_declared ds name)) (model.Undeclared name)) (names_settle ds names)
 
 mutual
-  pub used_in_settles : (ds : List Declared) (s : source.Statement) → Settles (used_in ds s) (flat_map (undeclared ds) (names_in s)) (Unit {0})
-  used_in_settles ds source.Empty = (refl, tt)
+  pub used_in_settles : (ds : List Declared) (s : source.Statement) → Settles (used_in ds s) (flat_map (undeclared ds) (names_in s))
+  used_in_settles ds source.Empty = refl
   used_in_settles ds (source.Block body) = all_used_in_settle ds body
   used_in_settles ds (source.Assign name delay e) = names_behind ds (unknown ds name) (used ds e) (name ∷ []) (registers_of e) (name_settles ds name) (used_settles ds e)
   used_in_settles ds (source.AssignLater name delay e) = names_behind ds (unknown ds name) (used ds e) (name ∷ []) (registers_of e) (name_settles ds name) (used_settles ds e)
@@ -112,149 +93,103 @@ mutual
       (names_behind ds (all_used_in ds body) (all_used_in ds otherwise) (all_names_in body) (all_names_in otherwise) (all_used_in_settle ds body) (all_used_in_settle ds otherwise))
   used_in_settles ds (source.While c body) = names_behind ds (used ds c) (all_used_in ds body) (registers_of c) (all_names_in body) (used_settles ds c) (all_used_in_settle ds body)
   used_in_settles ds (source.Display format arguments) = all_used_settle ds arguments
-  used_in_settles ds source.Finish = (refl, tt)
+  used_in_settles ds source.Finish = refl
 
-  pub all_used_in_settle : (ds : List Declared) (ss : source.Statements) → Settles (all_used_in ds ss) (flat_map (undeclared ds) (all_names_in ss)) (Unit {0})
-  all_used_in_settle ds source.End = (refl, tt)
+  pub all_used_in_settle : (ds : List Declared) (ss : source.Statements) → Settles (all_used_in ds ss) (flat_map (undeclared ds) (all_names_in ss))
+  all_used_in_settle ds source.End = refl
   all_used_in_settle ds (source.Then s ss) = names_behind ds (used_in ds s) (all_used_in ds ss) (names_in s) (all_names_in ss) (used_in_settles ds s) (all_used_in_settle ds ss)
 
-pub used_by_settle : (ds : List Declared) (ps : List source.Process) → Settles (used_by ds ps) (flat_map (undeclared ds) (flat_map (λ p. names_in p.body) ps)) (Unit {0})
-used_by_settle ds [] = (refl, tt)
+pub used_by_settle : (ds : List Declared) (ps : List source.Process) → Settles (used_by ds ps) (flat_map (undeclared ds) (flat_map (λ p. names_in p.body) ps))
+used_by_settle ds [] = refl
 used_by_settle ds (p ∷ ps) = names_behind ds (used_in ds p.body) (used_by ds ps) (names_in p.body) (flat_map (λ p. names_in p.body) ps) (used_in_settles ds p.body) (used_by_settle ds ps)
 
--- a literal
-pub literal_is : (n : ℕ) → (nat_lt 0 n && nat_le n 64) ≡ true → (1 ≤ n) × (n ≤ 64)
-literal_is n h = (grind (arith, nat_tests), grind (arith, nat_tests))
-
-no_literal : (n : ℕ) → (nat_lt 0 n && nat_le n 64) ≡ false → (1 ≤ n) × (n ≤ 64) → ⊥
-no_literal n h is = let a = is.0 in let b = is.1 in grind (arith, nat_tests)
-
-pub literal_settles : (ds : List Declared) (v : Vector) → Settles (found ds (Literal v)) [] (IsFormed (Literal v))
-literal_settles ds v = by (is_literal v) refl
-  where
-    by : (b : Bool) → is_literal v ≡ b → Settles (found_where (not (is_literal v)) Unspelled) [] ((1 ≤ length v) × (length v ≤ 64))
-    by true q = subst (λ b. Settles (found_where (not b) Unspelled) [] ((1 ≤ length v) × (length v ≤ 64))) (sym q) (refl, literal_is (length v) q)
-    by false q = subst (λ b. Settles (found_where (not b) Unspelled) [] ((1 ≤ length v) × (length v ≤ 64))) (sym q) (no_literal (length v) q)
-
--- the parts of a concatenation
-wide_settles : (b : Bool) → Settles (or_else (found_where b (Known model.WideConcat)) None) (fault_where b model.WideConcat) (Unit {0})
-wide_settles true = refl
-wide_settles false = (refl, tt)
-
-concat_settles : (ds : List Declared) (parts : Expressions Text)
-    → Settles (found_concat ds parts) (fault_where (nat_lt greatest_width (parts_size ds parts)) model.WideConcat) (HasParts parts)
-concat_settles ds Nothing = λ h. h
-concat_settles ds (Also e es) = wide_settles (nat_lt greatest_width (parts_size ds (Also e es)))
-
 mutual
-  pub found_settles : (ds : List Declared) (e : Expression Text) → Settles (found ds e) (expression_faults ds e) (IsFormed e)
-  found_settles ds (Register name) = (refl, tt)
+  pub found_settles : (ds : List Declared) (e : Expression Text) → Settles (found ds e) (expression_faults ds e)
+  found_settles ds (Register name) = refl
   found_settles ds (Select name i) = at (not (is_index (range_of ds name) i)) (model.BadIndex name)
-  found_settles ds (Literal v) = literal_settles ds v
+  found_settles ds (Literal v) = refl
   found_settles ds (Concat parts) =
-      both (found_concat ds parts) (all_found ds parts) (fault_where (nat_lt greatest_width (parts_size ds parts)) model.WideConcat) (all_expression_faults ds parts)
-      (HasParts parts) (AreFormed parts) (concat_settles ds parts) (all_found_settle ds parts)
+      behind (found_concat ds parts) (all_found ds parts) (fault_where (nat_lt greatest_width (parts_size ds parts)) model.WideConcat) (all_expression_faults ds parts)
+      (at (nat_lt greatest_width (parts_size ds parts)) model.WideConcat) (all_found_settle ds parts)
   found_settles ds (Unary op e) = found_settles ds e
-  found_settles ds (Binary op e f) =
-      both (found ds e) (found ds f) (expression_faults ds e) (expression_faults ds f) (IsFormed e) (IsFormed f) (found_settles ds e) (found_settles ds f)
+  found_settles ds (Binary op e f) = behind (found ds e) (found ds f) (expression_faults ds e) (expression_faults ds f) (found_settles ds e) (found_settles ds f)
   found_settles ds (Conditional c e f) =
-      both (found ds c) (or_else (found ds e) (found ds f)) (expression_faults ds c) (expression_faults ds e ++ expression_faults ds f)
-      (IsFormed c) (IsFormed e × IsFormed f) (found_settles ds c)
-      (both (found ds e) (found ds f) (expression_faults ds e) (expression_faults ds f) (IsFormed e) (IsFormed f) (found_settles ds e) (found_settles ds f))
+      behind (found ds c) (or_else (found ds e) (found ds f)) (expression_faults ds c) (expression_faults ds e ++ expression_faults ds f) (found_settles ds c)
+      (behind (found ds e) (found ds f) (expression_faults ds e) (expression_faults ds f) (found_settles ds e) (found_settles ds f))
 
-  pub all_found_settle : (ds : List Declared) (es : Expressions Text) → Settles (all_found ds es) (all_expression_faults ds es) (AreFormed es)
-  all_found_settle ds Nothing = (refl, tt)
-  all_found_settle ds (Also e es) =
-      both (found ds e) (all_found ds es) (expression_faults ds e) (all_expression_faults ds es) (IsFormed e) (AreFormed es) (found_settles ds e) (all_found_settle ds es)
+  pub all_found_settle : (ds : List Declared) (es : Expressions Text) → Settles (all_found ds es) (all_expression_faults ds es)
+  all_found_settle ds Nothing = refl
+  all_found_settle ds (Also e es) = behind (found ds e) (all_found ds es) (expression_faults ds e) (all_expression_faults ds es) (found_settles ds e) (all_found_settle ds es)
 
-delay_settles : (delay : Option ℕ) → Settles (found_delay delay) (delay_faults delay) (Unit {0})
-delay_settles None = (refl, tt)
+delay_settles : (delay : Option ℕ) → Settles (found_delay delay) (delay_faults delay)
+delay_settles None = refl
 delay_settles (Some delay) = at (nat_lt greatest_delay delay) model.LongDelay
 
 mutual
-  pub found_in_settles : (ds : List Declared) (s : source.Statement) → Settles (found_in ds s) (statement_faults ds s) (IsFormedStatement s)
-  found_in_settles ds source.Empty = (refl, tt)
+  pub found_in_settles : (ds : List Declared) (s : source.Statement) → Settles (found_in ds s) (statement_faults ds s)
+  found_in_settles ds source.Empty = refl
   found_in_settles ds (source.Block body) = all_found_in_settle ds body
   found_in_settles ds (source.Assign name delay e) =
-      behind (found_delay delay) (found ds e) (delay_faults delay) (expression_faults ds e) (IsFormed e) (delay_settles delay) (found_settles ds e)
+      behind (found_delay delay) (found ds e) (delay_faults delay) (expression_faults ds e) (delay_settles delay) (found_settles ds e)
   found_in_settles ds (source.AssignLater name delay e) =
-      behind (found_delay delay) (found ds e) (delay_faults delay) (expression_faults ds e) (IsFormed e) (delay_settles delay) (found_settles ds e)
+      behind (found_delay delay) (found ds e) (delay_faults delay) (expression_faults ds e) (delay_settles delay) (found_settles ds e)
   found_in_settles ds (source.Delay delay s) =
-      behind (found_delay (Some delay)) (found_in ds s) (delay_faults (Some delay)) (statement_faults ds s) (IsFormedStatement s) (delay_settles (Some delay)) (found_in_settles ds s)
+      behind (found_delay (Some delay)) (found_in ds s) (delay_faults (Some delay)) (statement_faults ds s) (delay_settles (Some delay)) (found_in_settles ds s)
   found_in_settles ds (source.Await triggers s) = found_in_settles ds s
   found_in_settles ds (source.If c body) =
-      both (found ds c) (all_found_in ds body) (expression_faults ds c) (all_statement_faults ds body) (IsFormed c) (AreFormedStatements body)
-      (found_settles ds c) (all_found_in_settle ds body)
+      behind (found ds c) (all_found_in ds body) (expression_faults ds c) (all_statement_faults ds body) (found_settles ds c) (all_found_in_settle ds body)
   found_in_settles ds (source.IfElse c body otherwise) =
-      both (found ds c) (or_else (all_found_in ds body) (all_found_in ds otherwise)) (expression_faults ds c) (all_statement_faults ds body ++ all_statement_faults ds otherwise)
-      (IsFormed c) (AreFormedStatements body × AreFormedStatements otherwise) (found_settles ds c)
-      (both (all_found_in ds body) (all_found_in ds otherwise) (all_statement_faults ds body) (all_statement_faults ds otherwise)
-      (AreFormedStatements body) (AreFormedStatements otherwise) (all_found_in_settle ds body) (all_found_in_settle ds otherwise))
+      behind (found ds c) (or_else (all_found_in ds body) (all_found_in ds otherwise)) (expression_faults ds c) (all_statement_faults ds body ++ all_statement_faults ds otherwise)
+      (found_settles ds c)
+      (behind (all_found_in ds body) (all_found_in ds otherwise) (all_statement_faults ds body) (all_statement_faults ds otherwise)
+      (all_found_in_settle ds body) (all_found_in_settle ds otherwise))
   found_in_settles ds (source.While c body) =
-      both (found ds c) (all_found_in ds body) (expression_faults ds c) (all_statement_faults ds body) (IsFormed c) (AreFormedStatements body)
-      (found_settles ds c) (all_found_in_settle ds body)
+      behind (found ds c) (all_found_in ds body) (expression_faults ds c) (all_statement_faults ds body) (found_settles ds c) (all_found_in_settle ds body)
   found_in_settles ds (source.Display format arguments) =
       behind (found_format format (count_of arguments)) (all_found ds arguments) (fault_where (not (is_format_for (pieces_of format) (count_of arguments))) model.BadFormat)
-      (all_expression_faults ds arguments) (AreFormed arguments) (at (not (is_format_for (pieces_of format) (count_of arguments))) model.BadFormat) (all_found_settle ds arguments)
-  found_in_settles ds source.Finish = (refl, tt)
+      (all_expression_faults ds arguments) (at (not (is_format_for (pieces_of format) (count_of arguments))) model.BadFormat) (all_found_settle ds arguments)
+  found_in_settles ds source.Finish = refl
 
-  pub all_found_in_settle : (ds : List Declared) (ss : source.Statements) → Settles (all_found_in ds ss) (all_statement_faults ds ss) (AreFormedStatements ss)
-  all_found_in_settle ds source.End = (refl, tt)
+  pub all_found_in_settle : (ds : List Declared) (ss : source.Statements) → Settles (all_found_in ds ss) (all_statement_faults ds ss)
+  all_found_in_settle ds source.End = refl
   all_found_in_settle ds (source.Then s ss) =
-      both (found_in ds s) (all_found_in ds ss) (statement_faults ds s) (all_statement_faults ds ss) (IsFormedStatement s) (AreFormedStatements ss)
-      (found_in_settles ds s) (all_found_in_settle ds ss)
+      behind (found_in ds s) (all_found_in ds ss) (statement_faults ds s) (all_statement_faults ds ss) (found_in_settles ds s) (all_found_in_settle ds ss)
 
-pub found_by_settle : (ds : List Declared) (ps : List source.Process) → Settles (found_by ds ps) (flat_map (λ p. statement_faults ds p.body) ps) (AreFormedProcesses ps)
-found_by_settle ds [] = (refl, tt)
+pub found_by_settle : (ds : List Declared) (ps : List source.Process) → Settles (found_by ds ps) (flat_map (λ p. statement_faults ds p.body) ps)
+found_by_settle ds [] = refl
 found_by_settle ds (p ∷ ps) =
-    both (found_in ds p.body) (found_by ds ps) (statement_faults ds p.body) (flat_map (λ p. statement_faults ds p.body) ps)
-    (IsFormedStatement p.body) (AreFormedProcesses ps) (found_in_settles ds p.body) (found_by_settle ds ps)
+    behind (found_in ds p.body) (found_by ds ps) (statement_faults ds p.body) (flat_map (λ p. statement_faults ds p.body) ps)
+    (found_in_settles ds p.body) (found_by_settle ds ps)
 
 -- the processes
 pub among_settles : (ds : List Declared) (ps : List source.Process) → Settles (found_among ds ps)
     (fault_where (nat_lt most_processes (length ps)) model.TooManyProcesses ++
-    (flat_map (undeclared ds) (flat_map (λ p. names_in p.body) ps) ++ flat_map (λ p. statement_faults ds p.body) ps)) (AreFormedProcesses ps)
+    (flat_map (undeclared ds) (flat_map (λ p. names_in p.body) ps) ++ flat_map (λ p. statement_faults ds p.body) ps))
 among_settles ds ps =
     let names = flat_map (undeclared ds) (flat_map (λ p. names_in p.body) ps) in
     let rest = flat_map (λ p. statement_faults ds p.body) ps in
     let few = nat_lt most_processes (length ps) in
-    behind (found_where few (Known model.TooManyProcesses)) (or_else (used_by ds ps) (found_by ds ps)) (fault_where few model.TooManyProcesses) (names ++ rest) (AreFormedProcesses ps)
-    (at few model.TooManyProcesses) (behind (used_by ds ps) (found_by ds ps) names rest (AreFormedProcesses ps) (used_by_settle ds ps) (found_by_settle ds ps))
+    behind (found_where few model.TooManyProcesses) (or_else (used_by ds ps) (found_by ds ps)) (fault_where few model.TooManyProcesses) (names ++ rest)
+    (at few model.TooManyProcesses) (behind (used_by ds ps) (found_by ds ps) names rest (used_by_settle ds ps) (found_by_settle ds ps))
 
 -- the module
-pub module_settles : (m : Module) → Settles (found_module m) (faults m) (IsFormedModule m)
+pub module_settles : (m : Module) → Settles (found_module m) (faults m)
 module_settles m =
     behind (found_names [] (declared m)) (found_among (declared m) m.processes) (declaration_faults [] (declared m))
     (fault_where (nat_lt most_processes (length m.processes)) model.TooManyProcesses ++
     (flat_map (undeclared (declared m)) (flat_map (λ p. names_in p.body) m.processes) ++ flat_map (λ p. statement_faults (declared m) p.body) m.processes))
-    (IsFormedModule m) (declarations_settle [] (declared m)) (among_settles (declared m) m.processes)
+    (declarations_settle [] (declared m)) (among_settles (declared m) m.processes)
 
 -- what is told of what was found first is told of the first fault
-pub first_fault : (told : ElabFault) (o : Option Found) (fs : List Fault) (F : Type 0) → Settles o fs F → IsFirstOf told o → IsFirstFault told fs
-first_fault told None fs F x is = subst (λ t. IsFirstFault t fs) (sym is) tt
-first_fault (fault.Undeclared name) (Some (Known f)) fs F x is = x ∙ cc
-first_fault (fault.DeclaredTwice name) (Some (Known f)) fs F x is = x ∙ cc
-first_fault (fault.BadRange name) (Some (Known f)) fs F x is = x ∙ cc
-first_fault fault.TooManyRegisters (Some (Known f)) fs F x is = x ∙ cc
-first_fault fault.TooManyProcesses (Some (Known f)) fs F x is = x ∙ cc
-first_fault fault.BadFormat (Some (Known f)) fs F x is = x ∙ cc
-first_fault fault.WideConcat (Some (Known f)) fs F x is = x ∙ cc
-first_fault (fault.BadIndex name) (Some (Known f)) fs F x is = x ∙ cc
-first_fault fault.LongDelay (Some (Known f)) fs F x is = x ∙ cc
-first_fault fault.Memory (Some f) fs F x is = tt
-first_fault fault.Unspelled (Some f) fs F x is = tt
-first_fault (fault.Undeclared name) (Some Unspelled) fs F x is = absurd cc
-first_fault (fault.DeclaredTwice name) (Some Unspelled) fs F x is = absurd cc
-first_fault (fault.BadRange name) (Some Unspelled) fs F x is = absurd cc
-first_fault fault.TooManyRegisters (Some Unspelled) fs F x is = absurd cc
-first_fault fault.TooManyProcesses (Some Unspelled) fs F x is = absurd cc
-first_fault fault.BadFormat (Some Unspelled) fs F x is = absurd cc
-first_fault fault.WideConcat (Some Unspelled) fs F x is = absurd cc
-first_fault (fault.BadIndex name) (Some Unspelled) fs F x is = absurd cc
-first_fault fault.LongDelay (Some Unspelled) fs F x is = absurd cc
-
--- and a tree that is told to be no source's isn't formed
-pub not_spelled : (told : ElabFault) (o : Option Found) (fs : List Fault) (F : Type 0) → Settles o fs F → IsFirstOf told o → told ≡ fault.Unspelled → F → ⊥
-not_spelled told None fs F x is e = absurd cc
-not_spelled told (Some (Known f)) fs F x is e = absurd (let k : IsFaultOf fault.Unspelled (Known f) = subst (λ t. IsFaultOf t (Known f)) e is in cc)
-not_spelled told (Some Unspelled) fs F x is e = x
+pub first_fault : (told : ElabFault) (o : Option Fault) (fs : List Fault) → Settles o fs → IsFirstOf told o → IsFirstFault told fs
+first_fault told None fs x is = subst (λ t. IsFirstFault t fs) (sym is) tt
+first_fault (fault.Undeclared name) (Some f) fs x is = x ∙ cc
+first_fault (fault.DeclaredTwice name) (Some f) fs x is = x ∙ cc
+first_fault (fault.BadRange name) (Some f) fs x is = x ∙ cc
+first_fault fault.TooManyRegisters (Some f) fs x is = x ∙ cc
+first_fault fault.TooManyProcesses (Some f) fs x is = x ∙ cc
+first_fault fault.BadFormat (Some f) fs x is = x ∙ cc
+first_fault fault.WideConcat (Some f) fs x is = x ∙ cc
+first_fault (fault.BadIndex name) (Some f) fs x is = x ∙ cc
+first_fault fault.LongDelay (Some f) fs x is = x ∙ cc
+first_fault fault.Memory (Some f) fs x is = tt

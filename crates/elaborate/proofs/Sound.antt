@@ -6,27 +6,28 @@ use Rattle.std.proofs.lemmas.List.Elements.{All-nil, All-cons}
 use Rattle.std.specs.List.{All}
 use Rattle.model.specs.declared.tree.Change.{Change}
 use Rattle.model.specs.Syntax as source
-use Rattle.model.specs.Syntax.{greatest_width, Text, Expression, Register, Select, Literal, Concat, Unary, Binary, Conditional, Expressions, Nothing, Also, Module}
+use Rattle.model.specs.Syntax.{Text, Expression, Register, Select, Literal, Concat, Unary, Binary, Conditional, Expressions, Nothing, Also, Module}
+use Rattle.logic4.specs.Vector.{greatest_width, AreWithin}
 use Rattle.model.specs.Design.{Statements, End, Then, Piece}
 use Rattle.model.specs.Elaboration as model
 use Rattle.model.specs.Elaboration.{Fault, Declared, has_name, is_declared, number_of, is_range, is_index, range_of, width_of, widths_of, parts_size, most_registers, most_processes, greatest_delay, count_of, is_format_for, pieces_of, argument_count, resolved, all_resolved, followed_by, statements_of, block_of, process_of, design_of, declared, assignment, trigger_of}
 use Rattle.design.specs.Sound.{HasSome, how_many, IsSoundExpression, AreSoundExpressions, IsSoundStatement, AreSoundStatements, IsSound}
-use Rattle.elaborate.specs.Findings.{Found, Known, Unspelled, or_else, found_where, unknown, unknown_among, used, all_used, used_in, all_used_in, used_by, found_name, found_names, found_concat, is_literal, is_nothing, found, all_found, found_delay, found_format, found_in, all_found_in, found_by, found_few, found_among}
+use Rattle.elaborate.specs.Findings.{or_else, found_where, unknown, unknown_among, used, all_used, used_in, all_used_in, used_by, found_name, found_names, found_concat, found, all_found, found_delay, found_format, found_in, all_found_in, found_by, found_few, found_among}
 use Rattle.elaborate.specs.Small.{IsSmall, AreSmall, IsShort, IsSmallStatement, AreSmallStatements, AreSmallProcesses}
-use Rattle.elaborate.proofs.Settled.{literal_is}
+use Rattle.elaborate.specs.Formed.{HasParts, IsFormed, AreFormed, IsFormedStatement, AreFormedStatements, AreFormedProcesses}
 use Rattle.elaborate.proofs.Lookups.{allowed}
 
 -- nothing found by two walks is nothing found by each
-split : (a b : Option Found) → or_else a b ≡ None → (a ≡ None) × (b ≡ None)
+split : (a b : Option Fault) → or_else a b ≡ None → (a ≡ None) × (b ≡ None)
 split None b h = (refl, h)
 split (Some f) b h = absurd cc
 
 -- nothing found where a condition holds: it doesn't
-fails : (b : Bool) (f : Found) → found_where b f ≡ None → b ≡ false
+fails : (b : Bool) (f : Fault) → found_where b f ≡ None → b ≡ false
 fails true f h = absurd cc
 fails false f h = refl
 
-holds : (b : Bool) (f : Found) → found_where (not b) f ≡ None → b ≡ true
+holds : (b : Bool) (f : Fault) → found_where (not b) f ≡ None → b ≡ true
 holds true f h = refl
 holds false f h = absurd cc
 
@@ -40,39 +41,38 @@ number_below (d ∷ ds) name h = by (has_name name d) refl (number_below ds name
     by false q rest = let k : is_declared ds name ≡ true = rw q at h in rw q (omega (arith, rest k))
 
 known_below : (ds : List Declared) (name : Text) → unknown ds name ≡ None → number_of ds name < length (widths_of ds)
-known_below ds name h = rw length-map (number_below ds name (holds (is_declared ds name) (Known (model.Undeclared name)) h))
+known_below ds name h = rw length-map (number_below ds name (holds (is_declared ds name) (model.Undeclared name) h))
 
-few_digits : (n : ℕ) → nat_lt 64 n ≡ false → n ≤ 64
+few_digits : (n : ℕ) → nat_lt greatest_width n ≡ false → n ≤ greatest_width
 few_digits n h = grind (arith, nat_tests)
 
-has_some : (ds : List Declared) (es : Expressions Text) → is_nothing es ≡ false → HasSome (all_resolved ds es)
-has_some ds Nothing h = absurd cc
+has_some : (ds : List Declared) (es : Expressions Text) → HasParts es → HasSome (all_resolved ds es)
+has_some ds Nothing h = absurd h
 has_some ds (Also e es) h = tt
 
 mutual
-  pub sound : (ds : List Declared) (e : Expression Text) → used ds e ≡ None → found ds e ≡ None → IsSoundExpression (widths_of ds) (resolved ds e)
-  sound ds (Register name) u f = known_below ds name u
-  sound ds (Select name i) u f = known_below ds name u
-  sound ds (Literal v) u f = literal_is (length v) (holds (is_literal v) Unspelled f)
-  sound ds (Concat parts) u f =
-      let a = split (found_concat ds parts) (all_found ds parts) f in
-      let b = split (found_where (nat_lt greatest_width (parts_size ds parts)) (Known model.WideConcat)) (found_where (is_nothing parts) Unspelled) a.0 in (
-        few_digits (parts_size ds parts) (fails (nat_lt greatest_width (parts_size ds parts)) (Known model.WideConcat) b.0),
-        has_some ds parts (fails (is_nothing parts) Unspelled b.1),
-        all_sound ds parts u a.1,
+  pub sound : (ds : List Declared) (e : Expression Text) → IsFormed e → used ds e ≡ None → found ds e ≡ None → IsSoundExpression (widths_of ds) (resolved ds e)
+  sound ds (Register name) w u f = known_below ds name u
+  sound ds (Select name i) w u f = known_below ds name u
+  sound ds (Literal v) w u f = w
+  sound ds (Concat parts) w u f =
+      let a = split (found_concat ds parts) (all_found ds parts) f in (
+        few_digits (parts_size ds parts) (fails (nat_lt greatest_width (parts_size ds parts)) model.WideConcat a.0),
+        has_some ds parts w.0,
+        all_sound ds parts w.1 u a.1,
       )
-  sound ds (Unary op e) u f = sound ds e u f
-  sound ds (Binary op e g) u f =
-      let a = split (used ds e) (used ds g) u in let b = split (found ds e) (found ds g) f in (sound ds e a.0 b.0, sound ds g a.1 b.1)
-  sound ds (Conditional c e g) u f =
+  sound ds (Unary op e) w u f = sound ds e w u f
+  sound ds (Binary op e g) w u f =
+      let a = split (used ds e) (used ds g) u in let b = split (found ds e) (found ds g) f in (sound ds e w.0 a.0 b.0, sound ds g w.1 a.1 b.1)
+  sound ds (Conditional c e g) w u f =
       let a = split (used ds c) (or_else (used ds e) (used ds g)) u in let a2 = split (used ds e) (used ds g) a.1 in
       let b = split (found ds c) (or_else (found ds e) (found ds g)) f in let b2 = split (found ds e) (found ds g) b.1 in
-      (sound ds c a.0 b.0, sound ds e a2.0 b2.0, sound ds g a2.1 b2.1)
+      (sound ds c w.0 a.0 b.0, sound ds e w.1.0 a2.0 b2.0, sound ds g w.1.1 a2.1 b2.1)
 
-  pub all_sound : (ds : List Declared) (es : Expressions Text) → all_used ds es ≡ None → all_found ds es ≡ None → AreSoundExpressions (widths_of ds) (all_resolved ds es)
-  all_sound ds Nothing u f = tt
-  all_sound ds (Also e es) u f =
-      let a = split (used ds e) (all_used ds es) u in let b = split (found ds e) (all_found ds es) f in (sound ds e a.0 b.0, all_sound ds es a.1 b.1)
+  pub all_sound : (ds : List Declared) (es : Expressions Text) → AreFormed es → all_used ds es ≡ None → all_found ds es ≡ None → AreSoundExpressions (widths_of ds) (all_resolved ds es)
+  all_sound ds Nothing w u f = tt
+  all_sound ds (Also e es) w u f =
+      let a = split (used ds e) (all_used ds es) u in let b = split (found ds e) (all_found ds es) f in (sound ds e w.0 a.0 b.0, all_sound ds es w.1 a.1 b.1)
 
 -- statements behind sound ones
 sound_behind : (widths : List ℕ) (a b : Statements) → AreSoundStatements widths a → AreSoundStatements widths b → AreSoundStatements widths (followed_by a b)
@@ -80,7 +80,7 @@ sound_behind widths End b x y = y
 sound_behind widths (Then s a) b x y = (x.0, sound_behind widths a b x.1 y)
 
 short : (delay : ℕ) → found_delay (Some delay) ≡ None → delay ≤ greatest_delay
-short delay h = let k = fails (nat_lt greatest_delay delay) (Known model.LongDelay) h in not_above delay k
+short delay h = let k = fails (nat_lt greatest_delay delay) model.LongDelay h in not_above delay k
   where
     not_above : (n : ℕ) → nat_lt 4294967295 n ≡ false → n ≤ 4294967295
     not_above n k = grind (arith, nat_tests)
@@ -113,52 +113,52 @@ same_count (Some pieces) n h = equal_true (argument_count pieces) n h
     equal_true a b h = grind (arith, nat_tests)
 
 mutual
-  pub sound_in : (ds : List Declared) (s : source.Statement) → used_in ds s ≡ None → found_in ds s ≡ None → AreSoundStatements (widths_of ds) (statements_of ds s)
-  sound_in ds source.Empty u f = (tt, tt)
-  sound_in ds (source.Block body) u f = all_sound_in ds body u f
-  sound_in ds (source.Assign name delay e) u f =
+  pub sound_in : (ds : List Declared) (s : source.Statement) → IsFormedStatement s → used_in ds s ≡ None → found_in ds s ≡ None → AreSoundStatements (widths_of ds) (statements_of ds s)
+  sound_in ds source.Empty w u f = (tt, tt)
+  sound_in ds (source.Block body) w u f = all_sound_in ds body w u f
+  sound_in ds (source.Assign name delay e) w u f =
       let a = split (unknown ds name) (used ds e) u in let b = split (found_delay delay) (found ds e) f in
-      (sound_assignment (widths_of ds) (number_of ds name) delay (resolved ds e) (known_below ds name a.0) b.0 (sound ds e a.1 b.1), tt)
-  sound_in ds (source.AssignLater name delay e) u f =
+      (sound_assignment (widths_of ds) (number_of ds name) delay (resolved ds e) (known_below ds name a.0) b.0 (sound ds e w a.1 b.1), tt)
+  sound_in ds (source.AssignLater name delay e) w u f =
       let a = split (unknown ds name) (used ds e) u in let b = split (found_delay delay) (found ds e) f in
-      ((known_below ds name a.0, short_or_none delay b.0, sound ds e a.1 b.1), tt)
-  sound_in ds (source.Delay delay s) u f =
-      let b = split (found_delay (Some delay)) (found_in ds s) f in ((short delay b.0, sound_in ds s u b.1), tt)
-  sound_in ds (source.Await triggers s) u f =
+      ((known_below ds name a.0, short_or_none delay b.0, sound ds e w a.1 b.1), tt)
+  sound_in ds (source.Delay delay s) w u f =
+      let b = split (found_delay (Some delay)) (found_in ds s) f in ((short delay b.0, sound_in ds s w u b.1), tt)
+  sound_in ds (source.Await triggers s) w u f =
       let a = split (unknown_among ds (map (λ t. t.1) triggers)) (used_in ds s) u in
-      ((triggers_below ds triggers a.0, sound_in ds s a.1 f), tt)
-  sound_in ds (source.If c body) u f =
+      ((triggers_below ds triggers a.0, sound_in ds s w a.1 f), tt)
+  sound_in ds (source.If c body) w u f =
       let a = split (used ds c) (all_used_in ds body) u in let b = split (found ds c) (all_found_in ds body) f in
-      ((sound ds c a.0 b.0, all_sound_in ds body a.1 b.1, tt), tt)
-  sound_in ds (source.IfElse c body otherwise) u f =
+      ((sound ds c w.0 a.0 b.0, all_sound_in ds body w.1 a.1 b.1, tt), tt)
+  sound_in ds (source.IfElse c body otherwise) w u f =
       let a = split (used ds c) (or_else (all_used_in ds body) (all_used_in ds otherwise)) u in let a2 = split (all_used_in ds body) (all_used_in ds otherwise) a.1 in
       let b = split (found ds c) (or_else (all_found_in ds body) (all_found_in ds otherwise)) f in let b2 = split (all_found_in ds body) (all_found_in ds otherwise) b.1 in
-      ((sound ds c a.0 b.0, all_sound_in ds body a2.0 b2.0, all_sound_in ds otherwise a2.1 b2.1), tt)
-  sound_in ds (source.While c body) u f =
+      ((sound ds c w.0 a.0 b.0, all_sound_in ds body w.1.0 a2.0 b2.0, all_sound_in ds otherwise w.1.1 a2.1 b2.1), tt)
+  sound_in ds (source.While c body) w u f =
       let a = split (used ds c) (all_used_in ds body) u in let b = split (found ds c) (all_found_in ds body) f in
-      ((sound ds c a.0 b.0, all_sound_in ds body a.1 b.1), tt)
-  sound_in ds (source.Display format arguments) u f =
+      ((sound ds c w.0 a.0 b.0, all_sound_in ds body w.1 a.1 b.1), tt)
+  sound_in ds (source.Display format arguments) w u f =
       let b = split (found_format format (count_of arguments)) (all_found ds arguments) f in (
         (
-          same_count (pieces_of format) (count_of arguments) (holds (is_format_for (pieces_of format) (count_of arguments)) (Known model.BadFormat) b.0) ∙ sym (counted ds arguments),
-          all_sound ds arguments u b.1,
+          same_count (pieces_of format) (count_of arguments) (holds (is_format_for (pieces_of format) (count_of arguments)) model.BadFormat b.0) ∙ sym (counted ds arguments),
+          all_sound ds arguments w u b.1,
         ),
         tt,
       )
-  sound_in ds source.Finish u f = (tt, tt)
+  sound_in ds source.Finish w u f = (tt, tt)
 
-  pub all_sound_in : (ds : List Declared) (ss : source.Statements) → all_used_in ds ss ≡ None → all_found_in ds ss ≡ None → AreSoundStatements (widths_of ds) (block_of ds ss)
-  all_sound_in ds source.End u f = tt
-  all_sound_in ds (source.Then s ss) u f =
+  pub all_sound_in : (ds : List Declared) (ss : source.Statements) → AreFormedStatements ss → all_used_in ds ss ≡ None → all_found_in ds ss ≡ None → AreSoundStatements (widths_of ds) (block_of ds ss)
+  all_sound_in ds source.End w u f = tt
+  all_sound_in ds (source.Then s ss) w u f =
       let a = split (used_in ds s) (all_used_in ds ss) u in let b = split (found_in ds s) (all_found_in ds ss) f in
-      sound_behind (widths_of ds) (statements_of ds s) (block_of ds ss) (sound_in ds s a.0 b.0) (all_sound_in ds ss a.1 b.1)
+      sound_behind (widths_of ds) (statements_of ds s) (block_of ds ss) (sound_in ds s w.0 a.0 b.0) (all_sound_in ds ss w.1 a.1 b.1)
 
-sound_by : (ds : List Declared) (ps : List source.Process) → used_by ds ps ≡ None → found_by ds ps ≡ None
+sound_by : (ds : List Declared) (ps : List source.Process) → AreFormedProcesses ps → used_by ds ps ≡ None → found_by ds ps ≡ None
     → All (λ p. AreSoundStatements (widths_of ds) p.body) (map (process_of ds) ps)
-sound_by ds [] u f = All-nil (λ p. AreSoundStatements (widths_of ds) p.body)
-sound_by ds (p ∷ ps) u f =
+sound_by ds [] w u f = All-nil (λ p. AreSoundStatements (widths_of ds) p.body)
+sound_by ds (p ∷ ps) w u f =
     let a = split (used_in ds p.body) (used_by ds ps) u in let b = split (found_in ds p.body) (found_by ds ps) f in
-    All-cons (λ p. AreSoundStatements (widths_of ds) p.body) (process_of ds p) (map (process_of ds) ps) (sound_in ds p.body a.0 b.0) (sound_by ds ps a.1 b.1)
+    All-cons (λ p. AreSoundStatements (widths_of ds) p.body) (process_of ds p) (map (process_of ds) ps) (sound_in ds p.body w.0 a.0 b.0) (sound_by ds ps w.1 a.1 b.1)
 
 -- each range is allowed
 range_allowed : (before ds : List Declared) → found_names before ds ≡ None → (name : Text) → is_range (range_of ds name) ≡ true
@@ -189,7 +189,7 @@ some_width : (r : Option (ℕ × ℕ)) → is_range r ≡ true → 1 ≤ width_o
 some_width None h = omega arith
 some_width (Some r) h = omega arith
 
-few_width : (r : Option (ℕ × ℕ)) → is_range r ≡ true → width_of r ≤ 64
+few_width : (r : Option (ℕ × ℕ)) → is_range r ≡ true → width_of r ≤ greatest_width
 few_width None h = omega arith
 few_width (Some r) h = omega (arith, high_of r.0 r.1 h)
 
@@ -199,45 +199,45 @@ some_widths before (d ∷ ds) h =
     let a = split (found_name before d) (found_names (before ++ d ∷ []) ds) h in
     All-cons (λ w. 1 ≤ w) (width_of d.1) (widths_of ds) (some_width d.1 (allowed before d.0 d.1 a.0).1) (some_widths (before ++ d ∷ []) ds a.1)
 
-few_widths : (before ds : List Declared) → found_names before ds ≡ None → All (λ w. w ≤ 64) (widths_of ds)
-few_widths before [] h = All-nil (λ w. w ≤ 64)
+few_widths : (before ds : List Declared) → found_names before ds ≡ None → AreWithin (widths_of ds)
+few_widths before [] h = All-nil (λ w. w ≤ greatest_width)
 few_widths before (d ∷ ds) h =
     let a = split (found_name before d) (found_names (before ++ d ∷ []) ds) h in
-    All-cons (λ w. w ≤ 64) (width_of d.1) (widths_of ds) (few_width d.1 (allowed before d.0 d.1 a.0).1) (few_widths (before ++ d ∷ []) ds a.1)
+    All-cons (λ w. w ≤ greatest_width) (width_of d.1) (widths_of ds) (few_width d.1 (allowed before d.0 d.1 a.0).1) (few_widths (before ++ d ∷ []) ds a.1)
 
 few_all : (n : ℕ) → nat_lt 256 n ≡ false → n ≤ 256
 few_all n h = grind (arith, nat_tests)
 
 -- the design of a module in which nothing is found is sound
-pub sound_design : (m : Module) → found_names [] (declared m) ≡ None → found_among (declared m) m.processes ≡ None → IsSound (design_of m)
-sound_design m n f =
+pub sound_design : (m : Module) → AreFormedProcesses m.processes → found_names [] (declared m) ≡ None → found_among (declared m) m.processes ≡ None → IsSound (design_of m)
+sound_design m w n f =
     let ds = declared m in let ps = m.processes in
     let a = split (found_few (length ps)) (or_else (used_by ds ps) (found_by ds ps)) f in let b = split (used_by ds ps) (found_by ds ps) a.1 in
     let zero_before : length {A = Declared} [] ≤ 1024 = omega arith in
     let few = few_registers [] ds n zero_before in
-    let count = few_all (length ps) (fails (nat_lt 256 (length ps)) (Known model.TooManyProcesses) a.0) in
+    let count = few_all (length ps) (fails (nat_lt 256 (length ps)) model.TooManyProcesses a.0) in
     record {
       some_digit = some_widths [] ds n;
       few_digits = few_widths [] ds n;
       few_registers = rw length-map (omega arith);
       few_processes = rw length-map count;
-      statements = sound_by ds ps b.0 b.1;
+      statements = sound_by ds ps w b.0 b.1;
     }
 
 -- a bit index in an allowed range
-index_small : (r : Option (ℕ × ℕ)) (i : ℕ) → is_range r ≡ true → is_index r i ≡ true → i ≤ 64
+index_small : (r : Option (ℕ × ℕ)) (i : ℕ) → is_range r ≡ true → is_index r i ≡ true → i ≤ greatest_width
 index_small None i h k = absurd cc
 index_small (Some r) i h k = let high = high_of r.0 r.1 h in below r.0 i high k
   where
-    below : (high i : ℕ) → high < 64 → nat_le i high ≡ true → i ≤ 64
+    below : (high i : ℕ) → high < greatest_width → nat_le i high ≡ true → i ≤ greatest_width
     below high i h k = grind (arith, nat_tests)
 
 module _ (ds : List Declared) (ranged : (name : Text) → is_range (range_of ds name) ≡ true) where
   mutual
     pub small : (e : Expression Text) → found ds e ≡ None → IsSmall e
     small (Register name) f = tt
-    small (Select name i) f = index_small (range_of ds name) i (ranged name) (holds (is_index (range_of ds name) i) (Known (model.BadIndex name)) f)
-    small (Literal v) f = literal_is (length v) (holds (is_literal v) Unspelled f)
+    small (Select name i) f = index_small (range_of ds name) i (ranged name) (holds (is_index (range_of ds name) i) (model.BadIndex name) f)
+    small (Literal v) f = tt
     small (Concat parts) f = all_small parts (split (found_concat ds parts) (all_found ds parts) f).1
     small (Unary op e) f = small e f
     small (Binary op e g) f = let b = split (found ds e) (found ds g) f in (small e b.0, small g b.1)

@@ -3,7 +3,7 @@ use Rattle.std.proofs.Common.{◌≡◌, ℕ, suc, ◌+◌, ◌<◌, ◌≤◌, 
 use Rattle.std.proofs.lemmas.List.{drop_all}
 use Rattle.model.specs.Design.{Statements}
 use Rattle.model.specs.Elaboration as model
-use Rattle.model.specs.Elaboration.{Declared, all_resolved, block_of, followed_by, resolved}
+use Rattle.model.specs.Elaboration.{Declared, Fault, all_resolved, block_of, followed_by, resolved}
 use Rattle.model.specs.declared.tree.Statement as statement
 use Rattle.model.specs.declared.tree.Expression as expression
 use Rattle.model.specs.declared.tree.Declaration as declaration
@@ -13,7 +13,7 @@ use Rattle.design.specs.declared.tree.Expression as made
 use Rattle.design.specs.Trees as tree
 use Rattle.elaborate.specs.declared.fault.ElabFault.{ElabFault}
 use Rattle.elaborate.specs.Registers.{all_declared, of_range}
-use Rattle.elaborate.specs.Findings.{Found, or_else, found_names, IsFirstOf}
+use Rattle.elaborate.specs.Findings.{or_else, found_names, IsFirstOf}
 use Rattle.elaborate.specs.Small.{AreSmallStatements}
 use Rattle.elaborate.proofs.Found.{found_names_append}
 use Rattle.elaborate.proofs.Bodies.{followed_by_assoc, followed_by_end, resolved_are}
@@ -51,7 +51,7 @@ all_parts ds es parts i h inv =
     ∙ sym (resolved_are ds (map expression_of parts))
 
 -- what is told of the first part is told of both
-pub first_part : (f : ElabFault) (a b : Option Found) → IsFirstOf f a → IsFirstOf f (or_else a b)
+pub first_part : (f : ElabFault) (a b : Option Fault) → IsFirstOf f a → IsFirstOf f (or_else a b)
 first_part f (Some x) b is = is
 first_part f None None is = is
 first_part f None (Some x) is = rw is tt

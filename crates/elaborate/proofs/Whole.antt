@@ -1,16 +1,15 @@
 -- A whole module: what is found in it, and its design.
-use Rattle.std.proofs.Common.{◌≡◌, List, [], map, Option, Some, None, refl, sym, ap, subst, ◌∙◌}
+use Rattle.std.proofs.Common.{◌≡◌, List, [], map, Option, Some, None, sym, ap, subst, ◌∙◌}
 use Rattle.model.specs.Syntax.{Module}
 use Rattle.model.specs.Design.{Design, Process}
-use Rattle.model.specs.Elaboration.{Declared, declared, design_of, process_of, widths_of, faults}
+use Rattle.model.specs.Elaboration.{Declared, Fault, declared, design_of, process_of, widths_of, faults}
 use Rattle.elaborate.specs.declared.fault.ElabFault.{ElabFault}
-use Rattle.elaborate.specs.declared.fault.ElabFault.TheVariants as fault
-use Rattle.elaborate.specs.Faults.{IsFirstFault, IsToldRightly}
-use Rattle.elaborate.specs.Formed.{IsFormedModule}
-use Rattle.elaborate.specs.Findings.{Found, or_else, found_names, found_among, found_module, IsFirstOf}
+use Rattle.elaborate.specs.Faults.{IsFirstFault}
+use Rattle.elaborate.specs.Formed.{AreFormedProcesses}
+use Rattle.elaborate.specs.Findings.{or_else, found_names, found_among, found_module, IsFirstOf}
 use Rattle.design.specs.Sound.{IsSound}
 use Rattle.elaborate.specs.Small.{AreSmallProcesses}
-use Rattle.elaborate.proofs.Settled.{Settles, module_settles, first_fault, not_spelled}
+use Rattle.elaborate.proofs.Settled.{Settles, module_settles, first_fault}
 use Rattle.elaborate.proofs.Sound.{sound_design, small_module}
 use Rattle.elaborate.proofs.Turns.{first_part}
 
@@ -23,23 +22,7 @@ module _ (m : Module) where
   of_processes f none is = subst (λ o. IsFirstOf f (or_else o (found_among (declared m) m.processes))) (sym none) is
 
   pub told_first : (f : ElabFault) → IsFirstOf f (found_module m) → IsFirstFault f (faults m)
-  told_first f is = first_fault f (found_module m) (faults m) (IsFormedModule m) (module_settles m) is
-
-  pub told_rightly : (f : ElabFault) → IsFirstOf f (found_module m) → IsToldRightly f m
-  told_rightly f is = by f refl
-    where
-      by : (g : ElabFault) → f ≡ g → IsToldRightly g m
-      by (fault.Undeclared name) e = tt
-      by (fault.DeclaredTwice name) e = tt
-      by (fault.BadRange name) e = tt
-      by fault.TooManyRegisters e = tt
-      by fault.TooManyProcesses e = tt
-      by fault.BadFormat e = tt
-      by fault.WideConcat e = tt
-      by (fault.BadIndex name) e = tt
-      by fault.LongDelay e = tt
-      by fault.Memory e = tt
-      by fault.Unspelled e = not_spelled f (found_module m) (faults m) (IsFormedModule m) (module_settles m) is e
+  told_first f is = first_fault f (found_module m) (faults m) (module_settles m) is
 
   module _ (names : List Declared) (same : names ≡ declared m) (none : found_names [] (declared m) ≡ None) (among : found_among names m.processes ≡ None) where
     clean : found_among (declared m) m.processes ≡ None
@@ -48,8 +31,8 @@ module _ (m : Module) where
     pub faultless : faults m ≡ []
     faultless = settled_none (found_module m) (ap (λ o. or_else o (found_among (declared m) m.processes)) none ∙ clean) (module_settles m)
       where
-        settled_none : (o : Option Found) → o ≡ None → Settles o (faults m) (IsFormedModule m) → faults m ≡ []
-        settled_none None e x = x.0
+        settled_none : (o : Option Fault) → o ≡ None → Settles o (faults m) → faults m ≡ []
+        settled_none None e x = x
         settled_none (Some f) e x = absurd cc
 
     pub small_processes : AreSmallProcesses m.processes
@@ -62,5 +45,6 @@ module _ (m : Module) where
         let p : processes ≡ map (process_of (declared m)) m.processes = e ∙ ap (λ ds. map (process_of ds) m.processes) same in
         λ j. record { widths = widths_of (same j); processes = p j }
 
-    pub sound_processes : (processes : List Process) → processes ≡ map (process_of names) m.processes → IsSound (record { widths = widths_of names; processes = processes })
-    sound_processes processes e = subst IsSound (sym (same_design processes e)) (sound_design m none clean)
+    pub sound_processes : AreFormedProcesses m.processes → (processes : List Process) → processes ≡ map (process_of names) m.processes
+        → IsSound (record { widths = widths_of names; processes = processes })
+    sound_processes formed processes e = subst IsSound (sym (same_design processes e)) (sound_design m formed none clean)

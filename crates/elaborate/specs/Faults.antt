@@ -2,22 +2,15 @@
 use Rattle.std.specs.Prelude.{◌≡◌, List, [], ◌∷◌, Option, Some, None, string_bytes}
 use Rattle.model.specs.Elaboration as model
 use Rattle.model.specs.Elaboration.{Fault}
-use Rattle.model.specs.Syntax.{Module}
-use Rattle.elaborate.specs.Formed.{IsFormedModule}
 use Rattle.elaborate.specs.declared.fault.ElabFault.{ElabFault}
-use Rattle.elaborate.specs.declared.fault.ElabFault.TheVariants.{Undeclared, DeclaredTwice, BadRange, TooManyRegisters, TooManyProcesses, BadFormat, WideConcat, BadIndex, LongDelay, Memory, Unspelled}
+use Rattle.elaborate.specs.declared.fault.ElabFault.TheVariants.{Undeclared, DeclaredTwice, BadRange, TooManyRegisters, TooManyProcesses, BadFormat, WideConcat, BadIndex, LongDelay, Memory}
 
 -- the first of some faults
 abbrev pub first : List Fault → Option Fault
 first [] = None
 first (f ∷ fs) = Some f
 
--- that no source spells a module is told of such a module alone
-abbrev pub IsToldRightly : ElabFault → Module → Type 0
-IsToldRightly Unspelled m = IsFormedModule m → ⊥
-IsToldRightly fault m = Unit {0}
-
--- what is told is the first of the faults, with its name; want of memory, and a tree that no source spells, may be told of any module
+-- what is told is the first of the faults, with its name; want of memory may be told of any module
 abbrev pub IsFirstFault : ElabFault → List Fault → Type 0
 IsFirstFault (Undeclared name) faults = first faults ≡ Some (model.Undeclared (string_bytes name))
 IsFirstFault (DeclaredTwice name) faults = first faults ≡ Some (model.DeclaredTwice (string_bytes name))
@@ -29,4 +22,3 @@ IsFirstFault WideConcat faults = first faults ≡ Some model.WideConcat
 IsFirstFault (BadIndex name) faults = first faults ≡ Some (model.BadIndex (string_bytes name))
 IsFirstFault LongDelay faults = first faults ≡ Some model.LongDelay
 IsFirstFault Memory faults = Unit {0}
-IsFirstFault Unspelled faults = Unit {0}

@@ -1,55 +1,49 @@
 -- What the walks over a tree find first. Each definition here answers for one of them.
-use Rattle.std.specs.Prelude.{◌≡◌, ℕ, Bool, true, false, not, ◌&&◌, nat_lt, nat_le, min, List, [], ◌∷◌, ◌++◌, map, length, Option, Some, None, Result, Ok, Err, string_bytes}
+use Rattle.std.specs.Prelude.{◌≡◌, ℕ, ◌+◌, Bool, true, false, not, nat_lt, nat_le, min, List, [], ◌∷◌, ◌++◌, map, length, Option, Some, None, Result, Ok, Err, string_bytes}
 use Rattle.model.specs.Elaboration as model
 use Rattle.model.specs.Elaboration.{Fault, Declared, declared, is_declared, most_registers, most_processes, is_range, is_index, range_of, parts_size, greatest_delay, pieces_of, count_of, is_format_for}
 use Rattle.model.specs.Syntax as source
-use Rattle.model.specs.Syntax.{greatest_width, Text, Expression, Register, Select, Literal, Concat, Unary, Binary, Conditional, Expressions, Nothing, Also}
-use Rattle.logic4.specs.Vector.{Vector}
+use Rattle.model.specs.Syntax.{Text, Expression, Register, Select, Literal, Concat, Unary, Binary, Conditional, Expressions, Nothing, Also}
+use Rattle.logic4.specs.Vector.{greatest_width}
 use Rattle.elaborate.specs.declared.fault.ElabFault.{ElabFault}
 use Rattle.elaborate.specs.declared.fault.ElabFault.TheVariants as told
 use Rattle.elaborate.specs.declared.finding.Finding.{Finding}
 use Rattle.elaborate.specs.declared.finding.Finding.TheVariants as finding
 
--- a fault of the definitions, or a part of the tree that no source spells
-pub data Found : Type 0 where
-  Known : (fault : Fault) → Found
-  Unspelled : Found
-
 -- what a walk's finding stands for
-abbrev pub plain : Finding → Found
-plain (finding.Undeclared name) = Known (model.Undeclared name.now)
-plain (finding.DeclaredTwice name) = Known (model.DeclaredTwice name.now)
-plain (finding.BadRange name) = Known (model.BadRange name.now)
-plain finding.TooManyRegisters = Known model.TooManyRegisters
-plain finding.TooManyProcesses = Known model.TooManyProcesses
-plain finding.BadFormat = Known model.BadFormat
-plain finding.WideConcat = Known model.WideConcat
-plain (finding.BadIndex name) = Known (model.BadIndex name.now)
-plain finding.LongDelay = Known model.LongDelay
-plain finding.Unspelled = Unspelled
+abbrev pub plain : Finding → Fault
+plain (finding.Undeclared name) = model.Undeclared name.now
+plain (finding.DeclaredTwice name) = model.DeclaredTwice name.now
+plain (finding.BadRange name) = model.BadRange name.now
+plain finding.TooManyRegisters = model.TooManyRegisters
+plain finding.TooManyProcesses = model.TooManyProcesses
+plain finding.BadFormat = model.BadFormat
+plain finding.WideConcat = model.WideConcat
+plain (finding.BadIndex name) = model.BadIndex name.now
+plain finding.LongDelay = model.LongDelay
 
 -- the finding that a walk ended at, if it did
-abbrev pub verdict : Result (Unit {0}) Finding → Option Found
+abbrev pub verdict : Result (Unit {0}) Finding → Option Fault
 verdict (Ok u) = None
 verdict (Err f) = Some (plain f)
 
 -- the one, or else the other
-abbrev pub or_else : Option Found → Option Found → Option Found
+abbrev pub or_else : Option Fault → Option Fault → Option Fault
 or_else None other = other
 or_else (Some f) other = Some f
 
 -- something found where a condition holds
-abbrev pub found_where : Bool → Found → Option Found
+abbrev pub found_where : Bool → Fault → Option Fault
 found_where true f = Some f
 found_where false f = None
 
 -- a name that isn't declared
-abbrev pub unknown : List Declared → Text → Option Found
-unknown ds name = found_where (not (is_declared ds name)) (Known (model.Undeclared name))
+abbrev pub unknown : List Declared → Text → Option Fault
+unknown ds name = found_where (not (is_declared ds name)) (model.Undeclared name)
 
 -- the first name of an expression that isn't declared
 abbrev mutual
-  pub used : List Declared → Expression Text → Option Found
+  pub used : List Declared → Expression Text → Option Fault
   used ds (Register name) = unknown ds name
   used ds (Select name i) = unknown ds name
   used ds (Literal v) = None
@@ -58,32 +52,31 @@ abbrev mutual
   used ds (Binary op e f) = or_else (used ds e) (used ds f)
   used ds (Conditional c e f) = or_else (used ds c) (or_else (used ds e) (used ds f))
 
-  pub all_used : List Declared → Expressions Text → Option Found
+  pub all_used : List Declared → Expressions Text → Option Fault
   all_used ds Nothing = None
   all_used ds (Also e es) = or_else (used ds e) (all_used ds es)
 
 -- what is told is what was found; want of memory may be told at any time
-abbrev pub IsFaultOf : ElabFault → Found → Type 0
-IsFaultOf (told.Undeclared name) f = f ≡ Known (model.Undeclared (string_bytes name))
-IsFaultOf (told.DeclaredTwice name) f = f ≡ Known (model.DeclaredTwice (string_bytes name))
-IsFaultOf (told.BadRange name) f = f ≡ Known (model.BadRange (string_bytes name))
-IsFaultOf told.TooManyRegisters f = f ≡ Known model.TooManyRegisters
-IsFaultOf told.TooManyProcesses f = f ≡ Known model.TooManyProcesses
-IsFaultOf told.BadFormat f = f ≡ Known model.BadFormat
-IsFaultOf told.WideConcat f = f ≡ Known model.WideConcat
-IsFaultOf (told.BadIndex name) f = f ≡ Known (model.BadIndex (string_bytes name))
-IsFaultOf told.LongDelay f = f ≡ Known model.LongDelay
+abbrev pub IsFaultOf : ElabFault → Fault → Type 0
+IsFaultOf (told.Undeclared name) f = f ≡ model.Undeclared (string_bytes name)
+IsFaultOf (told.DeclaredTwice name) f = f ≡ model.DeclaredTwice (string_bytes name)
+IsFaultOf (told.BadRange name) f = f ≡ model.BadRange (string_bytes name)
+IsFaultOf told.TooManyRegisters f = f ≡ model.TooManyRegisters
+IsFaultOf told.TooManyProcesses f = f ≡ model.TooManyProcesses
+IsFaultOf told.BadFormat f = f ≡ model.BadFormat
+IsFaultOf told.WideConcat f = f ≡ model.WideConcat
+IsFaultOf (told.BadIndex name) f = f ≡ model.BadIndex (string_bytes name)
+IsFaultOf told.LongDelay f = f ≡ model.LongDelay
 IsFaultOf told.Memory f = Unit {0}
-IsFaultOf told.Unspelled f = f ≡ Unspelled
 
 -- the first of some names that isn't declared
-abbrev pub unknown_among : List Declared → List Text → Option Found
+abbrev pub unknown_among : List Declared → List Text → Option Fault
 unknown_among ds [] = None
 unknown_among ds (name ∷ names) = or_else (unknown ds name) (unknown_among ds names)
 
 -- the first name of statements that isn't declared
 abbrev mutual
-  pub used_in : List Declared → source.Statement → Option Found
+  pub used_in : List Declared → source.Statement → Option Fault
   used_in ds source.Empty = None
   used_in ds (source.Block body) = all_used_in ds body
   used_in ds (source.Assign name delay e) = or_else (unknown ds name) (used ds e)
@@ -96,72 +89,62 @@ abbrev mutual
   used_in ds (source.Display format arguments) = all_used ds arguments
   used_in ds source.Finish = None
 
-  pub all_used_in : List Declared → source.Statements → Option Found
+  pub all_used_in : List Declared → source.Statements → Option Fault
   all_used_in ds source.End = None
   all_used_in ds (source.Then s ss) = or_else (used_in ds s) (all_used_in ds ss)
 
 -- the first name of processes that isn't declared
-abbrev pub used_by : List Declared → List source.Process → Option Found
+abbrev pub used_by : List Declared → List source.Process → Option Fault
 used_by ds [] = None
 used_by ds (p ∷ ps) = or_else (used_in ds p.body) (used_by ds ps)
 
 -- what is wrong with one declared name, behind others
-abbrev pub found_name : List Declared → Declared → Option Found
+abbrev pub found_name : List Declared → Declared → Option Fault
 found_name before d =
-    or_else (found_where (is_declared before d.0) (Known (model.DeclaredTwice d.0)))
-    (or_else (found_where (not (is_range d.1)) (Known (model.BadRange d.0)))
-    (found_where (nat_le most_registers (length before)) (Known model.TooManyRegisters)))
+    or_else (found_where (is_declared before d.0) (model.DeclaredTwice d.0))
+    (or_else (found_where (not (is_range d.1)) (model.BadRange d.0))
+    (found_where (nat_le most_registers (length before)) model.TooManyRegisters))
 
 -- what is wrong first with declared names, behind others
-abbrev pub found_names : List Declared → List Declared → Option Found
+abbrev pub found_names : List Declared → List Declared → Option Fault
 found_names before [] = None
 found_names before (d ∷ ds) = or_else (found_name before d) (found_names (before ++ d ∷ []) ds)
 
--- a size, or 65 where it is greater
+-- a size, or one more than the greatest width where it is greater
 abbrev pub capped : ℕ → ℕ
-capped size = min size 65
+capped size = min size (greatest_width + 1)
 
--- a literal has 1 to 64 digits
-abbrev pub is_literal : Vector → Bool
-is_literal v = nat_lt 0 (length v) && nat_le (length v) greatest_width
-
--- whether there is no expression
-abbrev pub is_nothing : Expressions Text → Bool
-is_nothing Nothing = true
-is_nothing (Also e es) = false
-
--- a concatenation over 64 digits, or one without parts
-abbrev pub found_concat : List Declared → Expressions Text → Option Found
-found_concat ds parts =
-    or_else (found_where (nat_lt greatest_width (parts_size ds parts)) (Known model.WideConcat)) (found_where (is_nothing parts) Unspelled)
+-- a concatenation over the greatest width
+abbrev pub found_concat : List Declared → Expressions Text → Option Fault
+found_concat ds parts = found_where (nat_lt greatest_width (parts_size ds parts)) model.WideConcat
 
 -- what is wrong first with an expression, in the order of the text
 abbrev mutual
-  pub found : List Declared → Expression Text → Option Found
+  pub found : List Declared → Expression Text → Option Fault
   found ds (Register name) = None
-  found ds (Select name i) = found_where (not (is_index (range_of ds name) i)) (Known (model.BadIndex name))
-  found ds (Literal v) = found_where (not (is_literal v)) Unspelled
+  found ds (Select name i) = found_where (not (is_index (range_of ds name) i)) (model.BadIndex name)
+  found ds (Literal v) = None
   found ds (Concat parts) = or_else (found_concat ds parts) (all_found ds parts)
   found ds (Unary op e) = found ds e
   found ds (Binary op e f) = or_else (found ds e) (found ds f)
   found ds (Conditional c e f) = or_else (found ds c) (or_else (found ds e) (found ds f))
 
-  pub all_found : List Declared → Expressions Text → Option Found
+  pub all_found : List Declared → Expressions Text → Option Fault
   all_found ds Nothing = None
   all_found ds (Also e es) = or_else (found ds e) (all_found ds es)
 
 -- a delay that is too long
-abbrev pub found_delay : Option ℕ → Option Found
+abbrev pub found_delay : Option ℕ → Option Fault
 found_delay None = None
-found_delay (Some delay) = found_where (nat_lt greatest_delay delay) (Known model.LongDelay)
+found_delay (Some delay) = found_where (nat_lt greatest_delay delay) model.LongDelay
 
 -- a format that isn't one for its arguments
-abbrev pub found_format : List ℕ → ℕ → Option Found
-found_format format count = found_where (not (is_format_for (pieces_of format) count)) (Known model.BadFormat)
+abbrev pub found_format : List ℕ → ℕ → Option Fault
+found_format format count = found_where (not (is_format_for (pieces_of format) count)) model.BadFormat
 
 -- what is wrong first with statements, in the order of the text
 abbrev mutual
-  pub found_in : List Declared → source.Statement → Option Found
+  pub found_in : List Declared → source.Statement → Option Fault
   found_in ds source.Empty = None
   found_in ds (source.Block body) = all_found_in ds body
   found_in ds (source.Assign name delay e) = or_else (found_delay delay) (found ds e)
@@ -174,28 +157,28 @@ abbrev mutual
   found_in ds (source.Display format arguments) = or_else (found_format format (count_of arguments)) (all_found ds arguments)
   found_in ds source.Finish = None
 
-  pub all_found_in : List Declared → source.Statements → Option Found
+  pub all_found_in : List Declared → source.Statements → Option Fault
   all_found_in ds source.End = None
   all_found_in ds (source.Then s ss) = or_else (found_in ds s) (all_found_in ds ss)
 
 -- what is wrong first with processes
-abbrev pub found_by : List Declared → List source.Process → Option Found
+abbrev pub found_by : List Declared → List source.Process → Option Fault
 found_by ds [] = None
 found_by ds (p ∷ ps) = or_else (found_in ds p.body) (found_by ds ps)
 
 -- too many processes
-abbrev pub found_few : ℕ → Option Found
-found_few count = found_where (nat_lt most_processes count) (Known model.TooManyProcesses)
+abbrev pub found_few : ℕ → Option Fault
+found_few count = found_where (nat_lt most_processes count) model.TooManyProcesses
 
 -- what is wrong first with the processes of a module: too many, names, and the rest
-abbrev pub found_among : List Declared → List source.Process → Option Found
+abbrev pub found_among : List Declared → List source.Process → Option Fault
 found_among ds ps = or_else (found_few (length ps)) (or_else (used_by ds ps) (found_by ds ps))
 
 -- what is wrong first with a module
-abbrev pub found_module : source.Module → Option Found
+abbrev pub found_module : source.Module → Option Fault
 found_module m = or_else (found_names [] (declared m)) (found_among (declared m) m.processes)
 
 -- a fault that is told is what was found first; only want of memory is told where nothing was found
-abbrev pub IsFirstOf : ElabFault → Option Found → Type 0
+abbrev pub IsFirstOf : ElabFault → Option Fault → Type 0
 IsFirstOf fault (Some f) = IsFaultOf fault f
 IsFirstOf fault None = fault ≡ told.Memory

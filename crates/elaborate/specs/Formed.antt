@@ -1,7 +1,9 @@
--- Trees that some source spells: the grammar has literals of 1 to 64 digits (3.5.1), and concatenations of at least one part (5.1.14).
+-- The trees that the program's trees stand for: by their types a literal has 1 to 64 digits (3.5.1), and a concatenation has at
+-- least one part (5.1.14).
 use Rattle.std.specs.Prelude.{◌≤◌, List, [], ◌∷◌, length}
 use Rattle.model.specs.Syntax as source
-use Rattle.model.specs.Syntax.{Text, greatest_width, Expression, Register, Select, Literal, Concat, Unary, Binary, Conditional, Expressions, Nothing, Also, Module}
+use Rattle.model.specs.Syntax.{Text, Expression, Register, Select, Literal, Concat, Unary, Binary, Conditional, Expressions, Nothing, Also}
+use Rattle.logic4.specs.Vector.{greatest_width}
 
 -- there is at least one expression
 abbrev pub HasParts : Expressions Text → Type 0
@@ -46,7 +48,3 @@ abbrev mutual
 abbrev pub AreFormedProcesses : List source.Process → Type 0
 AreFormedProcesses [] = Unit {0}
 AreFormedProcesses (p ∷ ps) = IsFormedStatement p.body × AreFormedProcesses ps
-
--- a module as some source spells it
-abbrev pub IsFormedModule : Module → Type 0
-IsFormedModule m = AreFormedProcesses m.processes

@@ -1,15 +1,16 @@
--- Modules whose numbers the program's design can hold, and whose literals are vectors.
-use Rattle.std.specs.Prelude.{ℕ, ◌≤◌, List, [], ◌∷◌, Option, None, Some, length}
+-- Modules whose numbers the program's design can hold.
+use Rattle.std.specs.Prelude.{ℕ, ◌≤◌, List, [], ◌∷◌, Option, None, Some}
 use Rattle.model.specs.Syntax as source
-use Rattle.model.specs.Syntax.{Text, greatest_width, Expression, Register, Select, Literal, Concat, Unary, Binary, Conditional, Expressions, Nothing, Also}
+use Rattle.model.specs.Syntax.{Text, Expression, Register, Select, Literal, Concat, Unary, Binary, Conditional, Expressions, Nothing, Also}
+use Rattle.logic4.specs.Vector.{greatest_width}
 use Rattle.model.specs.Elaboration.{greatest_delay}
 
--- each bit index is below the greatest width, and each literal has 1 to 64 digits
+-- each bit index is at most the greatest width
 abbrev mutual
   pub IsSmall : Expression Text → Type 0
   IsSmall (Register name) = Unit {0}
   IsSmall (Select name i) = i ≤ greatest_width
-  IsSmall (Literal v) = (1 ≤ length v) × (length v ≤ greatest_width)
+  IsSmall (Literal v) = Unit {0}
   IsSmall (Concat parts) = AreSmall parts
   IsSmall (Unary op e) = IsSmall e
   IsSmall (Binary op e f) = IsSmall e × IsSmall f

@@ -11,10 +11,13 @@ use design::{RegId, Trigger};
 use model::tree::{BinaryOperator, UnaryOperator};
 use std::alloc::{AllocError, Global};
 
-pub fn concat_of(parts: Vec<Expression>) -> Expression
-    ensures { expression_of result ≡ syntax.Concat (expressions_of parts.items) }
+pub fn concat_of(first: Expression, others: Vec<Expression>) -> Result<Expression, AllocError>
+    ensures { IfOk result
+        (λ made. expression_of made ≡ syntax.Concat (syntax.Also (expression_of first) (expressions_of others.items))) }
 {
-    Expression::Concat(parts)
+    let mut parts = others;
+    parts.insert(0, first)?;
+    Ok(Expression::Concat(parts))
 }
 
 pub fn unary_of(alloc: Global, op: UnaryOperator, e: Expression) -> Result<Expression, AllocError>

@@ -1,23 +1,23 @@
 //! Formats, concatenations, bit indices and delays, in the order of the text.
-ghost use Rattle.std.specs.Prelude.{◌≡◌, ◌==◌, [], map, max, length, nat_lt};
+ghost use Rattle.std.specs.Prelude.{◌≡◌, ◌+◌, None, map, max, length, nat_lt, OnOk};
 ghost use Rattle.model.specs.Elaboration.{all_resolved, count_of, resolved, widths_of};
 ghost use Rattle.model.specs.Expressions.{own_size, result_size, sizing_of, total_size, unary_size};
 ghost use Rattle.model.specs.Elaboration as model;
-ghost use Rattle.model.specs.Syntax.{greatest_width, Concat, Literal, Select};
+ghost use Rattle.model.specs.Syntax.{Literal, Select};
+ghost use Rattle.logic4.specs.Vector.{greatest_width};
 ghost use Rattle.model.specs.Trees.{expression_of, expressions, process_of, statement_of, statements};
-ghost use Rattle.elaborate.specs.Findings.{Known, Unspelled, verdict, or_else, capped, found_where, found, all_found, found_delay, found_format, found_in, all_found_in, found_by};
+ghost use Rattle.elaborate.specs.Formed.{IsFormed, AreFormed, IsFormedStatement, AreFormedStatements, AreFormedProcesses};
+ghost use Rattle.elaborate.specs.Findings.{verdict, or_else, capped, found_where, found, all_found, found_delay, found_format, found_in, all_found_in, found_by};
 
 use crate::finding::Finding;
 use crate::format;
 use crate::names::Names;
-use logic4::digit::Digit;
+use logic4::bits::{Bits, MAX_WIDTH};
 use model::tree::{BinaryOperator, Expression, Process, Statement, UnaryOperator};
-
-const MAX_WIDTH: u32 = 64;
 
 const MAX_DELAY: u64 = 4_294_967_295;
 
-/// What is told of an expression: its own size (5.4.1), or 65 where it is greater, and what is wrong with it first.
+/// What is told of an expression: its own size (5.4.1), or one more than `MAX_WIDTH` where it is greater, and what is wrong with it first.
 #[derive(Clone, Copy)]
 struct Checked<'a> {
     size: u32,
@@ -26,7 +26,8 @@ struct Checked<'a> {
 
 /// Refuses the first thing that is wrong with these processes.
 pub fn processes<'a>(names: &Names, processes: &'a [Process]) -> Result<(), Finding<'a>>
-    ensures { verdict result ≡ found_by names.now (map process_of processes.now) }
+    ensures found { verdict result ≡ found_by names.now (map process_of processes.now) }
+    ensures formed { OnOk result (AreFormedProcesses (map process_of processes.now)) }
 {
     for process in processes {
         statement(names, &process.body)?;
@@ -36,7 +37,8 @@ pub fn processes<'a>(names: &Names, processes: &'a [Process]) -> Result<(), Find
 
 #[cycle(found_in)]
 fn statement<'a>(names: &Names, s: &'a Statement) -> Result<(), Finding<'a>>
-    ensures { verdict result ≡ found_in names.now (statement_of s.now) }
+    ensures found { verdict result ≡ found_in names.now (statement_of s.now) }
+    ensures formed { OnOk result (IsFormedStatement (statement_of s.now)) }
 {
     match s {
         Statement::Empty | Statement::Finish => Ok(()),
@@ -68,7 +70,8 @@ fn statement<'a>(names: &Names, s: &'a Statement) -> Result<(), Finding<'a>>
 
 #[cycle(found_in)]
 fn block<'a>(names: &Names, body: &'a [Statement]) -> Result<(), Finding<'a>>
-    ensures { verdict result ≡ all_found_in names.now (statements (map statement_of body.now)) }
+    ensures found { verdict result ≡ all_found_in names.now (statements (map statement_of body.now)) }
+    ensures formed { OnOk result (AreFormedStatements (statements (map statement_of body.now))) }
 {
     for s in body {
         statement(names, s)?;
@@ -104,6 +107,7 @@ fn shows<'a>(format: &[u8], arguments: usize) -> Result<(), Finding<'a>>
 fn expression<'a>(names: &Names, e: &'a Expression) -> Checked<'a>
     ensures size { result.size ≡ capped (own_size (widths_of names.now) (resolved names.now (expression_of e.now))) }
     ensures found { verdict result.verdict ≡ found names.now (expression_of e.now) }
+    ensures formed { IsFormed (expression_of e.now) }
 {
     match e {
         Expression::Name(name) => Checked {
@@ -114,8 +118,11 @@ fn expression<'a>(names: &Names, e: &'a Expression) -> Checked<'a>
             size: 1,
             verdict: bit(names, name.as_str(), *index),
         },
-        Expression::Literal(digits) => literal(digits.as_slice()),
-        Expression::Concat(parts) => concat(names, parts.as_slice()),
+        Expression::Literal(bits) => literal(*bits),
+        Expression::Concat(part, others) => {
+            let part = expression(names, part);
+            concat(part, expressions(names, others.as_slice()))
+        }
         Expression::Unary(op, e) => unary(*op, expression(names, e)),
         Expression::Binary(op, e, f) => binary(*op, expression(names, e), expression(names, f)),
         Expression::Conditional(c, e, f) => {
@@ -126,22 +133,10 @@ fn expression<'a>(names: &Names, e: &'a Expression) -> Checked<'a>
 }
 
 #[cycle(found)]
-#[tactic(auto, using(crate::proofs::Sizes::concat_is))]
-fn concat<'a>(names: &Names, parts: &'a [Expression]) -> Checked<'a>
-    ensures size { result.size ≡ capped (own_size (widths_of names.now) (resolved names.now (Concat (expressions (map expression_of parts.now))))) }
-    ensures found { verdict result.verdict ≡ found names.now (Concat (expressions (map expression_of parts.now))) }
-{
-    let inside = expressions(names, parts);
-    Checked {
-        size: inside.size,
-        verdict: first(joined(inside.size, parts.len()), inside.verdict),
-    }
-}
-
-#[cycle(found)]
 fn expressions<'a>(names: &Names, parts: &'a [Expression]) -> Checked<'a>
     ensures size { result.size ≡ capped (total_size (widths_of names.now) (all_resolved names.now (expressions (map expression_of parts.now)))) }
     ensures found { verdict result.verdict ≡ all_found names.now (expressions (map expression_of parts.now)) }
+    ensures formed { AreFormed (expressions (map expression_of parts.now)) }
 {
     let mut size = 0;
     let mut verdict = Ok(());
@@ -201,18 +196,28 @@ fn chosen<'a>(test: Checked<'a>, left: Checked<'a>, right: Checked<'a>) -> Check
     }
 }
 
-fn literal<'a>(digits: &[Digit]) -> Checked<'a>
-    ensures size { result.size ≡ capped (length digits.now) }
-    ensures verdict { verdict result.verdict ≡ found [] (Literal digits.now) }
+fn literal<'a>(bits: Bits) -> Checked<'a>
+    ensures size { result.size ≡ capped (length bits) }
+    ensures verdict { verdict result.verdict ≡ None }
+    ensures formed { IsFormed (Literal bits) }
 {
-    let size = digits.len().min(65) as u32;
+    Checked {
+        size: bits.width(),
+        verdict: Ok(()),
+    }
+}
+
+// A concatenation of a part and of those behind it.
+fn concat<'a>(part: Checked<'a>, others: Checked<'a>) -> Checked<'a>
+    ensures size { result.size ≡ capped (part.entry.size + others.entry.size) }
+    ensures verdict { verdict result.verdict
+        ≡ or_else (found_where (nat_lt greatest_width (part.entry.size + others.entry.size)) model.WideConcat)
+        (or_else (verdict part.entry.verdict) (verdict others.entry.verdict)) }
+{
+    let size = cap(part.size.saturating_add(others.size));
     Checked {
         size,
-        verdict: if 0 < size && size <= MAX_WIDTH {
-            Ok(())
-        } else {
-            Err(Finding::Unspelled)
-        },
+        verdict: first(joined(size), first(part.verdict, others.verdict)),
     }
 }
 
@@ -225,14 +230,12 @@ fn bit<'a>(names: &Names, name: &'a str, index: u64) -> Result<(), Finding<'a>>
     }
 }
 
-// A concatenation of so many digits together, and of so many parts.
-fn joined<'a>(size: u32, parts: usize) -> Result<(), Finding<'a>>
-    ensures { verdict result ≡ or_else (found_where (nat_lt greatest_width size) (Known model.WideConcat)) (found_where (parts == 0) Unspelled) }
+// A concatenation of so many digits together.
+fn joined<'a>(size: u32) -> Result<(), Finding<'a>>
+    ensures { verdict result ≡ found_where (nat_lt greatest_width size) model.WideConcat }
 {
     if size > MAX_WIDTH {
         Err(Finding::WideConcat)
-    } else if parts == 0 {
-        Err(Finding::Unspelled)
     } else {
         Ok(())
     }
@@ -252,5 +255,5 @@ fn first<'a>(
 fn cap(size: u32) -> u32
     ensures { result ≡ capped size }
 {
-    size.min(65)
+    size.min(MAX_WIDTH + 1)
 }

@@ -1,8 +1,9 @@
 //! From a module to its design.
-ghost use Rattle.std.specs.Prelude.{◌≡◌, [], None, map, length, IfOk, IfErr};
+ghost use Rattle.std.specs.Prelude.{◌≡◌, [], None, map, length, IfOk, IfErr, OnOk};
 ghost use Rattle.design.specs.Compiled.{design_of};
-ghost use Rattle.elaborate.specs.Faults.{IsFirstFault, IsToldRightly};
+ghost use Rattle.elaborate.specs.Faults.{IsFirstFault};
 ghost use Rattle.elaborate.specs.Findings.{verdict, found_among, found_few};
+ghost use Rattle.elaborate.specs.Formed.{AreFormedProcesses};
 ghost use Rattle.model.specs.Elaboration as model;
 ghost use Rattle.model.specs.Elaboration.{declared, faults};
 ghost use Rattle.model.specs.Trees.{module_of, process_of};
@@ -24,13 +25,12 @@ const MAX_PROCESSES: usize = 256;
 ///
 /// The first fault of a module that has one, by the codes E1 to E9: those of the declarations come first, then too
 /// many processes, then names that aren't declared, and then those of the statements, each in the order of the text.
-/// `Memory` where memory is refused, and `Unspelled` for a tree that no source spells.
+/// `Memory` where memory is refused.
 pub fn elaborate(alloc: Global, module: &Module) -> Result<Design, ElabFault>
     ensures faultless { IfOk result (λ d. faults (module_of module.now) ≡ []) }
     ensures design { IfOk result (λ d. design_of d ≡ model.design_of (module_of module.now)) }
     ensures names { IfOk result (λ d. d.names ≡ map (λ x. x.0) (declared (module_of module.now))) }
     ensures fault { IfErr result (λ f. IsFirstFault f (faults (module_of module.now))) }
-    ensures spelled { IfErr result (λ f. IsToldRightly f (module_of module.now)) }
 {
     let names = registers::registers(alloc, module.regs.as_slice())?;
     if let Err(finding) = allowed(&names, module.procs.as_slice()) {
@@ -42,7 +42,8 @@ pub fn elaborate(alloc: Global, module: &Module) -> Result<Design, ElabFault>
 
 /// Refuses the first thing that is wrong with the processes of a module.
 pub fn allowed<'a>(names: &Names, processes: &'a [Process]) -> Result<(), Finding<'a>>
-    ensures { verdict result ≡ found_among names.now (map process_of processes.now) }
+    ensures found { verdict result ≡ found_among names.now (map process_of processes.now) }
+    ensures formed { OnOk result (AreFormedProcesses (map process_of processes.now)) }
 {
     few(processes.len())?;
     uses::processes(names, processes)?;

@@ -33,9 +33,6 @@ pub enum ElabFault {
     /// Memory was refused.
     #[error("E10 memory")]
     Memory,
-    /// A literal of no digit or of more than 64, or a concatenation without parts. No source spells such a tree.
-    #[error("a tree that no source spells")]
-    Unspelled,
 }
 
 impl From<AllocError> for ElabFault {

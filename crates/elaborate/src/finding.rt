@@ -17,7 +17,6 @@ pub enum Finding<'a> {
     WideConcat,
     BadIndex(&'a str),
     LongDelay,
-    Unspelled,
 }
 
 impl Finding<'_> {
@@ -46,7 +45,6 @@ impl Finding<'_> {
             Finding::WideConcat => ElabFault::WideConcat,
             Finding::BadIndex(name) => ElabFault::BadIndex(String::from_str(alloc, name)?),
             Finding::LongDelay => ElabFault::LongDelay,
-            Finding::Unspelled => ElabFault::Unspelled,
         })
     }
 }

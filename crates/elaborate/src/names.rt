@@ -1,5 +1,6 @@
 //! The declared registers, by number and by name.
 ghost use Rattle.std.specs.Prelude.{◌≡◌, ℕ, ◌++◌, ◌<◌, ◌≤◌, [], ◌∷◌, None, true, false, map, length, slice_index, slice_index_or, IfOk, IfErr, OnOk};
+ghost use Rattle.logic4.specs.Vector.{greatest_width};
 ghost use Rattle.model.specs.Elaboration.{is_declared, is_range, most_registers, number_of, range_of, width_of, widths_of};
 ghost use Rattle.design.specs.Compiled.{design_of};
 ghost use Rattle.design.specs.Sound.{IsSound};
@@ -12,12 +13,11 @@ use crate::finding::Finding;
 use design::Design;
 use design::tree::Process;
 use indexmap::IndexSet;
+use logic4::bits::MAX_WIDTH;
 use std::alloc::{AllocError, Global};
 use std::marker::Model;
 
 const MAX_REGISTERS: usize = 1024;
-
-const MAX_WIDTH: u64 = 64;
 
 /// A register's range, as it stands in its declaration.
 pub type Range = Option<(u64, u64)>;
@@ -127,7 +127,7 @@ impl Names {
     /// The width of the register with a name, or 0 where none has it.
     pub fn width(&self, name: &str) -> u32
         ensures value { result ≡ slice_index (widths_of self.now) (number_of self.now name.now) }
-        ensures within { result ≤ 64 }
+        ensures within { result ≤ greatest_width }
     {
         let place = self.place(name);
         if place < self.count() {
@@ -193,7 +193,7 @@ fn is_allowed(range: Range) -> bool
     ensures { result ≡ is_range range }
 {
     match range {
-        Some((high, low)) => low == 0 && high < MAX_WIDTH,
+        Some((high, low)) => low == 0 && high < u64::from(MAX_WIDTH),
         None => true,
     }
 }
@@ -201,7 +201,7 @@ fn is_allowed(range: Range) -> bool
 fn width_in(range: Range) -> u32
     requires { is_range range ≡ true }
     ensures value { result ≡ width_of range }
-    ensures within { result ≤ 64 }
+    ensures within { result ≤ greatest_width }
 {
     match range {
         Some((high, _)) => high as u32 + 1,

@@ -1,5 +1,5 @@
 //! A tree over the numbers of registers, from one over their names. Blocks become the lists of their statements.
-ghost use Rattle.std.specs.Prelude.{◌≡◌, ◌≤◌, map, length, IfOk, OnOk};
+ghost use Rattle.std.specs.Prelude.{◌≡◌, map, IfOk, OnOk};
 ghost use Rattle.design.specs.Trees as tree;
 ghost use Rattle.model.specs.Elaboration as model;
 ghost use Rattle.model.specs.Elaboration.{all_resolved, block_of, followed_by, resolved};
@@ -10,8 +10,6 @@ use crate::names::Names;
 use crate::{build, format};
 use design::Trigger;
 use design::tree::{Expression, Process, Statement};
-use logic4::bits::Bits;
-use logic4::digit::Digit;
 use model::tree as source;
 use std::alloc::{AllocError, Global};
 
@@ -171,9 +169,11 @@ fn expression(
             names.number(name.as_str()),
             *index as u32,
         )),
-        source::Expression::Literal(digits) => Ok(Expression::Literal(bits(digits.as_slice()))),
-        source::Expression::Concat(parts) => {
-            Ok(build::concat_of(expressions(alloc, names, parts.as_slice())?))
+        source::Expression::Literal(bits) => Ok(Expression::Literal(*bits)),
+        source::Expression::Concat(part, others) => {
+            let first = expression(alloc, names, part)?;
+            let others = expressions(alloc, names, others.as_slice())?;
+            build::concat_of(first, others)
         }
         source::Expression::Unary(op, e) => {
             let operand = expression(alloc, names, e)?;
@@ -208,17 +208,4 @@ fn expressions(
         made.push(expression(alloc, names, part)?)?;
     }
     Ok(made)
-}
-
-// The vector of a literal's digits, the least significant first.
-fn bits(digits: &[Digit]) -> Bits
-    requires some { 1 ≤ length digits.now }
-    requires within { length digits.now ≤ 64 }
-    ensures { result ≡ digits.now }
-{
-    let mut bits = Bits::from_digit(digits[0]);
-    for digit in &digits[1..] {
-        bits = Bits::concat(Bits::from_digit(*digit), bits);
-    }
-    bits
 }

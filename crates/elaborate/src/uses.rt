@@ -72,7 +72,10 @@ fn expression<'a>(names: &Names, e: &'a Expression) -> Result<(), Finding<'a>>
     match e {
         Expression::Name(name) | Expression::Select(name, _) => names.known(name.as_str()),
         Expression::Literal(_) => Ok(()),
-        Expression::Concat(parts) => expressions(names, parts.as_slice()),
+        Expression::Concat(part, others) => {
+            expression(names, part)?;
+            expressions(names, others.as_slice())
+        }
         Expression::Unary(_, e) => expression(names, e),
         Expression::Binary(_, e, f) => {
             expression(names, e)?;

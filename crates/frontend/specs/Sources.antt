@@ -10,7 +10,6 @@ use Rattle.vparse.specs.declared.parse.ParseFault.TheVariants.{Byte, Syntax, Lit
 use Rattle.design.specs.Compiled.{Compiled, design_of}
 use Rattle.elaborate.specs.Faults.{IsFirstFault}
 use Rattle.elaborate.specs.declared.fault.ElabFault.{ElabFault}
-use Rattle.elaborate.specs.declared.fault.ElabFault.TheVariants.{Unspelled}
 use Rattle.frontend.specs.declared.source.SourceFault.{SourceFault}
 use Rattle.frontend.specs.declared.source.SourceFault.TheVariants.{Parse, Elaborate}
 
@@ -37,8 +36,7 @@ pub record HasModuleFault (source : List ℕ) (fault : ElabFault) : Type 0 where
   pub spells : Spells parsed source
   pub is_first : IsFirstFault fault (faults parsed)
 
--- a fault of a source, none of which is that no source spells the tree
+-- a fault of a source
 abbrev pub IsSourceFault : List ℕ → SourceFault → Type 0
 IsSourceFault source (Parse fault) = IsTextFault source fault
-IsSourceFault source (Elaborate Unspelled) = ⊥
 IsSourceFault source (Elaborate fault) = HasModuleFault source fault

@@ -22,8 +22,7 @@ pub enum SourceFault {
 /// # Errors
 ///
 /// `Parse` with the fault of a text that spells no module or nests too deep, else `Elaborate` with the first fault of
-/// its module; either has `Memory` where memory is refused. `ElabFault::Unspelled` is never among them, since what a
-/// text spells is no such tree.
+/// its module; either has `Memory` where memory is refused.
 pub fn read_design(alloc: Global, source: &[u8]) -> Result<Design, SourceFault>
     ensures design { IfOk result (λ d. IsDesignOf source.now d) }
     ensures fault { IfErr result (IsSourceFault source.now) }
@@ -34,7 +33,6 @@ pub fn read_design(alloc: Global, source: &[u8]) -> Result<Design, SourceFault>
     };
     match elaborate(alloc, &module) {
         Ok(design) => Ok(design),
-        Err(ElabFault::Unspelled) => unreachable!(),
         Err(fault) => Err(SourceFault::Elaborate(fault)),
     }
 }

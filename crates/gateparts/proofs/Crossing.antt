@@ -6,12 +6,16 @@ use denote.Param.Send.{IsSend, IsSync, AllSend, struct_send, sendable}
 use Rattle.std.proofs.Crossing.{crosses}
 use Rattle.atomic_table.proofs.shared.Seat.TheSendSync as pass
 use Rattle.design.specs.contracts.design.Design as Design
-use Rattle.journal.specs.contracts.state.State as Regions
+use Rattle.regions.specs.contracts.state.State as Regions
+use Rattle.regions.specs.contracts.state.Made as Made
 use Rattle.regcells.proofs.cells.Holder.TheSendSync as holder
 use Rattle.gateparts.specs.contracts.parts.Parts as Parts
 
 regions_send : IsSend Regions.the_row
 regions_send = search (crosses, sendable) depth 40 fits 5000
+
+made_send : IsSend Made.the_field.row
+made_send = search (crosses, sendable) depth 40 fits 5000
 
 -- the design that they borrow may be shared
 module _ (l : NamedLft) (design : IsSync Design.the_row) where
@@ -27,7 +31,7 @@ module _ (l : NamedLft) (design : IsSync Design.the_row) where
           (
             search (crosses, sendable) depth 20,
             (
-              search (crosses, sendable) depth 20,
+              search (made_send, sendable) depth 20,
               (search sendable depth 20, (search (pass.the_send, sendable) depth 20, tt)),
             ),
           ),

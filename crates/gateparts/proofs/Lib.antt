@@ -1,8 +1,8 @@
+-- Lemmas of what lies under the lock: the log with its mark, histories, appended entries, and that the parts may cross threads.
 pub mod Beginnings
 pub mod Logs
 mod MarkMoves
 pub mod Histories
-mod Clock
 pub mod Given
 pub mod Places
 mod Guards

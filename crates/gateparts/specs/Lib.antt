@@ -1,11 +1,10 @@
 pub mod Log
 pub mod Marked
 pub mod Fresh
-pub mod Held
+pub mod GateState
 pub mod Guarded
 pub mod Storing
 pub mod Working
-pub mod Steps
 pub mod Histories
 pub mod Holding
 pub mod Parts

@@ -8,7 +8,7 @@ use Rattle.model.specs.declared.entry.Entry.TheVariants.{Turn, Update, ActivateI
 use Rattle.model.specs.States as states
 use Rattle.model.specs.States.{Action, Evaluate, Event}
 use Rattle.model.specs.Runs.{action_in, least}
-use Rattle.journal.specs.Find.{update_numbers}
+use Rattle.regions.specs.Find.{update_numbers}
 use Rattle.turn.specs.declared.log.TurnLog.{TurnLog}
 use Rattle.gateparts.specs.Fresh.{fresh_of}
 

@@ -1,5 +1,6 @@
 //! A turn that is evaluated under the lock, on the last value of each register.
 ghost use Rattle.std.specs.Prelude.{◌≡◌, ◌≤◌, ◌^◌, length, MatchResult};
+ghost use Rattle.model.specs.Runs.{last_time};
 ghost use Rattle.turn.specs.Answers.{IsTurnLog, IsNoTurn, reads_of_fault};
 ghost use Rattle.turn.specs.Reads.{GaveAll};
 ghost use Rattle.gateparts.specs.Holding.{IsLastIn};
@@ -70,7 +71,7 @@ pub fn held_turn<H: Holding, R: Wait>(
     requires cells { cells.now ≡ H.holds.cells }
     requires holder { holder ≡ H.holds }
     requires registers { length design.now.widths ≡ length H.holds.cells }
-    requires now { now ≤ 2 ^ 48 }
+    requires now { now ≤ last_time }
     ensures same { result.0 ≡ H.holds }
     ensures turn { MatchResult result.1 (IsTurnLog design.now state now) (IsNoTurn design.now state now) }
     ensures gave { MatchResult result.1 (λ log. GaveAll (IsLastIn H.holds) log.reads.entries) (λ fault. GaveAll (IsLastIn H.holds) (reads_of_fault fault)) }

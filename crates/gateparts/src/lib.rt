@@ -1,5 +1,22 @@
-//! What lies under the lock of the commit gate: the parts of its state, the log and its mark, and what is done with the
-//! registers there.
+//! What lies under the lock of the commit gate, and what is done with it there.
+//!
+//! Under the lock lie the `Parts` of the gate's state: the journal; the regions after it, and beside them the lines that it
+//! prints and the evaluations that its last entry made active; the holder of the registers' cells; the end, once one is
+//! stored; and the pass that keeps the log. The log is the journal and the end, each item with the seat that added it. The
+//! cells and the mark of the log lie beside the lock, since seats load them without it, and each call gets them.
+//!
+//! Who has the lock takes these steps, in this order, to append an entry:
+//!
+//! 1. A turn that was evaluated without the lock is compared: `first_moved` (`work`) names the first register that has changed
+//!    since the turn read it. A turn that is evaluated under the lock (`evaluate`) reads the last value of each register.
+//! 2. `Parts::updated` (`parts`) names the register that an update gives a value, while the update is still active.
+//! 3. `Parts::append` (`parts`) makes room for one entry, and applies it: `regions` makes its step on the regions and on the
+//!    cells, and appends its lines. Where memory is refused, journal, regions, registers, lines and end are as before.
+//! 4. The entry is pushed onto the journal, and the end Finish is stored where the run is finished.
+//! 5. `Parts::publish` (`parts`) tells the seat: it meets the registers that the entry read or wrote (`work`), and the log has
+//!    the entry in its name (`mark`), with that end behind it.
+//!
+//! A seat without an entry to append looks at the mark (`look`), or sees the whole log under the lock (`catch_up`).
 #![tactic(auto)]
 
 mod evaluate;

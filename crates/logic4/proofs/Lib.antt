@@ -1,3 +1,4 @@
+-- Worked examples (Rows), and lemmas of digits in two words, tables, and texts.
 pub mod Rows
 pub mod Formulas
 pub mod Tables

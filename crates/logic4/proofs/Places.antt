@@ -7,10 +7,10 @@ use Rattle.std.proofs.lemmas.Bool.{and_from, and_parts, eqb-false, eqb-true, not
 use Rattle.std.proofs.lemmas.Bool.Decides.{same_from_decides}
 use Rattle.std.proofs.lemmas.List.{take_at, drop_all, length-replicate}
 use Rattle.logic4.specs.declared.digit.Digit.TheVariants.{Zero, One, X, Z}
-use Rattle.logic4.specs.Vector.{Vector, number, unknown, resize}
+use Rattle.logic4.specs.Vector.{Vector, number, unknown, resize, greatest_width}
 use Rattle.logic4.specs.Operators.{left_by, right_by, shl_vector, shr_vector, concat_vector, select_digit, same_vector}
 use Rattle.logic4.specs.Sameness.{same_vector-Decides}
-use Rattle.logic4.specs.Words.{max_width, AreWords, pair_digit, of_words, first_word, second_word, first_word-of_words, second_word-of_words}
+use Rattle.logic4.specs.Words.{AreWords, pair_digit, of_words, first_word, second_word, first_word-of_words, second_word-of_words}
 use Rattle.logic4.proofs.Words.{of_words-wrap, of_words-zeros, masked, index-of_words, append-of_words, take-of_words, drop-of_words, resize-of_words, shifted-of_words}
 use Rattle.logic4.proofs.Pairs.{width_is, is_known_at, is_unknown_at, number_at}
 
@@ -119,10 +119,10 @@ module _ {v : Vector} {w a b : ℕ} (p : AreWords w a b) (view : of_words w a b 
 
     -- ---- concatenation, with u below v
 
-    pub joined_words : (k : ℕ) → length v + length u ≤ max_width → max_width ≤ k
+    pub joined_words : (k : ℕ) → length v + length u ≤ greatest_width → greatest_width ≤ k
         → AreWords (n + w) (bit_or (a * 2 ^ n % 2 ^ k) c) (bit_or (b * 2 ^ n % 2 ^ k) d)
     joined_words k fit wide =
-        let room : w + n ≤ max_width = omega (arith, width_is p view, width_is q other) in
+        let room : w + n ≤ greatest_width = omega (arith, width_is p view, width_is q other) in
         let turned : w + n ≡ n + w = omega arith in
         let more : n ≤ n + w = omega arith in
         let bound : (x : ℕ) → x < 2 ^ w → x * 2 ^ n % 2 ^ k < 2 ^ (n + w) =

@@ -4,11 +4,7 @@ use Rattle.std.proofs.Common.{ap, arith, ◌∙◌}
 use Rattle.std.proofs.Math.Nat.{pow-suc}
 use Rattle.logic4.specs.declared.digit.Digit.{Digit}
 use Rattle.logic4.specs.declared.digit.Digit.TheVariants.{Zero, One, X, Z}
-use Rattle.logic4.specs.Vector.{Vector}
-
--- the greatest width
-abbrev pub max_width : ℕ
-max_width = 64
+use Rattle.logic4.specs.Vector.{Vector, greatest_width}
 
 -- the digit of a bit of the first word and one of the second
 abbrev pub pair_digit : ℕ → ℕ → Digit
@@ -49,7 +45,7 @@ second_word (d ∷ v) = second_bit d + 2 * second_word v
 -- what every pair of words keeps: the bits past the width are 0
 pub record AreWords (width a b : ℕ) : Type 0 where
   pub some : 1 ≤ width
-  pub within : width ≤ max_width
+  pub within : width ≤ greatest_width
   pub first : a < 2 ^ width
   pub second : b < 2 ^ width
 

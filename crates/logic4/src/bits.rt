@@ -2,9 +2,9 @@
 #![tactic(auto, using(crate::proofs::Widths::widths))]
 
 ghost use Rattle.std.specs.Prelude.{◌≡◌, ◌+◌, ◌-◌, ◌^◌, ◌<◌, ◌≤◌, [], ◌∷◌, length};
-ghost use Rattle.logic4.specs.Vector.{Vector, unknown as unknown_of, vector, resize as resized};
+ghost use Rattle.logic4.specs.Vector.{Vector, unknown as unknown_of, vector, resize as resized, greatest_width};
 ghost use Rattle.logic4.specs.Operators.{bool_digit, concat_vector, select_digit};
-ghost use Rattle.logic4.specs.Words.{max_width, AreWords, of_words, first_word, second_word};
+ghost use Rattle.logic4.specs.Words.{AreWords, of_words, first_word, second_word};
 
 mod arithmetic;
 mod bitwise;
@@ -17,7 +17,10 @@ use std::marker::Model;
 /// A word of `Bits::words`: bit i belongs to digit i.
 pub type Word = u64;
 
-/// A vector of 1 to 64 digits. `==` is case equality: x equals x and z equals z.
+/// The most digits that a vector has.
+pub const MAX_WIDTH: u32 = 64;
+
+/// A vector of 1 to `MAX_WIDTH` digits. `==` is case equality: x equals x and z equals z.
 #[derive(Clone, Copy, Debug)]
 pub struct Bits {
     width: u32,
@@ -68,7 +71,7 @@ impl Eq for Bits {
 // the word with a 1 at each place below the width
 fn mask(width: u32) -> Word
     requires some { 1 ≤ width }
-    requires within { width ≤ max_width }
+    requires within { width ≤ greatest_width }
     ensures { result ≡ 2 ^ width - 1 }
 {
     Word::MAX >> (Bits::MAX_WIDTH - width)
@@ -78,10 +81,10 @@ impl Bits {
     /// The greatest width.
     pub const MAX_WIDTH: u32 = Word::BITS;
 
-    /// `width` digits x, as a register has them before its first assignment (4.2.2). `width` is 1 to 64.
+    /// `width` digits x, as a register has them before its first assignment (4.2.2). `width` is 1 to `MAX_WIDTH`.
     pub fn unknown(width: u32) -> Self
         requires some { 1 ≤ width }
-        requires within { width ≤ max_width }
+        requires within { width ≤ greatest_width }
         ensures value { result ≡ unknown_of width }
         ensures width { length result ≡ width }
     {
@@ -93,10 +96,10 @@ impl Bits {
         }
     }
 
-    /// A whole number modulo 2 to the width, with no digit x or z. `width` is 1 to 64.
+    /// A whole number modulo 2 to the width, with no digit x or z. `width` is 1 to `MAX_WIDTH`.
     pub fn from_u64(width: u32, value: u64) -> Self
         requires some { 1 ≤ width }
-        requires within { width ≤ max_width }
+        requires within { width ≤ greatest_width }
         ensures value { result ≡ vector width value }
         ensures width { length result ≡ width }
     {
@@ -165,11 +168,11 @@ impl Bits {
         (self.a, self.b)
     }
 
-    /// The number of digits, 1 to 64.
+    /// The number of digits, 1 to `MAX_WIDTH`.
     pub fn width(self) -> u32
         ensures value { result ≡ length self }
         ensures some { 1 ≤ result }
-        ensures within { result ≤ max_width }
+        ensures within { result ≤ greatest_width }
     {
         self.width
     }
@@ -202,10 +205,10 @@ impl Bits {
         }
     }
 
-    /// Extended with digits 0, or cut to the least significant digits (5.4). `width` is 1 to 64.
+    /// Extended with digits 0, or cut to the least significant digits (5.4). `width` is 1 to `MAX_WIDTH`.
     pub fn resize(self, width: u32) -> Self
         requires some { 1 ≤ width }
-        requires within { width ≤ max_width }
+        requires within { width ≤ greatest_width }
         ensures value { result ≡ resized width self }
         ensures width { length result ≡ width }
     {
@@ -217,9 +220,9 @@ impl Bits {
         }
     }
 
-    /// Both vectors in one, `high` in the most significant digits (5.1.14). The widths make at most 64.
+    /// Both vectors in one, `high` in the most significant digits (5.1.14). The widths make at most `MAX_WIDTH`.
     pub fn concat(high: Self, low: Self) -> Self
-        requires { length high + length low ≤ max_width }
+        requires { length high + length low ≤ greatest_width }
         ensures value { result ≡ concat_vector high low }
         ensures width { length result ≡ length low + length high }
     {

@@ -17,5 +17,5 @@
 pub mod bits;
 pub mod digit;
 
-pub use bits::Bits;
+pub use bits::{Bits, MAX_WIDTH};
 pub use digit::{Digit, Edge, Truth};

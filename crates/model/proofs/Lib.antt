@@ -1,3 +1,4 @@
+-- Worked examples (Rows, SourceRows), and the proofs of the laws.
 pub mod Rows
 pub mod SourceRows
 pub mod TurnLaws

@@ -28,8 +28,8 @@ statements (s ∷ ss) = Then s (statements ss)
 abbrev pub expression_node : Expression-F (Expression Text) → Expression Text
 expression_node (Expression-F.Name name) = Register (string_bytes name)
 expression_node (Expression-F.Select name i) = Select (string_bytes name) i
-expression_node (Expression-F.Literal digits) = Literal digits.items
-expression_node (Expression-F.Concat parts) = Concat (expressions parts.items)
+expression_node (Expression-F.Literal v) = Literal v
+expression_node (Expression-F.Concat first others) = Concat (Also (box_value first) (expressions others.items))
 expression_node (Expression-F.Unary op e) = Unary op (box_value e)
 expression_node (Expression-F.Binary op e f) = Binary op (box_value e) (box_value f)
 expression_node (Expression-F.Conditional c e f) = Conditional (box_value c) (box_value e) (box_value f)

@@ -1,3 +1,4 @@
+-- Lemmas of options, statuses and ends.
 pub mod GivenLemmas
 pub mod Statuses
 pub mod Endings

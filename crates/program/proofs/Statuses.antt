@@ -5,8 +5,8 @@ use Rattle.program.specs.declared.fault.Fault.TheVariants as fault
 use Rattle.program.specs.declared.fault.Stop.{Stop}
 use Rattle.frontend.specs.declared.source.SourceFault.{SourceFault}
 use Rattle.frontend.specs.declared.source.SourceFault.TheVariants as source
-use Rattle.journal.specs.declared.text.fault.ReadFault.{ReadFault}
-use Rattle.journal.specs.declared.text.fault.ReadFault.TheVariants as reading
+use Rattle.journal.specs.declared.fault.ReadFault.{ReadFault}
+use Rattle.journal.specs.declared.fault.ReadFault.TheVariants as reading
 use Rattle.replay.specs.declared.fault.BytesFault.{BytesFault}
 use Rattle.replay.specs.declared.fault.BytesFault.TheVariants as replaying
 use Rattle.replay.specs.declared.fault.Cause.{Cause}

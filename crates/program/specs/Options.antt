@@ -1,11 +1,12 @@
 -- What a run asks of its options.
 use Rattle.std.specs.Prelude.{◌≤◌, ◌^◌}
 use Rattle.std.specs.Option.{ForSome}
+use Rattle.model.specs.Runs.{last_time}
 use Rattle.simulate.specs.declared.run.Options.{Options}
 
 -- 1 to 16 workers, at least one entry, and no time past 2 to the 48
 pub record CanRun (options : Options) : Type 0 where
   pub some_worker : 1 ≤ options.workers
   pub few_workers : options.workers ≤ 16
-  pub until : ForSome options.until (λ t. t ≤ 2 ^ 48)
+  pub until : ForSome options.until (λ t. t ≤ last_time)
   pub some_entry : 1 ≤ options.max_entries

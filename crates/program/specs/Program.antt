@@ -15,8 +15,8 @@ use Rattle.vparse.specs.declared.parse.ParseFault.TheVariants as parsing
 use Rattle.elaborate.specs.declared.fault.ElabFault.TheVariants as elaboration
 use Rattle.frontend.specs.declared.source.SourceFault.{SourceFault}
 use Rattle.frontend.specs.declared.source.SourceFault.TheVariants as source
-use Rattle.journal.specs.declared.text.fault.ReadFault.{ReadFault}
-use Rattle.journal.specs.declared.text.fault.ReadFault.TheVariants as reading
+use Rattle.journal.specs.declared.fault.ReadFault.{ReadFault}
+use Rattle.journal.specs.declared.fault.ReadFault.TheVariants as reading
 use Rattle.replay.specs.declared.fault.Cause.{Cause}
 use Rattle.replay.specs.declared.fault.Cause.TheVariants as cause
 use Rattle.replay.specs.declared.fault.BytesFault.{BytesFault}

@@ -7,6 +7,7 @@
 
 ghost use Rattle.std.specs.Prelude.{◌≡◌, ◌≤◌, ◌^◌, ◌∷◌, IfOk, IfSome, None, Some, true, false, codes};
 ghost use Rattle.clap.specs.Words.{found_of};
+ghost use Rattle.model.specs.Runs.{last_time};
 ghost use Rattle.program.specs.Arguments.{Takes, HasRules, IsGiven, GivesRun, GivesReplay, run_rules, replay_rules, rule, workers_parser, until_parser, entries_parser};
 ghost use Rattle.program.specs.Options.{CanRun};
 
@@ -232,7 +233,7 @@ fn given_workers(matches: &ArgMatches<'_>) -> u32
 
 fn given_until(matches: &ArgMatches<'_>) -> Option<u64>
     requires { IsGiven (found_of matches.now) (codes "until") until_parser }
-    ensures { IfSome result (λ t. t ≤ 2 ^ 48) }
+    ensures { IfSome result (λ t. t ≤ last_time) }
 {
     matches.get_one::<u64>("until")
 }

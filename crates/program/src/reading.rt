@@ -6,6 +6,24 @@ use std::alloc::Global;
 use std::io;
 use std::io::{ErrorKind, Read};
 
+/// A file of which an interrupted read is made again.
+#[derive(Drop)]
+pub struct Retrying<R> {
+    file: R,
+}
+
+impl<R: Read> Read for Retrying<R> {
+    fn read(&mut self, buf: &mut [u8]) -> io::Result<usize> {
+        for _ in 0..u64::MAX {
+            match self.file.read(buf) {
+                Err(error) if error.kind() == ErrorKind::Interrupted => {}
+                answer => return answer,
+            }
+        }
+        Err(io::Error::from(ErrorKind::Interrupted))
+    }
+}
+
 /// The bytes of a file.
 pub fn read_file<'a, F: Files>(
     alloc: Global,
@@ -14,25 +32,19 @@ pub fn read_file<'a, F: Files>(
 ) -> Result<Vec<u8>, Fault<'a>> {
     let mut file = open_file(path, files)?;
     let mut text = Vec::new(alloc);
-    let mut buffer = [0u8; 4096];
-    for _ in 0..u64::MAX {
-        match file.read(&mut buffer) {
-            Ok(0) => return Ok(text),
-            Ok(count) => match text.extend_from_slice(&buffer[..count]) {
-                Ok(()) => {}
-                Err(_) => return Err(Fault::Memory),
-            },
-            Err(error) if error.kind() == ErrorKind::Interrupted => {}
-            Err(error) => return Err(unread(path, &error)),
-        }
+    match file.read_to_end(&mut text) {
+        Ok(_) => Ok(text),
+        Err(error) => Err(unread(path, &error)),
     }
-    Err(Fault::CannotRead(path))
 }
 
 /// Opens a file for reading.
-pub fn open_file<'a, F: Files>(path: &'a str, files: &mut F) -> Result<F::Source, Fault<'a>> {
+pub fn open_file<'a, F: Files>(
+    path: &'a str,
+    files: &mut F,
+) -> Result<Retrying<F::Source>, Fault<'a>> {
     match files.open(path) {
-        Ok(file) => Ok(file),
+        Ok(file) => Ok(Retrying { file }),
         Err(error) => Err(unread(path, &error)),
     }
 }

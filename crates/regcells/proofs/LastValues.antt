@@ -6,7 +6,7 @@ use Rattle.logic4.specs.Vector.{Vector}
 use Rattle.model.specs.Expressions.{value_of}
 use Rattle.turn.specs.Nets.{altered}
 use Rattle.turn.proofs.Known.{ne_of}
-use Rattle.journal.specs.Past.{last_of}
+use Rattle.regions.specs.Past.{last_of}
 use Rattle.regcells.specs.Values.{last_value, values_after}
 use Rattle.regcells.specs.Seats.{Named, Fresh, seen_of, with_seen, last_values, changes_left, IsOf}
 use Rattle.regcells.proofs.Lasts.{last_given, length-given}

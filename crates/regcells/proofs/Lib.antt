@@ -1,3 +1,4 @@
+-- Lemmas of the one list of values of a register.
 pub mod Beginnings
 pub mod Lasts
 pub mod Moves

@@ -2,7 +2,7 @@
 use Rattle.std.specs.Prelude.{ℕ, ◌-◌, ◌^◌, List, [], ◌∷◌, ◌++◌, length}
 use Rattle.logic4.specs.Vector.{Vector}
 use Rattle.turn.specs.Nets.{altered}
-use Rattle.journal.specs.Past.{last_of}
+use Rattle.regions.specs.Past.{last_of}
 
 -- the width of a register is that of its first value
 abbrev pub width_of : List Vector → ℕ

@@ -2,9 +2,9 @@
 ghost use Rattle.std.specs.Prelude.{◌≡◌, ℕ, ◌+◌, ◌<◌, ◌≤◌, List, [], ◌∷◌, map, length, replicate, Some, slice_get, slice_index, IfOk};
 ghost use Rattle.std.specs.List.{All};
 ghost use mathlib.Core.List.{IsPrefix};
-ghost use Rattle.logic4.specs.Words.{max_width};
+ghost use Rattle.logic4.specs.Vector.{AreWithin};
 ghost use Rattle.model.specs.Runs.{values_in};
-ghost use Rattle.journal.specs.Past.{IsNetOf};
+ghost use Rattle.regions.specs.Past.{IsNetOf};
 ghost use Rattle.regcells.specs.Values.{last_value, values_after};
 ghost use Rattle.regcells.specs.Passes.{name_of_pass, name_of_register, fresh_by, AllHold, AllBegun};
 ghost use Rattle.regcells.specs.Seats.{Fresh, widths_of, seen_of, with_seen, last_values, changes_left, beginnings};
@@ -88,7 +88,7 @@ fn registers<R: Wait>(
     widths: &[u32],
 ) -> Result<(Vec<Register>, Vec<RegPass>), AllocError>
     requires some { All (λ w. 1 ≤ w) widths.now }
-    requires within { All (λ w. w ≤ max_width) widths.now }
+    requires within { AreWithin widths.now }
     ensures names { IfOk result (λ r. map name_of_pass r.1.items ≡ map name_of_register r.0.items) }
     ensures widths { IfOk result (λ r. map (λ c. c.width) r.0.items ≡ widths.now) }
     ensures seen { IfOk result (λ r. (fresh_by r.1.items).seen ≡ beginnings widths.now) }
@@ -135,7 +135,7 @@ impl RegCells {
         workers: u32,
     ) -> Result<(RegCells, Holder, Vec<RegSeat>), AllocError>
         requires some { All (λ w. 1 ≤ w) widths.now }
-        requires within { All (λ w. w ≤ max_width) widths.now }
+        requires within { AreWithin widths.now }
         ensures widths { IfOk result (λ r. widths_of r.0 ≡ widths.now) }
         ensures cells { IfOk result (λ r. r.1.cells ≡ r.0) }
         ensures unknown { IfOk result (λ r. r.1.seen ≡ beginnings widths.now) }

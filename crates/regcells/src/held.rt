@@ -4,8 +4,8 @@ ghost use Rattle.regcells.specs.Seats.{IsOf};
 
 use crate::cells::{Holder, RegCells};
 use design::RegId;
-use journal::Store;
 use logic4::bits::Bits;
+use regions::Store;
 use std::sync::Wait;
 use turn::Net;
 

@@ -7,7 +7,7 @@
 //! 3. A read is one load, and a change one store of all the words, so no read sees a value with another's version. Where a
 //!    turn gave a register many values, one store adds all of them that differ from the one before (`register`).
 //! 4. `RegCells` has a cell for each register. Its seats and its holder have a view of each of these cells (`cells`).
-//! 5. `HeldStore` is the cells and their holder as the store that `journal` changes. The values that a register had are the
+//! 5. `HeldStore` is the cells and their holder as the store that `regions` changes. The values that a register had are the
 //!    holder's list of it (`held`).
 //!
 //! What the layer above uses: a read gives the last entry of what the seat has then seen of the register, with its place

@@ -3,10 +3,9 @@ ghost use Rattle.std.specs.Prelude.{◌≡◌, ◌+◌, ◌<◌, ◌≤◌, ◌-
 ghost use Rattle.std.specs.List.{All};
 ghost use mathlib.Core.List.{IsPrefix};
 ghost use Rattle.crossbeam_utils.specs.Seq.{cell_view};
-ghost use Rattle.logic4.specs.Vector.{Vector, unknown};
-ghost use Rattle.logic4.specs.Words.{max_width};
+ghost use Rattle.logic4.specs.Vector.{Vector, unknown, greatest_width};
 ghost use Rattle.turn.specs.Nets.{altered};
-ghost use Rattle.journal.specs.Past.{IsNetOf};
+ghost use Rattle.regions.specs.Past.{IsNetOf};
 ghost use Rattle.regcells.specs.Values.{width_of, last_value, values_after, room_of};
 ghost use Rattle.regcells.specs.Rules.{holder};
 ghost use Rattle.regcells.specs.Passes.{seen_by, name_of_pass, name_of_register, IsBegun, IsHolding};
@@ -47,7 +46,7 @@ impl Register {
         width: u32,
     ) -> Result<(Register, RegPass), AllocError>
         requires some { 1 ≤ width }
-        requires within { width ≤ max_width }
+        requires within { width ≤ greatest_width }
         ensures { IfOk result (λ r. (name_of_pass r.1 ≡ name_of_register r.0) × (r.0.width ≡ width) × (cell_view r.1 ≡ holder (unknown width ∷ []))) }
     {
         let (cell, mut pass) = Cell::ruled(alloc, [0; WORDS])?;

@@ -1,5 +1,5 @@
+-- Worked examples (Rows), and lemmas of a replay entry by entry, to its lines.
 pub mod Rows
-pub mod Times
 pub mod Given
 pub mod Runs
 pub mod Starting

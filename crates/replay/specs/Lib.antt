@@ -1,4 +1,3 @@
 pub mod Replays
-pub mod Taken
 pub mod Faults
 pub mod Bytes

@@ -2,7 +2,7 @@
 //!
 //! 1. The start (11.3): every register is all x, and each process has its first event.
 //! 2. Each entry is taken where it stands. A turn that the rules permit is evaluated on the values and at the time of
-//!    the state, and its lines are appended; then the entry is applied.
+//!    the state; then the entry is applied, which appends its lines.
 //! 3. The first entry that the rules don't permit, or whose turn isn't short, ends the replay with a fault.
 //!
 //! `replay_bytes` does this from the bytes of a source and of a journal, and writes the lines once all are known.

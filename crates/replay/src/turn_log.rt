@@ -1,15 +1,15 @@
 //! The log of an entry's turn, where the entry is a turn that the rules permit.
 ghost use Rattle.std.specs.Prelude.{MatchResult};
 ghost use Rattle.model.specs.declared.entry.Entry.TheVariants as entries;
+ghost use Rattle.regions.specs.Logs.{IsTurnGiven};
 ghost use Rattle.replay.specs.Replays.{Stands, state_in};
-ghost use Rattle.replay.specs.Taken.{IsGiven};
 ghost use Rattle.replay.specs.Faults.{IsStop};
 
 use crate::fault::Cause;
 use crate::replayed::Replayed;
 use design::Design;
-use journal::turn_on;
 use model::entry::Entry;
+use regions::turn_on;
 use std::alloc::Global;
 use turn::{TurnFault, TurnLog, Workspace};
 
@@ -22,7 +22,7 @@ fn event_log(
     number: u64,
 ) -> Result<Option<TurnLog>, Cause>
     requires stands { Stands design.now replayed.now }
-    ensures { MatchResult result (IsGiven design.now replayed.now (entries.Turn number)) (IsStop design.now (state_in design.now replayed.now) (entries.Turn number)) }
+    ensures { MatchResult result (IsTurnGiven design.now (state_in design.now replayed.now) (entries.Turn number)) (IsStop design.now (state_in design.now replayed.now) (entries.Turn number)) }
 {
     if !replayed.state.legal(&Entry::Turn(number)) {
         return Ok(None);
@@ -49,7 +49,7 @@ pub fn log_for(
     entry: Entry,
 ) -> Result<Option<TurnLog>, Cause>
     requires stands { Stands design.now replayed.now }
-    ensures { MatchResult result (IsGiven design.now replayed.now entry) (IsStop design.now (state_in design.now replayed.now) entry) }
+    ensures { MatchResult result (IsTurnGiven design.now (state_in design.now replayed.now) entry) (IsStop design.now (state_in design.now replayed.now) entry) }
 {
     match entry {
         Entry::Turn(number) => event_log(alloc, workspace, design, replayed, number),

@@ -1,3 +1,4 @@
+-- Lemmas of workers: what they hold, count and leave, to the outcome of a run.
 pub mod Crossing
 pub mod Counting
 pub mod Seats

@@ -53,7 +53,7 @@ both (Some s) p q = true≢false (sym p.0 ∙ q.0)
 
 -- a run of which a worker has seen the end isn't running
 pub ended : (n : Named) (s : SeatView) (log : Log) (entries : List Entry) (end : End) → IsOver n s → IsPrefix s.seen log → IsLog n log → entries ≡ entries_of log
-    → IsEndIn log end → EndsOrRuns n entries end → Ends (design_of n.listing) n.limits entries end
+    → IsEndIn log end → EndsOrRuns n entries end → Ends (design_of n.code) n.limits entries end
 ended n s log entries Quiet over later is same at e = e
 ended n s log entries (Stopped why) over later is same at e = e
 ended n s log entries Running over later is same at e =
@@ -64,9 +64,9 @@ ended n s log entries Running over later is same at e =
     let all : log ≡ s.seen = sym later.1 ∙ ap (λ l. s.seen ++ l) none ∙ append_none s.seen in
     let off : IsSome {T = Why} None = subst (λ (o : Option Why). IsSome o) (sym (ap end_in all) ∙ at) some in
     absurd (cc off))
-    (λ (quiet : Ends (design_of n.listing) n.limits (entries_of s.seen) Quiet).
-    both (after (design_of n.listing) entries)
-    (subst (λ l. Ends (design_of n.listing) n.limits l Quiet) (sym whole) quiet) e)
+    (λ (quiet : Ends (design_of n.code) n.limits (entries_of s.seen) Quiet).
+    both (after (design_of n.code) entries)
+    (subst (λ l. Ends (design_of n.code) n.limits l Quiet) (sym whole) quiet) e)
     over.1)
 
 once : (design : Design) (journal : List Entry) (event : ℕ) → IsLawful design journal → times_in event (taken journal) ≤ 1
@@ -102,9 +102,9 @@ map_map : {X Y Z : Type 0} (f : Y → Z) (g : X → Y) (xs : List X) → map f (
 map_map f g [] = refl
 map_map f g (x ∷ xs) = ap (λ l. f (g x) ∷ l) (map_map f g xs)
 
-range_self : (listing : Compiled) (a k : ℕ) → map (λ (s : SeatView). s.worker) (map (new_seat listing) (range_with_len a k)) ≡ range_with_len a k
-range_self listing a zero = refl
-range_self listing a (suc k) = ap (λ l. a ∷ l) (range_self listing (a + 1) k)
+range_self : (code : Compiled) (a k : ℕ) → map (λ (s : SeatView). s.worker) (map (new_seat code) (range_with_len a k)) ≡ range_with_len a k
+range_self code a zero = refl
+range_self code a (suc k) = ap (λ l. a ∷ l) (range_self code (a + 1) k)
 
 module _ {A : Type 0} where
   pub done_length : (n : Named) (xs ys : List (Worker A)) → AreDone n xs ys → length ys ≡ length xs
@@ -148,7 +148,7 @@ module _ {A : Type 0} where
   all_seats n xs ys b h =
       let is : map (λ (s : SeatView). s.worker) (map (λ (w : Worker A). w.seat) ys) ≡ range_with_len 0 n.workers =
       map_map (λ (s : SeatView). s.worker) (λ (w : Worker A). w.seat) ys ∙ done_workers n xs ys h
-      ∙ sym (map_map (λ (s : SeatView). s.worker) (λ (w : Worker A). w.seat) xs) ∙ ap (map (λ (s : SeatView). s.worker)) b.seats ∙ range_self n.listing 0 n.workers in
+      ∙ sym (map_map (λ (s : SeatView). s.worker) (λ (w : Worker A). w.seat) xs) ∙ ap (map (λ (s : SeatView). s.worker)) b.seats ∙ range_self n.code 0 n.workers in
       record { moves = []; below = tt; is = is }
 
   -- the turns of each worker are those of its positions in the whole journal, and no more than its evaluations, where these can be told
@@ -181,43 +181,43 @@ module _ {A : Type 0} where
 
   at_end : (n : Named) (first left : List (Worker A)) (log : Log) (closed : ClosedView) → AreDone n first left → 1 ≤ n.workers → length left ≡ n.workers
       → All (λ v. IsPrefix v.seen log) (map (λ (w : Worker A). w.seat) left) → IsLog n log → closed.entries ≡ entries_of log → IsEndIn log closed.end → EndsOrRuns n closed.entries closed.end
-      → Ends (design_of n.listing) n.limits closed.entries closed.end
+      → Ends (design_of n.code) n.limits closed.entries closed.end
   at_end n first [] log closed h some long extends is same at e = absurd (omega (arith, some, long))
   at_end n [] (y ∷ ys) log closed h some long extends is same at e = absurd h
   at_end n (x ∷ xs) (y ∷ ys) log closed h some long extends is same at e =
       ended n y.seat log closed.entries closed.end h.0.over (extends 0 y.seat (omega arith)) is same at e
 
   -- workers with new seats that evaluated nothing
-  new_counted : (listing : Compiled) (ks : List ℕ) (ws : List (Worker A)) → map (λ w. w.seat) ws ≡ map (new_seat listing) ks → AllByRecursion (λ w. w.evaluations ≡ 0) ws
+  new_counted : (code : Compiled) (ks : List ℕ) (ws : List (Worker A)) → map (λ w. w.seat) ws ≡ map (new_seat code) ks → AllByRecursion (λ w. w.evaluations ≡ 0) ws
       → AllByRecursion (λ w. IsCounted w.seat w.owner w.row.items w.evaluations) ws
-  new_counted listing ks [] e z = tt
-  new_counted listing [] (w ∷ ws) e z = absurd (cc e)
-  new_counted listing (k ∷ ks) (w ∷ ws) e z =
-      let seat : w.seat ≡ new_seat listing k = cc e in
-      let rest : map (λ (v : Worker A). v.seat) ws ≡ map (new_seat listing) ks = cc e in (
+  new_counted code ks [] e z = tt
+  new_counted code [] (w ∷ ws) e z = absurd (cc e)
+  new_counted code (k ∷ ks) (w ∷ ws) e z =
+      let seat : w.seat ≡ new_seat code k = cc e in
+      let rest : map (λ (v : Worker A). v.seat) ws ≡ map (new_seat code) ks = cc e in (
         (
           subst HasPositions (sym seat) tt,
           (λ _. let t : turns_of w.seat ≡ 0 = ap turns_of seat in omega (arith, t)),
           (let none = z.0 in omega (arith, none)),
         ),
-        new_counted listing ks ws rest z.1,
+        new_counted code ks ws rest z.1,
       )
 
   pub begun : (n : Named) (ws : List (Worker A)) (seats : List SeatView) (owners owners' : List (Owning _)) (rows : List (Vec (Stealing _)))
-      → seats ≡ map (new_seat n.listing) (range_with_len 0 n.workers) → IsPool owners rows → IsFixed owners owners'
+      → seats ≡ map (new_seat n.code) (range_with_len 0 n.workers) → IsPool owners rows → IsFixed owners owners'
       → map (λ w. w.seat) ws ≡ seats → map (λ w. w.owner) ws ≡ owners' → map (λ w. w.row) ws ≡ rows → AllByRecursion (λ w. w.evaluations ≡ 0) ws → AreBegun n ws
   begun n ws seats owners owners' rows new pool fixed s o r none = record {
     seats = s ∙ new;
     pool = subst (λ (p : List (Owning _) × List (Vec (Stealing _))). IsPool p.0 p.1) (λ i. (sym o i, sym r i)) (pool_kept owners owners' rows rows fixed.0 refl pool);
-    count = sym (length-map ws (λ (w : Worker A). w.seat)) ∙ ap length (s ∙ new) ∙ length-map (range_with_len 0 n.workers) (new_seat n.listing) ∙ length-range_with_len 0 n.workers;
-    counted = new_counted n.listing (range_with_len 0 n.workers) ws (s ∙ new) none;
+    count = sym (length-map ws (λ (w : Worker A). w.seat)) ∙ ap length (s ∙ new) ∙ length-map (range_with_len 0 n.workers) (new_seat n.code) ∙ length-range_with_len 0 n.workers;
+    counted = new_counted n.code (range_with_len 0 n.workers) ws (s ∙ new) none;
   }
 
   pub outcome : (n : Named) (first left : List (Worker A)) (seats : List SeatView) (owners : List (Owning _)) (rows : List (Vec (Stealing _))) (closed : ClosedView) (tally : Counts) (evaluations : List ℕ)
       → AreBegun n first → AreDone n first left → 1 ≤ n.workers → n.limits.max_entries < 2 ^ 32
       → seats ≡ map (λ w. w.seat) left → owners ≡ map (λ w. w.owner) left → rows ≡ map (λ w. w.row) left → evaluations ≡ map (λ w. w.evaluations) left
       → IsClosedWith n seats closed → tally.takes ≡ sum_by (λ o. length o.taken) owners → tally.steals ≡ sum_by (λ row. sum_by (λ t. length t.stolen) row.items) rows
-      → IsOutcome n.listing n.limits n.workers closed tally evaluations
+      → IsOutcome n.code n.limits n.workers closed tally evaluations
   outcome n first left seats owners rows closed tally evaluations b h some few s o r e c takes steals =
       let long : length left ≡ n.workers = done_length n first left h ∙ b.count in
       let counted : AllByRecursion Counted left = done_counted n first left b.counted h in
@@ -238,7 +238,7 @@ module _ {A : Type 0} where
       (steals ∙ ap (sum_by (λ (v : Vec (Stealing _)). sum_by (λ (t : Stealing _). length t.stolen) v.items)) r ∙ sum_map (λ (v : Vec (Stealing _)). sum_by (λ (t : Stealing _). length t.stolen) v.items) (λ (w : Worker A). w.row) left) in
       record {
         lawful = c.closed_is.lawful;
-        once = λ event. once (design_of n.listing) closed.entries event c.closed_is.lawful;
+        once = λ event. once (design_of n.code) closed.entries event c.closed_is.lawful;
         lines_are = c.closed_is.lines_are;
         ends = at_end n first left c.log closed h some long extends c.is_log c.entries c.end_is c.closed_is.ends;
         shares = ap length c.shares ∙ length-map seats (λ (v : SeatView). length v.mine) ∙ ap length s ∙ length-map left (λ (w : Worker A). w.seat) ∙ long;
@@ -251,20 +251,20 @@ module _ {A : Type 0} where
         tickets = let f = few_evaluations left counted in omega (arith, f, total, taken, stolen);
       }
 
-pub outcome_at : (listing listing' : Compiled) (limits limits' : Limits) (workers workers' : ℕ) (closed : ClosedView) (tally : Counts) (evaluations : List ℕ)
-    → listing ≡ listing' → limits ≡ limits' → workers ≡ workers' → IsOutcome listing limits workers closed tally evaluations → IsOutcome listing' limits' workers' closed tally evaluations
-outcome_at listing listing' limits limits' workers workers' closed tally evaluations a b c o =
+pub outcome_at : (code code' : Compiled) (limits limits' : Limits) (workers workers' : ℕ) (closed : ClosedView) (tally : Counts) (evaluations : List ℕ)
+    → code ≡ code' → limits ≡ limits' → workers ≡ workers' → IsOutcome code limits workers closed tally evaluations → IsOutcome code' limits' workers' closed tally evaluations
+outcome_at code code' limits limits' workers workers' closed tally evaluations a b c o =
     subst (λ (x : Compiled × Limits × ℕ). IsOutcome x.0 x.1 x.2 closed tally evaluations) (λ i. (a i, b i, c i)) o
 
 pub first_and_rest : {X : Type 0} (xs : List X) (x : X) (ys : List X) → 0 < length xs → x ≡ slice_index_or xs 0 x → ys ≡ take 0 xs ++ drop (0 + 1) xs → x ∷ ys ≡ xs
 first_and_rest [] x ys some a b = absurd (omega (arith, some))
 first_and_rest (z ∷ zs) x ys some a b = (λ i. a i ∷ b i)
 
-pub as_many : {T : Type 0} (listing : Compiled) (workers w : ℕ) (seats : List SeatView) (owners owners' : List (Owning T))
-    → seats ≡ map (new_seat listing) (range_with_len 0 workers) → length owners ≡ w → IsFixed owners owners' → w ≡ workers
+pub as_many : {T : Type 0} (code : Compiled) (workers w : ℕ) (seats : List SeatView) (owners owners' : List (Owning T))
+    → seats ≡ map (new_seat code) (range_with_len 0 workers) → length owners ≡ w → IsFixed owners owners' → w ≡ workers
     → (length owners' ≡ length seats) × (length owners ≡ length seats)
-as_many listing workers w seats owners owners' s o f is =
-    let a : length seats ≡ workers = ap length s ∙ length-map (range_with_len 0 workers) (new_seat listing) ∙ length-range_with_len 0 workers in
+as_many code workers w seats owners owners' s o f is =
+    let a : length seats ≡ workers = ap length s ∙ length-map (range_with_len 0 workers) (new_seat code) ∙ length-range_with_len 0 workers in
     let b : length owners' ≡ length owners = sym (length-map owners' owner_card) ∙ ap length f.0 ∙ length-map owners owner_card in
     (omega (arith, a, b, o, is), omega (arith, a, o, is))
 

@@ -138,11 +138,11 @@ told n old new s =
     s
 
 -- what the reader gave, the seat gave
-pub given_by : (listing : Compiled) (s t : SeatView) (r : Result TurnLog TurnFault) → t ≡ s
-    → MatchResult r (λ log. GaveAll (IsRead listing s.fresh) log.reads.entries) (λ fault. GaveAll (IsRead listing s.fresh) (reads_of_fault fault))
-    → MatchResult r (λ log. GaveAll (IsRead listing t.fresh) log.reads.entries) (λ fault. GaveAll (IsRead listing t.fresh) (reads_of_fault fault))
-given_by listing s t r e m =
-    subst (λ (x : SeatView). MatchResult r (λ log. GaveAll (IsRead listing x.fresh) log.reads.entries) (λ fault. GaveAll (IsRead listing x.fresh) (reads_of_fault fault))) (sym e) m
+pub given_by : (code : Compiled) (s t : SeatView) (r : Result TurnLog TurnFault) → t ≡ s
+    → MatchResult r (λ log. GaveAll (IsRead code s.fresh) log.reads.entries) (λ fault. GaveAll (IsRead code s.fresh) (reads_of_fault fault))
+    → MatchResult r (λ log. GaveAll (IsRead code t.fresh) log.reads.entries) (λ fault. GaveAll (IsRead code t.fresh) (reads_of_fault fault))
+given_by code s t r e m =
+    subst (λ (x : SeatView). MatchResult r (λ log. GaveAll (IsRead code x.fresh) log.reads.entries) (λ fault. GaveAll (IsRead code x.fresh) (reads_of_fault fault))) (sym e) m
 
 pub goes_first : (b : ℕ) (x y z : SeatView) → Goes 0 x y → Goes b y z → Goes b x z
 goes_first b x y z f g = record {

@@ -17,7 +17,7 @@ use Rattle.simulate.specs.declared.worker.Worker.{Worker}
 
 -- what the seat has seen is a journal that stays as it is: the run is stopped, or no event is left
 abbrev pub IsOver : Named → SeatView → Type 0
-IsOver n s = Stays n s.seen × (IsSome (end_in s.seen) ⊎ Ends (design_of n.listing) n.limits (entries_of s.seen) Quiet)
+IsOver n s = Stays n s.seen × (IsSome (end_in s.seen) ⊎ Ends (design_of n.code) n.limits (entries_of s.seen) Quiet)
 
 -- a worker that doesn't go on has seen that the run is over
 abbrev pub OverUnless : Named → Bool → SeatView → Type 0
@@ -99,7 +99,7 @@ IsFixed old new = (map owner_card new ≡ map owner_card old) × (map (λ o. o.t
 -- The workers of a run that begins: each has its seat, in order, with nothing seen; their ends of the deques are those of
 -- one pool; and nothing was taken, stolen or evaluated.
 pub record AreBegun {A : Type 0} (n : Named) (workers : List (Worker A)) : Type 0 where
-  pub seats : map (λ w. w.seat) workers ≡ map (new_seat n.listing) (range_with_len 0 n.workers)
+  pub seats : map (λ w. w.seat) workers ≡ map (new_seat n.code) (range_with_len 0 n.workers)
   pub pool : IsPool (map (λ w. w.owner) workers) (map (λ w. w.row) workers)
   pub count : length workers ≡ n.workers
   pub counted : AllByRecursion (λ w. IsCounted w.seat w.owner w.row.items w.evaluations) workers

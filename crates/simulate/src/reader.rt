@@ -59,9 +59,9 @@ impl<'g, K: Naming, S: Seating, P: Probe, R: Wait> RegReader for ProbedReader<'g
     ghost use Rattle.std.specs.Prelude.{length};
     ghost use Rattle.gateparts.specs.Histories.{IsRead};
 
-    ghost registers = { length K.named.listing.widths };
+    ghost registers = { length K.named.code.widths };
 
-    ghost gave = { λ s r seen. IsRead K.named.listing s.fresh r seen };
+    ghost gave = { λ s r seen. IsRead K.named.code s.fresh r seen };
 
     fn read(&mut self, register: RegId) -> Seen {
         self.probe.read(self.worker, register);

@@ -97,7 +97,7 @@ pub(crate) fn work_all<K: Naming + Send + Sync, P: Probe, R: Threads + Wait + Sy
     own: Worker<K>,
     others: Vec<Worker<K>>,
 ) -> Result<Vec<Worker<K>>, SimFault>
-    requires { run.now.design.now ≡ K.named.listing }
+    requires { run.now.design.now ≡ K.named.code }
     ensures { IfOk result (λ left. AreDone K.named (own ∷ others.items) left.items) }
 {
     design_is_shared();
@@ -105,7 +105,7 @@ pub(crate) fn work_all<K: Naming + Send + Sync, P: Probe, R: Threads + Wait + Sy
         thread::scope_env(),
         run.rt,
         move |scope| -> Result<Vec<Worker<K>>, SimFault>
-            requires run { run.now.design.now ≡ K.named.listing }
+            requires run { run.now.design.now ≡ K.named.code }
             requires design { IsSync design_rows.the_row }
             requires runtime { IsSync R.row }
             requires probe { IsSync P.row }
@@ -119,7 +119,7 @@ pub(crate) fn work_all<K: Naming + Send + Sync, P: Probe, R: Threads + Wait + Sy
                 match scope.spawn_with(
                     promise,
                     move || -> Worker<K>
-                        requires { run.now.design.now ≡ K.named.listing }
+                        requires { run.now.design.now ≡ K.named.code }
                         ensures { IsDone K.named worker result }
                     { work(run, worker) },
                 ) {

@@ -24,7 +24,7 @@ fn assert_lines(rt: &impl Abort, alloc: Global, design: &Design, entries: &[Entr
     let replayed = replay(alloc, design, entries)
         .ok()
         .expect(rt, "a lawful journal");
-    assert_eq!(rt; lines, replayed.lines.as_str());
+    assert_eq!(rt; lines, replayed.made.lines.as_str());
 }
 
 // The first entry that isn't lawful.

@@ -1,1 +1,2 @@
+-- Lemmas of the seats of all workers.
 mod Seats

@@ -39,9 +39,9 @@ impl<'c, 'g, 'd, K: Naming, R: Wait + Abort> RegReader for Between<'c, 'g, 'd, K
     ghost use Rattle.std.specs.Prelude.{length};
     ghost use Rattle.gateparts.specs.Histories.{IsRead};
 
-    ghost registers = { length K.named.listing.widths };
+    ghost registers = { length K.named.code.widths };
 
-    ghost gave = { λ s r seen. IsRead K.named.listing s.reader.fresh r seen };
+    ghost gave = { λ s r seen. IsRead K.named.code s.reader.fresh r seen };
 
     fn read(&mut self, register: RegId) -> Seen {
         let seen = self.reader.read(register);
@@ -59,8 +59,8 @@ pub fn mixed<K: Naming, R: Wait + Abort>(
     two: Seat<K>,
     late: &Ticket<K>,
 ) -> (Seat<K>, Seat<K>, IndexMap<RegId, Seen>)
-    ensures turn { IsNoTurn K.named.listing late.now.state late.now.time (TooLong result.2) }
-    ensures gave { GaveAll (IsRead K.named.listing result.1.fresh) result.2.entries }
+    ensures turn { IsNoTurn K.named.code late.now.state late.now.time (TooLong result.2) }
+    ensures gave { GaveAll (IsRead K.named.code result.1.fresh) result.2.entries }
 {
     let mut reader = Between {
         course,

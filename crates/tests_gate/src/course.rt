@@ -21,14 +21,14 @@ pub struct Course<'g, 'd, K: Naming, R: Wait + Abort> {
     pub alloc: Global,
     pub gate: &'g Gate<'d, K>,
     pub design: &'d Design,
-    ghost design_is: { design.now ≡ K.named.listing },
+    ghost design_is: { design.now ≡ K.named.code },
 }
 
 impl<'g, 'd, K: Naming, R: Wait + Abort> Course<'g, 'd, K, R> {
     /// The turn of a ticket, evaluated without the lock.
     pub fn evaluate(&self, seat: Seat<K>, ticket: &Ticket<K>) -> (Seat<K>, TurnLog)
-        ensures turn { IsTurnLog K.named.listing ticket.now.state ticket.now.time result.1 }
-        ensures gave { GaveAll (IsRead K.named.listing result.0.fresh) result.1.reads.entries }
+        ensures turn { IsTurnLog K.named.code ticket.now.state ticket.now.time result.1 }
+        ensures gave { GaveAll (IsRead K.named.code result.0.fresh) result.1.reads.entries }
     {
         let mut reader = self.gate.reader(self.rt, seat);
         let state = ticket.state();
@@ -41,8 +41,8 @@ impl<'g, 'd, K: Naming, R: Wait + Abort> Course<'g, 'd, K, R> {
 
     /// Commits a turn that was evaluated without the lock.
     pub fn commit(&self, mut seat: Seat<K>, ticket: Ticket<K>, log: TurnLog) -> (Seat<K>, Reply<K>)
-        requires turn { IsTurnLog K.named.listing ticket.state ticket.time log }
-        requires gave { GaveAll (IsRead K.named.listing seat.fresh) log.reads.entries }
+        requires turn { IsTurnLog K.named.code ticket.state ticket.time log }
+        requires gave { GaveAll (IsRead K.named.code seat.fresh) log.reads.entries }
     {
         assert!(self.rt; ticket.tries() < 3, "refused three times");
         let mut workspace = Workspace::new(self.alloc);
@@ -57,8 +57,8 @@ impl<'g, 'd, K: Naming, R: Wait + Abort> Course<'g, 'd, K, R> {
         ticket: Ticket<K>,
         log: TurnLog,
     ) -> (Seat<K>, u64, Reply<K>)
-        requires turn { IsTurnLog K.named.listing ticket.state ticket.time log }
-        requires gave { GaveAll (IsRead K.named.listing seat.fresh) log.reads.entries }
+        requires turn { IsTurnLog K.named.code ticket.state ticket.time log }
+        requires gave { GaveAll (IsRead K.named.code seat.fresh) log.reads.entries }
     {
         assert!(self.rt; ticket.tries() < 3, "refused three times");
         let count = self.gate.entries(self.rt, &mut seat);
@@ -80,8 +80,8 @@ impl<'g, 'd, K: Naming, R: Wait + Abort> Course<'g, 'd, K, R> {
         ticket: Ticket<K>,
         reads: IndexMap<RegId, Seen>,
     ) -> (Seat<K>, Reply<K>)
-        requires turn { IsNoTurn K.named.listing ticket.state ticket.time (TooLong reads) }
-        requires gave { GaveAll (IsRead K.named.listing seat.fresh) reads.entries }
+        requires turn { IsNoTurn K.named.code ticket.state ticket.time (TooLong reads) }
+        requires gave { GaveAll (IsRead K.named.code seat.fresh) reads.entries }
     {
         assert!(self.rt; ticket.tries() < 3, "refused three times");
         let reply = self.gate.too_long(self.rt, &mut seat, ticket, reads);

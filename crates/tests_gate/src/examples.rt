@@ -65,7 +65,7 @@ fn run_one<K: Naming, R: Wait + Abort>(
     blank: Blank<'_>,
 ) -> Result<Closed, AllocError>
     requires name { blank ≡ K.named }
-    requires design { design.now ≡ K.named.listing }
+    requires design { design.now ≡ K.named.code }
     requires workers { K.named.workers ≡ 1 }
 {
     let (gate, mut seats, mut tickets) = blank.open::<K>(alloc)?;
@@ -323,7 +323,7 @@ fn run_two<K: Naming, R: Wait + Abort>(
     example: Example,
 ) -> Result<Closed, AllocError>
     requires name { blank ≡ K.named }
-    requires design { design.now ≡ K.named.listing }
+    requires design { design.now ≡ K.named.code }
     requires workers { K.named.workers ≡ 2 }
 {
     let (gate, mut seats, tickets) = blank.open::<K>(alloc)?;

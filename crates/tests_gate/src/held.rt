@@ -104,7 +104,7 @@ fn run<K: Naming + Send + Sync, R: Threads + Wait + Abort + Sync>(
     blank: Blank<'_>,
 ) -> Result<u32, AllocError>
     requires name { blank ≡ K.named }
-    requires design { design.now ≡ K.named.listing }
+    requires design { design.now ≡ K.named.code }
 {
     let (gate, mut seats, tickets) = blank.open::<K>(alloc)?;
     let two = seats.pop().expect(rt, "a seat");

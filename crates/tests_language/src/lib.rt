@@ -2,7 +2,8 @@
 //!
 //! 1. `vectors` compares each operation of `logic4` with a plain program over lists of digits, and has worked values.
 //! 2. `parsing` has sources with the fault that `vparse` tells of each, and a page of source with each byte replaced.
-//! 3. `elaboration` has a module that `elaborate` makes a design of, and one that it refuses.
+//! 3. `literals` has the vectors that literals are in a tree, and concatenations of one part and of more.
+//! 4. `elaboration` has modules that `elaborate` makes designs of, and modules that it refuses.
 #![tactic(auto)]
 
 #[cfg(test)]

@@ -1,5 +1,6 @@
 //! Vectors, sources and modules.
 
 mod elaboration;
+mod literals;
 mod parsing;
 mod vectors;

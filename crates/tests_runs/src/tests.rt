@@ -1,9 +1,9 @@
 //! Turns, regions, texts of journals and replays.
 
+mod event_queue;
 mod held;
 mod journal_text;
 mod operators;
-mod regions;
 mod replays;
 mod streams;
 mod turns;

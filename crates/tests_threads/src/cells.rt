@@ -2,13 +2,13 @@
 ghost use Rattle.std.specs.Prelude.{◌≡◌, ◌<◌, ◌≤◌, ◌∷◌, ◌++◌, [], length, slice_set};
 ghost use Rattle.model.specs.Expressions.{value_of};
 ghost use Rattle.turn.specs.Nets.{altered};
-ghost use Rattle.journal.specs.Past.{IsNetOf, IsPastOf};
+ghost use Rattle.regions.specs.Past.{IsNetOf, IsPastOf};
 ghost use Rattle.regcells.specs.Seats.{widths_of, seen_of, last_values, changes_left};
 
 use design::RegId;
-use journal::Store;
 use logic4::bits::Bits;
 use regcells::{HeldStore, Holder, RegCells, RegSeat};
+use regions::Store;
 use std::process::Abort;
 use std::sync::Wait;
 use std::test::*;

@@ -3,14 +3,15 @@ use Rattle.std.proofs.Common.{◌≡◌, ◌==◌, ℕ, ◌+◌, ◌-◌, ◌<�
 use Rattle.std.proofs.Math.Seq.{take-append_seam, drop-append_seam}
 use Rattle.std.proofs.lemmas.Bool.Decides.{nat_tests}
 use Rattle.tokens.specs.Tokens.{PlainTokens}
-use Rattle.tokens.specs.Lexing.{IsNext, is_skipped, kind_of, value_of, reading, Cut, ended, next, Cause, stray, bad_number, Stops, no_piece, no_value, later}
+use Rattle.tokens.specs.Literals.{Worth}
+use Rattle.tokens.specs.Lexing.{IsNext, is_skipped, kind_of, worth_of, reading, Cut, ended, next, Cause, stray, bad_number, Stops, no_piece, no_value, later}
 use Rattle.tokens.specs.Lengths.{Adds, piece_len}
 use Rattle.tokens.proofs.Longest.{long, next_is, no_next}
 
-pub reading_one : (piece : List ℕ) (v : ℕ) → is_skipped piece ≡ false → value_of piece ≡ Some v
-    → reading piece ≡ Some (record { kind = kind_of piece; text = piece; value = v } ∷ [])
+pub reading_one : (piece : List ℕ) (w : Worth) → is_skipped piece ≡ false → worth_of piece ≡ Some w
+    → reading piece ≡ Some (record { kind = kind_of piece; text = piece; value = w.0; bits = w.1 } ∷ [])
 unfolding reading
-reading_one piece v h w = rw (h, w)
+reading_one piece w h is = rw (h, is)
 
 pub added : (piece : List ℕ) (old : PlainTokens) (read : Bool) (new : PlainTokens) → read ≡ true → Adds piece old read new → (us : PlainTokens) × (reading piece ≡ Some us) × (new ≡ old ++ us)
 added piece old true new is h = h

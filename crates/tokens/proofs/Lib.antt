@@ -1,3 +1,4 @@
+-- Worked examples (Rows), and lemmas of pieces, literals and the longest cut.
 pub mod Ascii
 pub mod Steps
 pub mod Numbers

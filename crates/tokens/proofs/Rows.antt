@@ -9,7 +9,7 @@ use Rattle.tokens.specs.Literals.{decimal_of, binary_digits, hex_digits, fitted,
 use Rattle.tokens.specs.Lexing.{item_word, statement_word, bit_sign, test_sign, mark_sign, bracket_sign, kind_by_first, reading, string_text, is_string_rest, is_comment_rest}
 
 abbrev one : Kind → List ℕ → ℕ → Option PlainTokens
-one kind text value = Some (record { kind = kind; text = text; value = value } ∷ [])
+one kind text value = Some (record { kind = kind; text = text; value = value; bits = None } ∷ [])
 
 a_name : reading (codes "a_1$") ≡ one k.Name (codes "a_1$") 0
 unfolding reading item_word statement_word bit_sign test_sign mark_sign bracket_sign kind_by_first
@@ -41,13 +41,18 @@ plain_decimal : reading (codes "18") ≡ one k.Decimal (codes "18") 18
 unfolding reading item_word statement_word bit_sign test_sign mark_sign bracket_sign kind_by_first number_of decimal_of
 plain_decimal = refl
 
-eighteen_digits : number_of (codes "999999999999999999") ≡ Some 999999999999999999
+eighteen_digits : number_of (codes "999999999999999999") ≡ Some (999999999999999999, None)
 unfolding number_of decimal_of
 eighteen_digits = refl
 
 nineteen_digits : reading (codes "1234567890123456789") ≡ None
 unfolding reading number_of decimal_of
 nineteen_digits = refl
+
+-- a sized literal carries its digits
+sized_literal : reading (codes "4'b00001") ≡ Some (record { kind = k.Sized; text = codes "4'b00001"; value = 0; bits = Some (vector 4 1) } ∷ [])
+unfolding reading item_word statement_word bit_sign test_sign mark_sign bracket_sign kind_by_first number_of literal_of decimal_of based binary_digits fitted
+sized_literal = refl
 
 a_space : reading (codes " ") ≡ Some []
 unfolding reading

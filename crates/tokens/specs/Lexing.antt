@@ -5,7 +5,7 @@ use Rattle.tokens.specs.declared.token.Kind.{Kind}
 use Rattle.tokens.specs.declared.token.Kind.TheVariants as k
 use Rattle.tokens.specs.Tokens.{PlainTokens}
 use Rattle.tokens.specs.Bytes.{is_letter, is_digit, in_word, in_literal, is_space, in_line, in_string, is_escape, all}
-use Rattle.tokens.specs.Literals.{is_empty, number_of}
+use Rattle.tokens.specs.Literals.{Worth, is_empty, number_of}
 
 -- ---- operators and marks (3.4, A.8.6)
 
@@ -162,14 +162,15 @@ abbrev pub is_skipped : List ℕ → Bool
 is_skipped [] = false
 is_skipped (b ∷ bs) = is_space b || b == 47
 
--- The value of a plain decimal, and 0 for every other token; none where a number is malformed or too wide.
-abbrev pub value_of : List ℕ → Option ℕ
-value_of [] = Some 0
-value_of (b ∷ bs) = if is_digit b then number_of (b ∷ bs) else Some 0
+-- The number and the digits of a token: 0 and none where it is neither a plain decimal nor a sized literal. None where one
+-- of these is malformed or too wide.
+abbrev pub worth_of : List ℕ → Option Worth
+worth_of [] = Some (0, None)
+worth_of (b ∷ bs) = if is_digit b then number_of (b ∷ bs) else Some (0, None)
 
 -- The tokens that a piece gives, one or none, if it isn't a number that is malformed or too wide.
 unfoldable pub reading : List ℕ → Option PlainTokens
-reading piece = if is_skipped piece then Some [] else option_map (λ v. record { kind = kind_of piece; text = piece; value = v } ∷ []) (value_of piece)
+reading piece = if is_skipped piece then Some [] else option_map (λ w. record { kind = kind_of piece; text = piece; value = w.0; bits = w.1 } ∷ []) (worth_of piece)
 
 -- The byte that an escape stands for, by the byte behind its `\`: \n, \t, \\ and \" (3.6.3).
 abbrev pub escaped : ℕ → ℕ

@@ -3,7 +3,7 @@
 use Rattle.std.specs.Prelude.{◌≡◌, ℕ, ◌-◌, ◌^◌, List, [], ◌∷◌, ◌++◌, length, take, drop, replicate, Bool, true, false, ◌&&◌, ◌==◌, nat_lt, nat_le, if◌then◌else◌, Option, Some, None, option_map, option_and_then}
 use Rattle.logic4.specs.declared.digit.Digit.{Digit}
 use Rattle.logic4.specs.declared.digit.Digit.TheVariants.{Zero, One, X, Z}
-use Rattle.logic4.specs.Vector.{Vector, vector}
+use Rattle.logic4.specs.Vector.{Vector, greatest_width, vector}
 use Rattle.tokens.specs.Bytes.{is_digit, all, span, value_from}
 
 -- The number of a run of digits, of at most 18.
@@ -67,10 +67,6 @@ fitted width v =
 abbrev pub fitted_digits : Bool → ℕ → List ℕ → Option Vector
 fitted_digits hex width bs = option_and_then (fitted width) (all_digits (digits_in hex) bs [])
 
--- The greatest width of a literal.
-abbrev pub greatest_width : ℕ
-greatest_width = 64
-
 -- The digits of a literal of base d, at a width that holds its number.
 unfoldable pub decimal_vector : ℕ → Option ℕ → Option Vector
 decimal_vector width None = None
@@ -104,9 +100,17 @@ literal_from size (q ∷ base ∷ bs) = sized (decimal_of size) base bs
 unfoldable pub literal_of : List ℕ → Option Vector
 literal_of text = literal_from (take (span is_digit text) text) (drop (span is_digit text) text)
 
--- The value of a plain decimal, and 0 for a sized literal; none where it is malformed or too wide.
-unfoldable pub number_of : List ℕ → Option ℕ
-number_of text = if all is_digit text then decimal_of text else option_map (λ v. 0) (literal_of text)
+-- The number that a token stands for, and its digits, which a sized literal has.
+abbrev pub Worth : Type 0
+Worth = ℕ × Option Vector
+
+-- A plain decimal has a number and no digits; a sized literal has digits, and the number 0.
+abbrev pub plain_worth : ℕ → Worth
+plain_worth n = (n, None)
+
+-- The number and the digits of a plain decimal or of a sized literal; none where it is malformed or too wide.
+unfoldable pub number_of : List ℕ → Option Worth
+number_of text = if all is_digit text then option_map plain_worth (decimal_of text) else option_map (λ v. (0, Some v)) (literal_of text)
 
 -- What adding the digits of a byte does to those found.
 abbrev pub AddsDigits : Option Vector → Vector → Bool → Vector → Type 0

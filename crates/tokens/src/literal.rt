@@ -1,17 +1,18 @@
 //! Plain decimals, and literals with a size.
 
 ghost use Rattle.std.specs.Prelude.{◌≡◌, ◌≤◌, ◌^◌, ◌%◌, ℕ, [], nat_lt, length, option_map, IfOk};
-ghost use Rattle.logic4.specs.Vector.{bit_digit, vector};
+ghost use Rattle.logic4.specs.Vector.{bit_digit, vector, greatest_width};
 ghost use Rattle.tokens.specs.Literals as spec;
-ghost use Rattle.tokens.specs.Literals.{AddsDigits};
+ghost use Rattle.tokens.specs.Literals.{AddsDigits, plain_worth};
 
 use crate::spans::{all_digits, digit_span, digits_value, is_digit};
+use logic4::bits::{Bits, MAX_WIDTH};
 use logic4::digit::Digit;
 use std::alloc::{AllocError, Global};
 
 /// The number of a run of digits, of at most 18.
 #[tactic(auto, unfolding(crate::specs::Literals::decimal_of))]
-pub fn decimal_of(text: &[u8]) -> Option<u64>
+fn decimal_of(text: &[u8]) -> Option<u64>
     ensures { result ≡ spec.decimal_of text.now }
 {
     if text.len() <= 18 {
@@ -131,60 +132,56 @@ fn all_zero(digits: &[Digit]) -> bool
     true
 }
 
-/// The digits at a width, filled up, or cut where all that is cut is 0.
+/// The vector of digits, the least significant first.
+fn bits_of(digits: &[Digit]) -> Bits
+    requires some { 1 ≤ length digits.now }
+    requires within { length digits.now ≤ greatest_width }
+    ensures { result ≡ digits.now }
+{
+    let mut bits = Bits::from_digit(digits[0]);
+    for digit in &digits[1..] {
+        bits = Bits::concat(Bits::from_digit(*digit), bits);
+    }
+    bits
+}
+
+/// The vector of digits at a width, filled up, or cut where all that is cut is 0.
 #[tactic(auto, unfolding(crate::specs::Literals::fitted))]
-fn fitted(mut found: Vec<Digit>, width: usize) -> Result<Option<Vec<Digit>>, AllocError>
-    ensures { IfOk result (λ fit. option_map (λ v. v.items) fit ≡ spec.fitted width found.items) }
+fn fitted(mut found: Vec<Digit>, width: usize) -> Result<Option<Bits>, AllocError>
+    requires some { 1 ≤ width }
+    requires within { width ≤ greatest_width }
+    ensures { IfOk result (λ fit. fit ≡ spec.fitted width found.items) }
 {
     if found.len() <= width {
         let fill = filling_of(&found);
         found.resize(width, fill)?;
-        return Ok(Some(found));
+        return Ok(Some(bits_of(&found)));
     }
     if all_zero(&found[width..]) {
-        found.truncate(width);
-        return Ok(Some(found));
+        return Ok(Some(bits_of(&found[..width])));
     }
     Ok(None)
 }
 
-/// The digits of a number at a width.
-fn vector_of(alloc: Global, width: usize, n: u64) -> Result<Vec<Digit>, AllocError>
-    ensures { IfOk result (λ found. found.items ≡ vector width n) }
-{
-    let mut found = Vec::new(alloc);
-    let mut left = n;
-    for _i in 0..width {
-        found.push(bit(left))?;
-        left /= 2;
-    }
-    Ok(found)
-}
-
 fn is_below(n: u64, width: u32) -> bool
-    requires { width ≤ 64 }
+    requires { width ≤ greatest_width }
     ensures { result ≡ nat_lt n (2 ^ width) }
 {
     u128::from(n) < 2u128.pow(width)
 }
 
-/// The digits of a literal of base d, where the width holds them.
+/// The vector of a literal of base d, where the width holds it.
 #[tactic(auto, unfolding(crate::specs::Literals::decimal_vector))]
-fn decimal_vector(
-    alloc: Global,
-    width: u32,
-    found: Option<u64>,
-) -> Result<Option<Vec<Digit>>, AllocError>
-    requires { width ≤ 64 }
-    ensures { IfOk result (λ fit. option_map (λ v. v.items) fit ≡ spec.decimal_vector width found) }
+fn decimal_vector(width: u32, found: Option<u64>) -> Option<Bits>
+    requires some { 1 ≤ width }
+    requires within { width ≤ greatest_width }
+    ensures { result ≡ spec.decimal_vector width found }
 {
-    let Some(n) = found else {
-        return Ok(None);
-    };
+    let n = found?;
     if !is_below(n, width) {
-        return Ok(None);
+        return None;
     }
-    Ok(Some(vector_of(alloc, width as usize, n)?))
+    Some(Bits::from_u64(width, n))
 }
 
 fn fitted_digits(
@@ -192,8 +189,10 @@ fn fitted_digits(
     hex: bool,
     width: u32,
     text: &[u8],
-) -> Result<Option<Vec<Digit>>, AllocError>
-    ensures { IfOk result (λ fit. option_map (λ v. v.items) fit ≡ spec.fitted_digits hex width text.now) }
+) -> Result<Option<Bits>, AllocError>
+    requires some { 1 ≤ width }
+    requires within { width ≤ greatest_width }
+    ensures { IfOk result (λ fit. fit ≡ spec.fitted_digits hex width text.now) }
 {
     match digits_of(alloc, hex, text)? {
         None => Ok(None),
@@ -203,9 +202,10 @@ fn fitted_digits(
 
 /// A literal of a width, by its base and its digits.
 #[tactic(auto, unfolding(crate::specs::Literals::based))]
-fn based(alloc: Global, width: u32, base: u8, text: &[u8]) -> Result<Option<Vec<Digit>>, AllocError>
-    requires { width ≤ 64 }
-    ensures { IfOk result (λ fit. option_map (λ v. v.items) fit ≡ spec.based width base text.now) }
+fn based(alloc: Global, width: u32, base: u8, text: &[u8]) -> Result<Option<Bits>, AllocError>
+    requires some { 1 ≤ width }
+    requires within { width ≤ greatest_width }
+    ensures { IfOk result (λ fit. fit ≡ spec.based width base text.now) }
 {
     if text.is_empty() {
         return Ok(None);
@@ -217,7 +217,7 @@ fn based(alloc: Global, width: u32, base: u8, text: &[u8]) -> Result<Option<Vec<
         return fitted_digits(alloc, true, width, text);
     }
     if base == b'd' && all_digits(text) {
-        return decimal_vector(alloc, width, digits_value(text));
+        return Ok(decimal_vector(width, digits_value(text)));
     }
     Ok(None)
 }
@@ -227,17 +227,22 @@ fn sized(
     size: Option<u64>,
     base: u8,
     text: &[u8],
-) -> Result<Option<Vec<Digit>>, AllocError>
-    ensures { IfOk result (λ fit. option_map (λ v. v.items) fit ≡ spec.sized size base text.now) }
+) -> Result<Option<Bits>, AllocError>
+    ensures { IfOk result (λ fit. fit ≡ spec.sized size base text.now) }
 {
     match size {
-        Some(width) if width >= 1 && width <= 64 => based(alloc, width as u32, base, text),
+        Some(width) if width >= 1 && width <= u64::from(MAX_WIDTH) => based(
+            alloc,
+            width as u32,
+            base,
+            text,
+        ),
         _ => Ok(None),
     }
 }
 
-fn literal_from(alloc: Global, size: &[u8], rest: &[u8]) -> Result<Option<Vec<Digit>>, AllocError>
-    ensures { IfOk result (λ fit. option_map (λ v. v.items) fit ≡ spec.literal_from size.now rest.now) }
+fn literal_from(alloc: Global, size: &[u8], rest: &[u8]) -> Result<Option<Bits>, AllocError>
+    ensures { IfOk result (λ fit. fit ≡ spec.literal_from size.now rest.now) }
 {
     match rest {
         [_, base, given @ ..] => sized(alloc, decimal_of(size), *base, given),
@@ -245,25 +250,34 @@ fn literal_from(alloc: Global, size: &[u8], rest: &[u8]) -> Result<Option<Vec<Di
     }
 }
 
-/// The digits of a sized literal, the least significant first; `None` where it is malformed or too wide.
+/// The vector of a sized literal; `None` where it is malformed or too wide.
 #[tactic(auto, unfolding(crate::specs::Literals::literal_of))]
-pub fn literal_of(alloc: Global, text: &[u8]) -> Result<Option<Vec<Digit>>, AllocError>
-    ensures { IfOk result (λ fit. option_map (λ v. v.items) fit ≡ spec.literal_of text.now) }
+fn literal_of(alloc: Global, text: &[u8]) -> Result<Option<Bits>, AllocError>
+    ensures { IfOk result (λ fit. fit ≡ spec.literal_of text.now) }
 {
     let (size, rest) = text.split_at(digit_span(text));
     literal_from(alloc, size, rest)
 }
 
-/// The value of a plain decimal, and 0 for a sized literal; `None` where it is malformed or too wide.
+/// The number that a token stands for, and its digits, which a sized literal has.
+pub type Worth = (u64, Option<Bits>);
+
+fn plain(n: Option<u64>) -> Option<Worth>
+    ensures { result ≡ option_map plain_worth n }
+{
+    Some((n?, None))
+}
+
+/// The number of a plain decimal, or the digits of a sized literal; `None` where it is malformed or too wide.
 #[tactic(auto, unfolding(crate::specs::Literals::number_of))]
-pub fn number_of(alloc: Global, text: &[u8]) -> Result<Option<u64>, AllocError>
+pub fn number_of(alloc: Global, text: &[u8]) -> Result<Option<Worth>, AllocError>
     ensures { IfOk result (λ found. found ≡ spec.number_of text.now) }
 {
     if all_digits(text) {
-        return Ok(decimal_of(text));
+        return Ok(plain(decimal_of(text)));
     }
     match literal_of(alloc, text)? {
         None => Ok(None),
-        Some(_) => Ok(Some(0)),
+        Some(bits) => Ok(Some((0, Some(bits)))),
     }
 }

@@ -3,6 +3,8 @@
 ghost use Rattle.std.specs.Prelude.{◌≡◌, ◌≢◌, true, false};
 ghost use Rattle.tokens.specs.Tokens.{same_kind};
 
+use logic4::bits::Bits;
+
 /// What a token is.
 #[derive(Clone, Copy, Debug, PartialEq, Eq)]
 pub enum Kind {
@@ -64,12 +66,15 @@ pub enum Kind {
     Semicolon,
 }
 
-/// A token, with the bytes that it is spelled with, and its value where it is a plain decimal.
+/// A token, with the bytes that it is spelled with.
 #[derive(Clone, Copy, Debug)]
 pub struct Token<'a> {
     pub kind: Kind,
     pub text: &'a str,
+    /// The value of a plain decimal, and 0 for every other token.
     pub value: u64,
+    /// The digits of a sized literal, which no other token has.
+    pub bits: Option<Bits>,
 }
 
 pub fn is_kind(a: Kind, b: Kind) -> bool

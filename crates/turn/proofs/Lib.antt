@@ -1,3 +1,4 @@
+-- Lemmas of a turn: what is read and known, values of expressions, texts, steps, and the whole turn.
 pub mod Operators
 pub mod Known
 pub mod Slots

@@ -1,5 +1,6 @@
 //! One step of a turn.
 ghost use Rattle.std.specs.Prelude.{◌≡◌, ◌≤◌, ◌^◌, ◌↔◌, IsTrue, OnOk, IfOk};
+ghost use Rattle.model.specs.Runs.{last_time};
 ghost use Rattle.turn.specs.Reads.{GaveAll, Keeps};
 ghost use Rattle.turn.specs.Evaluate.{NamesDeclared};
 ghost use Rattle.turn.specs.Progress.{status_of, wait_for};
@@ -21,7 +22,7 @@ pub(crate) enum Step {
 
 // What a delay waits for (9.7.1, 11.3).
 fn wait_until(now: u64, delay: u32) -> Suspend
-    requires { now ≤ 2 ^ 48 }
+    requires { now ≤ last_time }
     ensures { result ≡ wait_for now delay }
 {
     if delay == 0 {
@@ -41,7 +42,7 @@ impl Progress {
         node: &Node,
         reader: &mut R,
     ) -> Result<Step, AllocError>
-        requires now { now ≤ 2 ^ 48 }
+        requires now { now ≤ last_time }
         requires declared { NamesDeclared R.registers ops.now }
         ensures takes { IfOk result (λ r. TakesNode ops.now shown.now now node.now (status_of self.old) r (status_of self.new)) }
         ensures gave { OnOk result (GaveAll (R.gave reader.old) self.old.memory.reads.entries → GaveAll (R.gave reader.new) self.new.memory.reads.entries) }
@@ -117,7 +118,7 @@ impl Progress {
         now: u64,
         reader: &mut R,
     ) -> Result<Step, AllocError>
-        requires now { now ≤ 2 ^ 48 }
+        requires now { now ≤ last_time }
         requires declared { NamesDeclared R.registers ops.now }
         ensures takes { IfOk result (λ r. Takes nodes.now ops.now shown.now now (status_of self.old) r (status_of self.new)) }
         ensures gave { OnOk result (GaveAll (R.gave reader.old) self.old.memory.reads.entries → GaveAll (R.gave reader.new) self.new.memory.reads.entries) }

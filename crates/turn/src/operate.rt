@@ -5,7 +5,7 @@ ghost use Rattle.model.specs.Expressions.{unary_value};
 ghost use Rattle.design.specs.Operate.{combined, joined_two, chosen};
 
 use design::code::Size;
-use logic4::bits::Bits;
+use logic4::bits::{Bits, MAX_WIDTH};
 use logic4::digit::{Digit, Truth};
 use model::tree::{BinaryOperator, UnaryOperator};
 
@@ -87,7 +87,7 @@ pub(crate) fn binary(
 pub(crate) fn join(high: Bits, low: Bits) -> Bits
     ensures { result ≡ joined_two high low }
 {
-    if high.width() + low.width() <= 64 {
+    if high.width() + low.width() <= MAX_WIDTH {
         Bits::concat(high, low)
     } else {
         high

@@ -1,5 +1,6 @@
 //! A whole turn.
 ghost use Rattle.std.specs.Prelude.{◌≡◌, ◌≤◌, ◌^◌, length, MatchResult, string_bytes};
+ghost use Rattle.model.specs.Runs.{last_time};
 ghost use Rattle.turn.specs.Reads.{GaveAll, Keeps};
 ghost use Rattle.turn.specs.Nets.{nets_of};
 ghost use Rattle.turn.specs.Answers.{IsTurnLog, IsNoTurn, reads_of_fault};
@@ -87,7 +88,7 @@ pub fn run_turn_in<R: RegReader>(
     now: u64,
     reader: &mut R,
 ) -> Result<TurnLog, TurnFault>
-    requires now { now ≤ 2 ^ 48 }
+    requires now { now ≤ last_time }
     requires registers { length design.now.widths ≤ R.registers }
     ensures turn { MatchResult result (IsTurnLog design.now state.now now) (IsNoTurn design.now state.now now) }
     ensures gave { MatchResult result (λ log. GaveAll (R.gave reader.new) log.reads.entries) (λ fault. GaveAll (R.gave reader.new) (reads_of_fault fault)) }
@@ -126,7 +127,7 @@ pub fn run_turn<R: RegReader>(
     now: u64,
     reader: &mut R,
 ) -> Result<TurnLog, TurnFault>
-    requires now { now ≤ 2 ^ 48 }
+    requires now { now ≤ last_time }
     requires registers { length design.now.widths ≤ R.registers }
     ensures turn { MatchResult result (IsTurnLog design.now state.now now) (IsNoTurn design.now state.now now) }
     ensures gave { MatchResult result (λ log. GaveAll (R.gave reader.new) log.reads.entries) (λ fault. GaveAll (R.gave reader.new) (reads_of_fault fault)) }

@@ -12,23 +12,23 @@ use Rattle.vparse.specs.Reading.{source}
 use Rattle.vparse.proofs.Steps.{some-pair}
 use Rattle.vparse.proofs.CompleteStatements.{complete-source}
 
-pub only : (room : ℕ) (found m : Module) (ts rest : PlainTokens) → length ts ≤ room → source room ts ≡ Some (found, rest) → IsModule m ts → found ≡ m
-only room found m ts rest w read d = (some-pair found m rest [] (sym read ∙ complete-source d room w)).0
+pub only : (fuel : ℕ) (found m : Module) (ts rest : PlainTokens) → length ts ≤ fuel → source fuel ts ≡ Some (found, rest) → IsModule m ts → found ≡ m
+only fuel found m ts rest w read d = (some-pair found m rest [] (sym read ∙ complete-source d fuel w)).0
 
-pub none : (room : ℕ) (m : Module) (ts : PlainTokens) → length ts ≤ room → source room ts ≡ None → IsModule m ts → ⊥
-none room m ts w read d = let q = complete-source d room w in cc
+pub none : (fuel : ℕ) (m : Module) (ts : PlainTokens) → length ts ≤ fuel → source fuel ts ≡ None → IsModule m ts → ⊥
+none fuel m ts w read d = let q = complete-source d fuel w in cc
 
 -- where nothing nests too deep, the only refusal of what is spelled is want of memory
-pub memory : (stop : Option ℕ) (room : ℕ) (fault : Fault) (m : Module) (ts us new : PlainTokens) → us ≡ ts → length ts ≤ room → (IsSome stop → ⊥)
-    → Reads module_of stop (source room us) (Err fault) new → IsModule m ts → fault ≡ Memory
-memory stop room Syntax m ts us new is w shallow read d = absurd (none room m ts w (sym (ap (source room) is) ∙ read) d)
-memory stop room Unsized m ts us new is w shallow read d = absurd (none room m ts w (sym (ap (source room) is) ∙ read) d)
-memory stop room Deep m ts us new is w shallow read d = absurd (shallow (rw read))
-memory stop room Memory m ts us new is w shallow read d = refl
+pub memory : (stop : Option ℕ) (fuel : ℕ) (fault : Fault) (m : Module) (ts us new : PlainTokens) → us ≡ ts → length ts ≤ fuel → (IsSome stop → ⊥)
+    → Reads module_of stop (source fuel us) (Err fault) new → IsModule m ts → fault ≡ Memory
+memory stop fuel Syntax m ts us new is w shallow read d = absurd (none fuel m ts w (sym (ap (source fuel) is) ∙ read) d)
+memory stop fuel Unsized m ts us new is w shallow read d = absurd (none fuel m ts w (sym (ap (source fuel) is) ∙ read) d)
+memory stop fuel Deep m ts us new is w shallow read d = absurd (shallow (rw read))
+memory stop fuel Memory m ts us new is w shallow read d = refl
 
-pub syntax : (stop : Option ℕ) (room : ℕ) (fault : Fault) (m : Module) (ts us new : PlainTokens) → us ≡ ts → length ts ≤ room
-    → Reads module_of stop (source room us) (Err fault) new → IsModule m ts → is_syntax fault ≡ false
-syntax stop room Syntax m ts us new is w read d = absurd (none room m ts w (sym (ap (source room) is) ∙ read) d)
-syntax stop room Unsized m ts us new is w read d = absurd (none room m ts w (sym (ap (source room) is) ∙ read) d)
-syntax stop room Deep m ts us new is w read d = refl
-syntax stop room Memory m ts us new is w read d = refl
+pub syntax : (stop : Option ℕ) (fuel : ℕ) (fault : Fault) (m : Module) (ts us new : PlainTokens) → us ≡ ts → length ts ≤ fuel
+    → Reads module_of stop (source fuel us) (Err fault) new → IsModule m ts → is_syntax fault ≡ false
+syntax stop fuel Syntax m ts us new is w read d = absurd (none fuel m ts w (sym (ap (source fuel) is) ∙ read) d)
+syntax stop fuel Unsized m ts us new is w read d = absurd (none fuel m ts w (sym (ap (source fuel) is) ∙ read) d)
+syntax stop fuel Deep m ts us new is w read d = refl
+syntax stop fuel Memory m ts us new is w read d = refl

@@ -1,5 +1,5 @@
--- Each expression that is spelled is read, where what follows can't go on with it and there is room for each token.
-use Rattle.std.proofs.Common.{◌≡◌, ℕ, zero, suc, ◌+◌, ◌-◌, ◌<◌, ◌≤◌, List, [], ◌∷◌, ◌++◌, append_assoc, Bool, ◌⊎◌, inl, inr, ap, length, true, false, nat_lt, Option, Some, None, refl, ◌∙◌, add-one, arith}
+-- Each expression that is spelled is read, where what follows can't go on with it and there is fuel for each token.
+use Rattle.std.proofs.Common.{◌≡◌, ℕ, zero, suc, ◌+◌, ◌-◌, ◌<◌, ◌≤◌, List, [], ◌∷◌, ◌++◌, append_assoc, append-nil, Bool, ◌⊎◌, inl, inr, ap, length, true, false, nat_lt, Option, Some, None, refl, ◌∙◌, add-one, arith}
 use Rattle.std.proofs.lemmas.Bool.Decides.{nat_tests}
 use Rattle.tokens.specs.declared.token.Kind.{Kind}
 use Rattle.tokens.specs.declared.token.Kind.TheVariants as k
@@ -8,7 +8,6 @@ use Rattle.model.specs.declared.tree.BinaryOperator.{BinaryOperator}
 use Rattle.vparse.specs.Cursor.{kind, sees, and_then}
 use Rattle.tokens.specs.Tokens.{PlainToken, PlainTokens, same_kind}
 use Rattle.logic4.specs.Vector.{Vector}
-use Rattle.tokens.specs.Literals.{literal_of}
 use Rattle.model.specs.Syntax.{Text, Expression, Expressions, Nothing}
 use Rattle.model.specs.Trees.{expressions}
 use Rattle.model.specs.Syntax as tree
@@ -151,56 +150,66 @@ first-primary (nested q d c) = rw q
 operator-Question : (at : Kind) → at ≡ k.Question → operator at ≡ None
 operator-Question at q = rw q
 
-primary-name : (inner : ℕ → Parser (Expression Text)) (room : ℕ) (t : PlainToken) (rest : PlainTokens) → t.kind ≡ k.Name → sees k.OpenSquare rest ≡ false
-    → primary inner room (t ∷ rest) ≡ Some (tree.Register t.text, rest)
+primary-name : (inner : ℕ → Parser (Expression Text)) (fuel : ℕ) (t : PlainToken) (rest : PlainTokens) → t.kind ≡ k.Name → sees k.OpenSquare rest ≡ false
+    → primary inner fuel (t ∷ rest) ≡ Some (tree.Register t.text, rest)
 unfolding primary spec.named
-primary-name inner room t rest q no_index = rw (q, no_index)
+primary-name inner fuel t rest q no_index = rw (q, no_index)
 
-primary-select : (inner : ℕ → Parser (Expression Text)) (room : ℕ) (t u v w : PlainToken) (rest : PlainTokens) → t.kind ≡ k.Name → u.kind ≡ k.OpenSquare → v.kind ≡ k.Decimal → w.kind ≡ k.CloseSquare
-    → primary inner room (t ∷ u ∷ v ∷ w ∷ rest) ≡ Some (tree.Select t.text v.value, rest)
+primary-select : (inner : ℕ → Parser (Expression Text)) (fuel : ℕ) (t u v w : PlainToken) (rest : PlainTokens) → t.kind ≡ k.Name → u.kind ≡ k.OpenSquare → v.kind ≡ k.Decimal → w.kind ≡ k.CloseSquare
+    → primary inner fuel (t ∷ u ∷ v ∷ w ∷ rest) ≡ Some (tree.Select t.text v.value, rest)
 unfolding primary spec.named spec.selected
-primary-select inner room t u v w rest q start i end =
+primary-select inner fuel t u v w rest q start i end =
     let s = same_kind-is u.kind k.OpenSquare start in let x = expect-is k.Decimal v (w ∷ rest) i in let y = expect-is k.CloseSquare w rest end in rw (q, s, x, y)
 
-primary-sized : (inner : ℕ → Parser (Expression Text)) (room : ℕ) (d : Vector) (t : PlainToken) (rest : PlainTokens) → t.kind ≡ k.Sized → literal_of t.text ≡ Some d
-    → primary inner room (t ∷ rest) ≡ Some (tree.Literal d, rest)
+primary-sized : (inner : ℕ → Parser (Expression Text)) (fuel : ℕ) (d : Vector) (t : PlainToken) (rest : PlainTokens) → t.kind ≡ k.Sized → t.bits ≡ Some d
+    → primary inner fuel (t ∷ rest) ≡ Some (tree.Literal d, rest)
 unfolding primary spec.sized
-primary-sized inner room d t rest q is = rw (q, is)
+primary-sized inner fuel d t rest q is = rw (q, is)
 
-primary-concat : (inner : ℕ → Parser (Expression Text)) (room : ℕ) (es : List (Expression Text)) (t : PlainToken) (ts rest : PlainTokens) → t.kind ≡ k.OpenCurly → parts_from inner room [] ts ≡ Some (es, rest)
-    → primary inner room (t ∷ ts) ≡ Some (tree.Concat (expressions es), rest)
+primary-concat : (inner : ℕ → Parser (Expression Text)) (fuel : ℕ) (e : Expression Text) (es : List (Expression Text)) (t : PlainToken) (ts us rest : PlainTokens) → t.kind ≡ k.OpenCurly
+    → inner 0 ts ≡ Some (e, us) → parts_from inner fuel [] us ≡ Some (es, rest) → primary inner fuel (t ∷ ts) ≡ Some (tree.Concat (tree.Also e (expressions es)), rest)
 unfolding primary spec.concatenated
-primary-concat inner room es t ts rest q read = rw (q, read)
+primary-concat inner fuel e es t ts us rest q read others = rw (q, read, others)
 
-primary-nested : (inner : ℕ → Parser (Expression Text)) (room : ℕ) (e : Expression Text) (t u : PlainToken) (ts rest : PlainTokens) → t.kind ≡ k.Open → inner 0 ts ≡ Some (e, u ∷ rest) → u.kind ≡ k.Close
-    → primary inner room (t ∷ ts) ≡ Some (e, rest)
+primary-nested : (inner : ℕ → Parser (Expression Text)) (fuel : ℕ) (e : Expression Text) (t u : PlainToken) (ts rest : PlainTokens) → t.kind ≡ k.Open → inner 0 ts ≡ Some (e, u ∷ rest) → u.kind ≡ k.Close
+    → primary inner fuel (t ∷ ts) ≡ Some (e, rest)
 unfolding primary spec.nested
-primary-nested inner room e t u ts rest q read c = let x = expect-is k.Close u rest c in rw (q, read, x)
+primary-nested inner fuel e t u ts rest q read c = let x = expect-is k.Close u rest c in rw (q, read, x)
 
-parts-last : (inner : ℕ → Parser (Expression Text)) (m : ℕ) (found : List (Expression Text)) (e : Expression Text) (ts : PlainTokens) (u : PlainToken) (rest : PlainTokens) → 0 < m → inner 0 ts ≡ Some (e, u ∷ rest) → u.kind ≡ k.CloseCurly
-    → parts_from inner m found ts ≡ Some (found ++ e ∷ [], rest)
+parts-end : (inner : ℕ → Parser (Expression Text)) (m : ℕ) (found : List (Expression Text)) (u : PlainToken) (rest : PlainTokens) → 0 < m → u.kind ≡ k.CloseCurly
+    → parts_from inner m found (u ∷ rest) ≡ Some (found, rest)
 unfolding parts_from
-parts-last inner zero found e ts u rest w read end = absurd (omega arith)
-parts-last inner (suc m) found e ts u rest w read end = let y = no_comma u rest end in let z = expect-is k.CloseCurly u rest end in rw (read, y, z)
+parts-end inner zero found u rest w end = absurd (omega arith)
+parts-end inner (suc m) found u rest w end = let y = no_comma u rest end in let z = expect-is k.CloseCurly u rest end in rw (y, z)
 
-parts-next : (inner : ℕ → Parser (Expression Text)) (m n : ℕ) (found : List (Expression Text)) (e : Expression Text) (ts : PlainTokens) (u : PlainToken) (us : PlainTokens) → m ≡ suc n → inner 0 ts ≡ Some (e, u ∷ us) → u.kind ≡ k.Comma
-    → parts_from inner m found ts ≡ parts_from inner n (found ++ e ∷ []) us
+parts-next : (inner : ℕ → Parser (Expression Text)) (m n : ℕ) (found : List (Expression Text)) (e : Expression Text) (u : PlainToken) (us vs : PlainTokens) → m ≡ suc n → u.kind ≡ k.Comma → inner 0 us ≡ Some (e, vs)
+    → parts_from inner m found (u ∷ us) ≡ parts_from inner n (found ++ e ∷ []) vs
 unfolding parts_from
-parts-next inner m n found e ts u us is read c = let y = same_kind-is u.kind k.Comma c in rw (is, read, y)
+parts-next inner m n found e u us vs is c read = let y = same_kind-is u.kind k.Comma c in rw (is, y, read)
 
-operand-bare : (inner : ℕ → Parser (Expression Text)) (room : ℕ) (e : Expression Text) (ts rest : PlainTokens) → prefix (kind ts) ≡ None → primary inner room ts ≡ Some (e, rest) → spec.operand inner room ts ≡ Some (e, rest)
+operand-bare : (inner : ℕ → Parser (Expression Text)) (fuel : ℕ) (e : Expression Text) (ts rest : PlainTokens) → prefix (kind ts) ≡ None → primary inner fuel ts ≡ Some (e, rest) → spec.operand inner fuel ts ≡ Some (e, rest)
 unfolding spec.operand
-operand-bare inner room e ts rest none read = rw none read
+operand-bare inner fuel e ts rest none read = rw none read
 
-operand-prefixed : (inner : ℕ → Parser (Expression Text)) (room : ℕ) (op : UnaryOperator) (e : Expression Text) (t : PlainToken) (ts rest : PlainTokens) → prefix t.kind ≡ Some op → primary inner room ts ≡ Some (e, rest)
-    → spec.operand inner room (t ∷ ts) ≡ Some (tree.Unary op e, rest)
+operand-prefixed : (inner : ℕ → Parser (Expression Text)) (fuel : ℕ) (op : UnaryOperator) (e : Expression Text) (t : PlainToken) (ts rest : PlainTokens) → prefix t.kind ≡ Some op → primary inner fuel ts ≡ Some (e, rest)
+    → spec.operand inner fuel (t ∷ ts) ≡ Some (tree.Unary op e, rest)
 unfolding spec.operand
-operand-prefixed inner room op e t ts rest o read = rw (o, read)
+operand-prefixed inner fuel op e t ts rest o read = rw (o, read)
 
 chosen-is : (inner : ℕ → Parser (Expression Text)) (c a b : Expression Text) (t u : PlainToken) (us vs rest : PlainTokens) → t.kind ≡ k.Question → inner 0 us ≡ Some (a, u ∷ vs) → u.kind ≡ k.Colon
     → inner 0 vs ≡ Some (b, rest) → choice_at inner 0 c (t ∷ us) ≡ Some (tree.Conditional c a b, rest)
 unfolding spec.chosen
 chosen-is inner c a b t u us vs rest q ra col rb = let s = same_kind-is t.kind k.Question q in let x = expect-is k.Colon u vs col in rw (s, ra, x, rb)
+
+-- the first part is read, and those behind it with a turn for each token
+record ReadsParts (n : ℕ) (es : Expressions Text) (ts rest : PlainTokens) : Type 0 where
+  pub first : Expression Text
+  pub others : Expressions Text
+  pub left : PlainTokens
+  pub is : tree.Also first others ≡ es
+  pub read : expression n 0 ts ≡ Some (first, left)
+  pub short : length left < length ts
+  pub more : (m : ℕ) (found : List (Expression Text)) → length left ≤ m → parts_from (expression n) m found left ≡ Some (found ++ list_of others, rest)
 
 -- from the first operand on, what was read up to the rest, and the turns that are left
 abbrev Reached : ℕ → ℕ → Expression Text → PlainTokens → PlainTokens → Type 0
@@ -254,17 +263,36 @@ mutual
   complete-primary (selected {t = t} {u = u} {v = v} {w = w} {rest = rest} q start i end) n len square = primary-select (expression n) n t u v w rest q start i end
   complete-primary (sized {d = d} {t = t} {rest = rest} q is) n len square = primary-sized (expression n) n d t rest q is
   complete-primary {rest = rest} (concatenated {es = es} {t = t} {ts = ts} q d) n len square =
-      primary-concat (expression n) n (list_of es) t ts rest q (complete-parts d n n [] (omega arith) (omega arith)) ∙ ap (λ x. Some (tree.Concat x, rest)) (expressions_list es)
+      let r = complete-parts d n (omega arith) in
+      let short = r.short in
+      primary-concat (expression n) n r.first (list_of r.others) t ts r.left rest q r.read (r.more n [] (omega arith))
+      ∙ ap (λ x. Some (tree.Concat (tree.Also r.first x), rest)) (expressions_list r.others) ∙ ap (λ x. Some (tree.Concat x, rest)) r.is
   complete-primary (nested {e = e} {t = t} {u = u} {ts = ts} {rest = rest} q d c) n len square =
       primary-nested (expression n) n e t u ts rest q (complete-expression d n (omega arith) (ends-Close u rest c)) c
 
-  complete-parts : {es : Expressions Text} {ts rest : PlainTokens} → IsParts es ts rest → (n m : ℕ) (found : List (Expression Text)) → length ts < n → length ts ≤ m
-      → parts_from (expression n) m found ts ≡ Some (found ++ list_of es, rest)
-  complete-parts {ts = ts} {rest = rest} (last_part {e = e} {u = u} d end) n m found w turns =
+  complete-parts : {es : Expressions Text} {ts rest : PlainTokens} → IsParts es ts rest → (n : ℕ) → length ts < n → ReadsParts n es ts rest
+  complete-parts {ts = ts} {rest = rest} (last_part {e = e} {u = u} d end) n w = record {
+    first = e;
+    others = tree.Nothing;
+    left = u ∷ rest;
+    is = refl;
+    read = complete-expression d n w (ends-CloseCurly u rest end);
+    short = short-expression d;
+    more = λ m found turns. rw (append-nil found) (parts-end (expression n) m found u rest (omega arith) end);
+  }
+  complete-parts {ts = ts} {rest = rest} (next_part {e = e} {es = es} {u = u} {us = us} d c ds) n w =
       let x = short-expression d in
-      parts-last (expression n) m found e ts u rest (omega arith) (complete-expression d n (omega arith) (ends-CloseCurly u rest end)) end
-  complete-parts {ts = ts} {rest = rest} (next_part {e = e} {es = es} {u = u} {us = us} d c ds) n m found w turns =
-      let x = short-expression d in
-      parts-next (expression n) m (m - 1) found e ts u us (omega arith) (complete-expression d n (omega arith) (ends-Comma u us c)) c
-      ∙ complete-parts ds n (m - 1) (found ++ e ∷ []) (omega arith) (omega arith)
-      ∙ ap (λ x. Some (x, rest)) (append_assoc found (e ∷ []) (list_of es))
+      let r = complete-parts ds n (omega arith) in
+      record {
+        first = e;
+        others = es;
+        left = u ∷ us;
+        is = refl;
+        read = complete-expression d n w (ends-Comma u us c);
+        short = x;
+        more = λ m found turns. let short = r.short in
+            parts-next (expression n) m (m - 1) found r.first u us r.left (omega arith) c r.read
+            ∙ r.more (m - 1) (found ++ r.first ∷ []) (omega arith)
+            ∙ ap (λ xs. Some (xs, rest)) (append_assoc found (r.first ∷ []) (list_of r.others))
+            ∙ ap (λ xs. Some (found ++ list_of xs, rest)) r.is;
+      }

@@ -1,4 +1,4 @@
--- Each module that is spelled is read, where there is room for each token.
+-- Each module that is spelled is read, where there is fuel for each token.
 use Rattle.std.proofs.Common.{◌≡◌, ℕ, zero, suc, ◌-◌, Bool, true, Option, None, ◌<◌, ◌≤◌, List, [], ◌∷◌, ◌++◌, length, false, Some, refl, ap, ◌∙◌, append_assoc, append-nil, arith}
 use Rattle.tokens.specs.declared.token.Kind.{Kind}
 use Rattle.tokens.specs.declared.token.Kind.TheVariants as k
@@ -157,24 +157,24 @@ statements-turn : (inner : Parser Statement) (m n : ℕ) (found : List Statement
 unfolding statements_from
 statements-turn inner m n found s ts us e q read = rw (e, q, read)
 
-block-is : (inner : Parser Statement) (room : ℕ) (body : List Statement) (t : PlainToken) (ts rest : PlainTokens) → t.kind ≡ k.Begin → statements_from inner room [] ts ≡ Some (body, rest)
-    → spec.block inner room (t ∷ ts) ≡ Some (body, rest)
+block-is : (inner : Parser Statement) (fuel : ℕ) (body : List Statement) (t : PlainToken) (ts rest : PlainTokens) → t.kind ≡ k.Begin → statements_from inner fuel [] ts ≡ Some (body, rest)
+    → spec.block inner fuel (t ∷ ts) ≡ Some (body, rest)
 unfolding spec.block
-block-is inner room body t ts rest q read = let x = expect-is k.Begin t ts q in rw (x, read)
+block-is inner fuel body t ts rest q read = let x = expect-is k.Begin t ts q in rw (x, read)
 
-condition-is : (room : ℕ) (e : Expression Text) (t u : PlainToken) (ts rest : PlainTokens) → t.kind ≡ k.Open → spec.expression room 0 ts ≡ Some (e, u ∷ rest) → u.kind ≡ k.Close
-    → spec.condition room (t ∷ ts) ≡ Some (e, rest)
+condition-is : (fuel : ℕ) (e : Expression Text) (t u : PlainToken) (ts rest : PlainTokens) → t.kind ≡ k.Open → spec.expression fuel 0 ts ≡ Some (e, u ∷ rest) → u.kind ≡ k.Close
+    → spec.condition fuel (t ∷ ts) ≡ Some (e, rest)
 unfolding spec.condition
-condition-is room e t u ts rest q read end = let x = expect-is k.Open t ts q in let y = expect-is k.Close u rest end in rw (x, read, y)
+condition-is fuel e t u ts rest q read end = let x = expect-is k.Open t ts q in let y = expect-is k.Close u rest end in rw (x, read, y)
 
-statement-empty : (inner : Parser Statement) (room : ℕ) (t : PlainToken) (rest : PlainTokens) → t.kind ≡ k.Semicolon → spec.statement_form inner room (t ∷ rest) ≡ Some (tree.Empty, rest)
+statement-empty : (inner : Parser Statement) (fuel : ℕ) (t : PlainToken) (rest : PlainTokens) → t.kind ≡ k.Semicolon → spec.statement_form inner fuel (t ∷ rest) ≡ Some (tree.Empty, rest)
 unfolding spec.statement_form
-statement-empty inner room t rest q = rw q
+statement-empty inner fuel t rest q = rw q
 
-statement-block : (inner : Parser Statement) (room : ℕ) (body : List Statement) (ts rest : PlainTokens) → kind ts ≡ k.Begin → spec.block inner room ts ≡ Some (body, rest)
-    → spec.statement_form inner room ts ≡ Some (tree.Block (statements body), rest)
+statement-block : (inner : Parser Statement) (fuel : ℕ) (body : List Statement) (ts rest : PlainTokens) → kind ts ≡ k.Begin → spec.block inner fuel ts ≡ Some (body, rest)
+    → spec.statement_form inner fuel ts ≡ Some (tree.Block (statements body), rest)
 unfolding spec.statement_form
-statement-block inner room body ts rest q read = rw (q, read)
+statement-block inner fuel body ts rest q read = rw (q, read)
 
 delay-none : (ts : PlainTokens) → sees k.Hash ts ≡ false → spec.delay ts ≡ Some (None, ts)
 unfolding spec.delay
@@ -188,10 +188,10 @@ complete-delay : {d : Option ℕ} {ts rest : PlainTokens} → IsDelay d ts rest 
 complete-delay (no_delay {ts = ts}) none = delay-none ts none
 complete-delay (some_delay {t = t} {u = u} {rest = rest} q n) none = delay-some t u rest q n
 
-value-is : (room : ℕ) (d : Option ℕ) (e : Expression Text) (v : PlainToken) (ts us rest : PlainTokens) → spec.delay ts ≡ Some (d, us) → spec.expression room 0 us ≡ Some (e, v ∷ rest) → v.kind ≡ k.Semicolon
-    → spec.value room ts ≡ Some ((d, e), rest)
+value-is : (fuel : ℕ) (d : Option ℕ) (e : Expression Text) (v : PlainToken) (ts us rest : PlainTokens) → spec.delay ts ≡ Some (d, us) → spec.expression fuel 0 us ≡ Some (e, v ∷ rest) → v.kind ≡ k.Semicolon
+    → spec.value fuel ts ≡ Some ((d, e), rest)
 unfolding spec.value
-value-is room d e v ts us rest waits read end = let y = expect-is k.Semicolon v rest end in rw (waits, read, y)
+value-is fuel d e v ts us rest waits read end = let y = expect-is k.Semicolon v rest end in rw (waits, read, y)
 
 complete-value : {d : Option ℕ} {e : Expression Text} {v : PlainToken} {ts us rest : PlainTokens} → IsDelay d ts us → IsExpression e us (v ∷ rest) → v.kind ≡ k.Semicolon → (n : ℕ) → length ts < n
     → spec.value n ts ≡ Some ((d, e), rest)
@@ -203,26 +203,26 @@ not_at_most : (u : PlainToken) (ts : PlainTokens) → u.kind ≡ k.Assign → se
 unfolding same_kind
 not_at_most u ts q = rw q
 
-statement-assign : (inner : Parser Statement) (room : ℕ) (d : Option ℕ) (e : Expression Text) (t u : PlainToken) (ts rest : PlainTokens) → t.kind ≡ k.Name → u.kind ≡ k.Assign
-    → spec.value room ts ≡ Some ((d, e), rest) → spec.statement_form inner room (t ∷ u ∷ ts) ≡ Some (tree.Assign t.text d e, rest)
+statement-assign : (inner : Parser Statement) (fuel : ℕ) (d : Option ℕ) (e : Expression Text) (t u : PlainToken) (ts rest : PlainTokens) → t.kind ≡ k.Name → u.kind ≡ k.Assign
+    → spec.value fuel ts ≡ Some ((d, e), rest) → spec.statement_form inner fuel (t ∷ u ∷ ts) ≡ Some (tree.Assign t.text d e, rest)
 unfolding spec.statement_form spec.assign
-statement-assign inner room d e t u ts rest q sign read =
+statement-assign inner fuel d e t u ts rest q sign read =
     let x = expect-is k.Assign u ts sign in let y = not_at_most u ts sign in rw (q, y, x, read)
 
-statement-assign_later : (inner : Parser Statement) (room : ℕ) (d : Option ℕ) (e : Expression Text) (t u : PlainToken) (ts rest : PlainTokens) → t.kind ≡ k.Name → u.kind ≡ k.AtMost
-    → spec.value room ts ≡ Some ((d, e), rest) → spec.statement_form inner room (t ∷ u ∷ ts) ≡ Some (tree.AssignLater t.text d e, rest)
+statement-assign_later : (inner : Parser Statement) (fuel : ℕ) (d : Option ℕ) (e : Expression Text) (t u : PlainToken) (ts rest : PlainTokens) → t.kind ≡ k.Name → u.kind ≡ k.AtMost
+    → spec.value fuel ts ≡ Some ((d, e), rest) → spec.statement_form inner fuel (t ∷ u ∷ ts) ≡ Some (tree.AssignLater t.text d e, rest)
 unfolding spec.statement_form spec.assign
-statement-assign_later inner room d e t u ts rest q sign read = let y = same_kind-is u.kind k.AtMost sign in rw (q, y, read)
+statement-assign_later inner fuel d e t u ts rest q sign read = let y = same_kind-is u.kind k.AtMost sign in rw (q, y, read)
 
-statement-delayed : (inner : Parser Statement) (room : ℕ) (s : Statement) (t u : PlainToken) (ts rest : PlainTokens) → t.kind ≡ k.Hash → u.kind ≡ k.Decimal
-    → inner ts ≡ Some (s, rest) → spec.statement_form inner room (t ∷ u ∷ ts) ≡ Some (tree.Delay u.value s, rest)
+statement-delayed : (inner : Parser Statement) (fuel : ℕ) (s : Statement) (t u : PlainToken) (ts rest : PlainTokens) → t.kind ≡ k.Hash → u.kind ≡ k.Decimal
+    → inner ts ≡ Some (s, rest) → spec.statement_form inner fuel (t ∷ u ∷ ts) ≡ Some (tree.Delay u.value s, rest)
 unfolding spec.statement_form spec.delayed
-statement-delayed inner room s t u ts rest q n read = let x = expect-is k.Decimal u ts n in rw (q, x, read)
+statement-delayed inner fuel s t u ts rest q n read = let x = expect-is k.Decimal u ts n in rw (q, x, read)
 
-statement-awaited : (inner : Parser Statement) (room : ℕ) (es : List Trigger) (s : Statement) (t u : PlainToken) (ts us rest : PlainTokens) → t.kind ≡ k.At → u.kind ≡ k.Open
-    → triggers_from room [] ts ≡ Some (es, us) → inner us ≡ Some (s, rest) → spec.statement_form inner room (t ∷ u ∷ ts) ≡ Some (tree.Await es s, rest)
+statement-awaited : (inner : Parser Statement) (fuel : ℕ) (es : List Trigger) (s : Statement) (t u : PlainToken) (ts us rest : PlainTokens) → t.kind ≡ k.At → u.kind ≡ k.Open
+    → triggers_from fuel [] ts ≡ Some (es, us) → inner us ≡ Some (s, rest) → spec.statement_form inner fuel (t ∷ u ∷ ts) ≡ Some (tree.Await es s, rest)
 unfolding spec.statement_form spec.awaited spec.events
-statement-awaited inner room es s t u ts us rest q start read body = let x = expect-is k.Open u ts start in rw (q, x, read, body)
+statement-awaited inner fuel es s t u ts us rest q start read body = let x = expect-is k.Open u ts start in rw (q, x, read, body)
 
 trigger-any : (t : PlainToken) (rest : PlainTokens) → t.kind ≡ k.Name → spec.trigger (t ∷ rest) ≡ Some ((Any, t.text), rest)
 unfolding spec.trigger
@@ -259,58 +259,58 @@ comma-Close : (t : PlainToken) (ts : PlainTokens) → t.kind ≡ k.Close → see
 unfolding same_kind
 comma-Close t ts q = rw q
 
-arguments-end : (room m : ℕ) (found : List (Expression Text)) (t : PlainToken) (rest : PlainTokens) → 0 < m → t.kind ≡ k.Close → arguments_from room m found (t ∷ rest) ≡ Some (found, rest)
+arguments-end : (fuel m : ℕ) (found : List (Expression Text)) (t : PlainToken) (rest : PlainTokens) → 0 < m → t.kind ≡ k.Close → arguments_from fuel m found (t ∷ rest) ≡ Some (found, rest)
 unfolding arguments_from
-arguments-end room zero found t rest w q = absurd (omega arith)
-arguments-end room (suc m) found t rest w q = let x = comma-Close t rest q in let y = expect-is k.Close t rest q in rw (x, y)
+arguments-end fuel zero found t rest w q = absurd (omega arith)
+arguments-end fuel (suc m) found t rest w q = let x = comma-Close t rest q in let y = expect-is k.Close t rest q in rw (x, y)
 
-arguments-next : (room m n : ℕ) (found : List (Expression Text)) (e : Expression Text) (t : PlainToken) (ts us : PlainTokens) → m ≡ suc n → t.kind ≡ k.Comma → spec.expression room 0 ts ≡ Some (e, us)
-    → arguments_from room m found (t ∷ ts) ≡ arguments_from room n (found ++ e ∷ []) us
+arguments-next : (fuel m n : ℕ) (found : List (Expression Text)) (e : Expression Text) (t : PlainToken) (ts us : PlainTokens) → m ≡ suc n → t.kind ≡ k.Comma → spec.expression fuel 0 ts ≡ Some (e, us)
+    → arguments_from fuel m found (t ∷ ts) ≡ arguments_from fuel n (found ++ e ∷ []) us
 unfolding arguments_from
-arguments-next room m n found e t ts us is q read = let x = same_kind-is t.kind k.Comma q in rw (is, x, read)
+arguments-next fuel m n found e t ts us is q read = let x = same_kind-is t.kind k.Comma q in rw (is, x, read)
 
-complete-arguments : {es : Expressions Text} {ts rest : PlainTokens} → IsArguments es ts rest → (room m : ℕ) (found : List (Expression Text)) → length ts ≤ room → length ts ≤ m
-    → arguments_from room m found ts ≡ Some (found ++ expression_list es, rest)
-complete-arguments {rest = rest} (no_argument {t = t} q) room m found w turns = rw (append-nil found) (arguments-end room m found t rest (omega arith) q)
-complete-arguments {rest = rest} (one_argument {e = e} {es = es} {t = t} {ts = ts} {us = us} q d ds) room m found w turns =
+complete-arguments : {es : Expressions Text} {ts rest : PlainTokens} → IsArguments es ts rest → (fuel m : ℕ) (found : List (Expression Text)) → length ts ≤ fuel → length ts ≤ m
+    → arguments_from fuel m found ts ≡ Some (found ++ expression_list es, rest)
+complete-arguments {rest = rest} (no_argument {t = t} q) fuel m found w turns = rw (append-nil found) (arguments-end fuel m found t rest (omega arith) q)
+complete-arguments {rest = rest} (one_argument {e = e} {es = es} {t = t} {ts = ts} {us = us} q d ds) fuel m found w turns =
     let x = short-expression d in
-    arguments-next room m (m - 1) found e t ts us (omega arith) q (complete-expression d room (omega arith) (ends-arguments ds))
-    ∙ complete-arguments ds room (m - 1) (found ++ e ∷ []) (omega arith) (omega arith)
+    arguments-next fuel m (m - 1) found e t ts us (omega arith) q (complete-expression d fuel (omega arith) (ends-arguments ds))
+    ∙ complete-arguments ds fuel (m - 1) (found ++ e ∷ []) (omega arith) (omega arith)
     ∙ ap (λ x. Some (x, rest)) (append_assoc found (e ∷ []) (expression_list es))
 
-statement-display : (inner : Parser Statement) (room : ℕ) (es : List (Expression Text)) (t u v w : PlainToken) (ts rest : PlainTokens) → t.kind ≡ k.Display → u.kind ≡ k.Open → v.kind ≡ k.Text
-    → arguments_from room room [] ts ≡ Some (es, w ∷ rest) → w.kind ≡ k.Semicolon
-    → spec.statement_form inner room (t ∷ u ∷ v ∷ ts) ≡ Some (tree.Display (string_text v.text) (expressions es), rest)
+statement-display : (inner : Parser Statement) (fuel : ℕ) (es : List (Expression Text)) (t u v w : PlainToken) (ts rest : PlainTokens) → t.kind ≡ k.Display → u.kind ≡ k.Open → v.kind ≡ k.Text
+    → arguments_from fuel fuel [] ts ≡ Some (es, w ∷ rest) → w.kind ≡ k.Semicolon
+    → spec.statement_form inner fuel (t ∷ u ∷ v ∷ ts) ≡ Some (tree.Display (string_text v.text) (expressions es), rest)
 unfolding spec.statement_form spec.display
-statement-display inner room es t u v w ts rest q start f read end =
+statement-display inner fuel es t u v w ts rest q start f read end =
     let x = expect-is k.Open u (v ∷ ts) start in let y = expect-is k.Text v ts f in let z = expect-is k.Semicolon w rest end in rw (q, x, y, read, z)
 
-statement-finish : (inner : Parser Statement) (room : ℕ) (t u : PlainToken) (rest : PlainTokens) → t.kind ≡ k.Finish → u.kind ≡ k.Semicolon → spec.statement_form inner room (t ∷ u ∷ rest) ≡ Some (tree.Finish, rest)
+statement-finish : (inner : Parser Statement) (fuel : ℕ) (t u : PlainToken) (rest : PlainTokens) → t.kind ≡ k.Finish → u.kind ≡ k.Semicolon → spec.statement_form inner fuel (t ∷ u ∷ rest) ≡ Some (tree.Finish, rest)
 unfolding spec.statement_form spec.finish
-statement-finish inner room t u rest q end = let z = expect-is k.Semicolon u rest end in rw (q, z)
+statement-finish inner fuel t u rest q end = let z = expect-is k.Semicolon u rest end in rw (q, z)
 
-statement-loop : (inner : Parser Statement) (room : ℕ) (e : Expression Text) (body : List Statement) (t : PlainToken) (ts us rest : PlainTokens) → t.kind ≡ k.While
-    → spec.condition room ts ≡ Some (e, us) → spec.block inner room us ≡ Some (body, rest)
-    → spec.statement_form inner room (t ∷ ts) ≡ Some (tree.While e (statements body), rest)
+statement-loop : (inner : Parser Statement) (fuel : ℕ) (e : Expression Text) (body : List Statement) (t : PlainToken) (ts us rest : PlainTokens) → t.kind ≡ k.While
+    → spec.condition fuel ts ≡ Some (e, us) → spec.block inner fuel us ≡ Some (body, rest)
+    → spec.statement_form inner fuel (t ∷ ts) ≡ Some (tree.While e (statements body), rest)
 unfolding spec.statement_form spec.looped
-statement-loop inner room e body t ts us rest q test read = rw (q, test, read)
+statement-loop inner fuel e body t ts us rest q test read = rw (q, test, read)
 
-statement-branch : (inner : Parser Statement) (room : ℕ) (e : Expression Text) (body : List Statement) (t : PlainToken) (ts us rest : PlainTokens) → t.kind ≡ k.If
-    → spec.condition room ts ≡ Some (e, us) → spec.block inner room us ≡ Some (body, rest)
-    → spec.statement_form inner room (t ∷ ts) ≡ spec.otherwise inner room e body rest
+statement-branch : (inner : Parser Statement) (fuel : ℕ) (e : Expression Text) (body : List Statement) (t : PlainToken) (ts us rest : PlainTokens) → t.kind ≡ k.If
+    → spec.condition fuel ts ≡ Some (e, us) → spec.block inner fuel us ≡ Some (body, rest)
+    → spec.statement_form inner fuel (t ∷ ts) ≡ spec.otherwise inner fuel e body rest
 unfolding spec.statement_form spec.branch
-statement-branch inner room e body t ts us rest q test read = rw (q, test, read)
+statement-branch inner fuel e body t ts us rest q test read = rw (q, test, read)
 
-otherwise-none : (inner : Parser Statement) (room : ℕ) (e : Expression Text) (body : List Statement) (rest : PlainTokens) → sees k.Else rest ≡ false
-    → spec.otherwise inner room e body rest ≡ Some (tree.If e (statements body), rest)
+otherwise-none : (inner : Parser Statement) (fuel : ℕ) (e : Expression Text) (body : List Statement) (rest : PlainTokens) → sees k.Else rest ≡ false
+    → spec.otherwise inner fuel e body rest ≡ Some (tree.If e (statements body), rest)
 unfolding spec.otherwise
-otherwise-none inner room e body rest q = rw q
+otherwise-none inner fuel e body rest q = rw q
 
-otherwise-some : (inner : Parser Statement) (room : ℕ) (e : Expression Text) (body other : List Statement) (t : PlainToken) (ts rest : PlainTokens) → t.kind ≡ k.Else
-    → spec.block inner room ts ≡ Some (other, rest)
-    → spec.otherwise inner room e body (t ∷ ts) ≡ Some (tree.IfElse e (statements body) (statements other), rest)
+otherwise-some : (inner : Parser Statement) (fuel : ℕ) (e : Expression Text) (body other : List Statement) (t : PlainToken) (ts rest : PlainTokens) → t.kind ≡ k.Else
+    → spec.block inner fuel ts ≡ Some (other, rest)
+    → spec.otherwise inner fuel e body (t ∷ ts) ≡ Some (tree.IfElse e (statements body) (statements other), rest)
 unfolding spec.otherwise
-otherwise-some inner room e body other t ts rest q read = let x = same_kind-is t.kind k.Else q in rw (x, read)
+otherwise-some inner fuel e body other t ts rest q read = let x = same_kind-is t.kind k.Else q in rw (x, read)
 
 -- ---- statements
 
@@ -440,26 +440,26 @@ first-items no_items h = h
 first-items (regs q r d ds) h = rw q
 first-items (proc {b = b} {t = t} q d ds) h = apart repeats_of b t.kind k.Else q refl
 
-item-regs : (room : ℕ) (m : Module) (r : Option (ℕ × ℕ)) (ns : List Text) (t : PlainToken) (ts us rest : PlainTokens) → t.kind ≡ k.Reg → spec.range ts ≡ Some (r, us)
-    → names_from room [] us ≡ Some (ns, rest) → spec.item room m (t ∷ ts) ≡ Some (record m { declarations = m.declarations ++ record { range = r; names = ns } ∷ [] }, rest)
+item-regs : (fuel : ℕ) (m : Module) (r : Option (ℕ × ℕ)) (ns : List Text) (t : PlainToken) (ts us rest : PlainTokens) → t.kind ≡ k.Reg → spec.range ts ≡ Some (r, us)
+    → names_from fuel [] us ≡ Some (ns, rest) → spec.item fuel m (t ∷ ts) ≡ Some (record m { declarations = m.declarations ++ record { range = r; names = ns } ∷ [] }, rest)
 unfolding spec.item spec.declaration
-item-regs room m r ns t ts us rest q range read =
+item-regs fuel m r ns t ts us rest q range read =
     let none : repeats_of t.kind ≡ None = rw q in let x = same_kind-is t.kind k.Reg q in rw (none, x, range, read)
 
-item-proc : (room : ℕ) (m : Module) (b : Bool) (s : Statement) (t : PlainToken) (ts rest : PlainTokens) → repeats_of t.kind ≡ Some b → statement room ts ≡ Some (s, rest)
-    → spec.item room m (t ∷ ts) ≡ Some (record m { processes = m.processes ++ record { repeats = b; body = s } ∷ [] }, rest)
+item-proc : (fuel : ℕ) (m : Module) (b : Bool) (s : Statement) (t : PlainToken) (ts rest : PlainTokens) → repeats_of t.kind ≡ Some b → statement fuel ts ≡ Some (s, rest)
+    → spec.item fuel m (t ∷ ts) ≡ Some (record m { processes = m.processes ++ record { repeats = b; body = s } ∷ [] }, rest)
 unfolding spec.item spec.process
-item-proc room m b s t ts rest q read = rw (q, read)
+item-proc fuel m b s t ts rest q read = rw (q, read)
 
-items-end : (room n : ℕ) (m : Module) (t : PlainToken) (rest : PlainTokens) → 0 < n → t.kind ≡ k.EndModule → items_from room n m (t ∷ rest) ≡ Some (m, rest)
+items-end : (fuel n : ℕ) (m : Module) (t : PlainToken) (rest : PlainTokens) → 0 < n → t.kind ≡ k.EndModule → items_from fuel n m (t ∷ rest) ≡ Some (m, rest)
 unfolding items_from
-items-end room zero m t rest w q = absurd (omega arith)
-items-end room (suc n) m t rest w q = let x = same_kind-is t.kind k.EndModule q in rw x
+items-end fuel zero m t rest w q = absurd (omega arith)
+items-end fuel (suc n) m t rest w q = let x = same_kind-is t.kind k.EndModule q in rw x
 
-items-turn : (room n less : ℕ) (m found : Module) (ts us : PlainTokens) → n ≡ suc less → sees k.EndModule ts ≡ false → spec.item room m ts ≡ Some (found, us)
-    → items_from room n m ts ≡ items_from room less found us
+items-turn : (fuel n less : ℕ) (m found : Module) (ts us : PlainTokens) → n ≡ suc less → sees k.EndModule ts ≡ false → spec.item fuel m ts ≡ Some (found, us)
+    → items_from fuel n m ts ≡ items_from fuel less found us
 unfolding items_from
-items-turn room n less m found ts us e q read = rw (e, q, read)
+items-turn fuel n less m found ts us e q read = rw (e, q, read)
 
 not_end-Reg : (t : PlainToken) (ts : PlainTokens) → t.kind ≡ k.Reg → sees k.EndModule (t ∷ ts) ≡ false
 unfolding same_kind
@@ -477,36 +477,36 @@ with_reg m d ds ps = rw (append_assoc m.declarations (d ∷ []) ds)
 with_proc : (m : Module) (p : Process) (ds : List Declaration) (ps : List Process) → with_items (record m { processes = m.processes ++ p ∷ [] }) ds ps ≡ with_items m ds (p ∷ ps)
 with_proc m p ds ps = rw (append_assoc m.processes (p ∷ []) ps)
 
-complete-items : {ds : List Declaration} {ps : List Process} {ts all : PlainTokens} → IsItems ds ps ts all → (room n : ℕ) (m : Module) (u : PlainToken) (rest : PlainTokens) → all ≡ u ∷ rest
-    → length ts < room → length ts ≤ n → u.kind ≡ k.EndModule → items_from room n m ts ≡ Some (with_items m ds ps, rest)
-complete-items no_items room n m u rest is w turns end =
+complete-items : {ds : List Declaration} {ps : List Process} {ts all : PlainTokens} → IsItems ds ps ts all → (fuel n : ℕ) (m : Module) (u : PlainToken) (rest : PlainTokens) → all ≡ u ∷ rest
+    → length ts < fuel → length ts ≤ n → u.kind ≡ k.EndModule → items_from fuel n m ts ≡ Some (with_items m ds ps, rest)
+complete-items no_items fuel n m u rest is w turns end =
     let some : 0 < n = omega (arith, ap length is) in
-    rw (is, with_none m) (items-end room n m u rest some end)
-complete-items (regs {r = r} {ns = ns} {ds = ds} {ps = ps} {t = t} {ts = ts} {us = us} {vs = vs} q dr d more) room n m u rest is w turns end =
+    rw (is, with_none m) (items-end fuel n m u rest some end)
+complete-items (regs {r = r} {ns = ns} {ds = ds} {ps = ps} {t = t} {ts = ts} {us = us} {vs = vs} q dr d more) fuel n m u rest is w turns end =
     let x = short-range dr in
     let y = short-names d in
     let one : Declaration = record { range = r; names = ns } in
-    let read = item-regs room m r ns t ts us vs q (complete-range dr (square-names d)) (complete-names d room [] (omega arith)) in
-    items-turn room n (n - 1) m (record m { declarations = m.declarations ++ one ∷ [] }) (t ∷ ts) vs (omega arith) (not_end-Reg t ts q) read
-    ∙ complete-items more room (n - 1) (record m { declarations = m.declarations ++ one ∷ [] }) u rest is (omega arith) (omega arith) end
+    let read = item-regs fuel m r ns t ts us vs q (complete-range dr (square-names d)) (complete-names d fuel [] (omega arith)) in
+    items-turn fuel n (n - 1) m (record m { declarations = m.declarations ++ one ∷ [] }) (t ∷ ts) vs (omega arith) (not_end-Reg t ts q) read
+    ∙ complete-items more fuel (n - 1) (record m { declarations = m.declarations ++ one ∷ [] }) u rest is (omega arith) (omega arith) end
     ∙ ap (λ x. Some (x, rest)) (with_reg m one ds ps)
-complete-items (proc {b = b} {s = s} {ds = ds} {ps = ps} {t = t} {ts = ts} {us = us} q d more) room n m u rest is w turns end =
+complete-items (proc {b = b} {s = s} {ds = ds} {ps = ps} {t = t} {ts = ts} {us = us} q d more) fuel n m u rest is w turns end =
     let x = short-statement d in
     let follow = first-items more (rw is (no_else_after u rest end)) in
     let made : Process = record { repeats = b; body = s } in
-    let one : statement room ts ≡ Some (s, us) = deeper (λ x. statement x ts) room (omega arith) ∙ complete-statement d (room - 1) (omega arith) follow in
-    let read = item-proc room m b s t ts us q one in
-    items-turn room n (n - 1) m (record m { processes = m.processes ++ made ∷ [] }) (t ∷ ts) us (omega arith) (apart repeats_of b t.kind k.EndModule q refl) read
-    ∙ complete-items more room (n - 1) (record m { processes = m.processes ++ made ∷ [] }) u rest is (omega arith) (omega arith) end
+    let one : statement fuel ts ≡ Some (s, us) = deeper (λ x. statement x ts) fuel (omega arith) ∙ complete-statement d (fuel - 1) (omega arith) follow in
+    let read = item-proc fuel m b s t ts us q one in
+    items-turn fuel n (n - 1) m (record m { processes = m.processes ++ made ∷ [] }) (t ∷ ts) us (omega arith) (apart repeats_of b t.kind k.EndModule q refl) read
+    ∙ complete-items more fuel (n - 1) (record m { processes = m.processes ++ made ∷ [] }) u rest is (omega arith) (omega arith) end
     ∙ ap (λ x. Some (x, rest)) (with_proc m made ds ps)
 
-source-is : (room : ℕ) (m : Module) (t u v : PlainToken) (ts : PlainTokens) → t.kind ≡ k.Module → u.kind ≡ k.Name → v.kind ≡ k.Semicolon
-    → items_from room room (record { name = u.text; declarations = []; processes = [] }) ts ≡ Some (m, []) → source room (t ∷ u ∷ v ∷ ts) ≡ Some (m, [])
+source-is : (fuel : ℕ) (m : Module) (t u v : PlainToken) (ts : PlainTokens) → t.kind ≡ k.Module → u.kind ≡ k.Name → v.kind ≡ k.Semicolon
+    → items_from fuel fuel (record { name = u.text; declarations = []; processes = [] }) ts ≡ Some (m, []) → source fuel (t ∷ u ∷ v ∷ ts) ≡ Some (m, [])
 unfolding source
-source-is room m t u v ts a b c read =
+source-is fuel m t u v ts a b c read =
     let x = expect-is k.Module t (u ∷ v ∷ ts) a in let y = expect-is k.Name u (v ∷ ts) b in let z = expect-is k.Semicolon v ts c in rw (x, y, z, read)
 
-pub complete-source : {m : Module} {ts : PlainTokens} → IsModule m ts → (room : ℕ) → length ts ≤ room → source room ts ≡ Some (m, [])
-complete-source (spelled {ds = ds} {ps = ps} {t = t} {u = u} {v = v} {w = w} {ts = ts} a b c d end) room fits =
-    source-is room (record { name = u.text; declarations = ds; processes = ps }) t u v ts a b c
-    (complete-items d room room (record { name = u.text; declarations = []; processes = [] }) w [] refl (omega arith) (omega arith) end)
+pub complete-source : {m : Module} {ts : PlainTokens} → IsModule m ts → (fuel : ℕ) → length ts ≤ fuel → source fuel ts ≡ Some (m, [])
+complete-source (spelled {ds = ds} {ps = ps} {t = t} {u = u} {v = v} {w = w} {ts = ts} a b c d end) fuel fits =
+    source-is fuel (record { name = u.text; declarations = ds; processes = ps }) t u v ts a b c
+    (complete-items d fuel fuel (record { name = u.text; declarations = []; processes = [] }) w [] refl (omega arith) (omega arith) end)

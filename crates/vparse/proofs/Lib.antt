@@ -1,3 +1,4 @@
+-- Worked examples (Rows), and lemmas that the parser is sound and complete.
 pub mod Turns
 pub mod Steps
 pub mod Sound

@@ -3,19 +3,13 @@ use Rattle.std.specs.Prelude.{◌≡◌, ℕ, List, [], ◌∷◌, None, codes, 
 use Rattle.model.specs.declared.tree.UnaryOperator.TheVariants.{ReduceAnd}
 use Rattle.model.specs.declared.tree.BinaryOperator.TheVariants.{And, LessEqual, Subtract}
 use Rattle.model.specs.Syntax.{Text, Expression, Register, Unary, Binary, AssignLater}
-use Rattle.model.specs.Syntax as syntax
 use Rattle.tokens.specs.declared.token.Kind.{Kind}
 use Rattle.tokens.specs.declared.token.Kind.TheVariants as k
 use Rattle.tokens.specs.Tokens.{PlainToken, PlainTokens}
-use Rattle.tokens.specs.Literals as literals
 use Rattle.vparse.specs.Grammar.{plain, IsBinary, operand, tighter, joined, IsUnary, bare, prefixed, named, no_delay, IsStatement, assigned_later, IsModule, spelled, no_items}
 
--- the greatest width of a literal is that of a register
-same_width : literals.greatest_width ≡ syntax.greatest_width
-same_width = refl
-
 abbrev token : Kind → List ℕ → PlainToken
-token kind text = record { kind = kind; text = text; value = 0 }
+token kind text = record { kind = kind; text = text; value = 0; bits = None }
 
 abbrev a : PlainToken
 a = token k.Name (codes "a")

@@ -1,5 +1,5 @@
 -- What the parser of expressions reads is spelled.
-use Rattle.std.proofs.Common.{◌≡◌, ℕ, zero, suc, ◌+◌, ◌-◌, ◌<◌, ◌≤◌, List, [], ◌∷◌, ◌++◌, append_assoc, Bool, true, ◌&&◌, nat_lt, nat_le, inl, inr, Option, Some, None, refl, sym, ap, subst, ◌∙◌, add-one, arith}
+use Rattle.std.proofs.Common.{◌≡◌, ℕ, zero, suc, ◌+◌, ◌-◌, ◌<◌, ◌≤◌, List, [], ◌∷◌, ◌++◌, append_assoc, append-nil, Bool, true, ◌&&◌, nat_lt, nat_le, inl, inr, Option, Some, None, refl, sym, ap, subst, ◌∙◌, add-one, arith}
 use Rattle.std.proofs.lemmas.Bool.Decides.{nat_tests}
 use Rattle.tokens.specs.declared.token.Kind.{Kind}
 use Rattle.tokens.specs.declared.token.Kind.TheVariants as k
@@ -8,7 +8,6 @@ use Rattle.model.specs.declared.tree.BinaryOperator.{BinaryOperator}
 use Rattle.vparse.specs.Cursor.{kind, sees, and_then, take, expect}
 use Rattle.tokens.specs.Tokens.{PlainToken, PlainTokens}
 use Rattle.logic4.specs.Vector.{Vector}
-use Rattle.tokens.specs.Literals.{literal_of}
 use Rattle.model.specs.Syntax.{Text, Expression}
 use Rattle.model.specs.Trees.{expressions}
 use Rattle.model.specs.Syntax as tree
@@ -119,7 +118,7 @@ sound-named e ts rest p h =
       | inr r ↦ (let same = some-pair (tree.Register t.text) e us rest r.1 in rw (is, sym same.0, sym same.1) (named q))
     ])
 
-sound-literal : (o : Option Vector) (t : PlainToken) (e : Expression Text) (us rest : PlainTokens) → literal_of t.text ≡ o → t.kind ≡ k.Sized → literal_by o us ≡ Some (e, rest) → IsPrimary e (t ∷ us) rest
+sound-literal : (o : Option Vector) (t : PlainToken) (e : Expression Text) (us rest : PlainTokens) → t.bits ≡ o → t.kind ≡ k.Sized → literal_by o us ≡ Some (e, rest) → IsPrimary e (t ∷ us) rest
 sound-literal None t e us rest is q h = absurd (cc)
 sound-literal (Some d) t e us rest is q h = let same = some-pair (tree.Literal d) e us rest h in rw (sym same.0, sym same.1) (sized q is)
 
@@ -129,13 +128,13 @@ sound-sized e ts rest p h =
     and_then-cases (take ts) _ _ h (λ t us took h1.
     let is = take-some ts t us took in
     let q : t.kind ≡ k.Sized = sym (ap kind is) ∙ p in
-    rw is (sound-literal (literal_of t.text) t e us rest refl q h1))
+    rw is (sound-literal t.bits t e us rest refl q h1))
 
--- expressions with commas between, and the closing bracket
-pub record IsPartsRest (found all : List (Expression Text)) (ts rest : PlainTokens) : Type 0 where
+-- the parts behind the first, and the closing bracket
+pub record IsPartsRest (first : Expression Text) (found all : List (Expression Text)) (ts rest : PlainTokens) : Type 0 where
   pub more : List (Expression Text)
   pub is_all : all ≡ found ++ more
-  pub spells : IsParts (expressions more) ts rest
+  pub spells : IsParts (tree.Also first (expressions more)) ts rest
 
 module _ (inner : ℕ → Parser (Expression Text))
     (sound : (level : ℕ) (e : Expression Text) (ts rest : PlainTokens) → level ≤ 10 → inner level ts ≡ Some (e, rest) → IsAt level e ts rest × (continues level (kind rest) ≡ None)) where
@@ -152,58 +151,59 @@ module _ (inner : ℕ → Parser (Expression Text))
       let d : IsExpression a us vs = (sound 0 a us vs (omega arith) read).0 in
       rw (is, sym same.0, sym same.1) (nested q (rw end.0 at d) end.1))))
 
-  sound-parts : (m : ℕ) (found all : List (Expression Text)) (ts rest : PlainTokens) → parts_from inner m found ts ≡ Some (all, rest) → IsPartsRest found all ts rest
+  sound-parts : (m : ℕ) (first : Expression Text) (found all : List (Expression Text)) (ts us rest : PlainTokens) → IsExpression first ts us → parts_from inner m found us ≡ Some (all, rest)
+      → IsPartsRest first found all ts rest
   unfolding parts_from
-  sound-parts zero found all ts rest h = absurd (cc)
-  sound-parts (suc m) found all ts rest h =
-      and_then-cases (inner 0 ts) _ _ h (λ e us read h1.
-      let d : IsExpression e ts us = (sound 0 e ts us (omega arith) read).0 in
-      elim (if-is (sees k.Comma us) _ _ (Some (all, rest)) h1) [
-        | inl p ↦ and_then-cases (take us) _ _ p.1 (λ u vs took h2.
-            let is = take-some us u vs took in
-            let q : u.kind ≡ k.Comma = sym (ap kind is) ∙ same_kind-true _ _ p.0 in
-            let r = sound-parts m (found ++ e ∷ []) all vs rest h2 in
-            record { more = e ∷ r.more; is_all = r.is_all ∙ append_assoc found (e ∷ []) r.more; spells = next_part (rw is at d) q r.spells })
-        | inr p ↦ and_then-cases (expect k.CloseCurly us) _ _ p.1 (λ u vs ended h2.
-            let end = expect-some k.CloseCurly us u vs ended in
-            let same = some-pair (found ++ e ∷ []) all vs rest h2 in
-            rw (sym same.1) (record { more = e ∷ []; is_all = sym same.0; spells = last_part (rw end.0 at d) end.1 }))
-      ])
+  sound-parts zero first found all ts us rest d h = absurd (cc)
+  sound-parts (suc m) first found all ts us rest d h = elim (if-is (sees k.Comma us) _ _ (Some (all, rest)) h) [
+    | inl p ↦ and_then-cases (take us) _ _ p.1 (λ u vs took h1.
+        and_then-cases (inner 0 vs) _ _ h1 (λ e ws read h2.
+        let is = take-some us u vs took in
+        let q : u.kind ≡ k.Comma = sym (ap kind is) ∙ same_kind-true _ _ p.0 in
+        let next : IsExpression e vs ws = (sound 0 e vs ws (omega arith) read).0 in
+        let r = sound-parts m e (found ++ e ∷ []) all vs ws rest next h2 in
+        record { more = e ∷ r.more; is_all = r.is_all ∙ append_assoc found (e ∷ []) r.more; spells = next_part (rw is at d) q r.spells }))
+    | inr p ↦ and_then-cases (expect k.CloseCurly us) _ _ p.1 (λ u vs ended h1.
+        let end = expect-some k.CloseCurly us u vs ended in
+        let same = some-pair found all vs rest h1 in
+        rw (sym same.0, sym same.1) (record { more = []; is_all = sym (append-nil found); spells = last_part (rw end.0 at d) end.1 }))
+  ]
 
-  sound-concat : (room : ℕ) (e : Expression Text) (ts rest : PlainTokens) → kind ts ≡ k.OpenCurly → spec.concatenated inner room ts ≡ Some (e, rest) → IsPrimary e ts rest
+  sound-concat : (fuel : ℕ) (e : Expression Text) (ts rest : PlainTokens) → kind ts ≡ k.OpenCurly → spec.concatenated inner fuel ts ≡ Some (e, rest) → IsPrimary e ts rest
   unfolding spec.concatenated
-  sound-concat room e ts rest o h =
+  sound-concat fuel e ts rest o h =
       and_then-cases (take ts) _ _ h (λ t us took h1.
-      and_then-cases (parts_from inner room [] us) _ _ h1 (λ es vs read h2.
-      let same = some-pair (tree.Concat (expressions es)) e vs rest h2 in
+      and_then-cases (inner 0 us) _ _ h1 (λ a vs read h2.
+      and_then-cases (parts_from inner fuel [] vs) _ _ h2 (λ es ws others h3.
+      let same = some-pair (tree.Concat (tree.Also a (expressions es))) e ws rest h3 in
       let is = take-some ts t us took in
       let q : t.kind ≡ k.OpenCurly = sym (ap kind is) ∙ o in
-      let r = sound-parts room [] es us vs read in
-      let d : IsParts (expressions es) us vs = rw r.is_all r.spells in
-      rw (is, sym same.0, sym same.1) (concatenated q d)))
+      let r = sound-parts fuel a [] es us vs ws (sound 0 a us vs (omega arith) read).0 others in
+      let d : IsParts (tree.Also a (expressions es)) us ws = rw r.is_all r.spells in
+      rw (is, sym same.0, sym same.1) (concatenated q d))))
 
-  sound-primary : (room : ℕ) (e : Expression Text) (ts rest : PlainTokens) → primary inner room ts ≡ Some (e, rest) → IsPrimary e ts rest
+  sound-primary : (fuel : ℕ) (e : Expression Text) (ts rest : PlainTokens) → primary inner fuel ts ≡ Some (e, rest) → IsPrimary e ts rest
   unfolding primary
-  sound-primary room e ts rest h = by (kind ts) refl h where
-    by : (at : Kind) → kind ts ≡ at → primary_by inner room at ts ≡ Some (e, rest) → IsPrimary e ts rest
+  sound-primary fuel e ts rest h = by (kind ts) refl h where
+    by : (at : Kind) → kind ts ≡ at → primary_by inner fuel at ts ≡ Some (e, rest) → IsPrimary e ts rest
     by k.Name q h = sound-named e ts rest q h
     by k.Sized q h = sound-sized e ts rest q h
-    by k.OpenCurly q h = sound-concat room e ts rest q h
+    by k.OpenCurly q h = sound-concat fuel e ts rest q h
     by k.Open q h = sound-nested e ts rest q h
     by _ q h = absurd (cc)
 
-  sound-operand : (room : ℕ) (e : Expression Text) (ts rest : PlainTokens) → spec.operand inner room ts ≡ Some (e, rest) → IsUnary e ts rest
+  sound-operand : (fuel : ℕ) (e : Expression Text) (ts rest : PlainTokens) → spec.operand inner fuel ts ≡ Some (e, rest) → IsUnary e ts rest
   unfolding spec.operand
-  sound-operand room e ts rest h = by (prefix (kind ts)) refl h where
-    by : (o : Option UnaryOperator) → prefix (kind ts) ≡ o → unary_by inner room o ts ≡ Some (e, rest) → IsUnary e ts rest
-    by None is h = bare (sound-primary room e ts rest h)
+  sound-operand fuel e ts rest h = by (prefix (kind ts)) refl h where
+    by : (o : Option UnaryOperator) → prefix (kind ts) ≡ o → unary_by inner fuel o ts ≡ Some (e, rest) → IsUnary e ts rest
+    by None is h = bare (sound-primary fuel e ts rest h)
     by (Some op) found h =
         and_then-cases (take ts) _ _ h (λ t us took h1.
-        and_then-cases (primary inner room us) _ _ h1 (λ a vs read h2.
+        and_then-cases (primary inner fuel us) _ _ h1 (λ a vs read h2.
         let same = some-pair (tree.Unary op a) e vs rest h2 in
         let is = take-some ts t us took in
         let q : prefix t.kind ≡ Some op = sym (ap (λ x. prefix (kind x)) is) ∙ found in
-        rw (is, sym same.0, sym same.1) (prefixed q (sound-primary room a us vs read))))
+        rw (is, sym same.0, sym same.1) (prefixed q (sound-primary fuel a us vs read))))
 
   -- One turn of the loop: what stands left is of level j, and no tighter operator comes next.
   sound-turn : (m level j : ℕ) (left e : Expression Text) (ts us rest : PlainTokens) → level ≤ j → IsBinary j left ts us → continues (j + 1) (kind us) ≡ None
@@ -250,13 +250,13 @@ module _ (inner : ℕ → Parser (Expression Text))
       let db = sound 0 b xs ys (omega arith) read2 in
       (rw (sym same.0, sym same.1) (chosen (rw is at d) q (rw colon.0 at da.0) colon.1 db.0), rw (sym same.1) db.1)))))
 
-  sound-whole : (room level : ℕ) (e : Expression Text) (ts rest : PlainTokens) → level ≤ 10 → whole inner room level ts ≡ Some (e, rest)
+  sound-whole : (fuel level : ℕ) (e : Expression Text) (ts rest : PlainTokens) → level ≤ 10 → whole inner fuel level ts ≡ Some (e, rest)
       → IsAt level e ts rest × (continues level (kind rest) ≡ None)
   unfolding whole
-  sound-whole room level e ts rest w h =
-      and_then-cases (and_then (spec.operand inner room ts) (climb inner room level)) _ _ h (λ left vs h1 h2.
-      and_then-cases (spec.operand inner room ts) _ _ h1 (λ first us h3 h4.
-      let d = sound-climb room level 10 first left ts us vs w (operand (sound-operand room first ts us h3)) (continues-none 11 (kind us) (omega arith)) h4 in
+  sound-whole fuel level e ts rest w h =
+      and_then-cases (and_then (spec.operand inner fuel ts) (climb inner fuel level)) _ _ h (λ left vs h1 h2.
+      and_then-cases (spec.operand inner fuel ts) _ _ h1 (λ first us h3 h4.
+      let d = sound-climb fuel level 10 first left ts us vs w (operand (sound-operand fuel first ts us h3)) (continues-none 11 (kind us) (omega arith)) h4 in
       at_level level left vs d h2)) where
         at_level : (level : ℕ) (left : Expression Text) (vs : PlainTokens) → IsBinary level left ts vs × (continues level (kind vs) ≡ None) → choice_at inner level left vs ≡ Some (e, rest)
             → IsAt level e ts rest × (continues level (kind rest) ≡ None)
@@ -268,7 +268,7 @@ module _ (inner : ℕ → Parser (Expression Text))
             ]
         at_level (suc level) left vs d h2 = let same = some-pair left e vs rest h2 in (rw (sym same.0, sym same.1) d.0, rw (sym same.1) d.1)
 
-pub sound-expression : (room level : ℕ) (e : Expression Text) (ts rest : PlainTokens) → level ≤ 10 → expression room level ts ≡ Some (e, rest)
+pub sound-expression : (fuel level : ℕ) (e : Expression Text) (ts rest : PlainTokens) → level ≤ 10 → expression fuel level ts ≡ Some (e, rest)
     → IsAt level e ts rest × (continues level (kind rest) ≡ None)
 sound-expression zero level e ts rest w h = absurd (cc)
-sound-expression (suc room) level e ts rest w h = sound-whole (expression room) (sound-expression room) room level e ts rest w h
+sound-expression (suc fuel) level e ts rest w h = sound-whole (expression fuel) (sound-expression fuel) fuel level e ts rest w h

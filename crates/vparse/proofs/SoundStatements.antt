@@ -38,37 +38,37 @@ pub record IsValue (p : Option ℕ × Expression Text) (ts rest : PlainTokens) :
   pub spells : IsExpression p.1 between (end ∷ rest)
   pub ends : end.kind ≡ k.Semicolon
 
-sound-value : (room : ℕ) (p : Option ℕ × Expression Text) (ts rest : PlainTokens) → spec.value room ts ≡ Some (p, rest) → IsValue p ts rest
+sound-value : (fuel : ℕ) (p : Option ℕ × Expression Text) (ts rest : PlainTokens) → spec.value fuel ts ≡ Some (p, rest) → IsValue p ts rest
 unfolding spec.value
-sound-value room p ts rest h =
+sound-value fuel p ts rest h =
     and_then-cases (spec.delay ts) _ _ h (λ d us waits h1.
-    and_then-cases (spec.expression room 0 us) _ _ h1 (λ e vs read h2.
+    and_then-cases (spec.expression fuel 0 us) _ _ h1 (λ e vs read h2.
     and_then-cases (expect k.Semicolon vs) _ _ h2 (λ v ws ended h3.
     let made : Option ℕ × Expression Text = (d, e) in
     let same = some-pair made p ws rest h3 in
     let end = expect-some k.Semicolon vs v ws ended in
-    let x : IsExpression e us vs = (sound-expression room 0 e us vs (omega arith) read).0 in
+    let x : IsExpression e us vs = (sound-expression fuel 0 e us vs (omega arith) read).0 in
     rw (sym same.0, sym same.1) (record { between = us; end = v; waits = sound-delay d ts us waits; spells = rw end.0 at x; ends = end.1 }))))
 
-sound-assign : (room : ℕ) (s : Statement) (ts rest : PlainTokens) → kind ts ≡ k.Name → spec.assign room ts ≡ Some (s, rest) → IsStatement s ts rest
+sound-assign : (fuel : ℕ) (s : Statement) (ts rest : PlainTokens) → kind ts ≡ k.Name → spec.assign fuel ts ≡ Some (s, rest) → IsStatement s ts rest
 unfolding spec.assign
-sound-assign room s ts rest q h =
+sound-assign fuel s ts rest q h =
     and_then-cases (take ts) _ _ h (λ t us took h1.
     let is = take-some ts t us took in
     let p : t.kind ≡ k.Name = sym (ap kind is) ∙ q in
     elim (if-is (sees k.AtMost us) _ _ (Some (s, rest)) h1) [
       | inl c ↦ and_then-cases (take us) _ _ c.1 (λ u vs took2 h2.
-          and_then-cases (spec.value room vs) _ _ h2 (λ x ws read h3.
+          and_then-cases (spec.value fuel vs) _ _ h2 (λ x ws read h3.
           let same = some-pair (tree.AssignLater t.text x.0 x.1) s ws rest h3 in
           let at = take-some us u vs took2 in
           let sign : u.kind ≡ k.AtMost = sym (ap kind at) ∙ same_kind-true _ _ c.0 in
-          let d = sound-value room x vs ws read in
+          let d = sound-value fuel x vs ws read in
           rw (is, at, sym same.0, sym same.1) (assigned_later p sign d.waits d.spells d.ends)))
       | inr c ↦ and_then-cases (expect k.Assign us) _ _ c.1 (λ u vs signed h2.
-          and_then-cases (spec.value room vs) _ _ h2 (λ x ws read h3.
+          and_then-cases (spec.value fuel vs) _ _ h2 (λ x ws read h3.
           let same = some-pair (tree.Assign t.text x.0 x.1) s ws rest h3 in
           let sign = expect-some k.Assign us u vs signed in
-          let d = sound-value room x vs ws read in
+          let d = sound-value fuel x vs ws read in
           rw (is, sign.0, sym same.0, sym same.1) (assigned p sign.1 d.waits d.spells d.ends)))
     ])
 
@@ -120,16 +120,16 @@ pub record IsArgumentsRest (found all : List (Expression Text)) (ts rest : Plain
   pub is_all : all ≡ found ++ more
   pub spells : IsArguments (expressions more) ts rest
 
-sound-arguments : (room m : ℕ) (found all : List (Expression Text)) (ts rest : PlainTokens) → arguments_from room m found ts ≡ Some (all, rest) → IsArgumentsRest found all ts rest
+sound-arguments : (fuel m : ℕ) (found all : List (Expression Text)) (ts rest : PlainTokens) → arguments_from fuel m found ts ≡ Some (all, rest) → IsArgumentsRest found all ts rest
 unfolding arguments_from
-sound-arguments room zero found all ts rest h = absurd (cc)
-sound-arguments room (suc m) found all ts rest h = elim (if-is (sees k.Comma ts) _ _ (Some (all, rest)) h) [
+sound-arguments fuel zero found all ts rest h = absurd (cc)
+sound-arguments fuel (suc m) found all ts rest h = elim (if-is (sees k.Comma ts) _ _ (Some (all, rest)) h) [
   | inl p ↦ and_then-cases (take ts) _ _ p.1 (λ t us took h1.
-      and_then-cases (spec.expression room 0 us) _ _ h1 (λ e vs read h2.
+      and_then-cases (spec.expression fuel 0 us) _ _ h1 (λ e vs read h2.
       let is = take-some ts t us took in
       let q : t.kind ≡ k.Comma = sym (ap kind is) ∙ same_kind-true _ _ p.0 in
-      let d : IsExpression e us vs = (sound-expression room 0 e us vs (omega arith) read).0 in
-      let r = sound-arguments room m (found ++ e ∷ []) all vs rest h2 in
+      let d : IsExpression e us vs = (sound-expression fuel 0 e us vs (omega arith) read).0 in
+      let r = sound-arguments fuel m (found ++ e ∷ []) all vs rest h2 in
       rw is (record { more = e ∷ r.more; is_all = r.is_all ∙ append_assoc found (e ∷ []) r.more; spells = one_argument q d r.spells })))
   | inr p ↦ and_then-cases (expect k.Close ts) _ _ p.1 (λ t us ended h1.
       let end = expect-some k.Close ts t us ended in
@@ -137,13 +137,13 @@ sound-arguments room (suc m) found all ts rest h = elim (if-is (sees k.Comma ts)
       rw (end.0, sym same.0, sym same.1) (record { more = []; is_all = sym (append-nil found); spells = no_argument end.1 }))
 ]
 
-sound-display : (room : ℕ) (s : Statement) (ts rest : PlainTokens) → kind ts ≡ k.Display → spec.display room ts ≡ Some (s, rest) → IsStatement s ts rest
+sound-display : (fuel : ℕ) (s : Statement) (ts rest : PlainTokens) → kind ts ≡ k.Display → spec.display fuel ts ≡ Some (s, rest) → IsStatement s ts rest
 unfolding spec.display
-sound-display room s ts rest q h =
+sound-display fuel s ts rest q h =
     and_then-cases (take ts) _ _ h (λ t us took h1.
     and_then-cases (expect k.Open us) _ _ h1 (λ u vs opened h2.
     and_then-cases (expect k.Text vs) _ _ h2 (λ v ws format h3.
-    and_then-cases (arguments_from room room [] ws) _ _ h3 (λ es xs read h4.
+    and_then-cases (arguments_from fuel fuel [] ws) _ _ h3 (λ es xs read h4.
     and_then-cases (expect k.Semicolon xs) _ _ h4 (λ x ys ended h5.
     let same = some-pair (tree.Display (string_text v.text) (expressions es)) s ys rest h5 in
     let is = take-some ts t us took in
@@ -151,7 +151,7 @@ sound-display room s ts rest q h =
     let start = expect-some k.Open us u vs opened in
     let f = expect-some k.Text vs v ws format in
     let end = expect-some k.Semicolon xs x ys ended in
-    let r = sound-arguments room room [] es ws xs read in
+    let r = sound-arguments fuel fuel [] es ws xs read in
     let d : IsArguments (expressions es) ws xs = rw r.is_all r.spells in
     rw (is, start.0, f.0, sym same.0, sym same.1) (displayed p start.1 f.1 (rw end.0 at d) end.1))))))
 
@@ -176,16 +176,16 @@ pub record IsCondition (e : Expression Text) (ts rest : PlainTokens) : Type 0 wh
   pub spells : IsExpression e inside (close ∷ rest)
   pub closes : close.kind ≡ k.Close
 
-sound-condition : (room : ℕ) (e : Expression Text) (ts rest : PlainTokens) → spec.condition room ts ≡ Some (e, rest) → IsCondition e ts rest
+sound-condition : (fuel : ℕ) (e : Expression Text) (ts rest : PlainTokens) → spec.condition fuel ts ≡ Some (e, rest) → IsCondition e ts rest
 unfolding spec.condition
-sound-condition room e ts rest h =
+sound-condition fuel e ts rest h =
     and_then-cases (expect k.Open ts) _ _ h (λ t us opened h1.
-    and_then-cases (spec.expression room 0 us) _ _ h1 (λ a vs read h2.
+    and_then-cases (spec.expression fuel 0 us) _ _ h1 (λ a vs read h2.
     and_then-cases (expect k.Close vs) _ _ h2 (λ u ws closed h3.
     let same = some-pair a e ws rest h3 in
     let start = expect-some k.Open ts t us opened in
     let end = expect-some k.Close vs u ws closed in
-    let d : IsExpression a us vs = (sound-expression room 0 a us vs (omega arith) read).0 in
+    let d : IsExpression a us vs = (sound-expression fuel 0 a us vs (omega arith) read).0 in
     rw (sym same.0, sym same.1) (record { start = t; close = u; inside = us; is_start = start.0; opens = start.1; spells = rw end.0 at d; closes = end.1 }))))
 
 -- statements, and the end of the block
@@ -212,30 +212,30 @@ module _ (inner : Parser Statement) (sound : (s : Statement) (ts rest : PlainTok
         record { more = s ∷ r.more; is_all = r.is_all ∙ append_assoc found (s ∷ []) r.more; end = r.end; spells = one_more d r.spells; ends = r.ends })
   ]
 
-  sound-block : (room : ℕ) (body : List Statement) (ts rest : PlainTokens) → spec.block inner room ts ≡ Some (body, rest) → IsBlock (statements body) ts rest
+  sound-block : (fuel : ℕ) (body : List Statement) (ts rest : PlainTokens) → spec.block inner fuel ts ≡ Some (body, rest) → IsBlock (statements body) ts rest
   unfolding spec.block
-  sound-block room body ts rest h =
+  sound-block fuel body ts rest h =
       and_then-cases (expect k.Begin ts) _ _ h (λ t us begun_by h1.
       let start = expect-some k.Begin ts t us begun_by in
-      let r = sound-statements room [] body us rest h1 in
+      let r = sound-statements fuel [] body us rest h1 in
       rw (start.0, r.is_all) (begun start.1 r.spells r.ends))
 
-  sound-branch : (room : ℕ) (s : Statement) (ts rest : PlainTokens) → kind ts ≡ k.If → spec.branch inner room ts ≡ Some (s, rest) → IsStatement s ts rest
+  sound-branch : (fuel : ℕ) (s : Statement) (ts rest : PlainTokens) → kind ts ≡ k.If → spec.branch inner fuel ts ≡ Some (s, rest) → IsStatement s ts rest
   unfolding spec.branch spec.otherwise
-  sound-branch room s ts rest q h =
+  sound-branch fuel s ts rest q h =
       and_then-cases (take ts) _ _ h (λ t us took h1.
-      and_then-cases (spec.condition room us) _ _ h1 (λ e vs read h2.
-      and_then-cases (spec.block inner room vs) _ _ h2 (λ body ws read_body h3.
+      and_then-cases (spec.condition fuel us) _ _ h1 (λ e vs read h2.
+      and_then-cases (spec.block inner fuel vs) _ _ h2 (λ body ws read_body h3.
       let is = take-some ts t us took in
       let p : t.kind ≡ k.If = sym (ap kind is) ∙ q in
-      let c = sound-condition room e us vs read in
-      let b = sound-block room body vs ws read_body in
+      let c = sound-condition fuel e us vs read in
+      let b = sound-block fuel body vs ws read_body in
       elim (if-is (sees k.Else ws) _ _ (Some (s, rest)) h3) [
         | inl e1 ↦ and_then-cases (take ws) _ _ e1.1 (λ w xs took_else h4.
-            and_then-cases (spec.block inner room xs) _ _ h4 (λ other ys read_other h5.
+            and_then-cases (spec.block inner fuel xs) _ _ h4 (λ other ys read_other h5.
             let same = some-pair (tree.IfElse e (statements body) (statements other)) s ys rest h5 in
             let at = take-some ws w xs took_else in
-            let o = sound-block room other xs ys read_other in
+            let o = sound-block fuel other xs ys read_other in
             let q_else : w.kind ≡ k.Else = sym (ap kind at) ∙ same_kind-true _ _ e1.0 in
             rw (is, c.is_start, sym same.0, sym same.1) (branched_else p c.opens c.spells c.closes (rw at at b) q_else o)))
         | inr e1 ↦ (
@@ -243,17 +243,17 @@ module _ (inner : Parser Statement) (sound : (s : Statement) (ts rest : PlainTok
             rw (is, c.is_start, sym same.0, sym same.1) (branched p c.opens c.spells c.closes b))
       ])))
 
-  sound-loop : (room : ℕ) (s : Statement) (ts rest : PlainTokens) → kind ts ≡ k.While → spec.looped inner room ts ≡ Some (s, rest) → IsStatement s ts rest
+  sound-loop : (fuel : ℕ) (s : Statement) (ts rest : PlainTokens) → kind ts ≡ k.While → spec.looped inner fuel ts ≡ Some (s, rest) → IsStatement s ts rest
   unfolding spec.looped
-  sound-loop room s ts rest q h =
+  sound-loop fuel s ts rest q h =
       and_then-cases (take ts) _ _ h (λ t us took h1.
-      and_then-cases (spec.condition room us) _ _ h1 (λ e vs read h2.
-      and_then-cases (spec.block inner room vs) _ _ h2 (λ body ws read_body h3.
+      and_then-cases (spec.condition fuel us) _ _ h1 (λ e vs read h2.
+      and_then-cases (spec.block inner fuel vs) _ _ h2 (λ body ws read_body h3.
       let same = some-pair (tree.While e (statements body)) s ws rest h3 in
       let is = take-some ts t us took in
       let p : t.kind ≡ k.While = sym (ap kind is) ∙ q in
-      let c = sound-condition room e us vs read in
-      let b = sound-block room body vs ws read_body in
+      let c = sound-condition fuel e us vs read in
+      let b = sound-block fuel body vs ws read_body in
       rw (is, c.is_start, sym same.0, sym same.1) (looped p c.opens c.spells c.closes b))))
 
   sound-delayed : (s : Statement) (ts rest : PlainTokens) → kind ts ≡ k.Hash → spec.delayed inner ts ≡ Some (s, rest) → IsStatement s ts rest
@@ -269,10 +269,10 @@ module _ (inner : Parser Statement) (sound : (s : Statement) (ts rest : PlainTok
       let d = sound x vs ws read in
       rw (is, n.0, sym same.0, sym same.1) (delayed p n.1 d))))
 
-  sound-awaited : (room : ℕ) (s : Statement) (ts rest : PlainTokens) → kind ts ≡ k.At → spec.awaited inner room ts ≡ Some (s, rest) → IsStatement s ts rest
+  sound-awaited : (fuel : ℕ) (s : Statement) (ts rest : PlainTokens) → kind ts ≡ k.At → spec.awaited inner fuel ts ≡ Some (s, rest) → IsStatement s ts rest
   unfolding spec.awaited spec.events
-  sound-awaited room s ts rest q h =
-      and_then-cases (spec.events room ts) _ _ h (λ es vs read h1.
+  sound-awaited fuel s ts rest q h =
+      and_then-cases (spec.events fuel ts) _ _ h (λ es vs read h1.
       and_then-cases (inner vs) _ _ h1 (λ x ws read_body h2.
       and_then-cases (take ts) _ _ read (λ t us took h3.
       and_then-cases (expect k.Open us) _ _ h3 (λ u xs opened h4.
@@ -280,15 +280,15 @@ module _ (inner : Parser Statement) (sound : (s : Statement) (ts rest : PlainTok
       let is = take-some ts t us took in
       let p : t.kind ≡ k.At = sym (ap kind is) ∙ q in
       let start = expect-some k.Open us u xs opened in
-      let r = sound-triggers room [] es xs vs h4 in
+      let r = sound-triggers fuel [] es xs vs h4 in
       let d : IsTriggers es xs vs = rw r.is_all r.spells in
       let b = sound x vs ws read_body in
       rw (is, start.0, sym same.0, sym same.1) (awaited p start.1 d b)))))
 
-  sound-form : (room : ℕ) (s : Statement) (ts rest : PlainTokens) → spec.statement_form inner room ts ≡ Some (s, rest) → IsStatement s ts rest
+  sound-form : (fuel : ℕ) (s : Statement) (ts rest : PlainTokens) → spec.statement_form inner fuel ts ≡ Some (s, rest) → IsStatement s ts rest
   unfolding spec.statement_form
-  sound-form room s ts rest h = by (kind ts) refl h where
-    by : (at : Kind) → kind ts ≡ at → form_by inner room at ts ≡ Some (s, rest) → IsStatement s ts rest
+  sound-form fuel s ts rest h = by (kind ts) refl h where
+    by : (at : Kind) → kind ts ≡ at → form_by inner fuel at ts ≡ Some (s, rest) → IsStatement s ts rest
     by k.Semicolon q h =
         and_then-cases (take ts) _ _ h (λ t us took h1.
         let same = some-pair tree.Empty s us rest h1 in
@@ -296,22 +296,22 @@ module _ (inner : Parser Statement) (sound : (s : Statement) (ts rest : PlainTok
         let p : t.kind ≡ k.Semicolon = sym (ap kind is) ∙ q in
         rw (is, sym same.0, sym same.1) (emptied p))
     by k.Begin q h =
-        and_then-cases (spec.block inner room ts) _ _ h (λ body us read h1.
+        and_then-cases (spec.block inner fuel ts) _ _ h (λ body us read h1.
         let same = some-pair (tree.Block (statements body)) s us rest h1 in
-        let b = sound-block room body ts us read in
+        let b = sound-block fuel body ts us read in
         rw (sym same.0, sym same.1) (grouped b))
-    by k.Name q h = sound-assign room s ts rest q h
-    by k.If q h = sound-branch room s ts rest q h
-    by k.While q h = sound-loop room s ts rest q h
+    by k.Name q h = sound-assign fuel s ts rest q h
+    by k.If q h = sound-branch fuel s ts rest q h
+    by k.While q h = sound-loop fuel s ts rest q h
     by k.Hash q h = sound-delayed s ts rest q h
-    by k.At q h = sound-awaited room s ts rest q h
-    by k.Display q h = sound-display room s ts rest q h
+    by k.At q h = sound-awaited fuel s ts rest q h
+    by k.Display q h = sound-display fuel s ts rest q h
     by k.Finish q h = sound-finish s ts rest q h
     by _ q h = absurd (cc)
 
-pub sound-statement : (room : ℕ) (s : Statement) (ts rest : PlainTokens) → statement room ts ≡ Some (s, rest) → IsStatement s ts rest
+pub sound-statement : (fuel : ℕ) (s : Statement) (ts rest : PlainTokens) → statement fuel ts ≡ Some (s, rest) → IsStatement s ts rest
 sound-statement zero s ts rest h = absurd (cc)
-sound-statement (suc room) s ts rest h = sound-form (statement room) (sound-statement room) room s ts rest h
+sound-statement (suc fuel) s ts rest h = sound-form (statement fuel) (sound-statement fuel) fuel s ts rest h
 
 -- ---- modules
 
@@ -361,32 +361,32 @@ sound-range r ts rest h = elim (if-is (sees k.OpenSquare ts) _ _ (Some (r, rest)
 ]
 
 -- a declaration, before further items
-sound-declaration : (room : ℕ) (d : Declaration) (ds : List Declaration) (ps : List Process) (ts us rest : PlainTokens) → sees k.Reg ts ≡ true → spec.declaration room ts ≡ Some (d, us) → IsItems ds ps us rest
+sound-declaration : (fuel : ℕ) (d : Declaration) (ds : List Declaration) (ps : List Process) (ts us rest : PlainTokens) → sees k.Reg ts ≡ true → spec.declaration fuel ts ≡ Some (d, us) → IsItems ds ps us rest
     → IsItems (d ∷ ds) ps ts rest
 unfolding spec.declaration
-sound-declaration room d ds ps ts us rest o h more =
+sound-declaration fuel d ds ps ts us rest o h more =
     and_then-cases (take ts) _ _ h (λ t vs took h1.
     and_then-cases (spec.range vs) _ _ h1 (λ r ws read h2.
-    and_then-cases (names_from room [] ws) _ _ h2 (λ ns xs read_names h3.
+    and_then-cases (names_from fuel [] ws) _ _ h2 (λ ns xs read_names h3.
     let made : Declaration = record { range = r; names = ns } in
     let same = some-pair made d xs us h3 in
     let is = take-some ts t vs took in
     let q : t.kind ≡ k.Reg = sym (ap kind is) ∙ same_kind-true _ _ o in
-    let n = sound-names room [] ns ws xs read_names in
+    let n = sound-names fuel [] ns ws xs read_names in
     let names : IsNames ns ws us = rw (sym same.1, n.is_all) n.spells in
     rw (is, sym same.0) (regs q (sound-range r vs ws read) names more))))
 
-sound-process : (room : ℕ) (b : Bool) (p : Process) (ds : List Declaration) (ps : List Process) (ts us rest : PlainTokens) → repeats_of (kind ts) ≡ Some b → spec.process room b ts ≡ Some (p, us)
+sound-process : (fuel : ℕ) (b : Bool) (p : Process) (ds : List Declaration) (ps : List Process) (ts us rest : PlainTokens) → repeats_of (kind ts) ≡ Some b → spec.process fuel b ts ≡ Some (p, us)
     → IsItems ds ps us rest → IsItems ds (p ∷ ps) ts rest
 unfolding spec.process
-sound-process room b p ds ps ts us rest o h more =
+sound-process fuel b p ds ps ts us rest o h more =
     and_then-cases (take ts) _ _ h (λ t vs took h1.
-    and_then-cases (statement room vs) _ _ h1 (λ s ws read h2.
+    and_then-cases (statement fuel vs) _ _ h1 (λ s ws read h2.
     let made : Process = record { repeats = b; body = s } in
     let same = some-pair made p ws us h2 in
     let is = take-some ts t vs took in
     let q : repeats_of t.kind ≡ Some b = sym (ap (λ x. repeats_of (kind x)) is) ∙ o in
-    let d : IsStatement s vs us = rw (sym same.1) (sound-statement room s vs ws read) in
+    let d : IsStatement s vs us = rw (sym same.1) (sound-statement fuel s vs ws read) in
     rw (is, sym same.0) (proc q d more)))
 
 same_module : (a b : Text) (c d : List Declaration) (e f : List Process) → a ≡ b → c ≡ d → e ≡ f
@@ -403,12 +403,12 @@ pub record IsModuleRest (m all : Module) (ts rest : PlainTokens) : Type 0 where
   pub ends : end.kind ≡ k.EndModule
 
 -- an item, before further items
-sound-item : (room : ℕ) (m n all : Module) (ts us rest : PlainTokens) → spec.item room m ts ≡ Some (n, us) → IsModuleRest n all us rest → IsModuleRest m all ts rest
+sound-item : (fuel : ℕ) (m n all : Module) (ts us rest : PlainTokens) → spec.item fuel m ts ≡ Some (n, us) → IsModuleRest n all us rest → IsModuleRest m all ts rest
 unfolding spec.item
-sound-item room m n all ts us rest h r = by (repeats_of (kind ts)) refl h where
-  by : (o : Option Bool) → repeats_of (kind ts) ≡ o → item_by room m o ts ≡ Some (n, us) → IsModuleRest m all ts rest
+sound-item fuel m n all ts us rest h r = by (repeats_of (kind ts)) refl h where
+  by : (o : Option Bool) → repeats_of (kind ts) ≡ o → item_by fuel m o ts ≡ Some (n, us) → IsModuleRest m all ts rest
   by None q h = elim (if-is (sees k.Reg ts) _ _ (Some (n, us)) h) [
-    | inl p ↦ and_then-cases (spec.declaration room ts) _ _ p.1 (λ d ws read h2.
+    | inl p ↦ and_then-cases (spec.declaration fuel ts) _ _ p.1 (λ d ws read h2.
         let same = some-pair (record m { declarations = m.declarations ++ d ∷ [] }) n ws us h2 in
         let name_is : n.name ≡ m.name = sym (ap (λ x. x.name) same.0) in
         let regs_is : n.declarations ++ r.declarations ≡ m.declarations ++ (d ∷ r.declarations) = ap (λ x. x ++ r.declarations) (sym (ap (λ x. x.declarations) same.0)) ∙ append_assoc m.declarations (d ∷ []) r.declarations in
@@ -418,13 +418,13 @@ sound-item room m n all ts us rest h r = by (repeats_of (kind ts)) refl h where
           processes = r.processes;
           is_all = r.is_all ∙ same_module _ _ _ _ _ _ name_is regs_is procs_is;
           end = r.end;
-          spells = sound-declaration room d r.declarations r.processes ts us (r.end ∷ rest) p.0 (rw same.1 at read) r.spells;
+          spells = sound-declaration fuel d r.declarations r.processes ts us (r.end ∷ rest) p.0 (rw same.1 at read) r.spells;
           ends = r.ends;
         })
     | inr p ↦ absurd (let e = p.1 in cc)
   ]
   by (Some b) q h =
-      and_then-cases (spec.process room b ts) _ _ h (λ p ws read h2.
+      and_then-cases (spec.process fuel b ts) _ _ h (λ p ws read h2.
       let same = some-pair (record m { processes = m.processes ++ p ∷ [] }) n ws us h2 in
       let name_is : n.name ≡ m.name = sym (ap (λ x. x.name) same.0) in
       let regs_is : n.declarations ++ r.declarations ≡ m.declarations ++ r.declarations = ap (λ x. x.declarations ++ r.declarations) (sym same.0) in
@@ -434,35 +434,35 @@ sound-item room m n all ts us rest h r = by (repeats_of (kind ts)) refl h where
         processes = p ∷ r.processes;
         is_all = r.is_all ∙ same_module _ _ _ _ _ _ name_is regs_is procs_is;
         end = r.end;
-        spells = sound-process room b p r.declarations r.processes ts us (r.end ∷ rest) q (rw same.1 at read) r.spells;
+        spells = sound-process fuel b p r.declarations r.processes ts us (r.end ∷ rest) q (rw same.1 at read) r.spells;
         ends = r.ends;
       })
 
-sound-items : (room n : ℕ) (m all : Module) (ts rest : PlainTokens) → items_from room n m ts ≡ Some (all, rest) → IsModuleRest m all ts rest
+sound-items : (fuel n : ℕ) (m all : Module) (ts rest : PlainTokens) → items_from fuel n m ts ≡ Some (all, rest) → IsModuleRest m all ts rest
 unfolding items_from
-sound-items room zero m all ts rest h = absurd (cc)
-sound-items room (suc n) m all ts rest h = elim (if-is (sees k.EndModule ts) _ _ (Some (all, rest)) h) [
+sound-items fuel zero m all ts rest h = absurd (cc)
+sound-items fuel (suc n) m all ts rest h = elim (if-is (sees k.EndModule ts) _ _ (Some (all, rest)) h) [
   | inl p ↦ and_then-cases (take ts) _ _ p.1 (λ t us took h1.
       let same = some-pair m all us rest h1 in
       let is = take-some ts t us took in
       let q : t.kind ≡ k.EndModule = sym (ap kind is) ∙ same_kind-true _ _ p.0 in
       let one : all ≡ record { name = m.name; declarations = m.declarations ++ []; processes = m.processes ++ [] } = sym same.0 ∙ rw (append-nil m.declarations, append-nil m.processes) in
       rw (is, sym same.1) (record { declarations = []; processes = []; is_all = one; end = t; spells = no_items; ends = q }))
-  | inr p ↦ and_then-cases (spec.item room m ts) _ _ p.1 (λ found us read h1. sound-item room m found all ts us rest read (sound-items room n found all us rest h1))
+  | inr p ↦ and_then-cases (spec.item fuel m ts) _ _ p.1 (λ found us read h1. sound-item fuel m found all ts us rest read (sound-items fuel n found all us rest h1))
 ]
 
 no_tokens : (ts : PlainTokens) → done ts ≡ true → ts ≡ []
 no_tokens [] h = refl
 no_tokens (t ∷ ts) h = absurd (cc)
 
-pub sound-source : (room : ℕ) (m : Module) (ts rest : PlainTokens) → source room ts ≡ Some (m, rest) → IsModule m ts
+pub sound-source : (fuel : ℕ) (m : Module) (ts rest : PlainTokens) → source fuel ts ≡ Some (m, rest) → IsModule m ts
 unfolding source
-sound-source room m ts rest h =
+sound-source fuel m ts rest h =
     and_then-cases (expect k.Module ts) _ _ h (λ t us h_module h1.
     and_then-cases (expect k.Name us) _ _ h1 (λ u vs h_name h2.
     and_then-cases (expect k.Semicolon vs) _ _ h2 (λ v ws h_semicolon h3.
     let begun : Module = record { name = u.text; declarations = []; processes = [] } in
-    and_then-cases (items_from room room begun ws) _ _ h3 (λ all xs read h4.
+    and_then-cases (items_from fuel fuel begun ws) _ _ h3 (λ all xs read h4.
     elim (if-is (done xs) _ _ (Some (m, rest)) h4) [
       | inl p ↦ (
           let same = some-pair all m xs rest p.1 in
@@ -470,7 +470,7 @@ sound-source room m ts rest h =
           let b = expect-some k.Name us u vs h_name in
           let c = expect-some k.Semicolon vs v ws h_semicolon in
           let end : xs ≡ [] = no_tokens xs p.0 in
-          let r = sound-items room room begun all ws [] (rw end at read) in
+          let r = sound-items fuel fuel begun all ws [] (rw end at read) in
           let whole : m ≡ record { name = u.text; declarations = r.declarations; processes = r.processes } = sym same.0 ∙ r.is_all in
           rw (a.0, b.0, c.0, whole) (spelled a.1 b.1 c.1 r.spells r.ends))
       | inr p ↦ absurd (let q = p.1 in cc)

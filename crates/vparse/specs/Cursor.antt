@@ -2,7 +2,6 @@
 use Rattle.std.specs.Prelude.{◌≡◌, ℕ, [], ◌∷◌, map, Bool, true, false, if◌then◌else◌, length, Option, Some, None, Result, Ok, Err}
 use Rattle.tokens.specs.declared.token.Kind.{Kind}
 use Rattle.tokens.specs.declared.token.Kind.TheVariants.{End}
-use Rattle.tokens.specs.declared.token.Token.{Token}
 use Rattle.tokens.specs.Tokens.{PlainToken, PlainTokens, plain_token, same_kind}
 use Rattle.vparse.specs.declared.cursor.Cursor.{Cursor}
 use Rattle.vparse.specs.declared.fault.Fault.{Fault}
@@ -53,11 +52,3 @@ Reads view stop outcome (Err Syntax) new = outcome ≡ None
 Reads view stop outcome (Err Unsized) new = outcome ≡ None
 Reads view stop outcome (Err Deep) new = stop ≡ Some (length new)
 Reads view stop outcome (Err Memory) new = Unit {0}
-
--- What taking a token ensures.
-abbrev pub Takes : Option ℕ → PlainTokens → Result Token Fault → PlainTokens → Type 0
-Takes stop old = Reads plain_token stop (take old)
-
--- What taking a token of a kind ensures.
-abbrev pub Expects : Option ℕ → Kind → PlainTokens → Result Token Fault → PlainTokens → Type 0
-Expects stop wanted old = Reads plain_token stop (expect wanted old)

@@ -19,7 +19,6 @@ use Rattle.logic4.specs.Vector.{Vector}
 use Rattle.tokens.specs.declared.token.Kind.{Kind}
 use Rattle.tokens.specs.declared.token.Kind.TheVariants as k
 use Rattle.tokens.specs.Tokens.{PlainToken, PlainTokens}
-use Rattle.tokens.specs.Literals.{literal_of}
 use Rattle.tokens.specs.Lexing.{string_text}
 use Rattle.model.specs.declared.tree.UnaryOperator.{UnaryOperator}
 use Rattle.model.specs.declared.tree.UnaryOperator.TheVariants as un
@@ -93,7 +92,7 @@ mutual
     named : {t : PlainToken} {rest : PlainTokens} → t.kind ≡ k.Name → IsPrimary (Register t.text) (t ∷ rest) rest
     selected : {t u v w : PlainToken} {rest : PlainTokens} → t.kind ≡ k.Name → u.kind ≡ k.OpenSquare → v.kind ≡ k.Decimal → w.kind ≡ k.CloseSquare
         → IsPrimary (Select t.text v.value) (t ∷ u ∷ v ∷ w ∷ rest) rest
-    sized : {d : Vector} {t : PlainToken} {rest : PlainTokens} → t.kind ≡ k.Sized → literal_of t.text ≡ Some d → IsPrimary (Literal d) (t ∷ rest) rest
+    sized : {d : Vector} {t : PlainToken} {rest : PlainTokens} → t.kind ≡ k.Sized → t.bits ≡ Some d → IsPrimary (Literal d) (t ∷ rest) rest
     concatenated : {es : Expressions Text} {t : PlainToken} {ts rest : PlainTokens} → t.kind ≡ k.OpenCurly → IsParts es ts rest → IsPrimary (Concat es) (t ∷ ts) rest
     nested : {e : Expression Text} {t u : PlainToken} {ts rest : PlainTokens}
         → t.kind ≡ k.Open → IsExpression e ts (u ∷ rest) → u.kind ≡ k.Close → IsPrimary e (t ∷ ts) rest

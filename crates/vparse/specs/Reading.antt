@@ -4,7 +4,6 @@ use Rattle.logic4.specs.Vector.{Vector}
 use Rattle.tokens.specs.declared.token.Kind.{Kind}
 use Rattle.tokens.specs.declared.token.Kind.TheVariants as k
 use Rattle.tokens.specs.Tokens.{PlainTokens}
-use Rattle.tokens.specs.Literals.{literal_of}
 use Rattle.model.specs.declared.tree.UnaryOperator.{UnaryOperator}
 use Rattle.model.specs.declared.tree.BinaryOperator.{BinaryOperator}
 use Rattle.model.specs.declared.tree.Change.{Change}
@@ -45,7 +44,7 @@ literal_by (Some d) ts = Some (Literal d, ts)
 
 -- A sized literal.
 unfoldable pub sized : Parser (Expression Text)
-sized ts = and_then (take ts) (λ t. literal_by (literal_of t.text))
+sized ts = and_then (take ts) (λ t. literal_by t.bits)
 
 -- The number is the level at which an operand begins, 0 for a whole expression.
 module _ (inner : ℕ → Parser (Expression Text)) where
@@ -53,37 +52,38 @@ module _ (inner : ℕ → Parser (Expression Text)) where
   unfoldable pub nested : Parser (Expression Text)
   nested ts = and_then (take ts) (λ t us. and_then (inner 0 us) (λ e vs. and_then (expect k.Close vs) (λ u rest. Some (e, rest))))
 
-  -- Expressions up to the closing curly bracket, behind those found.
+  -- Expressions with a comma before each up to the closing curly bracket, behind those found.
   unfoldable pub parts_from : ℕ → List (Expression Text) → Parser (List (Expression Text))
   parts_from zero found ts = None
-  parts_from (suc m) found ts = and_then (inner 0 ts) (λ e us.
-      if sees k.Comma us then and_then (take us) (λ u. parts_from m (found ++ e ∷ []))
-      else and_then (expect k.CloseCurly us) (λ u rest. Some (found ++ e ∷ [], rest)))
+  parts_from (suc m) found ts =
+      if sees k.Comma ts then and_then (take ts) (λ t us. and_then (inner 0 us) (λ e. parts_from m (found ++ e ∷ [])))
+      else and_then (expect k.CloseCurly ts) (λ t rest. Some (found, rest))
 
-  -- A concatenation.
+  -- A concatenation: its first part, and those that follow.
   unfoldable pub concatenated : ℕ → Parser (Expression Text)
-  concatenated room ts = and_then (take ts) (λ t us. and_then (parts_from room [] us) (λ es rest. Some (Concat (expressions es), rest)))
+  concatenated fuel ts = and_then (take ts) (λ t us. and_then (inner 0 us) (λ e vs.
+      and_then (parts_from fuel [] vs) (λ es rest. Some (Concat (tree.Also e (expressions es)), rest))))
 
   -- A primary, by the kind of its first token.
   abbrev pub primary_by : ℕ → Kind → Parser (Expression Text)
-  primary_by room k.Name ts = named ts
-  primary_by room k.Sized ts = sized ts
-  primary_by room k.OpenCurly ts = concatenated room ts
-  primary_by room k.Open ts = nested ts
-  primary_by room _ ts = None
+  primary_by fuel k.Name ts = named ts
+  primary_by fuel k.Sized ts = sized ts
+  primary_by fuel k.OpenCurly ts = concatenated fuel ts
+  primary_by fuel k.Open ts = nested ts
+  primary_by fuel _ ts = None
 
   -- A primary.
   unfoldable pub primary : ℕ → Parser (Expression Text)
-  primary room ts = primary_by room (kind ts) ts
+  primary fuel ts = primary_by fuel (kind ts) ts
 
   -- A primary, behind its operator if there is one.
   abbrev pub unary_by : ℕ → Option UnaryOperator → Parser (Expression Text)
-  unary_by room None ts = primary room ts
-  unary_by room (Some op) ts = and_then (take ts) (λ t us. and_then (primary room us) (λ e rest. Some (Unary op e, rest)))
+  unary_by fuel None ts = primary fuel ts
+  unary_by fuel (Some op) ts = and_then (take ts) (λ t us. and_then (primary fuel us) (λ e rest. Some (Unary op e, rest)))
 
   -- An operand: a primary with one operator before it at most.
   unfoldable pub operand : ℕ → Parser (Expression Text)
-  operand room ts = unary_by room (prefix (kind ts)) ts
+  operand fuel ts = unary_by fuel (prefix (kind ts)) ts
 
   -- The operand behind an operator, and what more follows; or nothing more.
   abbrev pub climb_by : (Expression Text → Parser (Expression Text)) → Expression Text → Option (ℕ × BinaryOperator) → Parser (Expression Text)
@@ -107,12 +107,12 @@ module _ (inner : ℕ → Parser (Expression Text)) where
 
   -- An expression of a level.
   unfoldable pub whole : ℕ → ℕ → Parser (Expression Text)
-  whole room level ts = and_then (and_then (operand room ts) (climb room level)) (choice_at level)
+  whole fuel level ts = and_then (and_then (operand fuel ts) (climb fuel level)) (choice_at level)
 
--- An expression of a level, with so much room.
+-- An expression of a level: none without fuel, and each expression inside it has less.
 abbrev pub expression : ℕ → ℕ → Parser (Expression Text)
 expression zero level ts = None
-expression (suc room) level ts = whole (expression room) room level ts
+expression (suc fuel) level ts = whole (expression fuel) fuel level ts
 
 -- ---- statements
 
@@ -124,13 +124,13 @@ delay ts =
 
 -- What stands right of the sign of an assignment, and the semicolon.
 unfoldable pub value : ℕ → Parser (Option ℕ × Expression Text)
-value room ts = and_then (delay ts) (λ d us. and_then (expression room 0 us) (λ e vs. and_then (expect k.Semicolon vs) (λ v rest. Some ((d, e), rest))))
+value fuel ts = and_then (delay ts) (λ d us. and_then (expression fuel 0 us) (λ e vs. and_then (expect k.Semicolon vs) (λ v rest. Some ((d, e), rest))))
 
 -- An assignment of either form.
 unfoldable pub assign : ℕ → Parser Statement
-assign room ts = and_then (take ts) (λ t us.
-    if sees k.AtMost us then and_then (take us) (λ u vs. and_then (value room vs) (λ p rest. Some (tree.AssignLater t.text p.0 p.1, rest)))
-    else and_then (expect k.Assign us) (λ u vs. and_then (value room vs) (λ p rest. Some (tree.Assign t.text p.0 p.1, rest))))
+assign fuel ts = and_then (take ts) (λ t us.
+    if sees k.AtMost us then and_then (take us) (λ u vs. and_then (value fuel vs) (λ p rest. Some (tree.AssignLater t.text p.0 p.1, rest)))
+    else and_then (expect k.Assign us) (λ u vs. and_then (value fuel vs) (λ p rest. Some (tree.Assign t.text p.0 p.1, rest))))
 
 -- An event, by its edge.
 abbrev pub trigger_by : Option Change → Parser Trigger
@@ -150,19 +150,19 @@ triggers_from (suc m) found ts = and_then (trigger ts) (λ e us.
 
 -- @ ( events ).
 unfoldable pub events : ℕ → Parser (List Trigger)
-events room ts = and_then (take ts) (λ t us. and_then (expect k.Open us) (λ u. triggers_from room []))
+events fuel ts = and_then (take ts) (λ t us. and_then (expect k.Open us) (λ u. triggers_from fuel []))
 
 -- Arguments up to the closing parenthesis, behind those found.
 unfoldable pub arguments_from : ℕ → ℕ → List (Expression Text) → Parser (List (Expression Text))
-arguments_from room zero found ts = None
-arguments_from room (suc m) found ts =
-    if sees k.Comma ts then and_then (take ts) (λ t us. and_then (expression room 0 us) (λ e. arguments_from room m (found ++ e ∷ [])))
+arguments_from fuel zero found ts = None
+arguments_from fuel (suc m) found ts =
+    if sees k.Comma ts then and_then (take ts) (λ t us. and_then (expression fuel 0 us) (λ e. arguments_from fuel m (found ++ e ∷ [])))
     else and_then (expect k.Close ts) (λ t rest. Some (found, rest))
 
 -- $display ( string arguments ) ;.
 unfoldable pub display : ℕ → Parser Statement
-display room ts = and_then (take ts) (λ t us. and_then (expect k.Open us) (λ u vs. and_then (expect k.Text vs) (λ v ws.
-    and_then (arguments_from room room [] ws) (λ es xs. and_then (expect k.Semicolon xs) (λ x rest. Some (tree.Display (string_text v.text) (expressions es), rest))))))
+display fuel ts = and_then (take ts) (λ t us. and_then (expect k.Open us) (λ u vs. and_then (expect k.Text vs) (λ v ws.
+    and_then (arguments_from fuel fuel [] ws) (λ es xs. and_then (expect k.Semicolon xs) (λ x rest. Some (tree.Display (string_text v.text) (expressions es), rest))))))
 
 -- $finish ;.
 unfoldable pub finish : Parser Statement
@@ -170,7 +170,7 @@ finish ts = and_then (take ts) (λ t us. and_then (expect k.Semicolon us) (λ u 
 
 -- ( expression ).
 unfoldable pub condition : ℕ → Parser (Expression Text)
-condition room ts = and_then (expect k.Open ts) (λ t us. and_then (expression room 0 us) (λ test vs. and_then (expect k.Close vs) (λ u rest. Some (test, rest))))
+condition fuel ts = and_then (expect k.Open ts) (λ t us. and_then (expression fuel 0 us) (λ test vs. and_then (expect k.Close vs) (λ u rest. Some (test, rest))))
 
 module _ (inner : Parser Statement) where
   -- # decimal statement.
@@ -179,7 +179,7 @@ module _ (inner : Parser Statement) where
 
   -- @ ( events ) statement.
   unfoldable pub awaited : ℕ → Parser Statement
-  awaited room ts = and_then (events room ts) (λ es us. and_then (inner us) (λ s rest. Some (tree.Await es s, rest)))
+  awaited fuel ts = and_then (events fuel ts) (λ es us. and_then (inner us) (λ s rest. Some (tree.Await es s, rest)))
 
   -- Statements up to the end of the block, behind those found.
   unfoldable pub statements_from : ℕ → List Statement → Parser (List Statement)
@@ -190,43 +190,43 @@ module _ (inner : Parser Statement) where
 
   -- begin statements end.
   unfoldable pub block : ℕ → Parser (List Statement)
-  block room ts = and_then (expect k.Begin ts) (λ t. statements_from room [])
+  block fuel ts = and_then (expect k.Begin ts) (λ t. statements_from fuel [])
 
   -- else block, or nothing.
   unfoldable pub otherwise : ℕ → Expression Text → List Statement → Parser Statement
-  otherwise room test body ts =
-      if sees k.Else ts then and_then (take ts) (λ t us. and_then (block room us) (λ other rest. Some (tree.IfElse test (statements body) (statements other), rest)))
+  otherwise fuel test body ts =
+      if sees k.Else ts then and_then (take ts) (λ t us. and_then (block fuel us) (λ other rest. Some (tree.IfElse test (statements body) (statements other), rest)))
       else Some (tree.If test (statements body), ts)
 
   -- if ( expression ) block, and what follows.
   unfoldable pub branch : ℕ → Parser Statement
-  branch room ts = and_then (take ts) (λ t us. and_then (condition room us) (λ test vs. and_then (block room vs) (otherwise room test)))
+  branch fuel ts = and_then (take ts) (λ t us. and_then (condition fuel us) (λ test vs. and_then (block fuel vs) (otherwise fuel test)))
 
   -- while ( expression ) block.
   unfoldable pub looped : ℕ → Parser Statement
-  looped room ts = and_then (take ts) (λ t us. and_then (condition room us) (λ test vs. and_then (block room vs) (λ body rest. Some (tree.While test (statements body), rest))))
+  looped fuel ts = and_then (take ts) (λ t us. and_then (condition fuel us) (λ test vs. and_then (block fuel vs) (λ body rest. Some (tree.While test (statements body), rest))))
 
   -- A statement, by the kind of its first token.
   abbrev pub form_by : ℕ → Kind → Parser Statement
-  form_by room k.Semicolon ts = and_then (take ts) (λ t rest. Some (tree.Empty, rest))
-  form_by room k.Begin ts = and_then (block room ts) (λ body rest. Some (tree.Block (statements body), rest))
-  form_by room k.Name ts = assign room ts
-  form_by room k.If ts = branch room ts
-  form_by room k.While ts = looped room ts
-  form_by room k.Hash ts = delayed ts
-  form_by room k.At ts = awaited room ts
-  form_by room k.Display ts = display room ts
-  form_by room k.Finish ts = finish ts
-  form_by room _ ts = None
+  form_by fuel k.Semicolon ts = and_then (take ts) (λ t rest. Some (tree.Empty, rest))
+  form_by fuel k.Begin ts = and_then (block fuel ts) (λ body rest. Some (tree.Block (statements body), rest))
+  form_by fuel k.Name ts = assign fuel ts
+  form_by fuel k.If ts = branch fuel ts
+  form_by fuel k.While ts = looped fuel ts
+  form_by fuel k.Hash ts = delayed ts
+  form_by fuel k.At ts = awaited fuel ts
+  form_by fuel k.Display ts = display fuel ts
+  form_by fuel k.Finish ts = finish ts
+  form_by fuel _ ts = None
 
   -- A statement.
   unfoldable pub statement_form : ℕ → Parser Statement
-  statement_form room ts = form_by room (kind ts) ts
+  statement_form fuel ts = form_by fuel (kind ts) ts
 
--- A statement, with so much room.
+-- A statement: none without fuel, and each statement inside it has less.
 abbrev pub statement : ℕ → Parser Statement
 statement zero ts = None
-statement (suc room) ts = statement_form (statement room) room ts
+statement (suc fuel) ts = statement_form (statement fuel) fuel ts
 
 -- ---- modules
 
@@ -248,30 +248,30 @@ names_from (suc m) found ts = and_then (expect k.Name ts) (λ t us.
 
 -- A declaration.
 unfoldable pub declaration : ℕ → Parser Declaration
-declaration room ts = and_then (take ts) (λ t us. and_then (range us) (λ r vs. and_then (names_from room [] vs) (λ ns rest. Some (record { range = r; names = ns }, rest))))
+declaration fuel ts = and_then (take ts) (λ t us. and_then (range us) (λ r vs. and_then (names_from fuel [] vs) (λ ns rest. Some (record { range = r; names = ns }, rest))))
 
 -- A process.
 unfoldable pub process : ℕ → Bool → Parser Process
-process room b ts = and_then (take ts) (λ t us. and_then (statement room us) (λ s rest. Some (record { repeats = b; body = s }, rest)))
+process fuel b ts = and_then (take ts) (λ t us. and_then (statement fuel us) (λ s rest. Some (record { repeats = b; body = s }, rest)))
 
 -- An item, by whether it is a process that repeats, one that doesn't, or none.
 abbrev pub item_by : ℕ → Module → Option Bool → Parser Module
-item_by room m None ts =
-    if sees k.Reg ts then and_then (declaration room ts) (λ d rest. Some (record m { declarations = m.declarations ++ d ∷ [] }, rest)) else None
-item_by room m (Some b) ts = and_then (process room b ts) (λ p rest. Some (record m { processes = m.processes ++ p ∷ [] }, rest))
+item_by fuel m None ts =
+    if sees k.Reg ts then and_then (declaration fuel ts) (λ d rest. Some (record m { declarations = m.declarations ++ d ∷ [] }, rest)) else None
+item_by fuel m (Some b) ts = and_then (process fuel b ts) (λ p rest. Some (record m { processes = m.processes ++ p ∷ [] }, rest))
 
 -- An item, behind those found.
 unfoldable pub item : ℕ → Module → Parser Module
-item room m ts = item_by room m (repeats_of (kind ts)) ts
+item fuel m ts = item_by fuel m (repeats_of (kind ts)) ts
 
 -- Items up to the end of the module, behind those found.
 unfoldable pub items_from : ℕ → ℕ → Module → Parser Module
-items_from room zero m ts = None
-items_from room (suc n) m ts =
-    if sees k.EndModule ts then and_then (take ts) (λ t rest. Some (m, rest)) else and_then (item room m ts) (items_from room n)
+items_from fuel zero m ts = None
+items_from fuel (suc n) m ts =
+    if sees k.EndModule ts then and_then (take ts) (λ t rest. Some (m, rest)) else and_then (item fuel m ts) (items_from fuel n)
 
 -- A module that is all there is.
 unfoldable pub source : ℕ → Parser Module
-source room ts = and_then (expect k.Module ts) (λ t us. and_then (expect k.Name us) (λ u vs. and_then (expect k.Semicolon vs) (λ v ws.
-    and_then (items_from room room (record { name = u.text; declarations = []; processes = [] }) ws) (λ m rest.
+source fuel ts = and_then (expect k.Module ts) (λ t us. and_then (expect k.Name us) (λ u vs. and_then (expect k.Semicolon vs) (λ v ws.
+    and_then (items_from fuel fuel (record { name = u.text; declarations = []; processes = [] }) ws) (λ m rest.
     if done rest then Some (m, rest) else None))))

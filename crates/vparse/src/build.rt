@@ -6,7 +6,7 @@ ghost use Rattle.model.specs.Trees.{expressions, statements};
 ghost use Rattle.vparse.specs.Nodes.{expressions_view, statements_view, triggers_view};
 ghost use Rattle.model.specs.Syntax as tree;
 
-use logic4::digit::Digit;
+use logic4::bits::Bits;
 use model::tree::{BinaryOperator, Event, Expression, Statement, UnaryOperator};
 use std::alloc::{AllocError, Global};
 
@@ -22,16 +22,21 @@ pub fn selected(alloc: Global, name: &str, index: u64) -> Result<Expression, All
     Ok(Expression::Select(String::from_str(alloc, name)?, index))
 }
 
-pub fn literal_of(digits: Vec<Digit>) -> Expression
-    ensures { expression_of result ≡ tree.Literal digits.items }
+pub fn literal_of(bits: Bits) -> Expression
+    ensures { expression_of result ≡ tree.Literal bits }
 {
-    Expression::Literal(digits)
+    Expression::Literal(bits)
 }
 
-pub fn concat_of(parts: Vec<Expression>) -> Expression
-    ensures { expression_of result ≡ tree.Concat (expressions (expressions_view parts)) }
+pub fn concat_of(
+    alloc: Global,
+    first: Expression,
+    others: Vec<Expression>,
+) -> Result<Expression, AllocError>
+    ensures { IfOk result
+        (λ made. expression_of made ≡ tree.Concat (tree.Also (expression_of first) (expressions (expressions_view others)))) }
 {
-    Expression::Concat(parts)
+    Ok(Expression::Concat(Box::new(alloc, first)?, others))
 }
 
 pub fn unary_of(alloc: Global, op: UnaryOperator, e: Expression) -> Result<Expression, AllocError>

@@ -2,7 +2,7 @@
 
 ghost use Rattle.std.specs.Prelude.{◌≡◌, map, length};
 ghost use Rattle.tokens.specs.Tokens.{plain_token};
-ghost use Rattle.vparse.specs.Cursor.{left_of, kind, sees, done, Takes, Expects};
+ghost use Rattle.vparse.specs.Cursor.{left_of, kind, sees, done, take, expect, Reads};
 
 use crate::fault::Fault;
 use tokens::token::{Kind, Token, is_kind};
@@ -49,8 +49,8 @@ impl<'t, 'a> Cursor<'t, 'a> {
     }
 
     /// Takes the next token, unless it is the one at which nesting ends.
-    pub fn take(&mut self, stop: Option<usize>) -> Result<Token<'a>, Fault>
-        ensures { Takes stop (left_of self.old) result (left_of self.new) }
+    pub fn take(&mut self, stop: Option<usize>) -> Result<&'t Token<'a>, Fault>
+        ensures { Reads (λ t. plain_token t.now) stop (take (left_of self.old)) result (left_of self.new) }
     {
         if stop == Some(self.left.len()) {
             return Err(Fault::Deep);
@@ -58,17 +58,16 @@ impl<'t, 'a> Cursor<'t, 'a> {
         match self.left {
             [] => Err(Fault::Syntax),
             [first, rest @ ..] => {
-                let taken = *first;
                 self.left = rest;
-                Ok(taken)
+                Ok(first)
             }
         }
     }
 
     /// Takes a token of this kind.
     #[tactic(auto, unfolding(crate::specs::Cursor::expect))]
-    pub fn expect(&mut self, stop: Option<usize>, wanted: Kind) -> Result<Token<'a>, Fault>
-        ensures { Expects stop wanted (left_of self.old) result (left_of self.new) }
+    pub fn expect(&mut self, stop: Option<usize>, wanted: Kind) -> Result<&'t Token<'a>, Fault>
+        ensures { Reads (λ t. plain_token t.now) stop (expect wanted (left_of self.old)) result (left_of self.new) }
     {
         if !self.sees(wanted) {
             return Err(Fault::Syntax);

@@ -12,7 +12,6 @@ use crate::cursor::Cursor;
 use crate::fault::Fault;
 use model::tree::{BinaryOperator, Expression, UnaryOperator};
 use std::alloc::Global;
-use tokens::literal;
 use tokens::token::Kind;
 
 /// What stays the same while a text is read.
@@ -103,67 +102,69 @@ fn sized(rules: Rules, tokens: &mut Cursor<'_, '_>) -> Result<Expression, Fault>
     ensures { Reads expression_of rules.stop (spec.sized (left_of tokens.old)) result (left_of tokens.new) }
 {
     let token = tokens.take(rules.stop)?;
-    match literal::literal_of(rules.alloc, token.text.as_bytes())? {
+    match token.bits {
         None => Err(Fault::Syntax),
-        Some(digits) => Ok(literal_of(digits)),
+        Some(bits) => Ok(literal_of(bits)),
     }
 }
 
 /// Reads `( expression )`.
 #[cycle(expression)]
 #[tactic(auto, unfolding(crate::specs::Reading::nested))]
-fn nested(rules: Rules, tokens: &mut Cursor<'_, '_>, room: usize) -> Result<Expression, Fault>
-    ensures { Reads expression_of rules.stop (spec.nested (spec.expression room) (left_of tokens.old)) result (left_of tokens.new) }
+fn nested(rules: Rules, tokens: &mut Cursor<'_, '_>, fuel: usize) -> Result<Expression, Fault>
+    ensures { Reads expression_of rules.stop (spec.nested (spec.expression fuel) (left_of tokens.old)) result (left_of tokens.new) }
 {
     tokens.take(rules.stop)?;
-    let inner = expression(rules, tokens, room, 0)?;
+    let inner = expression(rules, tokens, fuel, 0)?;
     tokens.expect(rules.stop, Kind::Close)?;
     Ok(inner)
 }
 
-/// Reads expressions with commas between, and `}`.
+/// Reads expressions with a comma before each, and `}`.
 #[cycle(expression)]
 #[tactic(auto, unfolding(crate::specs::Reading::parts_from))]
 fn parts(
     rules: Rules,
     tokens: &mut Cursor<'_, '_>,
-    room: usize,
+    fuel: usize,
     mut found: Vec<Expression>,
 ) -> Result<Vec<Expression>, Fault>
-    ensures { Reads expressions_view rules.stop (spec.parts_from (spec.expression room) room (expressions_view found) (left_of tokens.old)) result (left_of tokens.new) }
+    ensures { Reads expressions_view rules.stop (spec.parts_from (spec.expression fuel) fuel (expressions_view found) (left_of tokens.old)) result (left_of tokens.new) }
 {
-    for _turn in 0..room {
-        let part = expression(rules, tokens, room, 0)?;
-        found.push(part)?;
+    for _turn in 0..fuel {
         if !tokens.sees(Kind::Comma) {
             tokens.expect(rules.stop, Kind::CloseCurly)?;
             return Ok(found);
         }
         tokens.take(rules.stop)?;
+        let part = expression(rules, tokens, fuel, 0)?;
+        found.push(part)?;
     }
     Err(Fault::Syntax)
 }
 
+/// Reads `{`, an expression, and those that follow it.
 #[cycle(expression)]
 #[tactic(auto, unfolding(crate::specs::Reading::concatenated))]
-fn concatenated(rules: Rules, tokens: &mut Cursor<'_, '_>, room: usize) -> Result<Expression, Fault>
-    ensures { Reads expression_of rules.stop (spec.concatenated (spec.expression room) room (left_of tokens.old)) result (left_of tokens.new) }
+fn concatenated(rules: Rules, tokens: &mut Cursor<'_, '_>, fuel: usize) -> Result<Expression, Fault>
+    ensures { Reads expression_of rules.stop (spec.concatenated (spec.expression fuel) fuel (left_of tokens.old)) result (left_of tokens.new) }
 {
     tokens.take(rules.stop)?;
-    let found = parts(rules, tokens, room, Vec::new(rules.alloc))?;
-    Ok(concat_of(found))
+    let first = expression(rules, tokens, fuel, 0)?;
+    let others = parts(rules, tokens, fuel, Vec::new(rules.alloc))?;
+    Ok(concat_of(rules.alloc, first, others)?)
 }
 
 #[cycle(expression)]
 #[tactic(auto, unfolding(crate::specs::Reading::primary))]
-fn primary(rules: Rules, tokens: &mut Cursor<'_, '_>, room: usize) -> Result<Expression, Fault>
-    ensures { Reads expression_of rules.stop (spec.primary (spec.expression room) room (left_of tokens.old)) result (left_of tokens.new) }
+fn primary(rules: Rules, tokens: &mut Cursor<'_, '_>, fuel: usize) -> Result<Expression, Fault>
+    ensures { Reads expression_of rules.stop (spec.primary (spec.expression fuel) fuel (left_of tokens.old)) result (left_of tokens.new) }
 {
     match tokens.kind() {
         Kind::Name => name(rules, tokens),
         Kind::Sized => sized(rules, tokens),
-        Kind::OpenCurly => concatenated(rules, tokens, room),
-        Kind::Open => nested(rules, tokens, room),
+        Kind::OpenCurly => concatenated(rules, tokens, fuel),
+        Kind::Open => nested(rules, tokens, fuel),
         Kind::Decimal => Err(Fault::Unsized),
         _ => Err(Fault::Syntax),
     }
@@ -171,14 +172,14 @@ fn primary(rules: Rules, tokens: &mut Cursor<'_, '_>, room: usize) -> Result<Exp
 
 #[cycle(expression)]
 #[tactic(auto, unfolding(crate::specs::Reading::operand))]
-fn operand(rules: Rules, tokens: &mut Cursor<'_, '_>, room: usize) -> Result<Expression, Fault>
-    ensures { Reads expression_of rules.stop (spec.operand (spec.expression room) room (left_of tokens.old)) result (left_of tokens.new) }
+fn operand(rules: Rules, tokens: &mut Cursor<'_, '_>, fuel: usize) -> Result<Expression, Fault>
+    ensures { Reads expression_of rules.stop (spec.operand (spec.expression fuel) fuel (left_of tokens.old)) result (left_of tokens.new) }
 {
     match prefix(tokens.kind()) {
-        None => primary(rules, tokens, room),
+        None => primary(rules, tokens, fuel),
         Some(op) => {
             tokens.take(rules.stop)?;
-            let inner = primary(rules, tokens, room)?;
+            let inner = primary(rules, tokens, fuel)?;
             Ok(unary_of(rules.alloc, op, inner)?)
         }
     }
@@ -190,18 +191,18 @@ fn operand(rules: Rules, tokens: &mut Cursor<'_, '_>, room: usize) -> Result<Exp
 fn climb(
     rules: Rules,
     tokens: &mut Cursor<'_, '_>,
-    room: usize,
+    fuel: usize,
     level: u8,
     mut left: Expression,
 ) -> Result<Expression, Fault>
-    ensures { Reads expression_of rules.stop (spec.climb (spec.expression room) room level (expression_of left) (left_of tokens.old)) result (left_of tokens.new) }
+    ensures { Reads expression_of rules.stop (spec.climb (spec.expression fuel) fuel level (expression_of left) (left_of tokens.old)) result (left_of tokens.new) }
 {
-    for _turn in 0..room {
+    for _turn in 0..fuel {
         let Some((strength, op)) = continues(level, tokens.kind()) else {
             return Ok(left);
         };
         tokens.take(rules.stop)?;
-        let right = expression(rules, tokens, room, strength + 1)?;
+        let right = expression(rules, tokens, fuel, strength + 1)?;
         left = binary_of(rules.alloc, op, left, right)?;
     }
     Err(Fault::Syntax)
@@ -213,15 +214,15 @@ fn climb(
 fn chosen(
     rules: Rules,
     tokens: &mut Cursor<'_, '_>,
-    room: usize,
+    fuel: usize,
     test: Expression,
 ) -> Result<Expression, Fault>
-    ensures { Reads expression_of rules.stop (spec.chosen (spec.expression room) (expression_of test) (left_of tokens.old)) result (left_of tokens.new) }
+    ensures { Reads expression_of rules.stop (spec.chosen (spec.expression fuel) (expression_of test) (left_of tokens.old)) result (left_of tokens.new) }
 {
     tokens.take(rules.stop)?;
-    let yes = expression(rules, tokens, room, 0)?;
+    let yes = expression(rules, tokens, fuel, 0)?;
     tokens.expect(rules.stop, Kind::Colon)?;
-    let no = expression(rules, tokens, room, 0)?;
+    let no = expression(rules, tokens, fuel, 0)?;
     Ok(choice_of(rules.alloc, test, yes, no)?)
 }
 
@@ -231,18 +232,18 @@ fn chosen(
 pub fn expression(
     rules: Rules,
     tokens: &mut Cursor<'_, '_>,
-    room: usize,
+    fuel: usize,
     level: u8,
 ) -> Result<Expression, Fault>
-    ensures { Reads expression_of rules.stop (spec.expression room level (left_of tokens.old)) result (left_of tokens.new) }
+    ensures { Reads expression_of rules.stop (spec.expression fuel level (left_of tokens.old)) result (left_of tokens.new) }
 {
-    if room == 0 {
+    if fuel == 0 {
         return Err(Fault::Syntax);
     }
-    let first = operand(rules, tokens, room - 1)?;
-    let left = climb(rules, tokens, room - 1, level, first)?;
+    let first = operand(rules, tokens, fuel - 1)?;
+    let left = climb(rules, tokens, fuel - 1, level, first)?;
     if level == 0 && tokens.sees(Kind::Question) {
-        return chosen(rules, tokens, room - 1, left);
+        return chosen(rules, tokens, fuel - 1, left);
     }
     Ok(left)
 }

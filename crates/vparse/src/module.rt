@@ -43,12 +43,12 @@ fn range(rules: Rules, tokens: &mut Cursor<'_, '_>) -> Result<Option<(u64, u64)>
 fn names(
     rules: Rules,
     tokens: &mut Cursor<'_, '_>,
-    room: usize,
+    fuel: usize,
     mut found: Vec<String>,
 ) -> Result<Vec<String>, Fault>
-    ensures { Reads names_view rules.stop (spec.names_from room (names_view found) (left_of tokens.old)) result (left_of tokens.new) }
+    ensures { Reads names_view rules.stop (spec.names_from fuel (names_view found) (left_of tokens.old)) result (left_of tokens.new) }
 {
-    for _turn in 0..room {
+    for _turn in 0..fuel {
         let name = tokens.expect(rules.stop, Kind::Name)?;
         found.push(String::from_str(rules.alloc, name.text)?)?;
         if !tokens.sees(Kind::Comma) {
@@ -62,12 +62,12 @@ fn names(
 
 /// Reads a `reg` item.
 #[tactic(auto, unfolding(crate::specs::Reading::declaration))]
-fn declaration(rules: Rules, tokens: &mut Cursor<'_, '_>, room: usize) -> Result<Declaration, Fault>
-    ensures { Reads declaration_of rules.stop (spec.declaration room (left_of tokens.old)) result (left_of tokens.new) }
+fn declaration(rules: Rules, tokens: &mut Cursor<'_, '_>, fuel: usize) -> Result<Declaration, Fault>
+    ensures { Reads declaration_of rules.stop (spec.declaration fuel (left_of tokens.old)) result (left_of tokens.new) }
 {
     tokens.take(rules.stop)?;
     let found = range(rules, tokens)?;
-    let names = names(rules, tokens, room, Vec::new(rules.alloc))?;
+    let names = names(rules, tokens, fuel, Vec::new(rules.alloc))?;
     Ok(Declaration {
         range: found,
         names,
@@ -79,13 +79,13 @@ fn declaration(rules: Rules, tokens: &mut Cursor<'_, '_>, room: usize) -> Result
 fn process(
     rules: Rules,
     tokens: &mut Cursor<'_, '_>,
-    room: usize,
+    fuel: usize,
     repeats: bool,
 ) -> Result<Process, Fault>
-    ensures { Reads process_of rules.stop (spec.process room repeats (left_of tokens.old)) result (left_of tokens.new) }
+    ensures { Reads process_of rules.stop (spec.process fuel repeats (left_of tokens.old)) result (left_of tokens.new) }
 {
     tokens.take(rules.stop)?;
-    let body = statement(rules, tokens, room)?;
+    let body = statement(rules, tokens, fuel)?;
     Ok(Process { repeats, body })
 }
 
@@ -104,14 +104,14 @@ fn repeats_of(kind: Kind) -> Option<bool>
 fn item(
     rules: Rules,
     tokens: &mut Cursor<'_, '_>,
-    room: usize,
+    fuel: usize,
     mut found: Module,
 ) -> Result<Module, Fault>
-    ensures { Reads module_of rules.stop (spec.item room (module_of found) (left_of tokens.old)) result (left_of tokens.new) }
+    ensures { Reads module_of rules.stop (spec.item fuel (module_of found) (left_of tokens.old)) result (left_of tokens.new) }
 {
     match repeats_of(tokens.kind()) {
         Some(repeats) => {
-            let one = process(rules, tokens, room, repeats)?;
+            let one = process(rules, tokens, fuel, repeats)?;
             found.procs.push(one)?;
             Ok(found)
         }
@@ -119,7 +119,7 @@ fn item(
             if !tokens.sees(Kind::Reg) {
                 return Err(Fault::Syntax);
             }
-            let one = declaration(rules, tokens, room)?;
+            let one = declaration(rules, tokens, fuel)?;
             found.regs.push(one)?;
             Ok(found)
         }
@@ -131,25 +131,25 @@ fn item(
 fn items(
     rules: Rules,
     tokens: &mut Cursor<'_, '_>,
-    room: usize,
+    fuel: usize,
     mut found: Module,
 ) -> Result<Module, Fault>
-    ensures { Reads module_of rules.stop (spec.items_from room room (module_of found) (left_of tokens.old)) result (left_of tokens.new) }
+    ensures { Reads module_of rules.stop (spec.items_from fuel fuel (module_of found) (left_of tokens.old)) result (left_of tokens.new) }
 {
-    for _turn in 0..room {
+    for _turn in 0..fuel {
         if tokens.sees(Kind::EndModule) {
             tokens.take(rules.stop)?;
             return Ok(found);
         }
-        found = item(rules, tokens, room, found)?;
+        found = item(rules, tokens, fuel, found)?;
     }
     Err(Fault::Syntax)
 }
 
 /// Reads a module that is all there is.
 #[tactic(auto, unfolding(crate::specs::Reading::source))]
-pub fn source(rules: Rules, tokens: &mut Cursor<'_, '_>, room: usize) -> Result<Module, Fault>
-    ensures { Reads module_of rules.stop (spec.source room (left_of tokens.old)) result (left_of tokens.new) }
+pub fn source(rules: Rules, tokens: &mut Cursor<'_, '_>, fuel: usize) -> Result<Module, Fault>
+    ensures { Reads module_of rules.stop (spec.source fuel (left_of tokens.old)) result (left_of tokens.new) }
 {
     tokens.expect(rules.stop, Kind::Module)?;
     let name = tokens.expect(rules.stop, Kind::Name)?;
@@ -159,7 +159,7 @@ pub fn source(rules: Rules, tokens: &mut Cursor<'_, '_>, room: usize) -> Result<
         regs: Vec::new(rules.alloc),
         procs: Vec::new(rules.alloc),
     };
-    let found = items(rules, tokens, room, start)?;
+    let found = items(rules, tokens, fuel, start)?;
     if tokens.is_done() {
         Ok(found)
     } else {

@@ -51,6 +51,8 @@ fn read_module(alloc: Global, tokens: &[Token<'_>]) -> Result<Module, Misfit>
 {
     let stop = too_deep(tokens);
     let mut cursor = Cursor::new(tokens);
+    // Fuel for each token suffices: every expression and every statement inside another, and every turn of a loop, comes
+    // after a token that is taken for it.
     match source(Rules { alloc, stop }, &mut cursor, tokens.len()) {
         Err(fault) => Err(Misfit {
             fault,

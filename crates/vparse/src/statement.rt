@@ -37,29 +37,29 @@ fn delay(rules: Rules, tokens: &mut Cursor<'_, '_>) -> Result<Option<u64>, Fault
 fn value(
     rules: Rules,
     tokens: &mut Cursor<'_, '_>,
-    room: usize,
+    fuel: usize,
 ) -> Result<(Option<u64>, Expression), Fault>
-    ensures { Reads (λ p. (p.0, expression_of p.1)) rules.stop (spec.value room (left_of tokens.old)) result (left_of tokens.new) }
+    ensures { Reads (λ p. (p.0, expression_of p.1)) rules.stop (spec.value fuel (left_of tokens.old)) result (left_of tokens.new) }
 {
     let found = delay(rules, tokens)?;
-    let e = expression(rules, tokens, room, 0)?;
+    let e = expression(rules, tokens, fuel, 0)?;
     tokens.expect(rules.stop, Kind::Semicolon)?;
     Ok((found, e))
 }
 
 /// Reads an assignment.
 #[tactic(auto, unfolding(crate::specs::Reading::assign))]
-fn assign(rules: Rules, tokens: &mut Cursor<'_, '_>, room: usize) -> Result<Statement, Fault>
-    ensures { Reads statement_of rules.stop (spec.assign room (left_of tokens.old)) result (left_of tokens.new) }
+fn assign(rules: Rules, tokens: &mut Cursor<'_, '_>, fuel: usize) -> Result<Statement, Fault>
+    ensures { Reads statement_of rules.stop (spec.assign fuel (left_of tokens.old)) result (left_of tokens.new) }
 {
     let name = tokens.take(rules.stop)?;
     if tokens.sees(Kind::AtMost) {
         tokens.take(rules.stop)?;
-        let found = value(rules, tokens, room)?;
+        let found = value(rules, tokens, fuel)?;
         return Ok(assign_later_of(rules.alloc, name.text, found.0, found.1)?);
     }
     tokens.expect(rules.stop, Kind::Assign)?;
-    let found = value(rules, tokens, room)?;
+    let found = value(rules, tokens, fuel)?;
     Ok(assign_of(rules.alloc, name.text, found.0, found.1)?)
 }
 
@@ -114,12 +114,12 @@ fn event(rules: Rules, tokens: &mut Cursor<'_, '_>) -> Result<Event, Fault>
 fn events_from(
     rules: Rules,
     tokens: &mut Cursor<'_, '_>,
-    room: usize,
+    fuel: usize,
     mut found: Vec<Event>,
 ) -> Result<Vec<Event>, Fault>
-    ensures { Reads triggers_view rules.stop (spec.triggers_from room (triggers_view found) (left_of tokens.old)) result (left_of tokens.new) }
+    ensures { Reads triggers_view rules.stop (spec.triggers_from fuel (triggers_view found) (left_of tokens.old)) result (left_of tokens.new) }
 {
-    for _turn in 0..room {
+    for _turn in 0..fuel {
         let one = event(rules, tokens)?;
         found.push(one)?;
         if !separates(tokens.kind()) {
@@ -133,12 +133,12 @@ fn events_from(
 
 /// Reads `@ ( events )`.
 #[tactic(auto, unfolding(crate::specs::Reading::events))]
-fn events(rules: Rules, tokens: &mut Cursor<'_, '_>, room: usize) -> Result<Vec<Event>, Fault>
-    ensures { Reads triggers_view rules.stop (spec.events room (left_of tokens.old)) result (left_of tokens.new) }
+fn events(rules: Rules, tokens: &mut Cursor<'_, '_>, fuel: usize) -> Result<Vec<Event>, Fault>
+    ensures { Reads triggers_view rules.stop (spec.events fuel (left_of tokens.old)) result (left_of tokens.new) }
 {
     tokens.take(rules.stop)?;
     tokens.expect(rules.stop, Kind::Open)?;
-    events_from(rules, tokens, room, Vec::new(rules.alloc))
+    events_from(rules, tokens, fuel, Vec::new(rules.alloc))
 }
 
 /// Reads expressions with a comma before each, and `)`.
@@ -146,18 +146,18 @@ fn events(rules: Rules, tokens: &mut Cursor<'_, '_>, room: usize) -> Result<Vec<
 fn arguments(
     rules: Rules,
     tokens: &mut Cursor<'_, '_>,
-    room: usize,
+    fuel: usize,
     mut found: Vec<Expression>,
 ) -> Result<Vec<Expression>, Fault>
-    ensures { Reads expressions_view rules.stop (spec.arguments_from room room (expressions_view found) (left_of tokens.old)) result (left_of tokens.new) }
+    ensures { Reads expressions_view rules.stop (spec.arguments_from fuel fuel (expressions_view found) (left_of tokens.old)) result (left_of tokens.new) }
 {
-    for _turn in 0..room {
+    for _turn in 0..fuel {
         if !tokens.sees(Kind::Comma) {
             tokens.expect(rules.stop, Kind::Close)?;
             return Ok(found);
         }
         tokens.take(rules.stop)?;
-        let argument = expression(rules, tokens, room, 0)?;
+        let argument = expression(rules, tokens, fuel, 0)?;
         found.push(argument)?;
     }
     Err(Fault::Syntax)
@@ -165,13 +165,13 @@ fn arguments(
 
 /// Reads a `$display`.
 #[tactic(auto, unfolding(crate::specs::Reading::display))]
-fn display(rules: Rules, tokens: &mut Cursor<'_, '_>, room: usize) -> Result<Statement, Fault>
-    ensures { Reads statement_of rules.stop (spec.display room (left_of tokens.old)) result (left_of tokens.new) }
+fn display(rules: Rules, tokens: &mut Cursor<'_, '_>, fuel: usize) -> Result<Statement, Fault>
+    ensures { Reads statement_of rules.stop (spec.display fuel (left_of tokens.old)) result (left_of tokens.new) }
 {
     tokens.take(rules.stop)?;
     tokens.expect(rules.stop, Kind::Open)?;
     let format = tokens.expect(rules.stop, Kind::Text)?;
-    let found = arguments(rules, tokens, room, Vec::new(rules.alloc))?;
+    let found = arguments(rules, tokens, fuel, Vec::new(rules.alloc))?;
     tokens.expect(rules.stop, Kind::Semicolon)?;
     Ok(display_of(string_text(rules.alloc, format.text.as_bytes())?, found))
 }
@@ -188,11 +188,11 @@ fn finish(rules: Rules, tokens: &mut Cursor<'_, '_>) -> Result<Statement, Fault>
 
 /// Reads `( expression )`.
 #[tactic(auto, unfolding(crate::specs::Reading::condition))]
-fn condition(rules: Rules, tokens: &mut Cursor<'_, '_>, room: usize) -> Result<Expression, Fault>
-    ensures { Reads expression_of rules.stop (spec.condition room (left_of tokens.old)) result (left_of tokens.new) }
+fn condition(rules: Rules, tokens: &mut Cursor<'_, '_>, fuel: usize) -> Result<Expression, Fault>
+    ensures { Reads expression_of rules.stop (spec.condition fuel (left_of tokens.old)) result (left_of tokens.new) }
 {
     tokens.expect(rules.stop, Kind::Open)?;
-    let test = expression(rules, tokens, room, 0)?;
+    let test = expression(rules, tokens, fuel, 0)?;
     tokens.expect(rules.stop, Kind::Close)?;
     Ok(test)
 }
@@ -200,40 +200,40 @@ fn condition(rules: Rules, tokens: &mut Cursor<'_, '_>, room: usize) -> Result<E
 /// Reads `# decimal` and a statement.
 #[cycle(statement)]
 #[tactic(auto, unfolding(crate::specs::Reading::delayed))]
-fn delayed(rules: Rules, tokens: &mut Cursor<'_, '_>, room: usize) -> Result<Statement, Fault>
-    ensures { Reads statement_of rules.stop (spec.delayed (spec.statement room) (left_of tokens.old)) result (left_of tokens.new) }
+fn delayed(rules: Rules, tokens: &mut Cursor<'_, '_>, fuel: usize) -> Result<Statement, Fault>
+    ensures { Reads statement_of rules.stop (spec.delayed (spec.statement fuel) (left_of tokens.old)) result (left_of tokens.new) }
 {
     tokens.take(rules.stop)?;
     let found = tokens.expect(rules.stop, Kind::Decimal)?;
-    let body = statement(rules, tokens, room)?;
+    let body = statement(rules, tokens, fuel)?;
     Ok(delay_of(rules.alloc, found.value, body)?)
 }
 
 /// Reads `@ ( events )` and a statement.
 #[cycle(statement)]
 #[tactic(auto, unfolding(crate::specs::Reading::awaited))]
-fn awaited(rules: Rules, tokens: &mut Cursor<'_, '_>, room: usize) -> Result<Statement, Fault>
-    ensures { Reads statement_of rules.stop (spec.awaited (spec.statement room) room (left_of tokens.old)) result (left_of tokens.new) }
+fn awaited(rules: Rules, tokens: &mut Cursor<'_, '_>, fuel: usize) -> Result<Statement, Fault>
+    ensures { Reads statement_of rules.stop (spec.awaited (spec.statement fuel) fuel (left_of tokens.old)) result (left_of tokens.new) }
 {
-    let found = events(rules, tokens, room)?;
-    let body = statement(rules, tokens, room)?;
+    let found = events(rules, tokens, fuel)?;
+    let body = statement(rules, tokens, fuel)?;
     Ok(await_of(rules.alloc, found, body)?)
 }
 
 /// Reads a block, and answers its statements.
 #[cycle(statement)]
 #[tactic(auto, unfolding(crate::specs::Reading::block, crate::specs::Reading::statements_from))]
-fn block(rules: Rules, tokens: &mut Cursor<'_, '_>, room: usize) -> Result<Vec<Statement>, Fault>
-    ensures { Reads statements_view rules.stop (spec.block (spec.statement room) room (left_of tokens.old)) result (left_of tokens.new) }
+fn block(rules: Rules, tokens: &mut Cursor<'_, '_>, fuel: usize) -> Result<Vec<Statement>, Fault>
+    ensures { Reads statements_view rules.stop (spec.block (spec.statement fuel) fuel (left_of tokens.old)) result (left_of tokens.new) }
 {
     tokens.expect(rules.stop, Kind::Begin)?;
     let mut found = Vec::new(rules.alloc);
-    for _turn in 0..room {
+    for _turn in 0..fuel {
         if tokens.sees(Kind::EndBlock) {
             tokens.take(rules.stop)?;
             return Ok(found);
         }
-        found.push(statement(rules, tokens, room)?)?;
+        found.push(statement(rules, tokens, fuel)?)?;
     }
     Err(Fault::Syntax)
 }
@@ -244,41 +244,41 @@ fn block(rules: Rules, tokens: &mut Cursor<'_, '_>, room: usize) -> Result<Vec<S
 fn otherwise(
     rules: Rules,
     tokens: &mut Cursor<'_, '_>,
-    room: usize,
+    fuel: usize,
     test: Expression,
     body: Vec<Statement>,
 ) -> Result<Statement, Fault>
-    ensures { Reads statement_of rules.stop (spec.otherwise (spec.statement room) room (expression_of test) (statements_view body) (left_of tokens.old)) result (left_of tokens.new) }
+    ensures { Reads statement_of rules.stop (spec.otherwise (spec.statement fuel) fuel (expression_of test) (statements_view body) (left_of tokens.old)) result (left_of tokens.new) }
 {
     if !tokens.sees(Kind::Else) {
         return Ok(branch_of(test, body));
     }
     tokens.take(rules.stop)?;
-    let other = block(rules, tokens, room)?;
+    let other = block(rules, tokens, fuel)?;
     Ok(branches_of(test, body, other))
 }
 
 /// Reads `if ( expression ) block`, and `else block` where it follows.
 #[cycle(statement)]
 #[tactic(auto, unfolding(crate::specs::Reading::branch))]
-fn branch(rules: Rules, tokens: &mut Cursor<'_, '_>, room: usize) -> Result<Statement, Fault>
-    ensures { Reads statement_of rules.stop (spec.branch (spec.statement room) room (left_of tokens.old)) result (left_of tokens.new) }
+fn branch(rules: Rules, tokens: &mut Cursor<'_, '_>, fuel: usize) -> Result<Statement, Fault>
+    ensures { Reads statement_of rules.stop (spec.branch (spec.statement fuel) fuel (left_of tokens.old)) result (left_of tokens.new) }
 {
     tokens.take(rules.stop)?;
-    let test = condition(rules, tokens, room)?;
-    let body = block(rules, tokens, room)?;
-    otherwise(rules, tokens, room, test, body)
+    let test = condition(rules, tokens, fuel)?;
+    let body = block(rules, tokens, fuel)?;
+    otherwise(rules, tokens, fuel, test, body)
 }
 
 /// Reads `while ( expression ) block`.
 #[cycle(statement)]
 #[tactic(auto, unfolding(crate::specs::Reading::looped))]
-fn looped(rules: Rules, tokens: &mut Cursor<'_, '_>, room: usize) -> Result<Statement, Fault>
-    ensures { Reads statement_of rules.stop (spec.looped (spec.statement room) room (left_of tokens.old)) result (left_of tokens.new) }
+fn looped(rules: Rules, tokens: &mut Cursor<'_, '_>, fuel: usize) -> Result<Statement, Fault>
+    ensures { Reads statement_of rules.stop (spec.looped (spec.statement fuel) fuel (left_of tokens.old)) result (left_of tokens.new) }
 {
     tokens.take(rules.stop)?;
-    let test = condition(rules, tokens, room)?;
-    let body = block(rules, tokens, room)?;
+    let test = condition(rules, tokens, fuel)?;
+    let body = block(rules, tokens, fuel)?;
     Ok(loop_of(test, body))
 }
 
@@ -287,9 +287,9 @@ fn looped(rules: Rules, tokens: &mut Cursor<'_, '_>, room: usize) -> Result<Stat
 fn statement_form(
     rules: Rules,
     tokens: &mut Cursor<'_, '_>,
-    room: usize,
+    fuel: usize,
 ) -> Result<Statement, Fault>
-    ensures { Reads statement_of rules.stop (spec.statement_form (spec.statement room) room (left_of tokens.old)) result (left_of tokens.new) }
+    ensures { Reads statement_of rules.stop (spec.statement_form (spec.statement fuel) fuel (left_of tokens.old)) result (left_of tokens.new) }
 {
     match tokens.kind() {
         Kind::Semicolon => {
@@ -297,26 +297,26 @@ fn statement_form(
             Ok(Statement::Empty)
         }
         Kind::Begin => {
-            let found = block(rules, tokens, room)?;
+            let found = block(rules, tokens, fuel)?;
             Ok(block_of(found))
         }
-        Kind::Name => assign(rules, tokens, room),
-        Kind::If => branch(rules, tokens, room),
-        Kind::While => looped(rules, tokens, room),
-        Kind::Hash => delayed(rules, tokens, room),
-        Kind::At => awaited(rules, tokens, room),
-        Kind::Display => display(rules, tokens, room),
+        Kind::Name => assign(rules, tokens, fuel),
+        Kind::If => branch(rules, tokens, fuel),
+        Kind::While => looped(rules, tokens, fuel),
+        Kind::Hash => delayed(rules, tokens, fuel),
+        Kind::At => awaited(rules, tokens, fuel),
+        Kind::Display => display(rules, tokens, fuel),
         Kind::Finish => finish(rules, tokens),
         _ => Err(Fault::Syntax),
     }
 }
 
 #[cycle(statement)]
-pub fn statement(rules: Rules, tokens: &mut Cursor<'_, '_>, room: usize) -> Result<Statement, Fault>
-    ensures { Reads statement_of rules.stop (spec.statement room (left_of tokens.old)) result (left_of tokens.new) }
+pub fn statement(rules: Rules, tokens: &mut Cursor<'_, '_>, fuel: usize) -> Result<Statement, Fault>
+    ensures { Reads statement_of rules.stop (spec.statement fuel (left_of tokens.old)) result (left_of tokens.new) }
 {
-    if room == 0 {
+    if fuel == 0 {
         return Err(Fault::Syntax);
     }
-    statement_form(rules, tokens, room - 1)
+    statement_form(rules, tokens, fuel - 1)
 }

@@ -45,10 +45,10 @@ impl<'d, K: Naming> GateState<'d, K> {
             regions: _,
             holder: _,
             journal,
-            lines,
+            made,
             end: _,
             whole: _,
         } = parts;
-        Closed::new(journal, lines, end, committed)
+        Closed::new(journal, made.lines, end, committed)
     }
 }

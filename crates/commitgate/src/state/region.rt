@@ -2,7 +2,7 @@
 ghost use Rattle.std.specs.Prelude.{◌≡◌, ◌≤◌, ◌↔◌, true, None, length, IsTrue, IfSome, IfNone, MatchOption};
 ghost use Rattle.model.specs.Runs.{has_any};
 ghost use Rattle.gateparts.specs.Log.{entries_of};
-ghost use Rattle.gateparts.specs.Held.{state_in};
+ghost use Rattle.gateparts.specs.GateState.{state_in};
 ghost use Rattle.commitgate.specs.Answers.{HasNoUpdate, IsResting, IsTimely};
 ghost use Rattle.commitgate.specs.Regions.{IsDueChange, IsPassed};
 ghost use Rattle.commitgate.specs.Closing.{IsEndOf};
@@ -14,14 +14,11 @@ use crate::reply::Rest;
 use crate::seat::Seat;
 use crate::state::GateState;
 use gateparts::MarkCell;
-use model::end::{End, Limits, Why};
+use model::end::{End, LAST_TIME, Limits, Why};
 use model::entry::Entry;
 use regcells::RegCells;
 use std::alloc::Global;
 use std::sync::Wait;
-
-// No advance goes past this time.
-const LAST_TIME: u64 = 281_474_976_710_656;
 
 // Why a run stops at a change of the regions, if it does: its time is past the run's limit or, without one, past the
 // last time.
@@ -52,7 +49,7 @@ impl<'d, K: Naming> GateState<'d, K> {
 
     /// How the run ended, if it did: by the stored end, or else quiet where no event is left.
     pub(crate) fn end(&self) -> End
-        ensures { IsEndOf K.named.listing self.now result }
+        ensures { IsEndOf K.named.code self.now result }
     {
         match self.parts.end {
             Some(why) => End::Stopped(why),
@@ -68,8 +65,8 @@ impl<'d, K: Naming> GateState<'d, K> {
 
     /// The first change of the regions that is due, where nothing is active and an event is left (11.4).
     fn due_change(&self) -> Entry
-        requires { IsResting K.named.listing self.now }
-        ensures { IsDueChange (state_in K.named.listing self.now) result }
+        requires { IsResting K.named.code self.now }
+        ensures { IsDueChange (state_in K.named.code self.now) result }
     {
         let regions = &self.parts.regions;
         if regions.legal(&Entry::ActivateInactive) {
@@ -98,7 +95,7 @@ impl<'d, K: Naming> GateState<'d, K> {
         requires cells { cells.now ≡ K.named.cells }
         requires mark { mark.now.table.shared.table_id ≡ K.named.mark }
         requires awake { (self.old.end ≡ None) → (has_any self.old.core.active ≡ true) → HasNoUpdate self.old.core → length self.old.journal ≤ length (entries_of seat.old.seen) → ⊥ }
-        ensures state { RestAnswered K.named.listing K.named.limits seat.old.worker self.old self.new result }
+        ensures state { RestAnswered K.named.code K.named.limits seat.old.worker self.old self.new result }
         ensures seat { RestAnsweredTo K.named seat.old seat.new result }
     {
         self.known();

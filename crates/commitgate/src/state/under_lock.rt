@@ -1,6 +1,6 @@
 //! A ticket's turn that is evaluated under the lock, and so can't be stale.
 ghost use Rattle.std.specs.Prelude.{◌≡◌, MatchResult};
-ghost use Rattle.commitgate.specs.Tickets.{IsCurrent};
+ghost use Rattle.commitgate.specs.Tickets.{IsCurrent, most_tries};
 ghost use Rattle.commitgate.specs.HeldTurns.{is_refused, IsHeldTurn, IsNoHeldTurn};
 ghost use Rattle.commitgate.specs.Replies.{HeldAnswered};
 ghost use Rattle.commitgate.specs.Told.{HeldAnsweredTo};
@@ -39,7 +39,7 @@ impl<'d, K: Naming> GateState<'d, K> {
         requires cells { cells.now ≡ K.named.cells }
         requires current { IsCurrent self.old.core ticket.now }
         ensures same { self.new ≡ self.old }
-        ensures turn { MatchResult result (IsHeldTurn K.named.listing self.old ticket.now) (IsNoHeldTurn K.named.listing self.old ticket.now) }
+        ensures turn { MatchResult result (IsHeldTurn K.named.code self.old ticket.now) (IsNoHeldTurn K.named.code self.old ticket.now) }
     {
         self.known();
         ticket.known();
@@ -48,7 +48,7 @@ impl<'d, K: Naming> GateState<'d, K> {
         self.parts.evaluate(rt, cells, alloc, workspace, state, now)
     }
 
-    /// Evaluates the turn of a ticket that was refused as stale three times, and appends it. A journal that is full stops
+    /// Evaluates the turn of a ticket that was refused as stale as often as it may be, and appends it. A journal that is full stops
     /// the run, and so does a turn that is too long, or one with `$finish`, which is appended first. Where memory is
     /// refused nothing changes.
     pub fn commit_held<R: Wait>(
@@ -63,8 +63,8 @@ impl<'d, K: Naming> GateState<'d, K> {
     ) -> Reply<K>
         requires cells { cells.now ≡ K.named.cells }
         requires mark { mark.now.table.shared.table_id ≡ K.named.mark }
-        requires tries { ticket.tries ≡ 3 }
-        ensures state { HeldAnswered K.named.listing K.named.limits seat.old.worker self.old ticket self.new result }
+        requires tries { ticket.tries ≡ most_tries }
+        ensures state { HeldAnswered K.named.code K.named.limits seat.old.worker self.old ticket self.new result }
         ensures seat { HeldAnsweredTo K.named seat.old ticket seat.new result }
     {
         self.known();

@@ -27,7 +27,7 @@ impl<'d, K: Naming> GateState<'d, K> {
     ) -> UpdateReply<K>
         requires cells { cells.now ≡ K.named.cells }
         requires mark { mark.now.table.shared.table_id ≡ K.named.mark }
-        ensures state { UpdateAnswered K.named.listing K.named.limits seat.old.worker self.old self.new result }
+        ensures state { UpdateAnswered K.named.code K.named.limits seat.old.worker self.old self.new result }
         ensures seat { UpdateAnsweredTo K.named seat.old seat.new result }
     {
         self.known();

@@ -1,4 +1,4 @@
-//! A module that has a design, and one that is refused. The program's tests have the tables of faults.
+//! Modules that have a design, and modules that are refused. The program's tests have the tables of faults.
 
 use elaborate::elaborate;
 use model::tree::Module;
@@ -16,6 +16,29 @@ fn elaborates(rt: HostRuntime) {
     let made = module(&rt, rt.alloc(), source);
     let found = elaborate(rt.alloc(), &made).expect(&rt, "a module without faults");
     assert_eq!(rt; found.registers(), 2);
+}
+
+#[test]
+fn elaborates_concatenations_of_one_part(rt: HostRuntime) {
+    let source =
+        "module t; reg [63:0] a; reg b; initial begin a = {a}; a = {{64'bz}}; b = {b}; end endmodule";
+    let made = module(&rt, rt.alloc(), source);
+    let found = elaborate(rt.alloc(), &made).expect(&rt, "a module without faults");
+    assert!(rt; found.widths() == [64, 1].as_slice());
+}
+
+#[test]
+fn refuses_a_wide_part(rt: HostRuntime) {
+    for source in [
+        "module t; reg [63:0] a; reg b; initial a = {{a, b}}; endmodule",
+        "module t; reg [63:0] a; reg b; initial a = {{b, a}}; endmodule",
+        "module t; reg [63:0] a; initial a = {1'b0, {a}}; endmodule",
+    ] {
+        let made = module(&rt, rt.alloc(), source);
+        let fault = elaborate(rt.alloc(), &made).err().expect(&rt, "a fault");
+        let line = format!(in rt.alloc(); "{fault}").expect(&rt, "memory");
+        assert_eq!(rt; line.as_str(), "E7 concatenation over 64 bits", "{source}");
+    }
 }
 
 #[test]

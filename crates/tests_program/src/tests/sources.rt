@@ -1,7 +1,6 @@
 //! Sources that are refused, each with its line, and the bounds that they keep to.
 
 use super::{assert_left, run_line};
-use design::Code;
 use frontend::read_design;
 use std::alloc::{AllocError, Global};
 use std::process::Abort;

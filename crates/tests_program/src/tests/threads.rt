@@ -5,8 +5,8 @@ ghost use Rattle.std.specs.Prelude.{◌≤◌};
 
 use design::Design;
 use frontend::read_design;
-use journal::State;
 use model::entry::Entry;
+use regions::State;
 use replay::replay;
 use simulate::{Options, Unobserved, simulate};
 use std::alloc::Global;
@@ -70,7 +70,7 @@ fn assert_run<R: Abort + Threads + Wait + Sync>(
     let (entries, lines, _end, _committed) = outcome.closed.into_parts();
     let again = replay(alloc, design, entries.as_slice()).expect(rt, "a lawful journal");
     assert!(rt;
-        again.lines.as_str() == lines.as_str(),
+        again.made.lines.as_str() == lines.as_str(),
         "the lines of the replay"
     );
     assert!(rt;

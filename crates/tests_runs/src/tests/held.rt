@@ -1,6 +1,6 @@
 //! Registers that a test holds, and turns of the first process of a source on them.
 
-use design::{Code, Design, ProcState, RegId};
+use design::{Design, ProcState, RegId};
 use frontend::read_design;
 use logic4::bits::Bits;
 use std::alloc::Global;
@@ -54,7 +54,7 @@ pub fn design_of(rt: &impl Abort, alloc: Global, source: &str) -> Design {
 /// Where the first process of a design begins.
 pub fn beginning(rt: &impl Abort, design: &Design) -> ProcState {
     assert!(rt; design.processes() > 0, "no process");
-    design.first(0)
+    design.start(0)
 }
 
 /// The turn of a process in a state, at a time below 2 to the 32.

@@ -90,7 +90,7 @@ fn says_why(rt: HostRuntime) {
 fn assert_replayed(rt: &impl Abort, alloc: Global, design: &Design, journal: &[Entry], line: &str) {
     let replayed = replay(alloc, design, journal).ok().expect(rt, "lawful");
     assert!(rt; replayed.state.is_quiet());
-    assert_eq!(rt; replayed.lines.as_str(), line);
+    assert_eq!(rt; replayed.made.lines.as_str(), line);
 }
 
 #[test]

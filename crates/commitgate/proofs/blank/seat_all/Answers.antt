@@ -17,7 +17,7 @@ loop-worker-preserved g c =
     let left : c.pop.new.self.items ≡ replicate (n.workers - c.loop-worker.worker - 1) (first_fresh n) = last_left (n.workers - c.loop-worker.worker) (first_fresh n) c.in-Some.own c.pop.new.self.items (sym i.left ∙ c.in-Some.ensures.items) in
     let fewer : n.workers - c.loop-worker.worker - 1 ≡ n.workers - (c.loop-worker.worker + 1) = omega arith in
     let place : 0 + c.loop-worker.worker ≡ c.loop-worker.worker = omega arith in
-    let seat : c.new.result ≡ new_seat n.listing c.loop-worker.worker =
+    let seat : c.new.result ≡ new_seat n.code c.loop-worker.worker =
     c.new.ensures ∙ ap (λ (f : regs.Fresh). record { worker = c.loop-worker.worker; seen = []; mine = []; stored = None; fresh = f.seen }) own in
     record {
       table = next.cell.0 ∙ i.table;
@@ -26,5 +26,5 @@ loop-worker-preserved g c =
       made =
           c.in_ok-push.ensures.items
           ∙ ((λ j. i.made j ++ seat j ∷ [])
-          ∙ sym (map-range_with_len_more (new_seat n.listing) 0 c.loop-worker.worker c.loop-worker.worker place));
+          ∙ sym (map-range_with_len_more (new_seat n.code) 0 c.loop-worker.worker c.loop-worker.worker place));
     }

@@ -11,5 +11,5 @@ invariant-loop-worker g l = record {
   table : l.whole.table_id ≡ g.K.Naming.named.mark;
   keeps : cell_view l.whole ≡ keeper l.worker [];
   left : l.regs.items ≡ replicate (g.K.Naming.named.workers - l.worker) (first_fresh g.K.Naming.named);
-  made : l.seats.items ≡ map (new_seat g.K.Naming.named.listing) (range_with_len 0 l.worker);
+  made : l.seats.items ≡ map (new_seat g.K.Naming.named.code) (range_with_len 0 l.worker);
 }

@@ -2,6 +2,7 @@ use Rattle.std.proofs.Common.{◌≡◌, ◌+◌, ◌≤◌, map, drop}
 use Rattle.model.specs.Trees.{expression_of, expressions}
 use Rattle.model.specs.Elaboration.{all_resolved, widths_of}
 use Rattle.model.specs.Expressions.{total_size}
+use Rattle.elaborate.specs.Formed.{AreFormed}
 use Rattle.elaborate.specs.Findings.{capped, all_found, or_else, verdict}
 use Rattle.elaborate.proofs.check.+found.Given as goal
 
@@ -10,5 +11,6 @@ invariant-expressions-loop-part l = record {
   size : capped (total_size (widths_of l.names) (all_resolved l.names (expressions (map expression_of l.parts))))
       ≡ capped (l.size + total_size (widths_of l.names) (all_resolved l.names (expressions (map expression_of (drop l.part-index l.parts)))));
   small : l.size ≤ 65;
+  formed : AreFormed (expressions (map expression_of (drop l.part-index l.parts))) → AreFormed (expressions (map expression_of l.parts));
   found : all_found l.names (expressions (map expression_of l.parts)) ≡ or_else (verdict l.verdict) (all_found l.names (expressions (map expression_of (drop l.part-index l.parts))));
 }

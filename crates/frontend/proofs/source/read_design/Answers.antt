@@ -1,16 +1,12 @@
--- Each clause of `parse` is about one fault, and what a text spells is formed.
-use Rattle.std.proofs.Common.{◌≡◌, ℕ, List, subst}
+-- Each clause of `parse` is about one fault.
+use Rattle.std.proofs.Common.{◌≡◌, ℕ, List}
 use Rattle.std.specs.Prelude.{Result, Err}
 use Rattle.tokens.specs.Lexing.{Stops, stray, bad_number}
 use Rattle.model.specs.Syntax as tree
-use Rattle.model.specs.Trees.{module_of}
 use Rattle.vparse.specs.Spells.{Spells, IsDeepTextAt}
 use Rattle.vparse.specs.declared.parse.ParseFault.{ParseFault}
 use Rattle.vparse.specs.declared.parse.ParseFault.TheVariants.{Byte, Syntax, Literal, Deep, Unsized, Memory}
-use Rattle.elaborate.specs.Faults.{IsToldRightly}
-use Rattle.elaborate.specs.Formed.{IsFormedModule}
 use Rattle.frontend.specs.Sources.{IsTextFault}
-use Rattle.frontend.proofs.Formed.{spelled_formed}
 use Rattle.frontend.proofs.source.read_design.Goals as goal
 
 text_fault : {X : Type 0} (source : List ℕ) (result : Result X ParseFault) (fault : ParseFault) → result ≡ Err fault
@@ -30,10 +26,3 @@ pub returns-in-Err-clause-fault : goal.returns-in-Err-clause-fault
 returns-in-Err-clause-fault c =
     let e = c.parse.ensures in
     text_fault c.args.source.now c.parse.result c.in-Err.fault c.in-Err.is e.byte e.literal e.syntax e.no_size e.deep_first
-
-pub unreachable-requires : goal.unreachable-requires
-unreachable-requires c =
-    let m = module_of c.in-Ok.module in
-    let formed : IsFormedModule m = spelled_formed m c.args.source.now c.in-Ok.ensures.spelled in
-    let told : IsToldRightly c.in-Err-Unspelled.field-0 m = c.in-Err-Unspelled.ensures.spelled in
-    subst (λ f. IsToldRightly f m) c.in-Err-Unspelled.field-0-is told formed

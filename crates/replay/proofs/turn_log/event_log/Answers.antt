@@ -7,7 +7,7 @@ use Rattle.design.specs.Compiled.{design_of}
 use Rattle.design.specs.Standing.{remainder_of, IsStateOf}
 use Rattle.turn.specs.declared.log.TurnFault.{TurnFault}
 use Rattle.replay.specs.Replays.{state_in}
-use Rattle.journal.specs.Reader.{IsTurnOn, IsNoTurnOn}
+use Rattle.regions.specs.Reader.{IsTurnOn, IsNoTurnOn}
 use Rattle.replay.proofs.Given.{given_turn, given_none, stop_turn}
 use Rattle.replay.proofs.turn_log.event_log.Goals as goal
 
@@ -16,13 +16,13 @@ returns-then-not-legal c =
     let code = c.args.design.now in
     let r = c.args.replayed.now in
     let no : c.legal.result ≡ false = c.if-not-legal.true in
-    given_none code r c.args.number (λ none. let yes : c.legal.result ≡ true = (c.legal.ensures (remainder_of code) r.store).1 none in cc)
+    given_none code (state_in code r) c.args.number (λ none. let yes : c.legal.result ≡ true = (c.legal.ensures (remainder_of code) r.store).1 none in cc)
 
 pub returns-in-Ok : goal.returns-in-Ok
 returns-in-Ok c =
     let code = c.args.design.now in
     let r = c.args.replayed.now in
-    given_turn code r c.args.number c.in-Some.field-0-0 c.in-Some.state c.in-Ok.log c.requires.stands c.in-Some.ensures
+    given_turn code r.state r.store c.args.number c.in-Some.field-0-0 c.in-Some.state c.in-Ok.log c.requires.stands.states c.requires.stands.store c.in-Some.ensures
     (subst (λ (now : ℕ). IsTurnOn code c.in-Some.state r.store now c.in-Ok.log) c.time-now.ensures c.in-Ok.ensures)
 
 pub returns-in-Err-TooLong : goal.returns-in-Err-TooLong

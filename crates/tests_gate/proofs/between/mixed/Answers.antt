@@ -23,5 +23,5 @@ returns-clause-turn g c =
 pub returns-clause-gave : goal.returns-clause-gave
 returns-clause-gave g c =
     let fresh = c.run_turn.new.reader.reader.fresh in
-    subst (λ (v : SeatView). GaveAll (IsRead g.K.Naming.named.listing v.fresh) c.in-TooLong.reads.entries) (sym c.into_seat.ensures)
-    (subst (λ (f : TurnFault). GaveAll (IsRead g.K.Naming.named.listing fresh) (reads_of_fault f)) c.in-TooLong.is c.in-Err.ensures.gave)
+    subst (λ (v : SeatView). GaveAll (IsRead g.K.Naming.named.code v.fresh) c.in-TooLong.reads.entries) (sym c.into_seat.ensures)
+    (subst (λ (f : TurnFault). GaveAll (IsRead g.K.Naming.named.code fresh) (reads_of_fault f)) c.in-TooLong.is c.in-Err.ensures.gave)

@@ -7,5 +7,5 @@ use Rattle.vparse.proofs.module.items.Given as goal
 
 abbrev pub invariant-loop-turn : goal.invariant-loop-turn
 invariant-loop-turn l =
-    spec.items_from l.room l.room (module_of l.fn.found) (left_of l.fn.tokens)
-    ≡ spec.items_from l.room (l.room - l._turn) (module_of l.found) (left_of l.tokens)
+    spec.items_from l.fuel l.fuel (module_of l.fn.found) (left_of l.fn.tokens)
+    ≡ spec.items_from l.fuel (l.fuel - l._turn) (module_of l.found) (left_of l.tokens)

@@ -7,5 +7,5 @@ use Rattle.vparse.proofs.module.names.Given as goal
 
 abbrev pub invariant-loop-turn : goal.invariant-loop-turn
 invariant-loop-turn l =
-    spec.names_from l.room (names_view l.fn.found) (left_of l.fn.tokens)
-    ≡ spec.names_from (l.room - l._turn) (names_view l.found) (left_of l.tokens)
+    spec.names_from l.fuel (names_view l.fn.found) (left_of l.fn.tokens)
+    ≡ spec.names_from (l.fuel - l._turn) (names_view l.found) (left_of l.tokens)

@@ -7,5 +7,5 @@ use Rattle.vparse.proofs.statement.arguments.Given as goal
 
 abbrev pub invariant-loop-turn : goal.invariant-loop-turn
 invariant-loop-turn l =
-    spec.arguments_from l.room l.room (expressions_view l.fn.found) (left_of l.fn.tokens)
-    ≡ spec.arguments_from l.room (l.room - l._turn) (expressions_view l.found) (left_of l.tokens)
+    spec.arguments_from l.fuel l.fuel (expressions_view l.fn.found) (left_of l.fn.tokens)
+    ≡ spec.arguments_from l.fuel (l.fuel - l._turn) (expressions_view l.found) (left_of l.tokens)

@@ -7,5 +7,5 @@ use Rattle.vparse.proofs.statement.events_from.Given as goal
 
 abbrev pub invariant-loop-turn : goal.invariant-loop-turn
 invariant-loop-turn l =
-    spec.triggers_from l.room (triggers_view l.fn.found) (left_of l.fn.tokens)
-    ≡ spec.triggers_from (l.room - l._turn) (triggers_view l.found) (left_of l.tokens)
+    spec.triggers_from l.fuel (triggers_view l.fn.found) (left_of l.fn.tokens)
+    ≡ spec.triggers_from (l.fuel - l._turn) (triggers_view l.found) (left_of l.tokens)

@@ -6,13 +6,13 @@ use Rattle.model.specs.Runs.{after, least}
 use Rattle.design.specs.Compiled.{design_of}
 use Rattle.gateparts.specs.declared.log.Item.TheVariants.{Ended}
 use Rattle.gateparts.specs.Log.{entries_of}
-use Rattle.gateparts.specs.Held.{Held, state_in}
+use Rattle.gateparts.specs.GateState.{GateState, state_in}
 use Rattle.gateparts.specs.Fresh.{Rises}
 use Rattle.commitgate.specs.Seats.{SeatView}
 use Rattle.commitgate.specs.Answers.{HasNoUpdate, IsGranted}
 use Rattle.gateparts.specs.Working.{updated_register, HasMetLog}
 use Rattle.commitgate.specs.Told.{CommitCauses}
-use Rattle.journal.specs.Find.{update_numbers}
+use Rattle.regions.specs.Find.{update_numbers}
 use Rattle.gateparts.proofs.Beginnings.{prefix_trans}
 use Rattle.commitgate.proofs.Meetings.{rises_self}
 use Rattle.commitgate.proofs.Waits.{none_least}
@@ -23,26 +23,26 @@ use Rattle.commitgate.proofs.state.GateState.apply_update.Goals as goal
 pub returns-in-Some-clause-seat : goal.returns-in-Some-clause-seat
 returns-in-Some-clause-seat g c =
     tell_stopped g.K.Naming.named c.args.seat.now c.args.self.now c.known.ensures.guarded c.known.ensures.kept c.greet.ensures.later CommitCauses c.in-Some.why c.greet.new.seat c.greet.ensures.seat
-    (ap (λ (h : Held). h.end) (sym c.greet.ensures.same) ∙ sym c.ended.ensures ∙ c.in-Some.is)
+    (ap (λ (h : GateState). h.end) (sym c.greet.ensures.same) ∙ sym c.ended.ensures ∙ c.in-Some.is)
 
 pub returns-in_default-first_update-clause-state : goal.returns-in_default-first_update-clause-state
 returns-in_default-first_update-clause-state g c =
-    let running = ap (λ (h : Held). h.end) (sym c.greet.ensures.same) ∙ (sym c.ended.ensures ∙ c.in_default.is) in
+    let running = ap (λ (h : GateState). h.end) (sym c.greet.ensures.same) ∙ (sym c.ended.ensures ∙ c.in_default.is) in
     let none = none_least (update_numbers c.self.inside.parts.regions.active) (sym c.first_update.ensures.least ∙ c.in_default-first_update.is) in
-    (running, subst (λ (h : Held). HasNoUpdate h.core) (c.self.view_is ∙ c.greet.ensures.same) none, c.greet.ensures.same)
+    (running, subst (λ (h : GateState). HasNoUpdate h.core) (c.self.view_is ∙ c.greet.ensures.same) none, c.greet.ensures.same)
 
 pub returns-in_default-first_update-clause-seat : goal.returns-in_default-first_update-clause-seat
 returns-in_default-first_update-clause-seat g c =
     let n = g.K.Naming.named in
     let old = c.args.seat.now in
     let held = c.args.self.now in
-    let running = ap (λ (h : Held). h.end) (sym c.greet.ensures.same) ∙ (sym c.ended.ensures ∙ c.in_default.is) in
+    let running = ap (λ (h : GateState). h.end) (sym c.greet.ensures.same) ∙ (sym c.ended.ensures ∙ c.in_default.is) in
     let none = none_least (update_numbers c.self.inside.parts.regions.active) (sym c.first_update.ensures.least ∙ c.in_default-first_update.is) in (
       tell_refused n old held c.known.ensures.guarded c.known.ensures.kept c.greet.ensures.later c.greet.new.seat old.fresh c.greet.ensures.seat (rises_self old.fresh) running,
       (
-        state_in n.listing held,
-        ap (λ (v : SeatView). after (design_of n.listing) (entries_of v.seen)) c.greet.ensures.seat ∙ after_log n held c.known.ensures.guarded c.known.ensures.kept,
-        no_updates (state_in n.listing held) (subst (λ (h : Held). HasNoUpdate h.core) (c.self.view_is ∙ c.greet.ensures.same) none),
+        state_in n.code held,
+        ap (λ (v : SeatView). after (design_of n.code) (entries_of v.seen)) c.greet.ensures.seat ∙ after_log n held c.known.ensures.guarded c.known.ensures.kept,
+        no_updates (state_in n.code held) (subst (λ (h : GateState). HasNoUpdate h.core) (c.self.view_is ∙ c.greet.ensures.same) none),
       ),
     )
 
@@ -52,7 +52,7 @@ returns-then-is_full-clause-seat g c =
     let greet = c.greet.ensures in
     let stop = c.stop.ensures in
     let log : c.stop.new.self.log ≡ c.args.self.now.log ++ (c.greet.new.seat.worker, Ended Entries) ∷ [] =
-    ap (λ (h : Held). h.log) stop.state ∙ ap (λ (h : Held). h.log ++ (c.greet.new.seat.worker, Ended Entries) ∷ []) greet.same in
+    ap (λ (h : GateState). h.log) stop.state ∙ ap (λ (h : GateState). h.log ++ (c.greet.new.seat.worker, Ended Entries) ∷ []) greet.same in
     let seen : c.stop.new.seat.seen ≡ c.stop.new.self.log = ap (λ (v : SeatView). v.seen) stop.seat in
     tell_ended g.K.Naming.named CommitCauses old c.stop.new.seat Entries c.stop.new.self c.known-then-is_full.ensures.guarded c.known-then-is_full.ensures.kept
     (record {
@@ -62,7 +62,7 @@ returns-then-is_full-clause-seat g c =
     })
     (ap (λ (v : SeatView). v.mine) stop.seat ∙ ap (λ (v : SeatView). v.mine) greet.seat)
     seen
-    (ap (λ (h : Held). h.end) stop.state)
+    (ap (λ (h : GateState). h.end) stop.state)
     (inr (ap (λ (v : SeatView). v.stored) stop.seat, refl))
 
 pub returns-in-Ok-clause-seat : goal.returns-in-Ok-clause-seat
@@ -75,8 +75,8 @@ returns-in-Ok-clause-seat g c =
     let number = c.in-Some-first_update.number in
     let worker : c.greet.new.seat.worker ≡ old.worker = ap (λ (v : SeatView). v.worker) greet.seat in
     let seat = c.in-Ok.ensures.seat in
-    let granted = subst (λ (h : Held). IsGranted n.listing old.worker h (Update number) c.in-Ok.grant.position c.in-Ok.grant.entry c.in-Ok.grant.tickets.items c.append.new.self) greet.same
-    (subst (λ k. IsGranted n.listing k c.greet.new.self (Update number) c.in-Ok.grant.position c.in-Ok.grant.entry c.in-Ok.grant.tickets.items c.append.new.self) worker c.in-Ok.ensures.ok) in
+    let granted = subst (λ (h : GateState). IsGranted n.code old.worker h (Update number) c.in-Ok.grant.position c.in-Ok.grant.entry c.in-Ok.grant.tickets.items c.append.new.self) greet.same
+    (subst (λ k. IsGranted n.code k c.greet.new.self (Update number) c.in-Ok.grant.position c.in-Ok.grant.entry c.in-Ok.grant.tickets.items c.append.new.self) worker c.in-Ok.ensures.ok) in
     let seen : new.seen ≡ c.append.new.self.log = ap (λ (v : SeatView). v.seen) seat in
     record {
       number = number;
@@ -85,9 +85,9 @@ returns-in-Ok-clause-seat g c =
           (ap (λ (v : SeatView). v.worker) seat ∙ worker)
           seen
           (ap (λ (v : SeatView). v.mine) seat ∙ ap (λ (v : SeatView). v.mine ++ c.in-Ok.grant.position ∷ []) greet.seat)
-          (ap (λ (v : SeatView). v.stored) seat ∙ ap (λ (v : SeatView). if (state_in n.listing c.append.new.self).finished then Some Finish else v.stored) greet.seat)
+          (ap (λ (v : SeatView). v.stored) seat ∙ ap (λ (v : SeatView). if (state_in n.code c.append.new.self).finished then Some Finish else v.stored) greet.seat)
           (subst (λ f. Rises f new.fresh) (ap (λ (v : SeatView). v.fresh) greet.seat) c.in-Ok.ensures.rises)
           (met_update n held c.append.new.self number new.seen new.fresh (length n.cells) c.known.ensures.widths c.known-in-Ok.ensures.kept seen
-          (subst (λ (h : Held). least (update_numbers h.core.active) ≡ Some number) (c.self.view_is ∙ greet.same) (sym c.first_update.ensures.least ∙ c.in-Some-first_update.is))
-          (subst (λ (h : Held). HasMetLog c.append.new.self.histories new.fresh (length n.cells) (updated_register h.core.active (Update number)) None) greet.same c.in-Ok.ensures.met));
+          (subst (λ (h : GateState). least (update_numbers h.core.active) ≡ Some number) (c.self.view_is ∙ greet.same) (sym c.first_update.ensures.least ∙ c.in-Some-first_update.is))
+          (subst (λ (h : GateState). HasMetLog c.append.new.self.histories new.fresh (length n.cells) (updated_register h.core.active (Update number)) None) greet.same c.in-Ok.ensures.met));
     }

@@ -3,7 +3,7 @@ use Rattle.std.proofs.Common.{◌≡◌, ◌∙◌, ℕ, ap, refl, sym, subst, i
 use Rattle.model.specs.declared.end.Limits.{Limits}
 use Rattle.model.specs.declared.end.Why.TheVariants.{Entries, Finish}
 use Rattle.model.specs.Runs.{has_any, is_quiet}
-use Rattle.gateparts.specs.Held.{Held, state_in}
+use Rattle.gateparts.specs.GateState.{GateState, state_in}
 use Rattle.gateparts.specs.Fresh.{Rises}
 use Rattle.commitgate.specs.Seats.{SeatView}
 use Rattle.commitgate.specs.Answers.{IsResting, FullRest, IsRestStopped, IsGranted, IsTimely}
@@ -18,41 +18,41 @@ pub returns-then-is_full-clause-state : goal.returns-then-is_full-clause-state
 returns-then-is_full-clause-state g c =
     let n = g.K.Naming.named in
     let mid = c.greet.new.self in
-    let idle : has_any mid.core.active ≡ false = ap (λ (h : Held). has_any h.core.active) (sym c.self.view_is) ∙ sym c.if-is_active.ensures in
-    let rests : IsResting n.listing mid = record { running = c.in-Running.ensures.0; idle = idle; left = c.in-Running.ensures.1 } in
-    subst (λ (h : Held). IsRestStopped n.listing n.limits c.args.seat.now.worker h Entries c.stop.new.self) c.greet.ensures.same
-    (subst (λ (k : ℕ). IsRestStopped n.listing n.limits k mid Entries c.stop.new.self) (ap (λ (v : SeatView). v.worker) c.greet.ensures.seat)
+    let idle : has_any mid.core.active ≡ false = ap (λ (h : GateState). has_any h.core.active) (sym c.self.view_is) ∙ sym c.if-is_active.ensures in
+    let rests : IsResting n.code mid = record { running = c.in-Running.ensures.0; idle = idle; left = c.in-Running.ensures.1 } in
+    subst (λ (h : GateState). IsRestStopped n.code n.limits c.args.seat.now.worker h Entries c.stop.new.self) c.greet.ensures.same
+    (subst (λ (k : ℕ). IsRestStopped n.code n.limits k mid Entries c.stop.new.self) (ap (λ (v : SeatView). v.worker) c.greet.ensures.seat)
     (inr (rests, FullRest (c.is_full.ensures.full.0 c.if-is_full.true), c.stop.ensures.state)))
 
 pub returns-in-Some-clause-state : goal.returns-in-Some-clause-state
 returns-in-Some-clause-state g c =
     let n = g.K.Naming.named in
     let mid = c.greet.new.self in
-    let idle : has_any mid.core.active ≡ false = ap (λ (h : Held). has_any h.core.active) (sym c.self.view_is) ∙ sym c.if-is_active.ensures in
-    let rests : IsResting n.listing mid = record { running = c.in-Running.ensures.0; idle = idle; left = c.in-Running.ensures.1 } in
+    let idle : has_any mid.core.active ≡ false = ap (λ (h : GateState). has_any h.core.active) (sym c.self.view_is) ∙ sym c.if-is_active.ensures in
+    let rests : IsResting n.code mid = record { running = c.in-Running.ensures.0; idle = idle; left = c.in-Running.ensures.1 } in
     let passed = subst (λ (l : Limits). IsPassed l c.due_change-change.result c.in-Some.why) c.self.invariant.limits_is c.in-Some.ensures in
-    let stops = due_stops n.listing n.limits mid c.due_change-change.result c.in-Some.why c.if-is_full.ensures.room c.due_change-change.ensures passed in
-    subst (λ (h : Held). IsRestStopped n.listing n.limits c.args.seat.now.worker h c.in-Some.why c.stop-in-Some.new.self) c.greet.ensures.same
-    (subst (λ (k : ℕ). IsRestStopped n.listing n.limits k mid c.in-Some.why c.stop-in-Some.new.self) (ap (λ (v : SeatView). v.worker) c.greet.ensures.seat)
+    let stops = due_stops n.code n.limits mid c.due_change-change.result c.in-Some.why c.if-is_full.ensures.room c.due_change-change.ensures passed in
+    subst (λ (h : GateState). IsRestStopped n.code n.limits c.args.seat.now.worker h c.in-Some.why c.stop-in-Some.new.self) c.greet.ensures.same
+    (subst (λ (k : ℕ). IsRestStopped n.code n.limits k mid c.in-Some.why c.stop-in-Some.new.self) (ap (λ (v : SeatView). v.worker) c.greet.ensures.seat)
     (inr (rests, stops, c.stop-in-Some.ensures.state)))
 
 pub returns-in-Stopped-clause-seat : goal.returns-in-Stopped-clause-seat
 returns-in-Stopped-clause-seat g c =
     tell_stopped g.K.Naming.named c.args.seat.now c.args.self.now c.known.ensures.guarded c.known.ensures.kept c.greet.ensures.later RestCauses c.in-Stopped.why c.greet.new.seat c.greet.ensures.seat
-    (ap (λ (h : Held). h.end) (sym c.greet.ensures.same) ∙ c.in-Stopped.ensures)
+    (ap (λ (h : GateState). h.end) (sym c.greet.ensures.same) ∙ c.in-Stopped.ensures)
 
 pub returns-in-Quiet-clause-seat : goal.returns-in-Quiet-clause-seat
 returns-in-Quiet-clause-seat g c =
     tell_quiet g.K.Naming.named c.args.seat.now c.args.self.now c.known.ensures.guarded c.known.ensures.kept c.greet.ensures.later c.greet.new.seat c.greet.ensures.seat
-    (ap (λ (h : Held). h.end) (sym c.greet.ensures.same) ∙ c.in-Quiet.ensures.0)
-    (ap (λ (h : Held). is_quiet (state_in g.K.Naming.named.listing h)) (sym c.greet.ensures.same) ∙ c.in-Quiet.ensures.1)
+    (ap (λ (h : GateState). h.end) (sym c.greet.ensures.same) ∙ c.in-Quiet.ensures.0)
+    (ap (λ (h : GateState). is_quiet (state_in g.K.Naming.named.code h)) (sym c.greet.ensures.same) ∙ c.in-Quiet.ensures.1)
 
 pub returns-then-is_active-clause-seat : goal.returns-then-is_active-clause-seat
 returns-then-is_active-clause-seat g c =
     let same = c.greet.ensures.same in
-    let active : has_any c.args.self.now.core.active ≡ true = ap (λ (h : Held). has_any h.core.active) (sym (c.self.view_is ∙ same)) ∙ sym c.if-is_active.ensures in
+    let active : has_any c.args.self.now.core.active ≡ true = ap (λ (h : GateState). has_any h.core.active) (sym (c.self.view_is ∙ same)) ∙ sym c.if-is_active.ensures in
     tell_busy g.K.Naming.named c.args.seat.now c.args.self.now c.known.ensures.guarded c.known.ensures.kept c.greet.ensures.later c.greet.new.seat c.greet.ensures.seat
-    (ap (λ (h : Held). h.end) (sym same) ∙ c.in-Running.ensures.0) active c.requires.awake
+    (ap (λ (h : GateState). h.end) (sym same) ∙ c.in-Running.ensures.0) active c.requires.awake
 
 pub returns-then-is_full-clause-seat : goal.returns-then-is_full-clause-seat
 returns-then-is_full-clause-seat g c =
@@ -77,10 +77,10 @@ returns-in-Ok-clause-seat g c =
     let change = c.due_change-change.result in
     let worker : c.greet.new.seat.worker ≡ old.worker = ap (λ (v : SeatView). v.worker) greet.seat in
     let seat = c.in-Ok.ensures.seat in
-    let granted = subst (λ (h : Held). IsGranted n.listing old.worker h change c.in-Ok.grant.position c.in-Ok.grant.entry c.in-Ok.grant.tickets.items c.append.new.self) greet.same
-    (subst (λ k. IsGranted n.listing k c.greet.new.self change c.in-Ok.grant.position c.in-Ok.grant.entry c.in-Ok.grant.tickets.items c.append.new.self) worker c.in-Ok.ensures.ok) in
+    let granted = subst (λ (h : GateState). IsGranted n.code old.worker h change c.in-Ok.grant.position c.in-Ok.grant.entry c.in-Ok.grant.tickets.items c.append.new.self) greet.same
+    (subst (λ k. IsGranted n.code k c.greet.new.self change c.in-Ok.grant.position c.in-Ok.grant.entry c.in-Ok.grant.tickets.items c.append.new.self) worker c.in-Ok.ensures.ok) in
     let seen : new.seen ≡ c.append.new.self.log = ap (λ (v : SeatView). v.seen) seat in
-    let is_change = due_is_change (state_in n.listing c.greet.new.self) change c.due_change-change.ensures in
+    let is_change = due_is_change (state_in n.code c.greet.new.self) change c.due_change-change.ensures in
     record {
       change = change;
       is_change = is_change;
@@ -90,7 +90,7 @@ returns-in-Ok-clause-seat g c =
           (ap (λ (v : SeatView). v.worker) seat ∙ worker)
           seen
           (ap (λ (v : SeatView). v.mine) seat ∙ ap (λ (v : SeatView). v.mine ++ c.in-Ok.grant.position ∷ []) greet.seat)
-          (ap (λ (v : SeatView). v.stored) seat ∙ ap (λ (v : SeatView). if (state_in n.listing c.append.new.self).finished then Some Finish else v.stored) greet.seat)
+          (ap (λ (v : SeatView). v.stored) seat ∙ ap (λ (v : SeatView). if (state_in n.code c.append.new.self).finished then Some Finish else v.stored) greet.seat)
           (subst (λ f. Rises f new.fresh) (ap (λ (v : SeatView). v.fresh) greet.seat) c.in-Ok.ensures.rises)
-          (met_change n (state_in n.listing held) change new.seen new.fresh is_change);
+          (met_change n (state_in n.code held) change new.seen new.fresh is_change);
     }

@@ -4,39 +4,39 @@ use Rattle.std.proofs.Common.{map, ◌≡◌, ◌∙◌, true, sym, subst, None,
 use Rattle.model.specs.declared.entry.Entry.TheVariants.{ActivateInactive, ActivateNba}
 use Rattle.model.specs.Runs.{refusal, is_idle, least_time}
 use Rattle.design.specs.Standing.{remainder_of}
-use Rattle.gateparts.specs.Held.{Held, state_in}
-use Rattle.gateparts.specs.Parts.{held_of}
+use Rattle.gateparts.specs.GateState.{GateState, state_in}
+use Rattle.gateparts.specs.Parts.{gate_state_of}
 use Rattle.commitgate.specs.Answers.{IsResting}
 use Rattle.commitgate.proofs.Rests.{only_future, some_time}
 use Rattle.commitgate.proofs.state.GateState.due_change.Goals as goal
 
 pub returns-then-legal : goal.returns-then-legal
 returns-then-legal g c =
-    let listing = g.K.Naming.named.listing in
-    let due = (c.legal.ensures (remainder_of listing) (map last_value c.self.inside.parts.holder.seen)).0 c.if-legal.true in
-    subst (λ (h : Held). refusal (state_in listing h) ActivateInactive ≡ None) c.self.view_is due
+    let code = g.K.Naming.named.code in
+    let due = (c.legal.ensures (remainder_of code) (map last_value c.self.inside.parts.holder.seen)).0 c.if-legal.true in
+    subst (λ (h : GateState). refusal (state_in code h) ActivateInactive ≡ None) c.self.view_is due
 
 pub returns-then-legal-2 : goal.returns-then-legal-2
 returns-then-legal-2 g c =
-    let listing = g.K.Naming.named.listing in
-    let due = (c.legal-2.ensures (remainder_of listing) (map last_value c.self.inside.parts.holder.seen)).0 c.if-legal-2.true in
-    subst (λ (h : Held). refusal (state_in listing h) ActivateNba ≡ None) c.self.view_is due
+    let code = g.K.Naming.named.code in
+    let due = (c.legal-2.ensures (remainder_of code) (map last_value c.self.inside.parts.holder.seen)).0 c.if-legal-2.true in
+    subst (λ (h : GateState). refusal (state_in code h) ActivateNba ≡ None) c.self.view_is due
 
 pub unreachable-requires : goal.unreachable-requires
 unreachable-requires g c =
     let n = g.K.Naming.named in
     let parts = c.self.inside.parts in
-    let rests = subst (λ (h : Held). IsResting n.listing h) (sym c.self.view_is) c.requires in
-    some_time (state_in n.listing (held_of parts))
-    (only_future n.listing n.limits (held_of parts) c.legal.result c.legal-2.result c.self.invariant.guarded rests (c.legal.ensures (remainder_of n.listing) (map last_value parts.holder.seen)) c.if-legal.false (c.legal-2.ensures (remainder_of n.listing) (map last_value parts.holder.seen)) c.if-legal-2.false)
-    (sym (c.next_time.ensures (remainder_of n.listing) (map last_value parts.holder.seen)) ∙ c.in-None.is)
+    let rests = subst (λ (h : GateState). IsResting n.code h) (sym c.self.view_is) c.requires in
+    some_time (state_in n.code (gate_state_of parts))
+    (only_future n.code n.limits (gate_state_of parts) c.legal.result c.legal-2.result c.self.invariant.guarded rests (c.legal.ensures (remainder_of n.code) (map last_value parts.holder.seen)) c.if-legal.false (c.legal-2.ensures (remainder_of n.code) (map last_value parts.holder.seen)) c.if-legal-2.false)
+    (sym (c.next_time.ensures (remainder_of n.code) (map last_value parts.holder.seen)) ∙ c.in-None.is)
 
 pub returns : goal.returns
 returns g c =
     let n = g.K.Naming.named in
     let parts = c.self.inside.parts in
-    let rests = subst (λ (h : Held). IsResting n.listing h) (sym c.self.view_is) c.requires in
+    let rests = subst (λ (h : GateState). IsResting n.code h) (sym c.self.view_is) c.requires in
     let idle =
-    only_future n.listing n.limits (held_of parts) c.legal.result c.legal-2.result c.self.invariant.guarded rests (c.legal.ensures (remainder_of n.listing) (map last_value parts.holder.seen)) c.if-legal.false (c.legal-2.ensures (remainder_of n.listing) (map last_value parts.holder.seen)) c.if-legal-2.false in
-    let least = sym (c.next_time.ensures (remainder_of n.listing) (map last_value parts.holder.seen)) ∙ c.in-Some.is in
-    subst (λ (h : Held). (is_idle (state_in n.listing h) ≡ true) × (least_time (state_in n.listing h) ≡ Some c.in-Some.time)) c.self.view_is (idle, least)
+    only_future n.code n.limits (gate_state_of parts) c.legal.result c.legal-2.result c.self.invariant.guarded rests (c.legal.ensures (remainder_of n.code) (map last_value parts.holder.seen)) c.if-legal.false (c.legal-2.ensures (remainder_of n.code) (map last_value parts.holder.seen)) c.if-legal-2.false in
+    let least = sym (c.next_time.ensures (remainder_of n.code) (map last_value parts.holder.seen)) ∙ c.in-Some.is in
+    subst (λ (h : GateState). (is_idle (state_in n.code h) ≡ true) × (least_time (state_in n.code h) ≡ Some c.in-Some.time)) c.self.view_is (idle, least)

@@ -6,7 +6,7 @@ use Rattle.model.specs.Runs.{EndsIn}
 use Rattle.design.specs.Compiled.{design_of}
 use Rattle.gateparts.specs.declared.log.Item.TheVariants.{Ended}
 use Rattle.gateparts.specs.Log.{Log}
-use Rattle.gateparts.specs.Held.{Held, state_in}
+use Rattle.gateparts.specs.GateState.{GateState, state_in}
 use Rattle.gateparts.specs.Fresh.{Rises}
 use Rattle.commitgate.specs.Seats.{SeatView}
 use Rattle.commitgate.specs.Told.{LongCauses}
@@ -22,13 +22,13 @@ stop-requires-clause-ends g c =
     let n = g.K.Naming.named in
     let held = c.args.self.now in
     let may = c.requires.may in
-    subst (λ (p : ℕ). EndsIn (design_of n.listing) n.limits (length held.journal) (state_in n.listing held) (Stopped (TooLong p))) (sym c.process.ensures)
-    (long_ends n.listing n.limits held c.args.ticket.now (unfinished n.listing n.limits held c.known.ensures.guarded may.running) may.current may.room c.requires.long)
+    subst (λ (p : ℕ). EndsIn (design_of n.code) n.limits (length held.journal) (state_in n.code held) (Stopped (TooLong p))) (sym c.process.ensures)
+    (long_ends n.code n.limits held c.args.ticket.now (unfinished n.code n.limits held c.known.ensures.guarded may.running) may.current may.room c.requires.long)
 
 pub returns-clause-state : goal.returns-clause-state
 returns-clause-state g c =
     let n = g.K.Naming.named in
-    long_stopped n.listing n.limits c.args.seat.now.worker c.args.self.now c.args.ticket.now c.process.result c.stop.new.self c.process.ensures c.requires.may c.requires.long c.stop.ensures.state
+    long_stopped n.code n.limits c.args.seat.now.worker c.args.self.now c.args.ticket.now c.process.result c.stop.new.self c.process.ensures c.requires.may c.requires.long c.stop.ensures.state
 
 pub returns-clause-seat : goal.returns-clause-seat
 returns-clause-seat g c =
@@ -36,7 +36,7 @@ returns-clause-seat g c =
     let old = c.args.seat.now in
     let why = TooLong c.process.result in
     let stop = c.stop.ensures in
-    let log : c.stop.new.self.log ≡ c.args.self.now.log ++ (old.worker, Ended why) ∷ [] = ap (λ (h : Held). h.log) stop.state in
+    let log : c.stop.new.self.log ≡ c.args.self.now.log ++ (old.worker, Ended why) ∷ [] = ap (λ (h : GateState). h.log) stop.state in
     let seen : c.stop.new.seat.seen ≡ c.stop.new.self.log = ap (λ (v : SeatView). v.seen) stop.seat in
     tell_ended n (LongCauses c.args.ticket.now.process) old c.stop.new.seat why c.stop.new.self c.known-2.ensures.guarded c.known-2.ensures.kept
     (record {
@@ -46,5 +46,5 @@ returns-clause-seat g c =
     })
     (ap (λ (v : SeatView). v.mine) stop.seat)
     seen
-    (ap (λ (h : Held). h.end) stop.state)
+    (ap (λ (h : GateState). h.end) stop.state)
     (inr (ap (λ (v : SeatView). v.stored) stop.seat, inr (ap TooLong c.process.ensures)))

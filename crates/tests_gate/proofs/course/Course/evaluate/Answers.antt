@@ -7,4 +7,4 @@ use Rattle.tests_gate.proofs.course.Course.evaluate.Goals as goal
 
 pub returns-clause-gave : goal.returns-clause-gave
 returns-clause-gave g c =
-    subst (λ (v : SeatView). GaveAll (IsRead g.K.Naming.named.listing v.fresh) c.in-Ok.log.reads.entries) (sym c.into_seat.ensures) c.in-Ok.ensures.gave
+    subst (λ (v : SeatView). GaveAll (IsRead g.K.Naming.named.code v.fresh) c.in-Ok.log.reads.entries) (sym c.into_seat.ensures) c.in-Ok.ensures.gave

@@ -7,4 +7,4 @@ use Rattle.tests_gate.proofs.course.Course.look_and_commit.Goals as goal
 
 pub commit-reply-requires-clause-recorded : goal.commit-reply-requires-clause-recorded
 commit-reply-requires-clause-recorded g c =
-    subst (λ (f : List (List Vector)). GaveAll (IsRead g.K.Naming.named.listing f) c.args.log.reads.entries) (sym c.entries-count.ensures.fresh) c.requires.gave
+    subst (λ (f : List (List Vector)). GaveAll (IsRead g.K.Naming.named.code f) c.args.log.reads.entries) (sym c.entries-count.ensures.fresh) c.requires.gave

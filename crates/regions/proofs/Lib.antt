@@ -1,0 +1,24 @@
+-- Lemmas of the regions, values and steps.
+pub mod Sets
+pub mod Covers
+pub mod Changes
+pub mod Pasts
+pub mod Netted
+pub mod Storing
+pub mod Unwatched
+pub mod Order
+pub mod Timed
+pub mod Steps
+pub mod Refusals
+pub mod Kept
+pub mod Reserved
+pub mod Counts
+pub mod Firsts
+pub mod Clear
+pub mod Applied
+pub mod Starting
+pub mod MadeLaws
+mod StillReads
+mod Clock
+pub mod Evaluated
+pub mod Taken

@@ -1,0 +1,15 @@
+pub mod Waiters
+pub mod Waking
+pub mod Queue
+pub mod Logs
+pub mod Past
+pub mod Passing
+pub mod Moves
+pub mod Find
+pub mod Future
+pub mod Order
+pub mod Covering
+pub mod MadeEvents
+pub mod Evaluations
+pub mod Reader
+pub mod Regions

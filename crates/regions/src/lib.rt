@@ -1,0 +1,35 @@
+//! The state of the stratified event queue (IEEE 1364-2005, 11.3), and its one change: a step of the simulation
+//! reference model (11.4).
+//!
+//! A `State` holds all but the values of the registers, which stand in a `Store`. `State::apply` makes the step of
+//! one journal entry:
+//!
+//! 1. An entry that the rules don't permit is refused, for the first reason that they have.
+//! 2. Room is made for all that the step may add, so that nothing can fail after the first change.
+//! 3. A turn takes its evaluation out of the active region, and an update the first active update.
+//! 4. Its writes are made in order. Each change of a register wakes the processes that wait for it, and their
+//!    evaluations become active. Where no process waits for any of the registers, each register is stored once, by the net of
+//!    its writes: the state after it is the same.
+//! 5. The nonblocking assignments of a turn become updates, in the nonblocking region or in the future, and then the
+//!    event of its own wait becomes inactive or a future event.
+//! 6. A change of region swaps a region into an empty one. An advance takes the events of the least time off the
+//!    front of the two lists of future events.
+//!
+//! The layer above uses the contract of `State::apply`. After an `Ok`, the state that `State` and `Store` stand for
+//! is the one to which the step of the definitions leads from the state before, and the values that each register had
+//! have grown by those of its own among the step's changes. After an `Err` both are unchanged.
+#![tactic(auto)]
+
+mod apply;
+mod find;
+mod future;
+mod queue;
+mod reader;
+mod state;
+mod step;
+mod store;
+mod waiters;
+
+pub use reader::turn_on;
+pub use state::{ApplyFault, Made, MadeEvent, State};
+pub use store::{PlainStore, Store};

@@ -1,0 +1,32 @@
+//! Runs each command line of standard input as `vsimtx` would, and prints behind each what it leaves: its output, its line on
+//! standard error, and its status.
+#![tactic(auto)]
+
+use journal::Counted;
+use program::{SystemFiles, command};
+use std::alloc::{AllocError, Global};
+use std::io;
+
+fn main(rt: HostRuntime) -> io::Result<()> {
+    let alloc = rt.alloc();
+    for line in rt.lines(alloc) {
+        let line = line?;
+        println!(rt; "$ {line}")?;
+        let words = words_of(alloc, line.as_str())?;
+        let mut files = SystemFiles { rt: &rt };
+        let mut out = Counted::new(rt.stdout());
+        let mut err = rt.stdout();
+        let status = command(&rt, alloc, words.as_slice(), &mut files, &mut out, &mut err);
+        println!(rt; "status {status}")?;
+    }
+    Ok(())
+}
+
+// The words of a line, between its spaces.
+fn words_of(alloc: Global, line: &str) -> Result<Vec<String>, AllocError> {
+    let mut words = Vec::new(alloc);
+    for word in line.split(' ') {
+        words.push(String::from_str(alloc, word)?)?;
+    }
+    Ok(words)
+}
