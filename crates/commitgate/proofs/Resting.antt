@@ -4,7 +4,7 @@ use Rattle.std.specs.Prelude.{IsSomeAnd, IsTrue, ◌↔◌}
 use Rattle.std.specs.List.{filter}
 use mathlib.Core.List.{IsPrefix}
 use Rattle.model.specs.declared.entry.Entry.{Entry}
-use Rattle.model.specs.declared.entry.Entry.TheVariants.{Turn, Update, ActivateInactive, ActivateNba, Advance}
+use Rattle.model.specs.declared.entry.Entry.TheVariants.{Turn, Update, ActivateInactive, ActivateNba, ActivateMonitor, Advance}
 use Rattle.model.specs.declared.end.Why.{Why}
 use Rattle.model.specs.declared.end.End.TheVariants.{Quiet}
 use Rattle.model.specs.States.{State, Event, is_evaluation}
@@ -89,6 +89,7 @@ due_is_change s (Turn event) h = h
 due_is_change s (Update event) h = h
 due_is_change s ActivateInactive h = tt
 due_is_change s ActivateNba h = tt
+due_is_change s ActivateMonitor h = tt
 due_is_change s (Advance time) h = tt
 
 pub met_change : (n : Named) (s : State) (change : Entry) (log : Log) (fresh : List (List Vector)) → IsRegionChange change → HasMetEntry n s change log fresh
@@ -96,6 +97,7 @@ met_change n s (Turn event) log fresh h = absurd h
 met_change n s (Update event) log fresh h = absurd h
 met_change n s ActivateInactive log fresh h = tt
 met_change n s ActivateNba log fresh h = tt
+met_change n s ActivateMonitor log fresh h = tt
 met_change n s (Advance time) log fresh h = tt
 
 past_cause : (until : Option ℕ) → RestCauses (why_past until)
@@ -108,6 +110,7 @@ passed_cause limits (Turn event) why h = absurd h
 passed_cause limits (Update event) why h = absurd h
 passed_cause limits ActivateInactive why h = absurd h
 passed_cause limits ActivateNba why h = absurd h
+passed_cause limits ActivateMonitor why h = absurd h
 passed_cause limits (Advance time) why h = subst RestCauses (sym h.1) (past_cause limits.until)
 
 -- a test that fails refutes what it stands for

@@ -4,7 +4,7 @@ use mathlib.Core.List.{IsPrefix}
 use Rattle.logic4.specs.Vector.{Vector}
 use Rattle.std.specs.List.{All}
 use Rattle.model.specs.declared.entry.Entry.{Entry}
-use Rattle.model.specs.declared.entry.Entry.TheVariants.{Turn, Update, ActivateInactive, ActivateNba, Advance}
+use Rattle.model.specs.declared.entry.Entry.TheVariants.{Turn, Update, ActivateInactive, ActivateNba, ActivateMonitor, Advance}
 use Rattle.model.specs.declared.end.Why.{Why}
 use Rattle.model.specs.declared.end.Why.TheVariants.{Finish, Until, Entries, TooLong, Time, Memory}
 use Rattle.model.specs.declared.end.End.TheVariants.{Quiet}
@@ -47,6 +47,7 @@ HasMetEntry n s (Update number) log fresh =
     (r : ℕ) (v : Vector) → action_in s.active number ≡ Some (states.Update r v) → r < length n.code.widths → HasMet n log fresh r
 HasMetEntry n s ActivateInactive log fresh = Unit {0}
 HasMetEntry n s ActivateNba log fresh = Unit {0}
+HasMetEntry n s ActivateMonitor log fresh = Unit {0}
 HasMetEntry n s (Advance time) log fresh = Unit {0}
 
 -- The entry stands in the journal. What the seat has seen is lawful, is all that it had seen with further items, and

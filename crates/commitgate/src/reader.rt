@@ -63,6 +63,10 @@ impl<'g, K: Naming, R: Wait> RegReader for SeatReader<'g, K, R> {
 
     ghost gave = { λ s r seen. IsRead K.named.code s.fresh r seen };
 
+    ghost Lasting = { Unit {0} };
+
+    ghost lasting = { λ r. tt };
+
     fn read(&mut self, register: RegId) -> Seen
         requires { register < length K.named.code.widths }
         ensures adds { IsRead K.named.code self.new.fresh register result }

@@ -71,6 +71,10 @@ impl<'g, K: Naming, S: Seating, R: Wait> RegReader for SeatedReader<'g, K, S, R>
 
     ghost gave = { λ s r seen. IsRead K.named.code s.fresh r seen };
 
+    ghost Lasting = { Unit {0} };
+
+    ghost lasting = { λ r. tt };
+
     fn read(&mut self, register: RegId) -> Seen {
         self.reader.read(register)
     }

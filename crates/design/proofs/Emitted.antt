@@ -1,13 +1,12 @@
 -- The code of statements begins with what was there, and has a node more for each statement.
-use Rattle.std.proofs.Common.{◌≡◌, ℕ, ◌+◌, List, [], ◌∷◌, ◌++◌, length, refl, sym, ap, ◌∙◌, arith, length-append}
+use Rattle.std.proofs.Common.{◌≡◌, ℕ, ◌+◌, List, [], ◌∷◌, ◌++◌, length, sym, ap, ◌∙◌, arith, length-append}
+use Rattle.model.specs.declared.tree.Task.{Task}
 use Rattle.model.specs.Syntax.{Expression, Expressions}
-use Rattle.model.specs.Design.{Process, Statement, Empty, Assign, AssignAfter, AssignLater, Delay, Await, If, While, Display, Finish, Statements, End, Then, Trigger, Piece, inside, all_of, size, statements_of}
+use Rattle.model.specs.Design.{Statement, Empty, Assign, AssignAfter, AssignLater, Delay, Await, If, While, Print, Finish, Statements, End, Then, Trigger, Piece, inside, all_of, size}
 use Rattle.design.specs.declared.code.Node.{Node}
 use Rattle.design.specs.declared.code.Node.TheVariants as node
-use Rattle.design.specs.declared.code.Op.{Op}
-use Rattle.design.specs.declared.code.Span.{Span}
 use Rattle.design.specs.Generate.{own_code, assigned_code}
-use Rattle.design.specs.Emit.{Emitted, with_node, with_control, with_valued, with_line, with_display, with_statement, with_all, with_bodies, first_of}
+use Rattle.design.specs.Emit.{Emitted, with_node, with_control, with_valued, with_line, with_print, with_statement, with_all, first_of}
 use Rattle.design.proofs.Growing.{Grows, grows_same, grows_both, grows_node, grows_control, grows_valued, grows_line, line_nodes}
 
 -- the node of a statement that has others inside it
@@ -26,11 +25,11 @@ abbrev pub while_node : List ℕ → Emitted → Expression ℕ → Statements �
 while_node widths e c body next =
     with_valued e (own_code widths c) (λ s. node.Branch s (first_of (length e.nodes + 1) body (length e.nodes)) next)
 
-pub grows_display : (widths : List ℕ) (e : Emitted) (ps : List Piece) (es : Expressions ℕ) (next : ℕ) → Grows e (with_display e (with_line widths e ps es) next)
-grows_display widths e ps es next =
+pub grows_print : (task : Task) (widths : List ℕ) (e : Emitted) (ps : List Piece) (es : Expressions ℕ) (next : ℕ) → Grows e (with_print task e (with_line widths e ps es) next)
+grows_print task widths e ps es next =
     let e1 = with_line widths e ps es in
-    grows_both e e1 (with_display e e1 next) (grows_line widths e ps es)
-    (grows_node e1 (node.Display (record { from = length e.shown; to = length e1.shown }) next))
+    grows_both e e1 (with_print task e e1 next) (grows_line widths e ps es)
+    (grows_node e1 (node.Print task (record { from = length e.shown; to = length e1.shown }) next))
 
 mutual
   pub grows_statement : (widths : List ℕ) (next : ℕ) (e : Emitted) (s : Statement) → Grows e (with_statement widths next e s)
@@ -57,7 +56,7 @@ mutual
       grows_both e e1 (with_all widths (length e.nodes) e1 body)
       (grows_valued e (own_code widths c) (λ s. node.Branch s (first_of (length e.nodes + 1) body (length e.nodes)) next))
       (grows_all widths (length e.nodes) e1 body)
-  grows_statement widths next e (Display ps es) = grows_display widths e ps es next
+  grows_statement widths next e (Print task ps es) = grows_print task widths e ps es next
   grows_statement widths next e Finish = grows_node e (node.Finish next)
 
   pub grows_all : (widths : List ℕ) (after : ℕ) (e : Emitted) (ss : Statements) → Grows e (with_all widths after e ss)
@@ -94,9 +93,9 @@ mutual
       third ∙ omega (arith, first, second, length-append (all_of body) (all_of otherwise))
   length_statement widths next e (While c body) =
       length_all widths (length e.nodes) (while_node widths e c body next) body ∙ ap (λ k. k + size body) (length-append e.nodes _)
-  length_statement widths next e (Display ps es) =
+  length_statement widths next e (Print task ps es) =
       let e1 = with_line widths e ps es in
-      length_leaf e1.nodes (node.Display (record { from = length e.shown; to = length e1.shown }) next) ∙ ap (λ l. length l + 1 + 0) (line_nodes widths e ps es)
+      length_leaf e1.nodes (node.Print task (record { from = length e.shown; to = length e1.shown }) next) ∙ ap (λ l. length l + 1 + 0) (line_nodes widths e ps es)
   length_statement widths next e Finish = length_leaf e.nodes _
 
   pub length_all : (widths : List ℕ) (after : ℕ) (e : Emitted) (ss : Statements) → length (with_all widths after e ss).nodes ≡ length e.nodes + size ss

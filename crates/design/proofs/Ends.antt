@@ -1,13 +1,12 @@
 -- The code of all processes: every node is fine, those of the ends too, and each process begins at its whole body.
-use Rattle.std.proofs.Common.{◌≡◌, ℕ, zero, suc, ◌+◌, ◌<◌, ◌≤◌, ◌⊎◌, ⊎_elim, inl, inr, Bool, true, false, List, [], ◌∷◌, ◌++◌, length, drop, map, Some, None, refl, sym, ap, ◌∙◌, subst, arith, length-append, append_assoc, zero-add}
-use Rattle.std.proofs.lemmas.Option.{get_or_from_slice_get, slice_get_within}
+use Rattle.std.proofs.Common.{◌≡◌, ℕ, zero, suc, ◌+◌, ◌<◌, ◌≤◌, ◌⊎◌, ⊎_elim, inl, inr, Bool, true, false, List, [], ◌∷◌, ◌++◌, length, Some, refl, sym, ap, ◌∙◌, subst, arith, length-append, zero-add}
+use Rattle.std.proofs.lemmas.Option.{get_or_from_slice_get}
 use Rattle.std.specs.Prelude.{slice_get, slice_index_or}
-use Rattle.model.specs.Design.{Design, Process, End, Then, size, statements_of, first_place, process_at, all_of}
+use Rattle.model.specs.Design.{Design, Process, End, size, statements_of, first_place, process_at, all_of}
 use Rattle.model.specs.Turns.{whole}
 use Rattle.design.specs.declared.code.Node.{Node}
-use Rattle.design.specs.declared.code.Node.TheVariants as node
 use Rattle.design.specs.Sound.{AreSoundStatements}
-use Rattle.design.specs.Places.{remainder_at, statement_count, end_place, IsPlaceOf}
+use Rattle.design.specs.Places.{statement_count, end_place}
 use Rattle.design.specs.Compiled.{Compiled, design_of}
 use Rattle.design.specs.Meaning.{IsFine}
 use Rattle.design.specs.Emit.{Emitted, with_all, with_bodies, starts_of, first_of, end_node, end_nodes}

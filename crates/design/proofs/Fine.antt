@@ -1,31 +1,28 @@
 -- The node of each statement is fine.
-use Rattle.std.proofs.Common.{◌≡◌, ℕ, zero, suc, ◌+◌, ◌<◌, ◌≤◌, ◌⊎◌, ⊎_elim, inl, inr, List, [], ◌∷◌, ◌++◌, length, Some, refl, sym, ap, ◌∙◌, subst, arith, length-append, append_assoc}
+use Rattle.std.proofs.Common.{◌≡◌, ℕ, zero, suc, ◌+◌, ◌<◌, ◌≤◌, ◌⊎◌, ⊎_elim, inl, inr, List, [], ◌∷◌, ◌++◌, length, Some, refl, sym, ap, ◌∙◌, subst, arith, append_assoc}
 use Rattle.std.proofs.lemmas.List.{append-nil}
 use Rattle.std.specs.Prelude.{slice_get}
 use Rattle.logic4.specs.Display as display
-use Rattle.model.specs.Syntax.{Expression, Expressions, Nothing, Also, registers_of}
+use Rattle.model.specs.Syntax.{Expressions, Nothing, Also, registers_of}
 use Rattle.model.specs.Elaboration.{argument_count}
-use Rattle.model.specs.Design.{Statement, Empty, Assign, AssignAfter, AssignLater, Delay, Await, If, While, Display, Finish, Statements, End, Then, Trigger, Piece, Byte, Argument, inside, all_of, size, statement_at, first_place}
-use Rattle.model.specs.Expressions.{own_value, assigned_value}
-use Rattle.model.specs.Turns.{Remainder, At, parts}
+use Rattle.model.specs.Design.{Piece, Byte, Argument, first_place}
+use Rattle.model.specs.Expressions.{own_value}
 use Rattle.design.specs.declared.code.Node.{Node}
-use Rattle.design.specs.declared.code.Node.TheVariants as node
 use Rattle.design.specs.declared.code.Op.{Op}
 use Rattle.design.specs.declared.code.Shown.{Shown}
 use Rattle.design.specs.declared.code.Shown.TheVariants as shown
 use Rattle.design.specs.declared.code.Span.{Span}
 use Rattle.design.specs.Trees.{conversion_of}
-use Rattle.design.specs.Sound.{IsSoundExpression, AreSoundExpressions, IsSoundStatement, AreSoundStatements, how_many}
+use Rattle.design.specs.Sound.{AreSoundExpressions, how_many}
 use Rattle.design.specs.Steps.{Computes, piece}
 use Rattle.design.specs.Places.{remainder_at}
 use Rattle.design.specs.Compiled.{Compiled, design_of}
 use Rattle.design.specs.Meaning.{IsFine, IsLine}
-use Rattle.design.specs.Generate.{own_code, assigned_code}
-use Rattle.design.specs.Emit.{Emitted, with_node, with_ops, with_shown, with_control, with_valued, with_line, with_display, with_statement, with_all, first_of, conversion_from, span_behind}
-use Rattle.design.proofs.Generated.{own_computes, assigned_computes}
-use Rattle.design.proofs.Growing.{Begins, begins_both, Grows, grows_both, grows_node, grows_shown, grows_line, grows_valued, piece_there, element_there, line_nodes}
-use Rattle.design.proofs.Emitted.{delay_node, await_node, if_node, while_node, grows_all, grows_statement, length_node, length_statement, length_all}
-use Rattle.design.proofs.Placed.{Placed, PlacedInside, Leads, leads}
+use Rattle.design.specs.Generate.{own_code}
+use Rattle.design.specs.Emit.{Emitted, with_node, with_ops, with_shown, with_valued, with_line, conversion_from, span_behind}
+use Rattle.design.proofs.Generated.{own_computes}
+use Rattle.design.proofs.Growing.{Begins, begins_both, Grows, grows_line, piece_there, element_there}
+use Rattle.design.proofs.Emitted.{length_node}
 
 -- the lists of a design's code
 abbrev pub code_of : Compiled → Emitted

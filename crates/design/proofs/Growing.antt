@@ -1,9 +1,9 @@
 -- Code grows: what was emitted stays where it is.
-use Rattle.std.proofs.Common.{◌≡◌, ℕ, zero, suc, ◌+◌, ◌-◌, ◌<◌, ◌≤◌, ◌&&◌, if◌then◌else◌, nat_le, true, Bool, List, [], ◌∷◌, ◌++◌, length, take, drop, Some, refl, sym, ap, ◌∙◌, subst, arith, length-append, append_assoc, le-leb}
+use Rattle.std.proofs.Common.{◌≡◌, ℕ, ◌-◌, ◌≤◌, ◌&&◌, if◌then◌else◌, nat_le, true, Bool, List, [], ◌∷◌, ◌++◌, length, take, drop, Some, refl, sym, ap, ◌∙◌, arith, length-append, append_assoc, le-leb}
 use Rattle.std.proofs.lemmas.List.{append-nil}
 use Rattle.std.specs.Prelude.{slice_get, slice_range}
 use Rattle.model.specs.Syntax.{Expressions, Nothing, Also}
-use Rattle.model.specs.Design.{Statement, Empty, Assign, AssignAfter, AssignLater, Delay, Await, If, While, Display, Finish, Statements, End, Then, Trigger, Piece, Byte, Argument, inside, all_of, size}
+use Rattle.model.specs.Design.{Trigger, Piece, Byte, Argument}
 use Rattle.design.specs.declared.code.Node.{Node}
 use Rattle.design.specs.declared.code.Op.{Op}
 use Rattle.design.specs.declared.code.Shown.{Shown}
@@ -11,7 +11,7 @@ use Rattle.design.specs.declared.code.Shown.TheVariants as shown
 use Rattle.design.specs.declared.code.Span.{Span}
 use Rattle.design.specs.Steps.{piece}
 use Rattle.design.specs.Generate.{own_code}
-use Rattle.design.specs.Emit.{Emitted, with_node, with_ops, with_shown, with_control, with_valued, with_line, with_statement, with_all, first_of, conversion_from, span_behind}
+use Rattle.design.specs.Emit.{Emitted, with_node, with_ops, with_shown, with_control, with_valued, with_line, conversion_from, span_behind}
 use Rattle.design.proofs.Places.{drop-length-append, sits_there}
 
 -- a list begins with another

@@ -1,5 +1,5 @@
 -- Lines and lists of statements.
-use Rattle.std.proofs.Common.{◌≡◌, ℕ, zero, suc, ◌+◌, ◌-◌, ◌<◌, ◌≤◌, List, [], ◌∷◌, length, take, drop, get_or, refl, sym, ap, ◌∙◌, subst, arith}
+use Rattle.std.proofs.Common.{◌≡◌, ℕ, zero, suc, ◌+◌, ◌-◌, ◌<◌, ◌≤◌, List, [], ◌∷◌, length, take, drop, get_or, refl, sym, ap, ◌∙◌, arith}
 use Rattle.design.specs.declared.tree.Expression.{Expression}
 use Rattle.design.specs.declared.tree.Statement.{Statement}
 use Rattle.design.specs.Sound.{IsSoundExpression, AreSoundExpressions, how_many}
@@ -52,7 +52,7 @@ whole_of place (tree.Delay d body) = refl
 whole_of place (tree.Await triggers body) = refl
 whole_of place (tree.If c body otherwise) = refl
 whole_of place (tree.While c body) = refl
-whole_of place (tree.Display format arguments) = refl
+whole_of place (tree.Print task format arguments) = refl
 whole_of place tree.Finish = refl
 
 take_whole : {A : Type 0} → (n : ℕ) (xs : List A) → n ≡ length xs → take n xs ≡ xs

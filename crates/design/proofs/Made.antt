@@ -1,5 +1,5 @@
 -- What is emitted for a sound design is its code.
-use Rattle.std.proofs.Common.{◌≡◌, ℕ, zero, suc, ◌+◌, ◌<◌, ◌≤◌, ⊎_elim, List, [], ◌∷◌, ◌++◌, length, get_or, map, Some, refl, sym, ap, ◌∙◌, subst, arith, length-append, zero-add}
+use Rattle.std.proofs.Common.{◌≡◌, ℕ, zero, suc, ◌+◌, ⊎_elim, List, [], ◌∷◌, ◌++◌, length, get_or, map, Some, refl, sym, ap, ◌∙◌, subst, arith, length-append, zero-add}
 use Rattle.std.proofs.lemmas.List.{append-nil}
 use Rattle.std.specs.Prelude.{slice_get}
 use Rattle.std.specs.List.{All}
@@ -8,17 +8,16 @@ use Rattle.model.specs.Turns.{whole}
 use Rattle.model.specs.Design.{size, statements_of, first_place, all_of}
 use Rattle.design.specs.declared.tree.Process.{Process}
 use Rattle.design.specs.declared.extents.Extent.{Extent}
-use Rattle.design.specs.Trees.{process_of, tree_design}
+use Rattle.design.specs.Trees.{process_of}
 use Rattle.design.specs.Sound.{IsSound, AreSoundStatements}
-use Rattle.design.specs.Steps.{IsOpOf}
-use Rattle.design.specs.Places.{remainder_at, statement_count, end_place, IsPlaceOf}
+use Rattle.design.specs.Places.{statement_count, end_place}
 use Rattle.design.specs.Compiled.{Compiled, design_of}
-use Rattle.design.specs.Meaning.{IsFine, IsCompiled}
+use Rattle.design.specs.Meaning.{IsCompiled}
 use Rattle.design.specs.Extents.{all_extents, extents, IsMeasured}
 use Rattle.design.specs.Emit.{Emitted, nothing_yet, with_bodies, starts_of, end_nodes, all_code}
 use Rattle.design.proofs.Growing.{Grows}
 use Rattle.design.proofs.Placed.{Leads}
-use Rattle.design.proofs.Fine.{code_of, FineAt, Done}
+use Rattle.design.proofs.Fine.{code_of, FineAt}
 use Rattle.design.proofs.Ends.{AreSoundProcesses, length_bodies, done_bodies, starts_there, length_starts, length_ends, done_ends}
 use Rattle.design.proofs.Reading.{AreOps, bodies_ops}
 use Rattle.design.proofs.Measured.{length_extents, measured_processes}

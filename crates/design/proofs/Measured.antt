@@ -1,9 +1,9 @@
 -- The table of extents: what filling it leaves, and that it then has each statement's extent at its place.
-use Rattle.std.proofs.Common.{◌≡◌, ℕ, zero, suc, ◌+◌, ◌<◌, ◌≤◌, List, [], ◌∷◌, ◌++◌, length, drop, Some, refl, sym, ap, ◌∙◌, arith, length-append, append_assoc}
+use Rattle.std.proofs.Common.{◌≡◌, ℕ, ◌+◌, List, [], ◌∷◌, ◌++◌, length, refl, ap, ◌∙◌, arith, length-append, append_assoc}
 use Rattle.std.proofs.Math.Seq.{set-append_seam}
-use Rattle.std.specs.Prelude.{slice_set, slice_get}
+use Rattle.std.specs.Prelude.{slice_set}
 use Rattle.model.specs.Syntax.{Expression}
-use Rattle.model.specs.Design.{Process, Statement, Empty, Assign, AssignAfter, AssignLater, Delay, Await, If, While, Display, Finish, Statements, End, Then, inside, all_of, size}
+use Rattle.model.specs.Design.{Process, Statement, Empty, Assign, AssignAfter, AssignLater, Delay, Await, If, While, Print, Finish, Statements, End, Then, inside, all_of, size}
 use Rattle.design.specs.declared.extents.Extent.{Extent}
 use Rattle.design.specs.Extents.{body_extent, extent_of, extents, extents_inside, all_extents, AreMeasured, AreMeasuredInside, IsMeasured}
 use Rattle.design.proofs.Places.{Sits, sits_there, sits_left, sits_right, sits_behind}
@@ -24,7 +24,7 @@ mutual
   length_extents_inside place (If c body otherwise) =
       omega (arith, length-append (extents (place + 1) body) (extents (place + 1 + size body) otherwise), length-append (all_of body) (all_of otherwise), length_extents (place + 1) body, length_extents (place + 1 + size body) otherwise)
   length_extents_inside place (While c body) = length_extents (place + 1) body
-  length_extents_inside place (Display format arguments) = refl
+  length_extents_inside place (Print task format arguments) = refl
   length_extents_inside place Finish = refl
 
 -- one statement more
@@ -107,7 +107,7 @@ mutual
         (sits_right table (place + 1) (place + 1 + size body) (extents (place + 1) body) (extents (place + 1 + size body) otherwise) (ap (λ k. place + 1 + k) (length_extents (place + 1) body)) h),
   )
   measured_inside table place (While c body) h = measured_all table (place + 1) body h
-  measured_inside table place (Display format arguments) h = tt
+  measured_inside table place (Print task format arguments) h = tt
   measured_inside table place Finish h = tt
 
 pub measured_processes : (table : List Extent) (place : ℕ) (ps : List Process) → Sits table place (all_extents place ps) → IsMeasured table place ps

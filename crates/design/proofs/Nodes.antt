@@ -1,13 +1,13 @@
 -- The nodes of statements are fine, one after another.
-use Rattle.std.proofs.Common.{◌≡◌, ℕ, ◌+◌, ◌<◌, ◌≤◌, inl, inr, ◌∷◌, ◌++◌, [], List, length, Some, refl, sym, ap, ◌∙◌, subst, arith, length-append}
+use Rattle.std.proofs.Common.{◌≡◌, ℕ, ◌+◌, ◌≤◌, inl, inr, ◌∷◌, ◌++◌, List, length, Some, sym, ap, ◌∙◌, subst, arith, length-append}
 use Rattle.std.specs.Prelude.{slice_get}
-use Rattle.model.specs.Syntax.{Expression, Expressions, registers_of}
+use Rattle.model.specs.declared.tree.Task.{Task}
+use Rattle.model.specs.Syntax.{Expressions, registers_of}
 use Rattle.model.specs.Elaboration.{argument_count}
-use Rattle.model.specs.Design.{Statement, Empty, Assign, AssignAfter, AssignLater, Delay, Await, If, While, Display, Finish, Statements, End, Then, Trigger, Piece, inside, all_of, size, statement_at, first_place}
+use Rattle.model.specs.Design.{Statement, Empty, Assign, AssignAfter, AssignLater, Delay, Await, If, While, Print, Finish, Statements, End, Then, Piece, inside, all_of, size, statement_at, first_place}
 use Rattle.model.specs.Expressions.{own_value, assigned_value}
 use Rattle.model.specs.Turns.{Remainder, At, parts}
 use Rattle.design.specs.declared.code.Node.TheVariants as node
-use Rattle.design.specs.declared.code.Shown.{Shown}
 use Rattle.design.specs.declared.code.Span.{Span}
 use Rattle.design.specs.Sound.{AreSoundExpressions, IsSoundStatement, AreSoundStatements, how_many}
 use Rattle.design.specs.Steps.{piece}
@@ -15,9 +15,9 @@ use Rattle.design.specs.Places.{remainder_at}
 use Rattle.design.specs.Compiled.{Compiled, design_of}
 use Rattle.design.specs.Meaning.{IsFine, IsLine}
 use Rattle.design.specs.Generate.{own_code, assigned_code}
-use Rattle.design.specs.Emit.{Emitted, with_node, with_ops, with_control, with_valued, with_line, with_display, with_statement, with_all, first_of}
+use Rattle.design.specs.Emit.{Emitted, with_ops, with_control, with_line, with_print, with_statement, with_all, first_of}
 use Rattle.design.proofs.Generated.{own_computes, assigned_computes}
-use Rattle.design.proofs.Growing.{Begins, Grows, grows_both, grows_node, piece_there, element_there, line_nodes}
+use Rattle.design.proofs.Growing.{Begins, Grows, grows_both, piece_there, element_there, line_nodes}
 use Rattle.design.proofs.Emitted.{delay_node, await_node, if_node, while_node, grows_all, length_node, length_statement, length_all}
 use Rattle.design.proofs.Placed.{Placed, PlacedInside, Leads, leads}
 use Rattle.design.proofs.Fine.{code_of, Done, done_node, computes_there, line_there}
@@ -26,14 +26,14 @@ use Rattle.design.proofs.Fine.{code_of, Done, done_node, computes_there, line_th
 next_left : (code : Compiled) (p n next : ℕ) (rest : Remainder) → remainder_at (design_of code) n ≡ At n ∷ rest → Leads (design_of code) p next rest → remainder_at (design_of code) n ≡ At n ∷ remainder_at (design_of code) next
 next_left code p n next rest left to = left ∙ ap (λ l. At n ∷ l) (sym to.left)
 
-done_display : (code : Compiled) (p next : ℕ) (e : Emitted) (format : List Piece) (arguments : Expressions ℕ) (rest : Remainder) → argument_count format ≡ how_many arguments → AreSoundExpressions code.widths arguments
-    → statement_at (design_of code) (length e.nodes) ≡ Display format arguments
+done_print : (task : Task) (code : Compiled) (p next : ℕ) (e : Emitted) (format : List Piece) (arguments : Expressions ℕ) (rest : Remainder) → argument_count format ≡ how_many arguments → AreSoundExpressions code.widths arguments
+    → statement_at (design_of code) (length e.nodes) ≡ Print task format arguments
     → remainder_at (design_of code) (length e.nodes) ≡ At (length e.nodes) ∷ rest
     → Leads (design_of code) p next rest
-    → Grows (with_display e (with_line code.widths e format arguments) next) (code_of code)
+    → Grows (with_print task e (with_line code.widths e format arguments) next) (code_of code)
     → Done code p (length e.nodes)
-    → Done code p (length (with_display e (with_line code.widths e format arguments) next).nodes)
-done_display code p next e format arguments rest count sound at left to grown done =
+    → Done code p (length (with_print task e (with_line code.widths e format arguments) next).nodes)
+done_print task code p next e format arguments rest count sound at left to grown done =
     let n = length e.nodes in
     let e1 = with_line code.widths e format arguments in
     let same : length e1.nodes ≡ n = ap length (line_nodes code.widths e format arguments) in
@@ -43,9 +43,9 @@ done_display code p next e format arguments rest count sound at left to grown do
     let is : piece code.shown span ≡ line =
     ap (λ k. piece code.shown (record { from = length e.shown; to = k })) (ap length made.1.0)
     ∙ piece_there e.shown line code.shown (subst (λ l. Begins l code.shown) made.1.0 grown.shown) in
-    let fine : IsFine code p (node.Display span next) (remainder_at (design_of code) n) =
+    let fine : IsFine code p (node.Print task span next) (remainder_at (design_of code) n) =
     (n, (format, (arguments, (next_left code p n next rest left to, at, subst (λ l. IsLine code.widths code.ops l format arguments) (sym is) made.1.1, to.own)))) in
-    done_node code p e1 (node.Display span next) grown (subst (λ k. IsFine code p (node.Display span next) (remainder_at (design_of code) k)) (sym same) fine) (subst (λ k. Done code p k) (sym same) done)
+    done_node code p e1 (node.Print task span next) grown (subst (λ k. IsFine code p (node.Print task span next) (remainder_at (design_of code) k)) (sym same) fine) (subst (λ k. Done code p k) (sym same) done)
 
 mutual
   pub done_statement : (code : Compiled) (p next : ℕ) (e : Emitted) (s : Statement) (rest : Remainder) → IsSoundStatement code.widths s
@@ -179,8 +179,8 @@ mutual
         ),
       ) done in
       done_all code p n e1 body (At n ∷ rest) sound.1 (subst (λ k. Placed (design_of code) k body (At n ∷ rest)) (sym one) within) (omega arith) (omega arith) back grown done1
-  done_statement code p next e (Display format arguments) rest sound at left within lo hi to grown done =
-      done_display code p next e format arguments rest sound.0 sound.1 at left to grown done
+  done_statement code p next e (Print task format arguments) rest sound at left within lo hi to grown done =
+      done_print task code p next e format arguments rest sound.0 sound.1 at left to grown done
   done_statement code p next e Finish rest sound at left within lo hi to grown done =
       done_node code p e (node.Finish next) grown (length e.nodes, (next_left code p (length e.nodes) next rest left to, at, to.own)) done
 

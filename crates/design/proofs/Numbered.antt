@@ -1,11 +1,13 @@
 -- The remainder at a place names the place, so states of one process are equal where their remainders are.
-use Rattle.std.proofs.Common.{◌≡◌, ℕ, zero, suc, ◌+◌, ◌<◌, ◌≤◌, ◌⊎◌, ⊎_elim, inl, inr, Option, Some, None, List, [], ◌∷◌, ◌++◌, length, take, refl, sym, ap, ◌∙◌, subst, arith, length-append}
+use Rattle.std.proofs.Common.{◌≡◌, ℕ, zero, suc, ◌+◌, ◌-◌, ◌<◌, ◌≤◌, ◌⊎◌, ⊎_elim, inl, inr, Option, Some, None, List, [], ◌∷◌, ◌++◌, length, take, refl, sym, ap, ◌∙◌, subst, arith, length-append, add-one}
 use Rattle.std.specs.Prelude.{slice_index_or}
+use Rattle.std.proofs.lemmas.Bool.{cases_lt}
+use Rattle.std.proofs.lemmas.List.{get_or_past}
 use Rattle.logic4.specs.Vector.{Vector}
-use Rattle.model.specs.Design.{Design, Process, Statement, Empty, Assign, AssignAfter, AssignLater, Delay, Await, If, While, Display, Finish, Statements, End, Then, inside, all_of, size, statements_of}
+use Rattle.model.specs.Design.{Design, Process, Statement, Empty, Assign, AssignAfter, AssignLater, Delay, Await, If, While, Print, Finish, Statements, End, Then, inside, all_of, size, statements_of, statement_at}
 use Rattle.model.specs.Turns.{Remainder, At, Set, parts}
 use Rattle.design.specs.declared.code.ProcState.{ProcState}
-use Rattle.design.specs.Places.{remainders, remainders_inside, all_remainders, remainder_at, end_place, IsPlaceOf}
+use Rattle.design.specs.Places.{remainders, remainders_inside, all_remainders, remainder_at, statement_count, end_place, IsPlaceOf}
 use Rattle.design.specs.Compiled.{Compiled, design_of}
 use Rattle.design.specs.Standing.{pending_part, remainder_of, IsStateOf}
 use Rattle.design.specs.Equal.{StatesAreEqual}
@@ -39,7 +41,7 @@ mutual
   numbered_inside place (If c body otherwise) rest =
       numbered_both (place + 1) (place + 1 + size body) (remainders (place + 1) body rest) (remainders (place + 1 + size body) otherwise rest) (ap (λ k. place + 1 + k) (length_remainders (place + 1) body rest)) (numbered_all (place + 1) body rest) (numbered_all (place + 1 + size body) otherwise rest)
   numbered_inside place (While c body) rest = numbered_all (place + 1) body (At place ∷ rest)
-  numbered_inside place (Display format arguments) rest = tt
+  numbered_inside place (Print task format arguments) rest = tt
   numbered_inside place Finish rest = tt
 
 numbered_processes : (place : ℕ) (ps : List Process) → NumberedFrom place (all_remainders place ps)
@@ -70,6 +72,58 @@ same_at j k x y r q a b e = cc
 
 not_none : (j : ℕ) (x y r : Remainder) (A : Type 0) → x ≡ At j ∷ r → y ≡ [] → x ≡ y → A
 not_none j x y r A a b e = cc
+
+-- a remainder that begins with a place is that of the place
+pub place_named : (design : Design) (p k place : ℕ) (rest : Remainder) → IsPlaceOf design p k → remainder_at design k ≡ At place ∷ rest → place ≡ k
+place_named design p k place rest own is =
+    ⊎_elim
+    (λ h. same_at place k (remainder_at design k) (remainder_at design k) rest h.0 is h.1 refl)
+    (λ h. not_none place (remainder_at design k) (remainder_at design k) rest (place ≡ k) is h.0 refl)
+    (names design p k own)
+
+-- no statement stands behind all of them
+pub past_is_empty : (design : Design) (k : ℕ) → statement_count design ≤ k → statement_at design k ≡ Empty
+past_is_empty design k past = get_or_past (statements_of design.processes) k Empty past
+
+-- nor where nothing is left
+pub end_is_empty : (design : Design) (p k : ℕ) → IsPlaceOf design p k → remainder_at design k ≡ [] → statement_at design k ≡ Empty
+end_is_empty design p k own none =
+    ⊎_elim
+    (λ h. not_none k (remainder_at design k) (remainder_at design k) h.0 (statement_at design k ≡ Empty) h.1 none refl)
+    (λ h. past_is_empty design k (omega (arith, h.1)))
+    (names design p k own)
+
+-- the statements of a process are among those of these processes
+abbrev IsAmong : List Process → ℕ → ℕ → Type 0
+IsAmong ps k p = (p < length ps) × (length (statements_of (take p ps)) ≤ k) × (k < length (statements_of (take (p + 1) ps)))
+
+length_first : (q : Process) (ps : List Process) (p : ℕ) → length (statements_of (take (p + 1) (q ∷ ps))) ≡ size q.body + length (statements_of (take p ps))
+length_first q ps p = ap (λ n. length (statements_of (take n (q ∷ ps)))) (add-one p) ∙ length-append (all_of q.body) (statements_of (take p ps))
+
+among_more : (q : Process) (ps : List Process) (k p : ℕ) → size q.body ≤ k → IsAmong ps (k - size q.body) p → IsAmong (q ∷ ps) k (p + 1)
+among_more q ps k p behind (among, from, to) =
+    (omega (arith, among), omega (arith, from, behind, length_first q ps p), omega (arith, to, behind, length_first q ps (p + 1)))
+
+-- the process of a statement
+process_of : (ps : List Process) (k : ℕ) → k < length (statements_of ps) → (p : ℕ) × IsAmong ps k p
+process_of [] k within = absurd (omega (arith, within))
+process_of (q ∷ ps) k within =
+    ⊎_elim
+    (λ here. (0, (omega arith, omega arith, omega (arith, here, length_first q ps 0))))
+    (λ behind.
+    let rest = process_of ps (k - size q.body) (omega (arith, within, behind, length-append (all_of q.body) (statements_of ps))) in
+    (rest.0 + 1, among_more q ps k rest.0 behind rest.1))
+    (cases_lt k (size q.body))
+
+-- each statement, and each end, is that of a process
+pub some_process : (design : Design) (place : ℕ) → place < statement_count design + length design.processes → (p : ℕ) × ((p < length design.processes) × IsPlaceOf design p place)
+some_process design place within =
+    ⊎_elim
+    (λ here.
+    let (p, (among, from, to)) = process_of design.processes place here in
+    (p, (among, inl (from, to))))
+    (λ behind. (place - statement_count design, (omega (arith, within, behind), inr (omega (arith, behind)))))
+    (cases_lt place (statement_count design))
 
 -- places of one process with one remainder are the same
 same_place : (design : Design) (p j k : ℕ) → IsPlaceOf design p j → IsPlaceOf design p k → remainder_at design j ≡ remainder_at design k → j ≡ k

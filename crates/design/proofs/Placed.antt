@@ -1,6 +1,6 @@
 -- Statements and what is left at their places.
-use Rattle.std.proofs.Common.{◌≡◌, ℕ, ◌+◌, ◌<◌, ◌≤◌, ◌⊎◌, inl, List, [], ◌∷◌, ◌++◌, length, refl, sym, ap, ◌∙◌, arith, length-append}
-use Rattle.model.specs.Design.{Design, Process, Statement, Empty, Assign, AssignAfter, AssignLater, Delay, Await, If, While, Display, Finish, Statements, End, Then, inside, all_of, size, statements_of, statement_at, first_place}
+use Rattle.std.proofs.Common.{◌≡◌, ℕ, ◌+◌, ◌≤◌, inl, List, [], ◌∷◌, ◌++◌, length, refl, ap, arith, length-append}
+use Rattle.model.specs.Design.{Design, Statement, Empty, Assign, AssignAfter, AssignLater, Delay, Await, If, While, Print, Finish, Statements, End, Then, inside, all_of, size, statements_of, statement_at, first_place}
 use Rattle.model.specs.Turns.{Remainder, At, parts}
 use Rattle.design.specs.Places.{remainders, remainders_inside, all_remainders, remainder_at, IsPlaceOf}
 use Rattle.design.specs.Emit.{first_of}
@@ -42,7 +42,7 @@ mutual
   length_remainders_inside place (If c body otherwise) rest =
       omega (arith, length-append (remainders (place + 1) body rest) (remainders (place + 1 + size body) otherwise rest), length-append (all_of body) (all_of otherwise), length_remainders (place + 1) body rest, length_remainders (place + 1 + size body) otherwise rest)
   length_remainders_inside place (While c body) rest = length_remainders (place + 1) body (At place ∷ rest)
-  length_remainders_inside place (Display format arguments) rest = refl
+  length_remainders_inside place (Print task format arguments) rest = refl
   length_remainders_inside place Finish rest = refl
 
 -- what the design has at places
@@ -86,7 +86,7 @@ mutual
             (sits_right lefts (place + 1) (place + 1 + size body) first second (ap (λ k. place + 1 + k) (length_remainders (place + 1) body rest)) j),
       )
   placed_inside design place (While c body) rest h j = placed_all design (place + 1) body (At place ∷ rest) h j
-  placed_inside design place (Display format arguments) rest h j = tt
+  placed_inside design place (Print task format arguments) rest h j = tt
   placed_inside design place Finish rest h j = tt
 
 -- what is left at a place of the process

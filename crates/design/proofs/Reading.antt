@@ -1,16 +1,14 @@
 -- What is emitted for a sound design is its code.
-use Rattle.std.proofs.Common.{◌≡◌, ℕ, zero, suc, ◌+◌, ◌<◌, ◌≤◌, ⊎_elim, List, [], ◌∷◌, ◌++◌, length, get_or, map, true, false, Bool, Some, refl, sym, ap, ◌∙◌, subst, arith, length-append}
-use Rattle.std.specs.Prelude.{slice_get}
+use Rattle.std.proofs.Common.{ℕ, zero, suc, ◌+◌, List, [], ◌∷◌, ◌++◌, length, true, false, Bool, arith}
 use Rattle.std.specs.List.{All}
 use Rattle.std.proofs.lemmas.List.Elements.{All-append}
 use Rattle.model.specs.Syntax as tree
 use Rattle.model.specs.Syntax.{Expression, Expressions}
 use Rattle.model.specs.Expressions.{sizing_of, left_size, right_size, operand_size, own_size}
-use Rattle.model.specs.Elaboration.{argument_count}
-use Rattle.model.specs.Design.{Process, Statement, Empty, Assign, AssignAfter, AssignLater, Delay, Await, If, While, Display, Finish, Statements, End, Then, Piece, Byte, Argument, inside}
+use Rattle.model.specs.Design.{Process, Statement, Empty, Assign, AssignAfter, AssignLater, Delay, Await, If, While, Print, Finish, Statements, End, Then, Piece, Byte, Argument, inside}
 use Rattle.design.specs.declared.code.Op.{Op}
 use Rattle.design.specs.declared.code.Op.TheVariants.{Unary, Binary, Join, Resize, Choose}
-use Rattle.design.specs.Sound.{IsSoundExpression, AreSoundExpressions, IsSoundStatement, AreSoundStatements, how_many}
+use Rattle.design.specs.Sound.{IsSoundExpression, AreSoundExpressions, IsSoundStatement, AreSoundStatements}
 use Rattle.design.specs.Steps.{IsOpOf}
 use Rattle.design.specs.Generate.{join_code, expression_code, parts_code, own_code, assigned_code}
 use Rattle.design.specs.Emit.{Emitted, with_ops, with_shown, with_line, with_statement, with_all, with_bodies, first_of}
@@ -85,7 +83,7 @@ mutual
       (all_ops widths next e1 body h.1 (both_ops widths e.ops (own_code widths c) all (expression_ops widths (own_size widths c) c h.0)))
   statement_ops widths next e (While c body) h all =
       all_ops widths (length e.nodes) (while_node widths e c body next) body h.1 (both_ops widths e.ops (own_code widths c) all (expression_ops widths (own_size widths c) c h.0))
-  statement_ops widths next e (Display ps es) h all = line_ops widths e ps es h.1 all
+  statement_ops widths next e (Print task ps es) h all = line_ops widths e ps es h.1 all
   statement_ops widths next e Finish h all = all
 
   all_ops : (widths : List ℕ) (after : ℕ) (e : Emitted) (ss : Statements) → AreSoundStatements widths ss → AreOps widths e.ops → AreOps widths (with_all widths after e ss).ops

@@ -1,20 +1,13 @@
 -- The code of all processes: each process's statements are placed, and each node is fine.
-use Rattle.std.proofs.Common.{◌≡◌, ℕ, zero, suc, ◌+◌, ◌<◌, ◌≤◌, ◌⊎◌, ⊎_elim, inl, inr, Bool, true, false, List, [], ◌∷◌, ◌++◌, length, take, drop, get_or, map, Some, None, refl, sym, ap, ◌∙◌, subst, arith, length-append, append_assoc, zero-add}
+use Rattle.std.proofs.Common.{◌≡◌, ℕ, zero, suc, ◌+◌, ◌≤◌, inr, false, List, [], ◌∷◌, ◌++◌, length, take, drop, refl, sym, ap, ◌∙◌, arith, length-append, append_assoc, zero-add}
 use Rattle.std.proofs.lemmas.List.{append-nil}
-use Rattle.std.specs.Prelude.{slice_get, slice_index_or}
-use Rattle.model.specs.Design.{Design, Process, Statement, Statements, End, Then, all_of, size, statements_of, first_place, process_at}
+use Rattle.std.specs.Prelude.{slice_index_or}
+use Rattle.model.specs.Design.{Design, Process, End, all_of, size, statements_of, first_place, process_at}
 use Rattle.model.specs.Turns.{Remainder, parts, whole}
-use Rattle.design.specs.declared.code.Node.{Node}
-use Rattle.design.specs.Sound.{AreSoundStatements}
-use Rattle.design.specs.Places.{remainders, all_remainders, remainder_at, statement_count, end_place, IsPlaceOf}
-use Rattle.design.specs.Compiled.{Compiled, design_of}
-use Rattle.design.specs.Emit.{Emitted, with_all, with_bodies, starts_of, first_of}
-use Rattle.design.proofs.Places.{Sits, drop-length-append}
-use Rattle.design.proofs.Growing.{Grows, grows_same, grows_both}
-use Rattle.design.proofs.Emitted.{grows_all, length_all}
+use Rattle.design.specs.Places.{remainders, all_remainders, remainder_at, end_place}
+use Rattle.design.specs.Emit.{first_of}
+use Rattle.design.proofs.Places.{drop-length-append}
 use Rattle.design.proofs.Placed.{Placed, placed_all, length_remainders, Leads, leads}
-use Rattle.design.proofs.Fine.{code_of, FineAt, Done}
-use Rattle.design.proofs.Nodes.{done_all}
 
 pub statements_both : (ps qs : List Process) → statements_of (ps ++ qs) ≡ statements_of ps ++ statements_of qs
 statements_both [] qs = refl

@@ -1,7 +1,8 @@
 -- The nodes that are made of statements, in the order of the text.
-use Rattle.std.specs.Prelude.{◌≡◌, ℕ, ◌+◌, Bool, true, false, List, [], ◌∷◌, ◌++◌, length, Some, slice_get, slice_index}
+use Rattle.std.specs.Prelude.{ℕ, ◌+◌, Bool, true, false, List, [], ◌∷◌, ◌++◌, length}
 use Rattle.logic4.specs.Display as display
-use Rattle.model.specs.Syntax.{Expression, Expressions, Nothing, Also}
+use Rattle.model.specs.declared.tree.Task.{Task}
+use Rattle.model.specs.Syntax.{Expressions, Nothing, Also}
 use Rattle.model.specs.Design as tree
 use Rattle.model.specs.Design.{Process, Statement, Statements, End, Then, Trigger, Piece, Byte, Argument, inside, size}
 use Rattle.design.specs.declared.tree.Conversion.{Conversion}
@@ -71,8 +72,8 @@ abbrev pub with_valued : Emitted → List Op → (Span → Node) → Emitted
 with_valued e code made = with_node (with_ops e code) (made (span_behind e.ops code))
 
 -- the code with a line, and then its node
-abbrev pub with_display : Emitted → Emitted → ℕ → Emitted
-with_display before e next = with_node e (node.Display (record { from = length before.shown; to = length e.shown }) next)
+abbrev pub with_print : Task → Emitted → Emitted → ℕ → Emitted
+with_print task before e next = with_node e (node.Print task (record { from = length before.shown; to = length e.shown }) next)
 
 abbrev mutual
   -- the code with the nodes of a statement and of those inside it, where the next place is that to which it leads
@@ -94,7 +95,7 @@ abbrev mutual
   with_statement widths next e (tree.While c body) =
       with_all widths (length e.nodes)
       (with_valued e (own_code widths c) (λ s. node.Branch s (first_of (length e.nodes + 1) body (length e.nodes)) next)) body
-  with_statement widths next e (tree.Display format arguments) = with_display e (with_line widths e format arguments) next
+  with_statement widths next e (tree.Print task format arguments) = with_print task e (with_line widths e format arguments) next
   with_statement widths next e tree.Finish = with_node e (node.Finish next)
 
   -- the code with the nodes of statements, where the last of them leads to the place behind them

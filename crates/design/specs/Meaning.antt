@@ -88,10 +88,10 @@ IsFine code p (node.Branch span taken missed) left =
     × IsTest (design_of code) place c rest (remainder_at (design_of code) taken) (remainder_at (design_of code) missed)
     × IsPlaceOf (design_of code) p taken
     × IsPlaceOf (design_of code) p missed)))
-IsFine code p (node.Display span next) left =
+IsFine code p (node.Print task span next) left =
     (place : ℕ) × ((format : List Piece) × ((arguments : Expressions ℕ) × (
     (left ≡ At place ∷ remainder_at (design_of code) next)
-    × (statement_at (design_of code) place ≡ tree.Display format arguments)
+    × (statement_at (design_of code) place ≡ tree.Print task format arguments)
     × IsLine code.widths code.ops (piece code.shown span) format arguments
     × IsPlaceOf (design_of code) p next)))
 IsFine code p (node.Finish next) left =

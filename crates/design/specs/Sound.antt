@@ -3,7 +3,7 @@ use Rattle.std.specs.Prelude.{◌≡◌, ℕ, ◌+◌, ◌<◌, ◌≤◌, List,
 use Rattle.std.specs.List.{All}
 use Rattle.model.specs.Syntax.{Expression, Register, Select, Literal, Concat, Unary, Binary, Conditional, Expressions, Nothing, Also}
 use Rattle.logic4.specs.Vector.{greatest_width, AreWithin}
-use Rattle.model.specs.Design.{Design, Statement, Empty, Assign, AssignAfter, AssignLater, Delay, Await, If, While, Display, Finish, Statements, End, Then}
+use Rattle.model.specs.Design.{Design, Statement, Empty, Assign, AssignAfter, AssignLater, Delay, Await, If, While, Print, Finish, Statements, End, Then}
 use Rattle.model.specs.Expressions.{total_size}
 use Rattle.model.specs.Elaboration.{argument_count, greatest_delay}
 
@@ -44,7 +44,7 @@ abbrev mutual
   IsSoundStatement widths (Await triggers body) = All (λ t. t.1 < length widths) triggers × AreSoundStatements widths body
   IsSoundStatement widths (If c body otherwise) = IsSoundExpression widths c × AreSoundStatements widths body × AreSoundStatements widths otherwise
   IsSoundStatement widths (While c body) = IsSoundExpression widths c × AreSoundStatements widths body
-  IsSoundStatement widths (Display format arguments) = (argument_count format ≡ how_many arguments) × AreSoundExpressions widths arguments
+  IsSoundStatement widths (Print task format arguments) = (argument_count format ≡ how_many arguments) × AreSoundExpressions widths arguments
   IsSoundStatement widths Finish = Unit {0}
 
   pub AreSoundStatements : List ℕ → Statements → Type 0

@@ -5,7 +5,7 @@ use Rattle.logic4.specs.Display as display
 use Rattle.model.specs.Syntax.{Register, Select, Literal, Concat, Unary, Binary, Conditional, Expressions, Nothing, Also}
 use Rattle.model.specs.Syntax as syntax
 use Rattle.model.specs.Design as model
-use Rattle.model.specs.Design.{Byte, Argument, Empty, Assign, AssignAfter, AssignLater, Delay, Await, If, While, Display, Finish, Statements, End, Then}
+use Rattle.model.specs.Design.{Byte, Argument, Empty, Assign, AssignAfter, AssignLater, Delay, Await, If, While, Print, Finish, Statements, End, Then}
 use Rattle.design.specs.declared.tree.Expression as expression
 use Rattle.design.specs.declared.tree.Expression.{fold-Expression}
 use Rattle.design.specs.declared.tree.Expression.TheOpen.{Expression-F}
@@ -67,7 +67,7 @@ statement_node (Statement-F.Delay delay body) = Delay delay (statements body.ite
 statement_node (Statement-F.Await triggers body) = Await triggers.items (statements body.items)
 statement_node (Statement-F.If c body otherwise) = If (expression_of c) (statements body.items) (statements otherwise.items)
 statement_node (Statement-F.While c body) = While (expression_of c) (statements body.items)
-statement_node (Statement-F.Display format arguments) = Display (map piece_of format.items) (expressions_of arguments.items)
+statement_node (Statement-F.Print task format arguments) = Print task (map piece_of format.items) (expressions_of arguments.items)
 statement_node Statement-F.Finish = Finish
 
 -- the plain tree of a statement

@@ -6,7 +6,7 @@ ghost use Rattle.logic4.specs.Vector.{greatest_width, AreWithin};
 use crate::control::{Control, RegId};
 use crate::tree::Conversion;
 use logic4::bits::Bits;
-use model::tree::{BinaryOperator, UnaryOperator};
+use model::tree::{BinaryOperator, Task, UnaryOperator};
 use std::alloc::{AllocError, Global};
 use std::marker::Model;
 
@@ -155,8 +155,9 @@ pub enum Node {
         taken: usize,
         missed: usize,
     },
-    /// `$display` (17.1).
-    Display {
+    /// `$display` or `$strobe` (17.1).
+    Print {
+        task: Task,
         pieces: Span,
         next: usize,
     },

@@ -210,9 +210,13 @@ impl Emitter {
                 self.test(widths, condition, taken, next)?;
                 self.emit_all(widths, table, body, place)
             }
-            Statement::Display(format, arguments) => {
+            Statement::Print(task, format, arguments) => {
                 let pieces = self.line(widths, format, arguments)?;
-                self.put(Node::Display { pieces, next })
+                self.put(Node::Print {
+                    task: *task,
+                    pieces,
+                    next,
+                })
             }
             Statement::Finish => self.put(Node::Finish { next }),
         }

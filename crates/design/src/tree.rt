@@ -2,7 +2,7 @@
 
 use crate::control::{RegId, Trigger};
 use logic4::bits::Bits;
-use model::tree::{BinaryOperator, UnaryOperator};
+use model::tree::{BinaryOperator, Task, UnaryOperator};
 
 /// An expression over the numbers of registers (5.1).
 #[derive(Drop)]
@@ -42,7 +42,7 @@ pub enum Statement {
     Await(Vec<Trigger>, Vec<Statement>),
     If(Expression, Vec<Statement>, Vec<Statement>),
     While(Expression, Vec<Statement>),
-    Display(Vec<Piece>, Vec<Expression>),
+    Print(Task, Vec<Piece>, Vec<Expression>),
     Finish,
 }
 

@@ -92,7 +92,7 @@ mutual
       names_behind ds (used ds c) (or_else (all_used_in ds body) (all_used_in ds otherwise)) (registers_of c) (all_names_in body ++ all_names_in otherwise) (used_settles ds c)
       (names_behind ds (all_used_in ds body) (all_used_in ds otherwise) (all_names_in body) (all_names_in otherwise) (all_used_in_settle ds body) (all_used_in_settle ds otherwise))
   used_in_settles ds (source.While c body) = names_behind ds (used ds c) (all_used_in ds body) (registers_of c) (all_names_in body) (used_settles ds c) (all_used_in_settle ds body)
-  used_in_settles ds (source.Display format arguments) = all_used_settle ds arguments
+  used_in_settles ds (source.Print task format arguments) = all_used_settle ds arguments
   used_in_settles ds source.Finish = refl
 
   pub all_used_in_settle : (ds : List Declared) (ss : source.Statements) → Settles (all_used_in ds ss) (flat_map (undeclared ds) (all_names_in ss))
@@ -145,7 +145,7 @@ mutual
       (all_found_in_settle ds body) (all_found_in_settle ds otherwise))
   found_in_settles ds (source.While c body) =
       behind (found ds c) (all_found_in ds body) (expression_faults ds c) (all_statement_faults ds body) (found_settles ds c) (all_found_in_settle ds body)
-  found_in_settles ds (source.Display format arguments) =
+  found_in_settles ds (source.Print task format arguments) =
       behind (found_format format (count_of arguments)) (all_found ds arguments) (fault_where (not (is_format_for (pieces_of format) (count_of arguments))) model.BadFormat)
       (all_expression_faults ds arguments) (at (not (is_format_for (pieces_of format) (count_of arguments))) model.BadFormat) (all_found_settle ds arguments)
   found_in_settles ds source.Finish = refl

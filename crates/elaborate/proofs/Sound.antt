@@ -137,7 +137,7 @@ mutual
   sound_in ds (source.While c body) w u f =
       let a = split (used ds c) (all_used_in ds body) u in let b = split (found ds c) (all_found_in ds body) f in
       ((sound ds c w.0 a.0 b.0, all_sound_in ds body w.1 a.1 b.1), tt)
-  sound_in ds (source.Display format arguments) w u f =
+  sound_in ds (source.Print task format arguments) w u f =
       let b = split (found_format format (count_of arguments)) (all_found ds arguments) f in (
         (
           same_count (pieces_of format) (count_of arguments) (holds (is_format_for (pieces_of format) (count_of arguments)) model.BadFormat b.0) ∙ sym (counted ds arguments),
@@ -266,7 +266,7 @@ module _ (ds : List Declared) (ranged : (name : Text) → is_range (range_of ds 
         let b = split (found ds c) (or_else (all_found_in ds body) (all_found_in ds otherwise)) f in let b2 = split (all_found_in ds body) (all_found_in ds otherwise) b.1 in
         (small c b.0, all_small_in body b2.0, all_small_in otherwise b2.1)
     small_in (source.While c body) f = let b = split (found ds c) (all_found_in ds body) f in (small c b.0, all_small_in body b.1)
-    small_in (source.Display format arguments) f = all_small arguments (split (found_format format (count_of arguments)) (all_found ds arguments) f).1
+    small_in (source.Print task format arguments) f = all_small arguments (split (found_format format (count_of arguments)) (all_found ds arguments) f).1
     small_in source.Finish f = tt
 
     pub all_small_in : (ss : source.Statements) → all_found_in ds ss ≡ None → AreSmallStatements ss

@@ -86,7 +86,7 @@ abbrev mutual
   used_in ds (source.If c body) = or_else (used ds c) (all_used_in ds body)
   used_in ds (source.IfElse c body otherwise) = or_else (used ds c) (or_else (all_used_in ds body) (all_used_in ds otherwise))
   used_in ds (source.While c body) = or_else (used ds c) (all_used_in ds body)
-  used_in ds (source.Display format arguments) = all_used ds arguments
+  used_in ds (source.Print task format arguments) = all_used ds arguments
   used_in ds source.Finish = None
 
   pub all_used_in : List Declared → source.Statements → Option Fault
@@ -154,7 +154,7 @@ abbrev mutual
   found_in ds (source.If c body) = or_else (found ds c) (all_found_in ds body)
   found_in ds (source.IfElse c body otherwise) = or_else (found ds c) (or_else (all_found_in ds body) (all_found_in ds otherwise))
   found_in ds (source.While c body) = or_else (found ds c) (all_found_in ds body)
-  found_in ds (source.Display format arguments) = or_else (found_format format (count_of arguments)) (all_found ds arguments)
+  found_in ds (source.Print task format arguments) = or_else (found_format format (count_of arguments)) (all_found ds arguments)
   found_in ds source.Finish = None
 
   pub all_found_in : List Declared → source.Statements → Option Fault

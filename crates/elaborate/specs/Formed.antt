@@ -37,7 +37,7 @@ abbrev mutual
   IsFormedStatement (source.If c body) = IsFormed c × AreFormedStatements body
   IsFormedStatement (source.IfElse c body otherwise) = IsFormed c × (AreFormedStatements body × AreFormedStatements otherwise)
   IsFormedStatement (source.While c body) = IsFormed c × AreFormedStatements body
-  IsFormedStatement (source.Display format arguments) = AreFormed arguments
+  IsFormedStatement (source.Print task format arguments) = AreFormed arguments
   IsFormedStatement source.Finish = Unit {0}
 
   pub AreFormedStatements : source.Statements → Type 0

@@ -37,7 +37,7 @@ abbrev mutual
   IsSmallStatement (source.If c body) = IsSmall c × AreSmallStatements body
   IsSmallStatement (source.IfElse c body otherwise) = IsSmall c × AreSmallStatements body × AreSmallStatements otherwise
   IsSmallStatement (source.While c body) = IsSmall c × AreSmallStatements body
-  IsSmallStatement (source.Display format arguments) = AreSmall arguments
+  IsSmallStatement (source.Print task format arguments) = AreSmall arguments
   IsSmallStatement source.Finish = Unit {0}
 
   pub AreSmallStatements : source.Statements → Type 0

@@ -8,7 +8,7 @@ ghost use Rattle.elaborate.specs.Small.{IsShort};
 
 use design::tree::{Expression, Piece, Statement};
 use design::{RegId, Trigger};
-use model::tree::{BinaryOperator, UnaryOperator};
+use model::tree::{BinaryOperator, Task, UnaryOperator};
 use std::alloc::{AllocError, Global};
 
 pub fn concat_of(first: Expression, others: Vec<Expression>) -> Result<Expression, AllocError>
@@ -97,10 +97,10 @@ pub fn while_of(test: Expression, body: Vec<Statement>) -> Statement
     Statement::While(test, body)
 }
 
-pub fn display_of(format: Vec<Piece>, arguments: Vec<Expression>) -> Statement
-    ensures { statement_of result ≡ model.Display (map piece_of format.items) (expressions_of arguments.items) }
+pub fn print_of(task: Task, format: Vec<Piece>, arguments: Vec<Expression>) -> Statement
+    ensures { statement_of result ≡ model.Print task (map piece_of format.items) (expressions_of arguments.items) }
 {
-    Statement::Display(format, arguments)
+    Statement::Print(task, format, arguments)
 }
 
 /// One statement more.

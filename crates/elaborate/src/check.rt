@@ -61,8 +61,8 @@ fn statement<'a>(names: &Names, s: &'a Statement) -> Result<(), Finding<'a>>
             block(names, body.as_slice())?;
             block(names, otherwise.as_slice())
         }
-        Statement::Display(format, arguments) => {
-            display(format.as_slice(), arguments.as_slice())?;
+        Statement::Print(_, format, arguments) => {
+            line(format.as_slice(), arguments.as_slice())?;
             expressions(names, arguments.as_slice()).verdict
         }
     }
@@ -88,7 +88,7 @@ fn delay<'a>(wait: Option<u64>) -> Result<(), Finding<'a>>
     }
 }
 
-fn display<'a>(format: &[u8], arguments: &[Expression]) -> Result<(), Finding<'a>>
+fn line<'a>(format: &[u8], arguments: &[Expression]) -> Result<(), Finding<'a>>
     ensures { verdict result ≡ found_format format.now (count_of (expressions (map expression_of arguments.now))) }
 {
     shows(format, arguments.len())

@@ -131,10 +131,10 @@ fn statement(
             let body = block(alloc, names, body.as_slice())?;
             build::push(into, build::while_of(test, body))
         }
-        source::Statement::Display(format, arguments) => {
+        source::Statement::Print(task, format, arguments) => {
             let pieces = format::pieces(alloc, format.as_slice())?;
             let arguments = expressions(alloc, names, arguments.as_slice())?;
-            build::push(into, build::display_of(pieces, arguments))
+            build::push(into, build::print_of(*task, pieces, arguments))
         }
         source::Statement::Finish => build::push(into, Statement::Finish),
     }

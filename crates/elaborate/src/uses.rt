@@ -42,7 +42,7 @@ fn statement<'a>(names: &Names, s: &'a Statement) -> Result<(), Finding<'a>>
             block(names, body.as_slice())?;
             block(names, otherwise.as_slice())
         }
-        Statement::Display(_, arguments) => expressions(names, arguments.as_slice()),
+        Statement::Print(_, _, arguments) => expressions(names, arguments.as_slice()),
     }
 }
 

@@ -4,7 +4,7 @@ use mathlib.Core.List.{IsPrefix}
 use Rattle.logic4.specs.Vector.{Vector}
 use Rattle.turn.specs.declared.memory.Seen.{Seen}
 use Rattle.model.specs.declared.entry.Entry.{Entry}
-use Rattle.model.specs.declared.entry.Entry.TheVariants.{Turn, Update, ActivateInactive, ActivateNba, Advance}
+use Rattle.model.specs.declared.entry.Entry.TheVariants.{Turn, Update, ActivateInactive, ActivateNba, ActivateMonitor, Advance}
 use Rattle.model.specs.States as states
 use Rattle.model.specs.States.{Action, Evaluate, Event}
 use Rattle.model.specs.Runs.{action_in, least}
@@ -66,6 +66,7 @@ updated_register active (Turn event) = None
 updated_register active (Update event) = first_register active
 updated_register active ActivateInactive = None
 updated_register active ActivateNba = None
+updated_register active ActivateMonitor = None
 updated_register active (Advance time) = None
 
 -- the seat has seen all values of the registers that a turn read or wrote or, after another entry, of the one updated, if

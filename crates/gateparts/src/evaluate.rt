@@ -52,6 +52,10 @@ impl<'g, H: Holding, R: Wait> RegReader for HeldReader<'g, H, R> {
 
     ghost gave = { λ s r seen. IsLastIn H.holds r seen };
 
+    ghost Lasting = { Unit {0} };
+
+    ghost lasting = { λ r. tt };
+
     fn read(&mut self, register: RegId) -> Seen {
         self.cells.get_held(self.rt, &mut self.holder, register)
     }

@@ -11,12 +11,12 @@ use Rattle.logic4.specs.Vector.{Vector}
 use Rattle.logic4.specs.Operators.{same_vector}
 use Rattle.model.specs.declared.entry.Refusal.TheVariants.{Finished, NotDue}
 use Rattle.model.specs.declared.entry.Entry.{Entry}
-use Rattle.model.specs.declared.entry.Entry.TheVariants.{Update, ActivateInactive, ActivateNba, Advance}
+use Rattle.model.specs.declared.entry.Entry.TheVariants.{Update, ActivateInactive, ActivateNba, ActivateMonitor, Advance}
 use Rattle.model.specs.Design.{Design, Process, Trigger}
 use Rattle.model.specs.Expressions.{value_of}
 use Rattle.model.specs.Turns.{Remainder, Wait, Ended, Inactive, Until, OnChange, Later, Turn}
-use Rattle.model.specs.States.{State, Event, Action, Evaluate, Progress, start, unbegun, numbered, without, wakes, is_woken, woken, after_wake, with_nonblocking, with_due, with_future_nonblocking, with_value, with_progress, triggers_of, change, change_all, schedule, schedule_all, schedule_wait, taking, turned, inactive_activated, nonblocking_activated, advanced}
-use Rattle.model.specs.Runs.{Effect, silent, joined, step, run_from, run, action_in, has_any, refusal, entry_refusal, time_refusal, least_time, turn_of, turn_effect, update_effect, action_effect, effect, remainder_of, taken}
+use Rattle.model.specs.States.{State, Event, Action, Evaluate, Progress, start, unbegun, numbered, without, wakes, is_woken, woken, after_wake, with_nonblocking, with_due, with_future_nonblocking, with_value, with_progress, triggers_of, change, change_all, schedule, schedule_all, schedule_wait, taking, turned, inactive_activated, nonblocking_activated, monitored, advanced}
+use Rattle.model.specs.Runs.{Effect, strobe_lines, silent, joined, step, run_from, run, action_in, has_any, refusal, entry_refusal, time_refusal, least_time, turn_of, turn_effect, update_effect, action_effect, effect, remainder_of, taken}
 use Rattle.model.specs.Laws.{times_in, evaluates, evaluations_in, evaluations_of, EachProcessHasOneEvent, ActiveEvaluationsStay, ActiveEventsStay}
 use Rattle.model.proofs.RunLaws.{unless_some, where_none, either_false}
 
@@ -363,11 +363,18 @@ silent_kept t f h all =
     let same : silent t ≡ f = cc in
     λ p. rw (← same) (all p)
 
+monitor_kept : (s : State) (lines : List ℕ) (f : Effect) → Some (record { state = monitored s; lines = lines; changes = [] }) ≡ Some f → EachOne s → EachOne f.state
+monitor_kept s lines f h all =
+    let e : Effect = record { state = monitored s; lines = lines; changes = [] } in
+    let same : e ≡ f = cc in
+    λ p. rw (← same) (all p)
+
 effect_kept : (design : Design) (s : State) (entry : Entry) (f : Effect) → effect design s entry ≡ Some f → EachOne s → EachOne f.state
 effect_kept design s (Entry.Turn m) f h all = action_kept design s m f (action_in s.active m) refl h all
 effect_kept design s (Update m) f h all = action_kept design s m f (action_in s.active m) refl h all
 effect_kept design s ActivateInactive f h all = silent_kept (inactive_activated s) f h (λ p. at_most-inactive_activated p 1 s (all p))
 effect_kept design s ActivateNba f h all = silent_kept (nonblocking_activated s) f h (λ p. at_most-nonblocking_activated p 1 s (all p))
+effect_kept design s ActivateMonitor f h all = monitor_kept s (strobe_lines design s) f h all
 effect_kept design s (Advance time) f h all = silent_kept (advanced s time) f h (λ p. at_most-advanced p 1 time s (all p))
 
 step_kept : (design : Design) (s : State) (entry : Entry) (f : Effect) → step design s entry ≡ Some f → EachOne s → EachOne f.state
@@ -551,15 +558,23 @@ nothing_there n a (x ∷ xs) none is = cc
 
 advance_stays : (n p time : ℕ) (s : State) (f : Effect) → entry_refusal s (Advance time) ≡ None → action_in s.active n ≡ Some (Evaluate p) → Stays n (Evaluate p) p (remainder_of s p) s.time f.state
 advance_stays n p time s f none here =
-    let empty : (has_any s.active || has_any s.inactive || has_any s.nonblocking) ≡ false =
-    (where_none (has_any s.active || has_any s.inactive || has_any s.nonblocking) NotDue (time_refusal time (least_time s)) none).0 in
-    let two : (has_any s.active || has_any s.inactive) ≡ false = (either_false (has_any s.active || has_any s.inactive) (has_any s.nonblocking) empty).0 in
+    let empty : (has_any s.active || has_any s.inactive || has_any s.nonblocking || has_any s.monitor) ≡ false =
+    (where_none (has_any s.active || has_any s.inactive || has_any s.nonblocking || has_any s.monitor) NotDue (time_refusal time (least_time s)) none).0 in
+    let three : (has_any s.active || has_any s.inactive || has_any s.nonblocking) ≡ false = (either_false (has_any s.active || has_any s.inactive || has_any s.nonblocking) (has_any s.monitor) empty).0 in
+    let two : (has_any s.active || has_any s.inactive) ≡ false = (either_false (has_any s.active || has_any s.inactive) (has_any s.nonblocking) three).0 in
     let one : has_any s.active ≡ false = (either_false (has_any s.active) (has_any s.inactive) two).0 in
     absurd (nothing_there n (Evaluate p) s.active one here)
 
 not_taken : (b : Bool) → (if b then 1 else 0) + 0 ≡ 0 → b ≡ false
 not_taken true h = absurd (omega (arith, h))
 not_taken false h = refl
+
+monitor_stays : (n p : ℕ) (s : State) (lines : List ℕ) (f : Effect) → Some (record { state = monitored s; lines = lines; changes = [] }) ≡ Some f
+    → action_in s.active n ≡ Some (Evaluate p) → Stays n (Evaluate p) p (remainder_of s p) s.time f.state
+monitor_stays n p s lines f h here =
+    let e : Effect = record { state = monitored s; lines = lines; changes = [] } in
+    let same : e ≡ f = cc in
+    rw (← same) (here, refl, refl)
 
 effect_stays : (design : Design) (n p : ℕ) (s : State) (entry : Entry) (f : Effect) → entry_refusal s entry ≡ None → effect design s entry ≡ Some f → action_in s.active n ≡ Some (Evaluate p) → times_in n (taken (entry ∷ [])) ≡ 0 → AtMost p 1 s
     → Stays n (Evaluate p) p (remainder_of s p) s.time f.state
@@ -569,6 +584,7 @@ effect_stays design n p s ActivateInactive f none h here free most =
     silent_stays n p (remainder_of s p) s.time (inactive_activated s) f h (action_in-append n (Evaluate p) s.active s.inactive here, refl, refl)
 effect_stays design n p s ActivateNba f none h here free most =
     silent_stays n p (remainder_of s p) s.time (nonblocking_activated s) f h (action_in-append n (Evaluate p) s.active s.nonblocking here, refl, refl)
+effect_stays design n p s ActivateMonitor f none h here free most = monitor_stays n p s (strobe_lines design s) f h here
 effect_stays design n p s (Advance time) f none h here free most = advance_stays n p time s f none here
 
 -- an active evaluation that isn't taken stays, with the remainder of its process
@@ -613,10 +629,18 @@ event_silent_stays n a t f h stays =
 
 event_advance_stays : (n time : ℕ) (a : Action) (s : State) (f : Effect) → entry_refusal s (Advance time) ≡ None → action_in s.active n ≡ Some a → action_in f.state.active n ≡ Some a
 event_advance_stays n time a s f none here =
-    let empty : (has_any s.active || has_any s.inactive || has_any s.nonblocking) ≡ false =
-    (where_none (has_any s.active || has_any s.inactive || has_any s.nonblocking) NotDue (time_refusal time (least_time s)) none).0 in
-    let two : (has_any s.active || has_any s.inactive) ≡ false = (either_false (has_any s.active || has_any s.inactive) (has_any s.nonblocking) empty).0 in
+    let empty : (has_any s.active || has_any s.inactive || has_any s.nonblocking || has_any s.monitor) ≡ false =
+    (where_none (has_any s.active || has_any s.inactive || has_any s.nonblocking || has_any s.monitor) NotDue (time_refusal time (least_time s)) none).0 in
+    let three : (has_any s.active || has_any s.inactive || has_any s.nonblocking) ≡ false = (either_false (has_any s.active || has_any s.inactive || has_any s.nonblocking) (has_any s.monitor) empty).0 in
+    let two : (has_any s.active || has_any s.inactive) ≡ false = (either_false (has_any s.active || has_any s.inactive) (has_any s.nonblocking) three).0 in
     absurd (nothing_there n a s.active (either_false (has_any s.active) (has_any s.inactive) two).0 here)
+
+event_monitor_stays : (n : ℕ) (a : Action) (s : State) (lines : List ℕ) (f : Effect) → Some (record { state = monitored s; lines = lines; changes = [] }) ≡ Some f
+    → action_in s.active n ≡ Some a → action_in f.state.active n ≡ Some a
+event_monitor_stays n a s lines f h here =
+    let e : Effect = record { state = monitored s; lines = lines; changes = [] } in
+    let same : e ≡ f = cc in
+    rw (← same) here
 
 event_stays : (design : Design) (n : ℕ) (a : Action) (s : State) (entry : Entry) (f : Effect) → entry_refusal s entry ≡ None → effect design s entry ≡ Some f → action_in s.active n ≡ Some a → times_in n (taken (entry ∷ [])) ≡ 0
     → action_in f.state.active n ≡ Some a
@@ -624,6 +648,7 @@ event_stays design n a s (Entry.Turn m) f none h here free = event_action_stays 
 event_stays design n a s (Update m) f none h here free = event_action_stays design n m a s f (action_in s.active m) (not_taken (m == n) free) here h
 event_stays design n a s ActivateInactive f none h here free = event_silent_stays n a (inactive_activated s) f h (action_in-append n a s.active s.inactive here)
 event_stays design n a s ActivateNba f none h here free = event_silent_stays n a (nonblocking_activated s) f h (action_in-append n a s.active s.nonblocking here)
+event_stays design n a s ActivateMonitor f none h here free = event_monitor_stays n a s (strobe_lines design s) f h here
 event_stays design n a s (Advance time) f none h here free = event_advance_stays n time a s f none here
 
 pub active_events_stay : ActiveEventsStay

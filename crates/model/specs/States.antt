@@ -38,8 +38,9 @@ pub record Progress : Type 0 where
   pub remainder : Remainder
   pub triggers : List Trigger
 
--- The state. Each set of events stands in the order of their numbers. A future event has its time before it, and
--- future events stand in the order of their times, and those of one time in the order of their numbers.
+-- The state. Each set of events stands in the order of their numbers. The monitor region has the places of the $strobe
+-- statements that were met, in that order. A future event has its time before it, and future events stand in the order of
+-- their times, and those of one time in the order of their numbers.
 pub record State : Type 0 where
   pub time : ℕ
   pub store : Store
@@ -47,6 +48,7 @@ pub record State : Type 0 where
   pub active : List Event
   pub inactive : List Event
   pub nonblocking : List Event
+  pub monitor : List ℕ
   pub future_inactive : List (ℕ × Event)
   pub future_nonblocking : List (ℕ × Event)
   pub next_event : ℕ
@@ -66,6 +68,7 @@ start design =
       active = map (λ e. (e.0, Evaluate e.0)) (enumerate_from 0 design.processes);
       inactive = [];
       nonblocking = [];
+      monitor = [];
       future_inactive = [];
       future_nonblocking = [];
       next_event = length design.processes;
@@ -166,10 +169,15 @@ without number events = filter (λ e. not (e.0 == number)) events
 abbrev pub taking : ℕ → State → State
 taking number s = record s { active = without number s.active }
 
--- the process with this number goes on with this remainder once its triggers, if it has any, wake it
+-- the process with this number goes on with this remainder once its triggers, if it has any, wake it, and its strobes
+-- stand behind those of earlier turns
 abbrev pub with_progress : ℕ → Turn → State → State
 with_progress p turn s =
-    record s { processes = slice_set s.processes p (record { remainder = turn.rest; triggers = triggers_of turn.wait }); finished = turn.finish }
+    record s {
+      processes = slice_set s.processes p (record { remainder = turn.rest; triggers = triggers_of turn.wait });
+      monitor = s.monitor ++ turn.strobes;
+      finished = turn.finish;
+    }
 
 -- A turn of the process p, taken by the event with this number: its writes in order, then the events of its
 -- nonblocking assignments in order, then the event of its own wait.
@@ -189,6 +197,10 @@ inactive_activated s = record s { active = s.active ++ s.inactive; inactive = []
 -- all nonblocking updates become active
 abbrev pub nonblocking_activated : State → State
 nonblocking_activated s = record s { active = s.active ++ s.nonblocking; nonblocking = [] }
+
+-- the monitor region is emptied
+abbrev pub monitored : State → State
+monitored s = record s { monitor = [] }
 
 -- whether an event evaluates a process
 abbrev pub is_evaluation : Action → Bool

@@ -12,7 +12,7 @@ use Rattle.model.specs.declared.tree.Statement as statement
 use Rattle.model.specs.declared.tree.Statement.{fold-Statement}
 use Rattle.model.specs.declared.tree.Statement.TheOpen.{Statement-F}
 use Rattle.model.specs.declared.tree.Change.{Change}
-use Rattle.model.specs.Syntax.{Text, Expression, Register, Select, Literal, Concat, Unary, Binary, Conditional, Expressions, Nothing, Also, Statement, Empty, Block, Assign, AssignLater, Delay, Await, If, IfElse, While, Display, Finish, Statements, End, Then, Declaration, Process, Module}
+use Rattle.model.specs.Syntax.{Text, Expression, Register, Select, Literal, Concat, Unary, Binary, Conditional, Expressions, Nothing, Also, Statement, Empty, Block, Assign, AssignLater, Delay, Await, If, IfElse, While, Print, Finish, Statements, End, Then, Declaration, Process, Module}
 
 -- the expressions of a list, in its order
 abbrev pub expressions : List (Expression Text) → Expressions Text
@@ -53,7 +53,7 @@ statement_node (Statement-F.Await events s) = Await (map trigger_of events.items
 statement_node (Statement-F.If c body) = If (expression_of c) (statements body.items)
 statement_node (Statement-F.IfElse c body other) = IfElse (expression_of c) (statements body.items) (statements other.items)
 statement_node (Statement-F.While c body) = While (expression_of c) (statements body.items)
-statement_node (Statement-F.Display format arguments) = Display format.items (expressions (map expression_of arguments.items))
+statement_node (Statement-F.Print task format arguments) = Print task format.items (expressions (map expression_of arguments.items))
 statement_node Statement-F.Finish = Finish
 
 -- the plain tree of a statement

@@ -1,5 +1,7 @@
 //! Files that are read.
 
+ghost use Rattle.std.specs.Prelude.{◌≢◌, IfErr};
+
 use crate::fault::Fault;
 use crate::files::Files;
 use std::alloc::Global;
@@ -29,7 +31,9 @@ pub fn read_file<'a, F: Files>(
     alloc: Global,
     path: &'a str,
     files: &mut F,
-) -> Result<Vec<u8>, Fault<'a>> {
+) -> Result<Vec<u8>, Fault<'a>>
+    ensures fault { IfErr result (λ fault. fault ≢ Fault.JournalVersion) }
+{
     let mut file = open_file(path, files)?;
     let mut text = Vec::new(alloc);
     match file.read_to_end(&mut text) {
@@ -42,7 +46,9 @@ pub fn read_file<'a, F: Files>(
 pub fn open_file<'a, F: Files>(
     path: &'a str,
     files: &mut F,
-) -> Result<Retrying<F::Source>, Fault<'a>> {
+) -> Result<Retrying<F::Source>, Fault<'a>>
+    ensures fault { IfErr result (λ fault. fault ≢ Fault.JournalVersion) }
+{
     match files.open(path) {
         Ok(file) => Ok(Retrying { file }),
         Err(error) => Err(unread(path, &error)),
@@ -50,7 +56,9 @@ pub fn open_file<'a, F: Files>(
 }
 
 /// Why a file wasn't read: want of memory is told as such.
-fn unread<'a>(path: &'a str, error: &io::Error) -> Fault<'a> {
+fn unread<'a>(path: &'a str, error: &io::Error) -> Fault<'a>
+    ensures { result ≢ Fault.JournalVersion }
+{
     match error.kind() {
         ErrorKind::OutOfMemory => Fault::Memory,
         _ => Fault::CannotRead(path),

@@ -16,18 +16,18 @@ use Rattle.design.specs.Standing.{IsStateOf}
 use Rattle.turn.specs.declared.log.TurnLog.{TurnLog}
 use Rattle.regions.specs.Queue.{Core}
 use Rattle.regions.specs.Passing.{HasOwnStates, IsKeptState, KeepsStates}
-use Rattle.regions.specs.Logs.{IsLogFor, IsTurnGiven, IsTaken, after_step, printed, finishes}
+use Rattle.regions.specs.Logs.{IsLogFor, IsTurnGiven, IsTaken, after_step, strobed, printed, finishes}
 use Rattle.regions.proofs.Applied.{turn_at, no_turn_given}
 use Rattle.regions.proofs.Clock.{time-turned, time-updated, finished-updated}
 
 -- what an entry does besides the step itself
-record Told (s : State) (entry : Entry) (log : Option TurnLog) (e : Effect) : Type 0 where
-  lines_are : e.lines ≡ printed entry log
+record Told (code : Compiled) (s : State) (entry : Entry) (log : Option TurnLog) (e : Effect) : Type 0 where
+  lines_are : e.lines ≡ printed entry log (strobed code s entry)
   finished : e.state.finished ≡ finishes entry log
   time : s.time ≤ last_time → e.state.time ≤ last_time
 
 turn_told : (code : Compiled) (s : State) (number : ℕ) (log : Option TurnLog) (e : Effect) → refusal s (entries.Turn number) ≡ None
-    → effect (design_of code) s (entries.Turn number) ≡ Some e → IsTurnGiven code s (entries.Turn number) log → Told s (entries.Turn number) log e
+    → effect (design_of code) s (entries.Turn number) ≡ Some e → IsTurnGiven code s (entries.Turn number) log → Told code s (entries.Turn number) log e
 turn_told code s number None e allowed is given = absurd (no_turn_given code s (entries.Turn number) number None refl refl allowed given)
 turn_told code s number (Some log) e allowed is given =
     let t = turn_at code s (entries.Turn number) number (Some log) log refl refl allowed given in
@@ -41,16 +41,16 @@ turn_told code s number (Some log) e allowed is given =
       time = λ now. rw time now;
     }
 
-silent_told : (s t : State) (entry : Entry) (log : Option TurnLog) (e : Effect) → e ≡ silent t → printed entry log ≡ [] → finishes entry log ≡ false
-    → t.finished ≡ false → (s.time ≤ last_time → t.time ≤ last_time) → Told s entry log e
-silent_told s t entry log e is none goes unfinished time = record {
+silent_told : (code : Compiled) (s t : State) (entry : Entry) (log : Option TurnLog) (e : Effect) → e ≡ silent t → printed entry log (strobed code s entry) ≡ []
+    → finishes entry log ≡ false → t.finished ≡ false → (s.time ≤ last_time → t.time ≤ last_time) → Told code s entry log e
+silent_told code s t entry log e is none goes unfinished time = record {
   lines_are = ap (λ x. x.lines) is ∙ sym none;
   finished = ap (λ x. x.state.finished) is ∙ (unfinished ∙ sym goes);
   time = λ now. let same : e.state.time ≡ t.time = ap (λ x. x.state.time) is in rw same (time now);
 }
 
 other_told : (code : Compiled) (s : State) (entry : Entry) (log : Option TurnLog) (e : Effect) → IsTurnGiven code s entry log → refusal s entry ≡ None
-    → effect (design_of code) s entry ≡ Some e → s.finished ≡ false → IsPermitted (design_of code) s entry e → Told s entry log e
+    → effect (design_of code) s entry ≡ Some e → s.finished ≡ false → IsPermitted (design_of code) s entry e → Told code s entry log e
 other_told code s (entries.Turn event) log e given allowed is unfinished permitted = turn_told code s event log e allowed is given
 other_told code s (entries.Update event) log e given allowed is unfinished (r, v, action, first, same) =
     let time : e.state.time ≡ s.time = ap (λ x. x.state.time) same ∙ time-updated s event r v in
@@ -59,9 +59,14 @@ other_told code s (entries.Update event) log e given allowed is unfinished (r, v
       finished = ap (λ x. x.state.finished) same ∙ (finished-updated s event r v ∙ unfinished);
       time = λ now. rw time now;
     }
-other_told code s entries.ActivateInactive log e given allowed is unfinished (a, i, same) = silent_told s _ entries.ActivateInactive log e same refl refl unfinished (λ now. now)
-other_told code s entries.ActivateNba log e given allowed is unfinished (a, i, n, same) = silent_told s _ entries.ActivateNba log e same refl refl unfinished (λ now. now)
-other_told code s (entries.Advance time) log e given allowed is unfinished (a, i, n, least, most, same) = silent_told s _ (entries.Advance time) log e same refl refl unfinished (λ now. most)
+other_told code s entries.ActivateInactive log e given allowed is unfinished (a, i, same) = silent_told code s _ entries.ActivateInactive log e same refl refl unfinished (λ now. now)
+other_told code s entries.ActivateNba log e given allowed is unfinished (a, i, n, same) = silent_told code s _ entries.ActivateNba log e same refl refl unfinished (λ now. now)
+other_told code s entries.ActivateMonitor log e given allowed is unfinished (a, i, n, m, same) = record {
+  lines_are = ap (λ x. x.lines) same;
+  finished = ap (λ x. x.state.finished) same ∙ unfinished;
+  time = λ now. let time : e.state.time ≡ s.time = ap (λ x. x.state.time) same in rw time now;
+}
+other_told code s (entries.Advance time) log e given allowed is unfinished (a, i, n, m, least, most, same) = silent_told code s _ (entries.Advance time) log e same refl refl unfinished (λ now. most)
 
 some_effect : (o : Option Effect) (s : State) → option_map (λ e. e.state) o ≡ Some s → (e : Effect) × (o ≡ Some e) × (e.state ≡ s)
 some_effect None s h = cc
@@ -72,7 +77,7 @@ pub record Comes (code : Compiled) (s : State) (entry : Entry) (log : Option Tur
   pub effect : Effect
   pub is_step : step (design_of code) s entry ≡ Some effect
   pub state_is : effect.state ≡ t
-  pub lines_are : effect.lines ≡ printed entry log
+  pub lines_are : effect.lines ≡ printed entry log (strobed code s entry)
   pub finished : t.finished ≡ finishes entry log
   pub time : s.time ≤ last_time → t.time ≤ last_time
 
@@ -82,7 +87,7 @@ comes code s entry log t given after =
     let found = some_effect (step (design_of code) s entry) t after in
     let parts = unless_some (refusal s entry) (effect (design_of code) s entry) found.0 found.1 in
     let exact = (step_is_exact (design_of code) s entry found.0).0 found.1 in
-    let tells : Told s entry log found.0 = other_told code s entry log found.0 given parts.0 parts.1 exact.0 exact.1 in
+    let tells : Told code s entry log found.0 = other_told code s entry log found.0 given parts.0 parts.1 exact.0 exact.1 in
     record {
       effect = found.0;
       is_step = found.1;
@@ -94,7 +99,7 @@ comes code s entry log t given after =
 
 -- its lines stand behind others
 pub taken : (code : Compiled) (s : State) (before : List ℕ) (entry : Entry) (log : Option TurnLog) (t : State) (behind : List ℕ) → Comes code s entry log t
-    → behind ≡ before ++ printed entry log → IsTaken code s before entry t behind
+    → behind ≡ before ++ printed entry log (strobed code s entry) → IsTaken code s before entry t behind
 taken code s before entry log t behind h lines = record {
   effect = h.effect;
   is_step = h.is_step;

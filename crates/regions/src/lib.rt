@@ -5,14 +5,15 @@
 //! one journal entry:
 //!
 //! 1. An entry that the rules don't permit is refused, for the first reason that they have.
-//! 2. Room is made for all that the step may add, so that nothing can fail after the first change.
+//! 2. Room is made for all that the step may add, so that nothing can fail after the first change. Where the entry empties
+//!    the monitor region, its lines are made before, by the values as they stand.
 //! 3. A turn takes its evaluation out of the active region, and an update the first active update.
 //! 4. Its writes are made in order. Each change of a register wakes the processes that wait for it, and their
 //!    evaluations become active. Where no process waits for any of the registers, each register is stored once, by the net of
 //!    its writes: the state after it is the same.
 //! 5. The nonblocking assignments of a turn become updates, in the nonblocking region or in the future, and then the
-//!    event of its own wait becomes inactive or a future event.
-//! 6. A change of region swaps a region into an empty one. An advance takes the events of the least time off the
+//!    event of its own wait becomes inactive or a future event. The `$strobe` statements that it met join the monitor region.
+//! 6. A change of region swaps a region into an empty one, and the monitor region is emptied. An advance takes the events of the least time off the
 //!    front of the two lists of future events.
 //!
 //! The layer above uses the contract of `State::apply`. After an `Ok`, the state that `State` and `Store` stand for

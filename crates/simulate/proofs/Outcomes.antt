@@ -7,7 +7,7 @@ use Rattle.std.proofs.lemmas.List.{length-map}
 use Rattle.std.proofs.lemmas.List.FromFn.{length-range_with_len}
 use mathlib.Core.List.{IsPrefix}
 use Rattle.model.specs.declared.entry.Entry.{Entry}
-use Rattle.model.specs.declared.entry.Entry.TheVariants.{Turn, Update, ActivateInactive, ActivateNba, Advance}
+use Rattle.model.specs.declared.entry.Entry.TheVariants.{Turn, Update, ActivateInactive, ActivateNba, ActivateMonitor, Advance}
 use Rattle.model.specs.declared.end.Why.{Why}
 use Rattle.model.specs.declared.end.End.{End}
 use Rattle.model.specs.declared.end.End.TheVariants.{Quiet, Running, Stopped}
@@ -82,6 +82,7 @@ few_turns (Turn e ∷ es) = let r = few_turns es in omega (arith, r)
 few_turns (Update e ∷ es) = let r = few_turns es in omega (arith, r)
 few_turns (ActivateInactive ∷ es) = let r = few_turns es in omega (arith, r)
 few_turns (ActivateNba ∷ es) = let r = few_turns es in omega (arith, r)
+few_turns (ActivateMonitor ∷ es) = let r = few_turns es in omega (arith, r)
 few_turns (Advance t ∷ es) = let r = few_turns es in omega (arith, r)
 
 sum_map : {X Y : Type 0} (f : Y → ℕ) (g : X → Y) (xs : List X) → sum_by f (map g xs) ≡ sum_by (λ x. f (g x)) xs

@@ -63,6 +63,10 @@ impl<'g, K: Naming, S: Seating, P: Probe, R: Wait> RegReader for ProbedReader<'g
 
     ghost gave = { λ s r seen. IsRead K.named.code s.fresh r seen };
 
+    ghost Lasting = { Unit {0} };
+
+    ghost lasting = { λ r. tt };
+
     fn read(&mut self, register: RegId) -> Seen {
         self.probe.read(self.worker, register);
         self.reader.read(register)

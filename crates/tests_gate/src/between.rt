@@ -43,6 +43,10 @@ impl<'c, 'g, 'd, K: Naming, R: Wait + Abort> RegReader for Between<'c, 'g, 'd, K
 
     ghost gave = { λ s r seen. IsRead K.named.code s.reader.fresh r seen };
 
+    ghost Lasting = { Unit {0} };
+
+    ghost lasting = { λ r. tt };
+
     fn read(&mut self, register: RegId) -> Seen {
         let seen = self.reader.read(register);
         overtake(self.course, &mut self.waits, &mut self.other);

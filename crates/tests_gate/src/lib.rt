@@ -4,6 +4,7 @@
 //! 2. `between` has a reader that lets another seat commit a turn between two reads.
 //! 3. `examples` has worked examples of one and of two seats: what each call answers, and what the gate leaves.
 //! 4. `held` reads registers while another thread has the lock.
+//! 5. `strobes` has a run of one seat with strobes, and its lines.
 #![tactic(auto)]
 
 #[cfg(test)]
@@ -14,3 +15,5 @@ mod course;
 mod examples;
 #[cfg(test)]
 mod held;
+#[cfg(test)]
+mod strobes;

@@ -3,4 +3,5 @@
 mod elaboration;
 mod literals;
 mod parsing;
+mod tasks;
 mod vectors;

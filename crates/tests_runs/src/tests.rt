@@ -6,5 +6,6 @@ mod journal_text;
 mod operators;
 mod replays;
 mod streams;
+mod strobes;
 mod turns;
 mod worked;

@@ -28,6 +28,15 @@ system_name : reading (codes "$display") ≡ one k.Display (codes "$display") 0
 unfolding reading item_word statement_word
 system_name = refl
 
+another_system_name : reading (codes "$strobe") ≡ one k.Strobe (codes "$strobe") 0
+unfolding reading item_word statement_word
+another_system_name = refl
+
+-- the whole name counts
+longer_system_name : reading (codes "$strobes") ≡ one k.System (codes "$strobes") 0
+unfolding reading item_word statement_word bit_sign test_sign mark_sign bracket_sign kind_by_first
+longer_system_name = refl
+
 -- a system name that the grammar doesn't have is a token all the same
 other_system_name : reading (codes "$time") ≡ one k.System (codes "$time") 0
 unfolding reading item_word statement_word bit_sign test_sign mark_sign bracket_sign kind_by_first

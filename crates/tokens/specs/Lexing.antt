@@ -77,7 +77,7 @@ item_word t =
     else (if bytes_eq t (codes "end") then Some k.EndBlock
     else None))))))
 
--- The reserved words of statements and events, and the two system names that the grammar has.
+-- The reserved words of statements and events, and the three system names that the grammar has.
 unfoldable pub statement_word : List ℕ → Option Kind
 statement_word t =
     if bytes_eq t (codes "if") then Some k.If
@@ -87,8 +87,9 @@ statement_word t =
     else (if bytes_eq t (codes "negedge") then Some k.Negedge
     else (if bytes_eq t (codes "or") then Some k.Or
     else (if bytes_eq t (codes "$display") then Some k.Display
+    else (if bytes_eq t (codes "$strobe") then Some k.Strobe
     else (if bytes_eq t (codes "$finish") then Some k.Finish
-    else None)))))))
+    else None))))))))
 
 -- The operators of bits, sums and the left shift.
 unfoldable pub bit_sign : List ℕ → Option Kind

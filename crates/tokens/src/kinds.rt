@@ -66,6 +66,9 @@ fn statement_word(text: &[u8]) -> Option<Kind>
     if is_same(text, b"$display") {
         return Some(Kind::Display);
     }
+    if is_same(text, b"$strobe") {
+        return Some(Kind::Strobe);
+    }
     if is_same(text, b"$finish") {
         return Some(Kind::Finish);
     }

@@ -14,9 +14,10 @@ pub enum Kind {
     Text,
     Decimal,
     Sized,
-    /// A system name other than `$display` and `$finish`.
+    /// A system name other than `$display`, `$strobe` and `$finish`.
     System,
     Display,
+    Strobe,
     Finish,
     Module,
     EndModule,

@@ -8,3 +8,4 @@ pub mod Printed
 pub mod Values
 pub mod Steps
 pub mod Turns
+pub mod Strobed

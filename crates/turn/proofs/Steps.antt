@@ -9,6 +9,7 @@ use Rattle.logic4.specs.declared.digit.Truth.{Truth}
 use Rattle.logic4.specs.declared.digit.Truth.TheVariants.{False, True, Unknown}
 use Rattle.logic4.specs.Vector.{Vector}
 use Rattle.logic4.specs.Operators.{truth}
+use Rattle.model.specs.declared.tree.Task.TheVariants as Task
 use Rattle.model.specs.Syntax.{Expression, Expressions, registers_of}
 use Rattle.model.specs.Design as tree
 use Rattle.model.specs.Design.{Design, Statement, Statements, Piece, Trigger, Process, statement_at, process_at, statements_of, all_of, size}
@@ -24,6 +25,7 @@ use Rattle.design.specs.Fits.{FitsRegister}
 use Rattle.design.specs.Places.{remainder_at, IsPlaceOf}
 use Rattle.design.specs.Compiled.{Compiled, design_of}
 use Rattle.design.specs.Meaning.{IsTest, IsFine, IsCompiled}
+use Rattle.design.proofs.Numbered.{place_named}
 use Rattle.design.specs.Standing.{pending_part, remainder_of, IsPending, IsStateOf}
 use Rattle.turn.specs.declared.log.Suspend.{Suspend}
 use Rattle.turn.specs.declared.log.Suspend.TheVariants as suspends
@@ -31,7 +33,7 @@ use Rattle.turn.specs.declared.machine.Step.{Step}
 use Rattle.turn.specs.declared.machine.Step.TheVariants as step
 use Rattle.turn.specs.Reads.{registers, Agrees}
 use Rattle.turn.specs.Evaluate.{Knows, written}
-use Rattle.turn.specs.Progress.{Status, at, writing, holding, delaying, printing, wait_for, chosen_place}
+use Rattle.turn.specs.Progress.{Status, at, writing, holding, delaying, printing, wait_for, chosen_place, strobing}
 use Rattle.turn.specs.Machine.{TakesNode, TakesSome, TakesPending, Takes}
 use Rattle.turn.specs.Logs.{later_of, wait_of}
 use Rattle.turn.proofs.Known.{written-append}
@@ -46,6 +48,7 @@ going_of code store count s = record {
   writes = s.writes;
   laters = map later_of s.nbas;
   lines = s.lines;
+  strobes = s.strobes;
   count = count;
 }
 
@@ -56,6 +59,7 @@ turn_of code s suspend finish count = record {
   writes = s.writes;
   laters = map later_of s.nbas;
   lines = s.lines;
+  strobes = s.strobes;
   rest = remainder_of code s.state;
   wait = wait_of code.controls suspend;
   finish = finish;
@@ -84,11 +88,11 @@ pub record Follows (code : Compiled) (p now : ℕ) (s : Status) (r : Step) (s' :
   pub agrees : (store : Store) → Agrees s'.reads store → Agrees s.reads store
   pub goes : (store : Store) (count : ℕ) → length store ≡ length code.widths → Agrees s'.reads store → StepOn code p now store count s r s'
 
-goes_eq : (left left' : Remainder) (values values' : Store) (uses uses' : List ℕ) (writes writes' : List (ℕ × Vector)) (laters laters' : List turns.Later) (lines lines' : List ℕ) (count : ℕ) → left ≡ left' → values ≡ values' → uses ≡ uses' → writes ≡ writes' → laters ≡ laters' → lines ≡ lines' → turns.Goes (record { left = left; values = values; uses = uses; writes = writes; laters = laters; lines = lines; count = count }) ≡ turns.Goes (record { left = left'; values = values'; uses = uses'; writes = writes'; laters = laters'; lines = lines'; count = count })
-goes_eq left left' values values' uses uses' writes writes' laters laters' lines lines' count a b c d e f = rw (a, b, c, d, e, f) refl
+goes_eq : (left left' : Remainder) (values values' : Store) (uses uses' : List ℕ) (writes writes' : List (ℕ × Vector)) (laters laters' : List turns.Later) (lines lines' : List ℕ) (strobes : List ℕ) (count : ℕ) → left ≡ left' → values ≡ values' → uses ≡ uses' → writes ≡ writes' → laters ≡ laters' → lines ≡ lines' → turns.Goes (record { left = left; values = values; uses = uses; writes = writes; laters = laters; lines = lines; strobes = strobes; count = count }) ≡ turns.Goes (record { left = left'; values = values'; uses = uses'; writes = writes'; laters = laters'; lines = lines'; strobes = strobes; count = count })
+goes_eq left left' values values' uses uses' writes writes' laters laters' lines lines' strobes count a b c d e f = rw (a, b, c, d, e, f) refl
 
-over_eq : (uses uses' : List ℕ) (writes : List (ℕ × Vector)) (laters : List turns.Later) (lines : List ℕ) (rest rest' : Remainder) (w w' : turns.Wait) (finish : Bool) (count : ℕ) → uses ≡ uses' → rest ≡ rest' → w ≡ w' → turns.Over (record { uses = uses; writes = writes; laters = laters; lines = lines; rest = rest; wait = w; finish = finish; count = count }) ≡ turns.Over (record { uses = uses'; writes = writes; laters = laters; lines = lines; rest = rest'; wait = w'; finish = finish; count = count })
-over_eq uses uses' writes laters lines rest rest' w w' finish count a b c = rw (a, b, c) refl
+over_eq : (uses uses' : List ℕ) (writes : List (ℕ × Vector)) (laters : List turns.Later) (lines strobes : List ℕ) (rest rest' : Remainder) (w w' : turns.Wait) (finish : Bool) (count : ℕ) → uses ≡ uses' → rest ≡ rest' → w ≡ w' → turns.Over (record { uses = uses; writes = writes; laters = laters; lines = lines; strobes = strobes; rest = rest; wait = w; finish = finish; count = count }) ≡ turns.Over (record { uses = uses'; writes = writes; laters = laters; lines = lines; strobes = strobes; rest = rest'; wait = w'; finish = finish; count = count })
+over_eq uses uses' writes laters lines strobes rest rest' w w' finish count a b c = rw (a, b, c) refl
 
 wait_delayed : (controls : List (List Trigger)) (now delay : ℕ) → delayed now delay ≡ wait_of controls (wait_for now delay)
 wait_delayed controls now zero = refl
@@ -163,13 +167,13 @@ module _ (code : Compiled) (p now : ℕ) where
     agrees = λ store h. h;
     goes = λ store count len agree.
         ending (going_of code store count s) (remainder_of code s.state) left still
-        ∙ over_eq _ _ _ _ _ [] (remainder_of code s.state) _ _ false count refl (sym left) refl;
+        ∙ over_eq _ _ _ _ _ _ [] (remainder_of code s.state) _ _ false count refl (sym left) refl;
   }
 
   restart_follows : (s : Status) (to : ℕ) → Sound code p s → remainder_of code s.state ≡ [] → (process_at (design_of code) p).repeats ≡ true → remainder_at (design_of code) to ≡ whole (design_of code) p → IsPlaceOf (design_of code) p to → Follows code p now s step.Goes (at s to)
   restart_follows s to sound left again there within = plain_goes s to sound within (λ store count.
       restarting (going_of code store count s) (remainder_of code s.state) left again
-      ∙ goes_eq _ (remainder_at (design_of code) to) _ _ _ _ _ _ _ _ _ _ (count + 1) (sym there) refl refl refl refl refl)
+      ∙ goes_eq _ (remainder_at (design_of code) to) _ _ _ _ _ _ _ _ _ _ _ (count + 1) (sym there) refl refl refl refl refl)
 
   skip_follows : (s : Status) (to place : ℕ) → Sound code p s → remainder_of code s.state ≡ At place ∷ remainder_at (design_of code) to → statement_at (design_of code) place ≡ tree.Empty → IsPlaceOf (design_of code) p to → Follows code p now s step.Goes (at s to)
   skip_follows s to place sound left is within = plain_goes s to sound within (λ store count.
@@ -182,12 +186,12 @@ module _ (code : Compiled) (p now : ℕ) where
   delay_follows : (s : Status) (to place delay : ℕ) (body : Statements) (rest : Remainder) → Sound code p s → remainder_of code s.state ≡ At place ∷ rest → statement_at (design_of code) place ≡ tree.Delay delay body → remainder_at (design_of code) to ≡ parts (place + 1) body ++ rest → IsPlaceOf (design_of code) p to → Follows code p now s (step.Ends (wait_for now delay) false) (at s to)
   delay_follows s to place delay body rest sound left is there within = plain_ends s to (wait_for now delay) false sound within (λ store count.
       stepping (going_of code store count s) (remainder_of code s.state) rest place (tree.Delay delay body) left is
-      ∙ over_eq _ _ _ _ _ _ (remainder_at (design_of code) to) _ _ false (count + 1) refl (sym there) (wait_delayed code.controls now delay))
+      ∙ over_eq _ _ _ _ _ _ _ (remainder_at (design_of code) to) _ _ false (count + 1) refl (sym there) (wait_delayed code.controls now delay))
 
   await_follows : (s : Status) (to place control : ℕ) (triggers : List Trigger) (body : Statements) (rest : Remainder) → Sound code p s → remainder_of code s.state ≡ At place ∷ rest → slice_get code.controls control ≡ Some triggers → statement_at (design_of code) place ≡ tree.Await triggers body → remainder_at (design_of code) to ≡ parts (place + 1) body ++ rest → IsPlaceOf (design_of code) p to → Follows code p now s (step.Ends (suspends.Event control) false) (at s to)
   await_follows s to place control triggers body rest sound left found is there within = plain_ends s to (suspends.Event control) false sound within (λ store count.
       stepping (going_of code store count s) (remainder_of code s.state) rest place (tree.Await triggers body) left is
-      ∙ over_eq _ _ _ _ _ _ (remainder_at (design_of code) to) _ _ false (count + 1) refl (sym there) (ap turns.OnChange (sym (control_found code.controls control triggers found))))
+      ∙ over_eq _ _ _ _ _ _ _ (remainder_at (design_of code) to) _ _ false (count + 1) refl (sym there) (ap turns.OnChange (sym (control_found code.controls control triggers found))))
 
   assign_follows : (s : Status) (q to place : ℕ) (e : Expression ℕ) (v : Vector) (m : Status) → Sound code p s → Gets s v m (λ values. assigned_value code.widths values q e) (registers_of e) → remainder_of code s.state ≡ At place ∷ remainder_at (design_of code) to → statement_at (design_of code) place ≡ tree.Assign q e → q < length code.widths → IsPlaceOf (design_of code) p to → Follows code p now s step.Goes (writing (record s { known = m.known; reads = m.reads }) q v to)
   assign_follows s q to place e v m sound got left is fits within =
@@ -204,7 +208,7 @@ module _ (code : Compiled) (p now : ℕ) where
         goes = λ store count len agree.
             let value = got.value store (len ∙ sym sound.size) agree in
             stepping (going_of code store count s) (remainder_of code s.state) (remainder_at (design_of code) to) place (tree.Assign q e) left is
-            ∙ goes_eq (remainder_at (design_of code) to) (remainder_at (design_of code) to) _ _ _ _ _ _ _ _ _ _ (count + 1) refl
+            ∙ goes_eq (remainder_at (design_of code) to) (remainder_at (design_of code) to) _ _ _ _ _ _ _ _ _ _ _ (count + 1) refl
             (ap (slice_set (written store s.writes) q) value ∙ sym (written-append s.writes store q v))
             (sym got.continues.uses)
             (ap (λ x. s.writes ++ (q, x) ∷ []) value)
@@ -223,7 +227,7 @@ module _ (code : Compiled) (p now : ℕ) where
     agrees = got.continues.agrees;
     goes = λ store count len agree.
         stepping (going_of code store count s) (remainder_of code s.state) (remainder_at (design_of code) to) place (tree.AssignAfter q delay e) left is
-        ∙ over_eq _ _ _ _ _ _ _ _ _ false (count + 1) (sym got.continues.uses) (ap (λ x. Set q x ∷ remainder_at (design_of code) to) (got.value store (len ∙ sym sound.size) agree)) (wait_delayed code.controls now delay);
+        ∙ over_eq _ _ _ _ _ _ _ _ _ _ false (count + 1) (sym got.continues.uses) (ap (λ x. Set q x ∷ remainder_at (design_of code) to) (got.value store (len ∙ sym sound.size) agree)) (wait_delayed code.controls now delay);
   }
 
   later_follows : (s : Status) (q to place delay : ℕ) (e : Expression ℕ) (v : Vector) (m : Status) → Sound code p s → Gets s v m (λ values. assigned_value code.widths values q e) (registers_of e) → remainder_of code s.state ≡ At place ∷ remainder_at (design_of code) to → statement_at (design_of code) place ≡ tree.AssignLater q delay e → q < length code.widths → IsPlaceOf (design_of code) p to → Follows code p now s step.Goes (delaying (record s { known = m.known; reads = m.reads }) (record { register = q; value = v; due = now + delay }) to)
@@ -238,7 +242,7 @@ module _ (code : Compiled) (p now : ℕ) where
     agrees = got.continues.agrees;
     goes = λ store count len agree.
         stepping (going_of code store count s) (remainder_of code s.state) (remainder_at (design_of code) to) place (tree.AssignLater q delay e) left is
-        ∙ goes_eq (remainder_at (design_of code) to) (remainder_at (design_of code) to) _ _ _ _ _ _ _ _ _ _ (count + 1) refl refl (sym got.continues.uses) refl
+        ∙ goes_eq (remainder_at (design_of code) to) (remainder_at (design_of code) to) _ _ _ _ _ _ _ _ _ _ _ (count + 1) refl refl (sym got.continues.uses) refl
         (ap (λ x. map later_of s.nbas ++ record { register = q; value = x; due = now + delay } ∷ []) (got.value store (len ∙ sym sound.size) agree)
         ∙ sym (map-append later_of s.nbas (record { register = q; value = v; due = now + delay } ∷ [])))
         refl;
@@ -268,14 +272,14 @@ module _ (code : Compiled) (p now : ℕ) where
         ⊎_elim
         (λ (body, (otherwise, (is, e1, e2))).
         stepping (going_of code store count s) (remainder_of code s.state) rest place (tree.If c body otherwise) left is
-        ∙ goes_eq _ (remainder_at (design_of code) to) _ _ _ _ _ _ _ _ _ _ (count + 1) (ap (λ x. where_true tested x (parts (place + 1 + size body) otherwise ++ rest)) (sym e1) ∙ ap (where_true tested first) (sym e2) ∙ one) refl (sym got.continues.uses) refl refl refl)
+        ∙ goes_eq _ (remainder_at (design_of code) to) _ _ _ _ _ _ _ _ _ _ _ (count + 1) (ap (λ x. where_true tested x (parts (place + 1 + size body) otherwise ++ rest)) (sym e1) ∙ ap (where_true tested first) (sym e2) ∙ one) refl (sym got.continues.uses) refl refl refl)
         (λ (body, (is, e1, e2)).
         stepping (going_of code store count s) (remainder_of code s.state) rest place (tree.While c body) left is
-        ∙ goes_eq _ (remainder_at (design_of code) to) _ _ _ _ _ _ _ _ _ _ (count + 1) (ap (λ x. where_true tested x rest) (sym e1) ∙ ap (where_true tested first) (sym e2) ∙ one) refl (sym got.continues.uses) refl refl refl)
+        ∙ goes_eq _ (remainder_at (design_of code) to) _ _ _ _ _ _ _ _ _ _ _ (count + 1) (ap (λ x. where_true tested x rest) (sym e1) ∙ ap (where_true tested first) (sym e2) ∙ one) refl (sym got.continues.uses) refl refl refl)
         test;
   }
 
-  display_follows : (s m : Status) (to place : ℕ) (format : List Piece) (arguments : Expressions ℕ) → Sound code p s → Lined code.widths s m format arguments → remainder_of code s.state ≡ At place ∷ remainder_at (design_of code) to → statement_at (design_of code) place ≡ tree.Display format arguments → IsPlaceOf (design_of code) p to → Follows code p now s step.Goes (at (printing (record s { known = m.known; reads = m.reads; lines = m.lines }) (10 ∷ [])) to)
+  display_follows : (s m : Status) (to place : ℕ) (format : List Piece) (arguments : Expressions ℕ) → Sound code p s → Lined code.widths s m format arguments → remainder_of code s.state ≡ At place ∷ remainder_at (design_of code) to → statement_at (design_of code) place ≡ tree.Print Task.Display format arguments → IsPlaceOf (design_of code) p to → Follows code p now s step.Goes (at (printing (record s { known = m.known; reads = m.reads; lines = m.lines }) (10 ∷ [])) to)
   display_follows s m to place format arguments sound l left is within = record {
     sound = record {
       state = state_at s.state to sound.state within;
@@ -286,8 +290,23 @@ module _ (code : Compiled) (p now : ℕ) where
     };
     agrees = l.continues.agrees;
     goes = λ store count len agree.
-        stepping (going_of code store count s) (remainder_of code s.state) (remainder_at (design_of code) to) place (tree.Display format arguments) left is
-        ∙ goes_eq (remainder_at (design_of code) to) (remainder_at (design_of code) to) _ _ _ _ _ _ _ _ _ _ (count + 1) refl refl (sym l.continues.uses) refl refl (sym (l.lines store (len ∙ sym sound.size) agree));
+        stepping (going_of code store count s) (remainder_of code s.state) (remainder_at (design_of code) to) place (tree.Print Task.Display format arguments) left is
+        ∙ goes_eq (remainder_at (design_of code) to) (remainder_at (design_of code) to) _ _ _ _ _ _ _ _ _ _ _ (count + 1) refl refl (sym l.continues.uses) refl refl (sym (l.lines store (len ∙ sym sound.size) agree));
+  }
+
+  strobe_follows : (s : Status) (to place : ℕ) (format : List Piece) (arguments : Expressions ℕ) → Sound code p s → remainder_of code s.state ≡ At place ∷ remainder_at (design_of code) to → statement_at (design_of code) place ≡ tree.Print Task.Strobe format arguments → place ≡ s.state.place → IsPlaceOf (design_of code) p to → Follows code p now s step.Goes (strobing s to)
+  strobe_follows s to place format arguments sound left is same within = record {
+    sound = record {
+      state = state_at s.state to sound.state within;
+      size = sound.size;
+      knows = sound.knows;
+      writes = sound.writes;
+      nbas = sound.nbas;
+    };
+    agrees = λ store agree. agree;
+    goes = λ store count len agree.
+        stepping (going_of code store count s) (remainder_of code s.state) (remainder_at (design_of code) to) place (tree.Print Task.Strobe format arguments) left is
+        ∙ ap (λ (n : ℕ). turns.Goes (record (going_of code store (count + 1) (strobing s to)) { strobes = s.strobes ++ n ∷ [] })) same;
   }
 
   pending_follows : (s : Status) (w : ℕ × Vector) → Sound code p s → s.state.pending ≡ Some w → FitsRegister code.widths w.0 w.1 → Follows code p now s step.Goes (writing s w.0 w.1 s.state.place)
@@ -302,7 +321,7 @@ module _ (code : Compiled) (p now : ℕ) where
     agrees = λ store h. h;
     goes = λ store count len agree.
         ap (λ o. next (design_of code) p now (going_of code store count s) (pending_part o ++ remainder_at (design_of code) s.state.place)) is
-        ∙ goes_eq (remainder_at (design_of code) s.state.place) (remainder_at (design_of code) s.state.place) _ _ _ _ _ _ _ _ _ _ (count + 1) refl (sym (written-append s.writes store w.0 w.1)) refl refl refl refl;
+        ∙ goes_eq (remainder_at (design_of code) s.state.place) (remainder_at (design_of code) s.state.place) _ _ _ _ _ _ _ _ _ _ _ (count + 1) refl (sym (written-append s.writes store w.0 w.1)) refl refl refl refl;
   }
 
   module _ (is_code : IsCompiled code) where
@@ -335,10 +354,12 @@ module _ (code : Compiled) (p now : ℕ) where
         let got = gets (piece code.ops span) s v m _ _ (piece_within s span sound) sound.knows comp val in
         let es' = es ∙ ap (λ z. at z (chosen_place (truth v) taken missed)) got.same in
         rw (er, es') (branch_follows s place taken missed c rest v m sound got (here ∙ left) test (way_within (IsPlaceOf (design_of code) p) (truth v) taken missed w1 w2))
-    node_follows (node.Display span to) s r s' sound here (place, (format, (arguments, (left, is, line, within)))) (er, (m, (prints, es))) =
+    node_follows (node.Print Task.Display span to) s r s' sound here (place, (format, (arguments, (left, is, line, within)))) (er, (m, (prints, es))) =
         let l = lined code.widths code.ops (piece code.shown span) s m format arguments (ops_within s sound) sound.knows line prints in
         let es' = es ∙ ap (λ z. at (printing z (10 ∷ [])) to) l.same in
         rw (er, es') (display_follows s m to place format arguments sound l (here ∙ left) is within)
+    node_follows (node.Print Task.Strobe span to) s r s' sound here (place, (format, (arguments, (left, is, line, within)))) (er, es) =
+        rw (er, es) (strobe_follows s to place format arguments sound (here ∙ left) is (place_named (design_of code) p s.state.place place _ sound.state.place left) within)
     node_follows (node.Finish to) s r s' sound here (place, (left, is, within)) (er, es) = rw (er, es) (finish_follows s to place sound (here ∙ left) is within)
 
     some_follows : (o : Option Node) (s : Status) (r : Step) (s' : Status) → slice_get code.nodes s.state.place ≡ o → Sound code p s → remainder_of code s.state ≡ remainder_at (design_of code) s.state.place → TakesSome code.ops code.shown now o s r s' → Follows code p now s r s'

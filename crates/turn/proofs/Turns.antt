@@ -7,6 +7,7 @@ use Rattle.std.specs.List.{All}
 use Rattle.std.proofs.lemmas.List.{length-replicate}
 use Rattle.std.proofs.lemmas.List.Elements.{All-nil}
 use Rattle.logic4.specs.Vector.{Vector}
+use Rattle.model.specs.declared.tree.Task.TheVariants as Task
 use Rattle.model.specs.Design as tree
 use Rattle.model.specs.Design.{Design, Statement, process_at, statement_at}
 use Rattle.model.specs.Expressions.{Store}
@@ -29,6 +30,7 @@ use Rattle.turn.specs.declared.log.TurnLog.{TurnLog}
 use Rattle.turn.specs.declared.machine.Step.{Step}
 use Rattle.turn.specs.declared.machine.Step.TheVariants as step
 use Rattle.turn.specs.Reads.{registers, AreDeclared, Agrees}
+use Rattle.turn.specs.Evaluate.{Knows}
 use Rattle.turn.specs.Progress.{Status, fresh}
 use Rattle.turn.specs.Machine.{Takes, TakesSome, TakesPending, IsEndNode, IsAtEnd}
 use Rattle.turn.specs.Nets.{nets_of}
@@ -62,12 +64,19 @@ none_marked zero r = refl
 none_marked (suc n) zero = refl
 none_marked (suc n) (suc r) = none_marked n r
 
+pub knows_none : (n : ℕ) → Knows [] [] (replicate n nothing)
+knows_none n = record {
+  holds = λ store len agree r v e. absurd (none_known n r v e);
+  declared = All-nil _;
+  marks = λ r lt. none_marked n r;
+}
+
 pub reached_none : (code : Compiled) (state : ProcState) (now : ℕ) → Reached code state now 0 (fresh state (length code.widths))
 reached_none code state now p start = record {
   sound = record {
     state = start;
     size = length-replicate _ _;
-    knows = record { holds = λ store len agree r v e. absurd (none_known (length code.widths) r v e); declared = All-nil _; marks = λ r lt. none_marked (length code.widths) r };
+    knows = knows_none (length code.widths);
     writes = All-nil _;
     nbas = All-nil _;
   };
@@ -122,6 +131,7 @@ pub record Logs (log : TurnLog) (s : Status) (suspend : Suspend) (finish : Bool)
   pub nets : log.nets.items ≡ nets_of s.writes
   pub nbas : log.nbas.items ≡ s.nbas
   pub lines : string_bytes log.lines ≡ s.lines
+  pub strobes : log.strobes.items ≡ s.strobes
   pub next : log.next ≡ s.state
   pub waits : log.suspend ≡ suspend
   pub finishes : log.finish ≡ finish
@@ -133,6 +143,7 @@ log_is code log s suspend finish n l = record {
   writes = l.writes;
   laters = ap (map later_of) l.nbas;
   lines = l.lines;
+  strobes = l.strobes;
   rest = ap (remainder_of code) l.next;
   wait = ap (wait_of code.controls) l.waits;
   finish = l.finishes;
@@ -176,7 +187,7 @@ end_node (Some (node.AssignLater a b c d)) code now s h = absurd h
 end_node (Some (node.Delay a b)) code now s h = absurd h
 end_node (Some (node.Await a b)) code now s h = absurd h
 end_node (Some (node.Branch a b c)) code now s h = absurd h
-end_node (Some (node.Display a b)) code now s h = absurd h
+end_node (Some (node.Print a b c)) code now s h = absurd h
 end_node (Some (node.Finish a)) code now s h = absurd h
 end_node None code now s h = absurd h
 
@@ -217,7 +228,8 @@ statement_long design now g place (tree.Delay d body) rest e = ap (λ n. n + 1) 
 statement_long design now g place (tree.Await triggers body) rest e = ap (λ n. n + 1) e
 statement_long design now g place (tree.If c body otherwise) rest e = tt
 statement_long design now g place (tree.While c body) rest e = tt
-statement_long design now g place (tree.Display format arguments) rest e = tt
+statement_long design now g place (tree.Print Task.Display format arguments) rest e = tt
+statement_long design now g place (tree.Print Task.Strobe format arguments) rest e = tt
 statement_long design now g place tree.Finish rest e = ap (λ n. n + 1) e
 
 restart_long : (b : Bool) (design : Design) (p : ℕ) (g : Going) → b ≡ true → IsLong (if b then goes_on (counted [] g) (whole design p) else stops g turns.Ended false [])
@@ -238,7 +250,7 @@ node_long code p now (node.AssignLater q delay span to) g left (place, (x, h)) n
 node_long code p now (node.Delay delay to) g left (place, (body, (rest, h))) not c = place_long (design_of code) p now g left rest place h.0 c
 node_long code p now (node.Await control to) g left (place, (body, (rest, (triggers, h)))) not c = place_long (design_of code) p now g left rest place h.0 c
 node_long code p now (node.Branch span taken missed) g left (place, (x, (rest, h))) not c = place_long (design_of code) p now g left rest place h.0 c
-node_long code p now (node.Display span to) g left (place, (format, (arguments, h))) not c = place_long (design_of code) p now g left _ place h.0 c
+node_long code p now (node.Print task span to) g left (place, (format, (arguments, h))) not c = place_long (design_of code) p now g left _ place h.0 c
 node_long code p now (node.Finish to) g left (place, h) not c = place_long (design_of code) p now g left _ place h.0 c
 
 some_long : (o : Option Node) (code : Compiled) (p now : ℕ) (s : ProcState) (g : Going) → IsCompiled code → IsStateOf code p s → slice_get code.nodes s.place ≡ o → (IsEndNode o → ⊥) → g.count ≡ most_steps → IsLong (next (design_of code) p now g (remainder_at (design_of code) s.place))

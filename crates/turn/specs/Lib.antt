@@ -7,3 +7,4 @@ pub mod Progress
 pub mod Machine
 pub mod Logs
 pub mod Answers
+pub mod Strobes

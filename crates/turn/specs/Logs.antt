@@ -30,6 +30,7 @@ pub record IsLogOf (rem : ProcState → Remainder) (controls : List (List Trigge
   pub writes : log.writes.items ≡ turn.writes
   pub laters : map later_of log.nbas.items ≡ turn.laters
   pub lines : string_bytes log.lines ≡ turn.lines
+  pub strobes : log.strobes.items ≡ turn.strobes
   pub rest : rem log.next ≡ turn.rest
   pub wait : wait_of controls log.suspend ≡ turn.wait
   pub finish : log.finish ≡ turn.finish

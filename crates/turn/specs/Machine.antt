@@ -2,6 +2,7 @@
 use Rattle.std.specs.Prelude.{◌≡◌, ℕ, ◌+◌, true, false, List, [], ◌∷◌, Option, Some, None, slice_get}
 use Rattle.logic4.specs.Vector.{Vector}
 use Rattle.logic4.specs.Operators.{truth}
+use Rattle.model.specs.declared.tree.Task.TheVariants.{Display, Strobe}
 use Rattle.design.specs.declared.code.Op.{Op}
 use Rattle.design.specs.declared.code.Span.{Span}
 use Rattle.design.specs.declared.code.Shown.{Shown}
@@ -12,7 +13,7 @@ use Rattle.design.specs.Steps.{piece}
 use Rattle.turn.specs.declared.log.Suspend.TheVariants.{Ended, Event}
 use Rattle.turn.specs.declared.machine.Step.{Step}
 use Rattle.turn.specs.declared.machine.Step.TheVariants.{Goes, Over, Ends}
-use Rattle.turn.specs.Progress.{Status, at, writing, holding, delaying, printing, WithValue, Prints, wait_for, chosen_place}
+use Rattle.turn.specs.Progress.{Status, at, writing, holding, delaying, strobing, printing, WithValue, Prints, wait_for, chosen_place}
 
 -- a blocking assignment
 abbrev pub Assigns : List Op → Span → ℕ → ℕ → Status → Status → Type 0
@@ -46,7 +47,8 @@ TakesNode ops shown now (node.AssignLater q delay span next) s r s' = (r ≡ Goe
 TakesNode ops shown now (node.Delay delay next) s r s' = (r ≡ Ends (wait_for now delay) false) × (s' ≡ at s next)
 TakesNode ops shown now (node.Await control next) s r s' = (r ≡ Ends (Event control) false) × (s' ≡ at s next)
 TakesNode ops shown now (node.Branch condition taken missed) s r s' = (r ≡ Goes) × Branches ops condition taken missed s s'
-TakesNode ops shown now (node.Display span next) s r s' = (r ≡ Goes) × Displays ops shown span next s s'
+TakesNode ops shown now (node.Print Display span next) s r s' = (r ≡ Goes) × Displays ops shown span next s s'
+TakesNode ops shown now (node.Print Strobe span next) s r s' = (r ≡ Goes) × (s' ≡ strobing s next)
 TakesNode ops shown now (node.Finish next) s r s' = (r ≡ Ends Ended true) × (s' ≡ at s next)
 
 -- what is done at a place where there is this node, or none

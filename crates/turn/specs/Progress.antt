@@ -26,6 +26,7 @@ pub record Status : Type 0 where
   pub writes : List (ℕ × Vector)
   pub nbas : List Nba
   pub lines : List ℕ
+  pub strobes : List ℕ
 
 -- the plain lists of the program's
 abbrev pub status_of : Progress → Status
@@ -36,11 +37,12 @@ status_of p = record {
   writes = p.writes;
   nbas = p.nbas.items;
   lines = string_bytes p.lines;
+  strobes = p.strobes.items;
 }
 
 -- a turn that begins, over this many registers
 abbrev pub fresh : ProcState → ℕ → Status
-fresh state registers = record { state = state; known = replicate registers None; reads = []; writes = []; nbas = []; lines = [] }
+fresh state registers = record { state = state; known = replicate registers None; reads = []; writes = []; nbas = []; lines = []; strobes = [] }
 
 -- what is to run is at this place
 abbrev pub at : Status → ℕ → Status
@@ -58,6 +60,10 @@ holding s r v next = record s { state = record { place = next; pending = Some (r
 -- a nonblocking assignment is made
 abbrev pub delaying : Status → Nba → ℕ → Status
 delaying s nba next = record s { state = record { place = next; pending = None }; nbas = s.nbas ++ nba ∷ [] }
+
+-- a $strobe is met
+abbrev pub strobing : Status → ℕ → Status
+strobing s next = record s { state = record { place = next; pending = None }; strobes = s.strobes ++ s.state.place ∷ [] }
 
 -- bytes are printed
 abbrev pub printing : Status → List ℕ → Status

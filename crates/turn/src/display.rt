@@ -55,6 +55,7 @@ impl Progress {
         ensures prints { OnOk result (PrintsPiece ops.now piece.now (status_of self.old) (status_of self.new)) }
         ensures gave { OnOk result (GaveAll (R.gave reader.old) self.old.memory.reads.entries → GaveAll (R.gave reader.new) self.new.memory.reads.entries) }
         ensures keeps { Keeps (R.gave reader.old) (R.gave reader.new) }
+        ensures lasting { R.lasting reader.new ≡ R.lasting reader.old }
     {
         match piece {
             Shown::Byte(byte) => self.print_byte(*byte),
@@ -77,6 +78,7 @@ impl Progress {
         ensures prints { OnOk result (Prints ops.now pieces.now (status_of self.old) (status_of self.new)) }
         ensures gave { OnOk result (GaveAll (R.gave reader.old) self.old.memory.reads.entries → GaveAll (R.gave reader.new) self.new.memory.reads.entries) }
         ensures keeps { Keeps (R.gave reader.old) (R.gave reader.new) }
+        ensures lasting { R.lasting reader.new ≡ R.lasting reader.old }
     {
         for piece in pieces {
             self.print_piece(ops, piece, reader)?;

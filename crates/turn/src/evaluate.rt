@@ -52,6 +52,7 @@ fn step<R: RegReader>(
     ensures acts { OnOk result (Acts op.now memory.old.known memory.old.reads.entries (reverse stack.old.items) memory.new.known memory.new.reads.entries (reverse stack.new.items)) }
     ensures gave { OnOk result (GaveAll (R.gave reader.old) memory.old.reads.entries → GaveAll (R.gave reader.new) memory.new.reads.entries) }
     ensures keeps { Keeps (R.gave reader.old) (R.gave reader.new) }
+    ensures lasting { R.lasting reader.new ≡ R.lasting reader.old }
 {
     match op {
         Op::Load { register, size } => {
@@ -110,6 +111,7 @@ pub(crate) fn evaluate<R: RegReader>(
     ensures rest { OnOk result ((values : Store) → NamesDeclared (length memory.old.known) ops.now → Holds memory.new.known values → reverse stack.new.items ≡ below (run_ops values ops.now (reverse stack.old.items))) }
     ensures gave { OnOk result (GaveAll (R.gave reader.old) memory.old.reads.entries → GaveAll (R.gave reader.new) memory.new.reads.entries) }
     ensures keeps { Keeps (R.gave reader.old) (R.gave reader.new) }
+    ensures lasting { R.lasting reader.new ≡ R.lasting reader.old }
 {
     for op in ops {
         step(op, memory, reader, stack)?;

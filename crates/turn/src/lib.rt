@@ -4,10 +4,11 @@
 //!    one of them ends the turn. Each is a counted step, and there are at most 65,536 of them.
 //! 2. Expressions are steps on a stack of vectors. A register that the turn wrote has the value written; any other is
 //!    asked of a `RegReader` at its first use, and recorded.
-//! 3. A `TurnLog` says what was read, written and printed, what is left of the process, and what that waits for. It has
-//!    each write, and for each register the net of its writes, which is kept as the turn runs.
+//! 3. A `TurnLog` says what was read, written and printed, which `$strobe` statements were met, what is left of the process,
+//!    and what that waits for. It has each write, and for each register the net of its writes, which is kept as the turn runs.
 //! 4. `run_turn_in` works in a `Workspace` that its caller keeps, so that a short turn takes no memory but its log's, and
 //!    none at all where the log of an earlier turn was given back to it.
+//! 5. `strobe_lines` makes the lines of `$strobe` statements once their time comes, by the same steps.
 //!
 //! What the layer above uses: on every store that has the values recorded, the log is the turn of the definitions, and a
 //! turn that is too long has none (`specs/Answers.antt`). So values of registers that weren't read count for nothing.
@@ -22,10 +23,12 @@ mod operate;
 mod progress;
 mod run;
 mod statements;
+mod strobes;
 mod workspace;
 mod writes;
 
 pub use log::{Nba, Net, Suspend, TurnFault, TurnLog};
 pub use memory::{RegReader, Seen};
 pub use run::{run_turn, run_turn_in};
+pub use strobes::strobe_lines;
 pub use workspace::Workspace;

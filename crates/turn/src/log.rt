@@ -36,9 +36,9 @@ pub enum Suspend {
 }
 
 /// A turn that is over: the registers that it read, in the order of their first use, each with what it saw; its writes,
-/// its nonblocking assignments and its lines, in the order of the text; the nets of its writes, in the order of the first
-/// write of each register; where the process goes on and what it waits for;
-/// whether it met `$finish`; and the number of its counted steps.
+/// its nonblocking assignments, its lines and the numbers of the `$strobe` statements that it met, each in order; the nets of
+/// its writes, in the order of the first write of each register; where the process goes on and what it waits for; whether it
+/// met `$finish`; and the number of its counted steps.
 #[derive(Drop)]
 pub struct TurnLog {
     pub reads: IndexMap<RegId, Seen>,
@@ -46,6 +46,7 @@ pub struct TurnLog {
     pub nets: Vec<Net>,
     pub nbas: Vec<Nba>,
     pub lines: String,
+    pub strobes: Vec<usize>,
     pub next: ProcState,
     pub suspend: Suspend,
     pub finish: bool,

@@ -10,6 +10,7 @@ use crate::log::Suspend;
 use crate::memory::RegReader;
 use crate::progress::Progress;
 use design::code::{Node, Op, Shown};
+use model::tree::Task;
 use std::alloc::AllocError;
 
 /// What comes of one step: the turn goes on; or it was over before; or it is over now.
@@ -97,7 +98,16 @@ impl Progress {
                 taken,
                 missed,
             } => self.branch(ops, *condition, *taken, *missed, reader)?,
-            Node::Display { pieces, next } => self.display(ops, shown, *pieces, *next, reader)?,
+            Node::Print {
+                task: Task::Display,
+                pieces,
+                next,
+            } => self.display(ops, shown, *pieces, *next, reader)?,
+            Node::Print {
+                task: Task::Strobe,
+                pieces: _,
+                next,
+            } => self.strobe(*next)?,
             Node::Finish { next } => {
                 self.go(*next);
                 return Ok(Step::Ends {

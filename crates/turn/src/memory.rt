@@ -28,11 +28,18 @@ pub trait RegReader {
     /// The pairs given so far, by register.
     ghost gave: { Self → ℕ → Seen → Type 0 };
 
+    /// What no read changes.
+    ghost Lasting: { Type 0 };
+
+    /// What no read changes, of this reader.
+    ghost lasting: { Self → Lasting };
+
     /// The value that a register has now, and its version.
     fn read(&mut self, register: RegId) -> Seen
         requires { register < registers }
         ensures adds { gave self.new register result }
-        ensures keeps { (r : ℕ) (s : Seen) → gave self.old r s → gave self.new r s };
+        ensures keeps { (r : ℕ) (s : Seen) → gave self.old r s → gave self.new r s }
+        ensures lasting { lasting self.new ≡ lasting self.old };
 }
 
 /// The value that is known of each register, by its number, and the reads, in the order of their first use.
@@ -88,6 +95,7 @@ impl Memory {
         ensures value { IfOk result (λ v. Looks self.old.known self.old.reads.entries register v self.new.known self.new.reads.entries) }
         ensures gave { OnOk result (GaveAll (R.gave reader.old) self.old.reads.entries → GaveAll (R.gave reader.new) self.new.reads.entries) }
         ensures keeps { Keeps (R.gave reader.old) (R.gave reader.new) }
+        ensures lasting { R.lasting reader.new ≡ R.lasting reader.old }
     {
         if let Some(value) = self.known.get(register) {
             return Ok(value);

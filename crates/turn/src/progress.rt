@@ -24,6 +24,7 @@ pub(crate) struct Progress {
     pub writes: Writes,
     pub nbas: Vec<Nba>,
     pub lines: String,
+    pub strobes: Vec<usize>,
     pub stack: Vec<Bits>,
 }
 
@@ -51,6 +52,7 @@ impl Progress {
         requires nets { room.nets.items ≡ [] }
         requires nbas { room.nbas.items ≡ [] }
         requires lines { string_bytes room.lines ≡ [] }
+        requires strobes { room.strobes.items ≡ [] }
         ensures { IfOk result (λ p. status_of p ≡ fresh state registers) }
     {
         let Room {
@@ -62,6 +64,7 @@ impl Progress {
             places,
             nbas,
             lines,
+            strobes,
         } = room;
         Ok(Progress {
             alloc,
@@ -70,6 +73,7 @@ impl Progress {
             writes: Writes::new(writes, nets, places),
             nbas,
             lines,
+            strobes,
             stack,
         })
     }
@@ -124,6 +128,7 @@ impl Progress {
         ensures value { IfOk result (λ v. Valued (piece ops.now span) (status_of self.old) v (status_of self.new)) }
         ensures gave { OnOk result (GaveAll (R.gave reader.old) self.old.memory.reads.entries → GaveAll (R.gave reader.new) self.new.memory.reads.entries) }
         ensures keeps { Keeps (R.gave reader.old) (R.gave reader.new) }
+        ensures lasting { R.lasting reader.new ≡ R.lasting reader.old }
     {
         evaluate(part(ops, span), &mut self.memory, reader, &mut self.stack)
     }

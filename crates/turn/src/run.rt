@@ -30,6 +30,7 @@ fn log_of(
     ensures nets { result.nets.items ≡ nets_of progress.writes }
     ensures nbas { result.nbas.items ≡ progress.nbas.items }
     ensures lines { string_bytes result.lines ≡ string_bytes progress.lines }
+    ensures strobes { result.strobes.items ≡ progress.strobes.items }
     ensures next { result.next ≡ progress.state }
     ensures suspend { result.suspend ≡ suspend }
     ensures finish { result.finish ≡ finish }
@@ -41,6 +42,7 @@ fn log_of(
         writes,
         nbas,
         lines,
+        strobes,
         stack,
         ..
     } = progress;
@@ -53,6 +55,7 @@ fn log_of(
         nets,
         nbas,
         lines,
+        strobes,
         next: state,
         suspend,
         finish,

@@ -2,7 +2,7 @@
 ghost use Rattle.std.specs.Prelude.{◌≡◌, OnOk};
 ghost use Rattle.turn.specs.Reads.{GaveAll, Keeps};
 ghost use Rattle.turn.specs.Evaluate.{NamesDeclared};
-ghost use Rattle.turn.specs.Progress.{status_of, chosen_place};
+ghost use Rattle.turn.specs.Progress.{status_of, chosen_place, strobing};
 ghost use Rattle.turn.specs.Machine.{Assigns, AssignsAfter, AssignsLater, Branches, Displays};
 
 use crate::log::Nba;
@@ -123,6 +123,15 @@ impl Progress {
     {
         self.print_pieces(ops, part(shown, pieces), reader)?;
         self.lines.push('\n')?;
+        self.go(next);
+        Ok(())
+    }
+
+    /// `$strobe`: its number is kept, and nothing is read (17.1.2).
+    pub fn strobe(&mut self, next: usize) -> Result<(), AllocError>
+        ensures { OnOk result (status_of self.new ≡ strobing (status_of self.old) next) }
+    {
+        self.strobes.push(self.state.place)?;
         self.go(next);
         Ok(())
     }

@@ -121,6 +121,7 @@ pub(crate) struct Room {
     pub places: Vec<usize>,
     pub nbas: Vec<Nba>,
     pub lines: String,
+    pub strobes: Vec<usize>,
 }
 
 impl Room {
@@ -135,6 +136,7 @@ impl Room {
             places: Vec::new(alloc),
             nbas: Vec::new(alloc),
             lines: String::new(alloc),
+            strobes: Vec::new(alloc),
         }
     }
 
@@ -146,6 +148,7 @@ impl Room {
         ensures nets { self.new.nets.items ≡ [] }
         ensures nbas { self.new.nbas.items ≡ [] }
         ensures lines { string_bytes self.new.lines ≡ [] }
+        ensures strobes { self.new.strobes.items ≡ [] }
     {
         self.stack.clear();
         self.reads.clear();
@@ -153,6 +156,7 @@ impl Room {
         self.nets.clear();
         self.nbas.clear();
         self.lines.clear();
+        self.strobes.clear();
     }
 }
 
@@ -185,6 +189,7 @@ impl Workspace {
         ensures nets { result.nets.items ≡ [] }
         ensures nbas { result.nbas.items ≡ [] }
         ensures lines { string_bytes result.lines ≡ [] }
+        ensures strobes { result.strobes.items ≡ [] }
     {
         let mut room = mem::replace(&mut self.room, Room::new(alloc));
         room.clear();
@@ -198,6 +203,11 @@ impl Workspace {
         self.room.places = places;
     }
 
+    /// Puts back all of it.
+    pub(crate) fn put_back_all(&mut self, room: Room) {
+        self.room = room;
+    }
+
     /// Takes the room of a log that nobody needs any more, where there is one, for the next turn.
     pub fn give_back(&mut self, log: Option<TurnLog>) {
         if let Some(log) = log {
@@ -207,6 +217,7 @@ impl Workspace {
                 nets,
                 nbas,
                 lines,
+                strobes,
                 ..
             } = log;
             self.room.reads = reads;
@@ -214,6 +225,7 @@ impl Workspace {
             self.room.nets = nets;
             self.room.nbas = nbas;
             self.room.lines = lines;
+            self.room.strobes = strobes;
         }
     }
 }

@@ -4,6 +4,7 @@ use Rattle.tokens.specs.declared.token.Kind.{Kind}
 use Rattle.tokens.specs.declared.token.Kind.TheVariants as k
 use Rattle.tokens.specs.Tokens.{PlainToken, PlainTokens, same_kind}
 use Rattle.tokens.specs.Lexing.{string_text}
+use Rattle.model.specs.declared.tree.Task.{Task}
 use Rattle.model.specs.declared.tree.Change.{Change}
 use Rattle.model.specs.declared.tree.Change.TheVariants.{Any}
 use Rattle.vparse.specs.Cursor.{kind, sees}
@@ -11,7 +12,7 @@ use Rattle.model.specs.Syntax.{Text, Expression, Expressions, Statement, Stateme
 use Rattle.model.specs.Trees.{expressions, statements}
 use Rattle.vparse.specs.Nodes.{Trigger}
 use Rattle.model.specs.Syntax as tree
-use Rattle.vparse.specs.Grammar.{IsExpression, IsDelay, no_delay, some_delay, change_of, IsTrigger, any, edge, separates, IsTriggers, last_trigger, next_trigger, IsArguments, no_argument, one_argument, IsStatement, emptied, grouped, assigned, assigned_later, delayed, awaited, branched, branched_else, looped, displayed, finished, IsBlock, begun, IsStatements, no_more, one_more, IsRange, no_range, some_range, IsNames, last_name, next_name, repeats_of, IsItems, no_items, regs, proc, IsModule, spelled, operator, prefix}
+use Rattle.vparse.specs.Grammar.{IsExpression, IsDelay, no_delay, some_delay, change_of, IsTrigger, any, edge, separates, IsTriggers, last_trigger, next_trigger, IsArguments, no_argument, one_argument, IsStatement, emptied, grouped, assigned, assigned_later, delayed, awaited, branched, branched_else, looped, printed, task_kind, finished, IsBlock, begun, IsStatements, no_more, one_more, IsRange, no_range, some_range, IsNames, last_name, next_name, repeats_of, IsItems, no_items, regs, proc, IsModule, spelled, operator, prefix}
 use Rattle.vparse.specs.Grammar as gr
 use Rattle.vparse.specs.Grammar.{IsBinary, IsUnary, IsPrimary}
 use Rattle.vparse.specs.Reading as spec
@@ -45,7 +46,7 @@ mutual
   short-statement (delayed q n d) = let x = short-statement d in omega arith
   short-statement (awaited q start es d) = let x = short-triggers es in let y = short-statement d in omega arith
   short-statement (looped q start d end b) = let x = short-expression d in let y = short-block b in omega arith
-  short-statement (displayed q start f d end) = let x = short-arguments d in omega arith
+  short-statement (printed q start f d end) = let x = short-arguments d in omega arith
   short-statement (finished q end) = omega arith
   short-statement (branched q start d end b) = let x = short-expression d in let y = short-block b in omega arith
   short-statement (branched_else q start d end b other o) = let x = short-expression d in let y = short-block b in let z = short-block o in omega arith
@@ -75,7 +76,8 @@ first-statement (assigned_later q sign d e end) = (rw q, rw q)
 first-statement (delayed q n d) = (rw q, rw q)
 first-statement (awaited q start es d) = (rw q, rw q)
 first-statement (looped q start d end b) = (rw q, rw q)
-first-statement (displayed q start f d end) = (rw q, rw q)
+first-statement (printed {task = Task.Display} q start f d end) = (rw q, rw q)
+first-statement (printed {task = Task.Strobe} q start f d end) = (rw q, rw q)
 first-statement (finished q end) = (rw q, rw q)
 first-statement (branched q start d end b) = (rw q, rw q)
 first-statement (branched_else q start d end b other o) = (rw q, rw q)
@@ -278,11 +280,13 @@ complete-arguments {rest = rest} (one_argument {e = e} {es = es} {t = t} {ts = t
     ∙ complete-arguments ds fuel (m - 1) (found ++ e ∷ []) (omega arith) (omega arith)
     ∙ ap (λ x. Some (x, rest)) (append_assoc found (e ∷ []) (expression_list es))
 
-statement-display : (inner : Parser Statement) (fuel : ℕ) (es : List (Expression Text)) (t u v w : PlainToken) (ts rest : PlainTokens) → t.kind ≡ k.Display → u.kind ≡ k.Open → v.kind ≡ k.Text
+statement-print : (task : Task) (inner : Parser Statement) (fuel : ℕ) (es : List (Expression Text)) (t u v w : PlainToken) (ts rest : PlainTokens) → t.kind ≡ task_kind task → u.kind ≡ k.Open → v.kind ≡ k.Text
     → arguments_from fuel fuel [] ts ≡ Some (es, w ∷ rest) → w.kind ≡ k.Semicolon
-    → spec.statement_form inner fuel (t ∷ u ∷ v ∷ ts) ≡ Some (tree.Display (string_text v.text) (expressions es), rest)
-unfolding spec.statement_form spec.display
-statement-display inner fuel es t u v w ts rest q start f read end =
+    → spec.statement_form inner fuel (t ∷ u ∷ v ∷ ts) ≡ Some (tree.Print task (string_text v.text) (expressions es), rest)
+unfolding spec.statement_form spec.print
+statement-print Task.Display inner fuel es t u v w ts rest q start f read end =
+    let x = expect-is k.Open u (v ∷ ts) start in let y = expect-is k.Text v ts f in let z = expect-is k.Semicolon w rest end in rw (q, x, y, read, z)
+statement-print Task.Strobe inner fuel es t u v w ts rest q start f read end =
     let x = expect-is k.Open u (v ∷ ts) start in let y = expect-is k.Text v ts f in let z = expect-is k.Semicolon w rest end in rw (q, x, y, read, z)
 
 statement-finish : (inner : Parser Statement) (fuel : ℕ) (t u : PlainToken) (rest : PlainTokens) → t.kind ≡ k.Finish → u.kind ≡ k.Semicolon → spec.statement_form inner fuel (t ∷ u ∷ rest) ≡ Some (tree.Finish, rest)
@@ -335,9 +339,9 @@ mutual
       let x = short-expression d in
       let test = condition-is n e u v ts us start (complete-expression d n (omega arith) (ends-Close v us end)) end in
       statement-loop (statement n) n e (list_of ss) t (u ∷ ts) us rest q test (complete-block b n (omega arith)) ∙ ap (λ x. Some (tree.While e x, rest)) (statements_list ss)
-  complete-statement {rest = rest} (displayed {es = es} {t = t} {u = u} {v = v} {w = end_token} {ts = ts} q start f d end) n w follow =
-      statement-display (statement n) n (expression_list es) t u v end_token ts rest q start f (complete-arguments d n n [] (omega arith) (omega arith)) end
-      ∙ ap (λ x. Some (tree.Display (string_text v.text) x, rest)) (expressions_list es)
+  complete-statement {rest = rest} (printed {task = task} {es = es} {t = t} {u = u} {v = v} {w = end_token} {ts = ts} q start f d end) n w follow =
+      statement-print task (statement n) n (expression_list es) t u v end_token ts rest q start f (complete-arguments d n n [] (omega arith) (omega arith)) end
+      ∙ ap (λ x. Some (tree.Print task (string_text v.text) x, rest)) (expressions_list es)
   complete-statement (finished {t = t} {u = u} {rest = rest} q end) n w follow = statement-finish (statement n) n t u rest q end
   complete-statement {rest = rest} (branched {e = e} {ss = ss} {t = t} {u = u} {v = v} {ts = ts} {us = us} q start d end b) n w follow =
       let x = short-expression d in

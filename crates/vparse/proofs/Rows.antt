@@ -1,12 +1,13 @@
 -- Worked examples of what tokens spell.
-use Rattle.std.specs.Prelude.{◌≡◌, ℕ, List, [], ◌∷◌, None, codes, refl}
+use Rattle.std.specs.Prelude.{ℕ, List, [], ◌∷◌, None, codes, refl}
 use Rattle.model.specs.declared.tree.UnaryOperator.TheVariants.{ReduceAnd}
 use Rattle.model.specs.declared.tree.BinaryOperator.TheVariants.{And, LessEqual, Subtract}
-use Rattle.model.specs.Syntax.{Text, Expression, Register, Unary, Binary, AssignLater}
+use Rattle.model.specs.declared.tree.Task.TheVariants.{Strobe}
+use Rattle.model.specs.Syntax.{Text, Expression, Register, Unary, Binary, Also, Nothing, AssignLater, Print}
 use Rattle.tokens.specs.declared.token.Kind.{Kind}
 use Rattle.tokens.specs.declared.token.Kind.TheVariants as k
 use Rattle.tokens.specs.Tokens.{PlainToken, PlainTokens}
-use Rattle.vparse.specs.Grammar.{plain, IsBinary, operand, tighter, joined, IsUnary, bare, prefixed, named, no_delay, IsStatement, assigned_later, IsModule, spelled, no_items}
+use Rattle.vparse.specs.Grammar.{plain, IsBinary, operand, tighter, joined, IsUnary, bare, prefixed, named, no_delay, no_argument, one_argument, IsStatement, assigned_later, printed, IsModule, spelled, no_items}
 
 abbrev token : Kind → List ℕ → PlainToken
 token kind text = record { kind = kind; text = text; value = 0; bits = None }
@@ -51,6 +52,14 @@ two_signs rest = assigned_later refl refl no_delay (plain (looser compared)) ref
 
     looser : {e : Expression Text} {ts us : PlainTokens} → IsBinary 7 e ts us → IsBinary 1 e ts us
     looser d = tighter (tighter (tighter (tighter (tighter (tighter d)))))
+
+-- $strobe("s", a);
+one_strobe : (rest : PlainTokens) → IsStatement (Print Strobe (codes "s") (Also (Register (codes "a")) Nothing))
+    (token k.Strobe (codes "$strobe") ∷ token k.Open (codes "(") ∷ token k.Text (34 ∷ 115 ∷ 34 ∷ []) ∷ token k.Comma (codes ",") ∷ a ∷ token k.Close (codes ")") ∷ token k.Semicolon (codes ";") ∷ rest) rest
+one_strobe rest = printed refl refl refl (one_argument refl (plain (one (bare (named refl)))) (no_argument refl)) refl
+  where
+    one : {e : Expression Text} {ts us : PlainTokens} → IsUnary e ts us → IsBinary 1 e ts us
+    one d = tighter (tighter (tighter (tighter (five d))))
 
 -- module t; endmodule
 empty_module : IsModule (record { name = codes "t"; declarations = []; processes = [] })

@@ -4,6 +4,7 @@ use Rattle.tokens.specs.declared.token.Kind.{Kind}
 use Rattle.tokens.specs.declared.token.Kind.TheVariants as k
 use Rattle.tokens.specs.Tokens.{PlainToken, PlainTokens}
 use Rattle.tokens.specs.Lexing.{string_text}
+use Rattle.model.specs.declared.tree.Task.{Task}
 use Rattle.model.specs.declared.tree.Change.{Change}
 use Rattle.model.specs.declared.tree.Change.TheVariants.{Any}
 use Rattle.vparse.specs.Cursor.{kind, sees, done, take, expect}
@@ -11,7 +12,7 @@ use Rattle.model.specs.Syntax.{Text, Expression, Statement, Statements, Declarat
 use Rattle.model.specs.Trees.{expressions, statements}
 use Rattle.vparse.specs.Nodes.{Trigger}
 use Rattle.model.specs.Syntax as tree
-use Rattle.vparse.specs.Grammar.{IsExpression, IsDelay, no_delay, some_delay, change_of, IsTrigger, any, edge, separates, IsTriggers, last_trigger, next_trigger, IsArguments, no_argument, one_argument, IsStatement, emptied, grouped, assigned, assigned_later, delayed, awaited, branched, branched_else, looped, displayed, finished, IsBlock, begun, IsStatements, no_more, one_more, IsRange, no_range, some_range, IsNames, last_name, next_name, repeats_of, IsItems, no_items, regs, proc, IsModule, spelled}
+use Rattle.vparse.specs.Grammar.{IsExpression, IsDelay, no_delay, some_delay, change_of, IsTrigger, any, edge, separates, IsTriggers, last_trigger, next_trigger, IsArguments, no_argument, one_argument, IsStatement, emptied, grouped, assigned, assigned_later, delayed, awaited, branched, branched_else, looped, printed, task_kind, finished, IsBlock, begun, IsStatements, no_more, one_more, IsRange, no_range, some_range, IsNames, last_name, next_name, repeats_of, IsItems, no_items, regs, proc, IsModule, spelled}
 use Rattle.vparse.specs.Reading as spec
 use Rattle.vparse.specs.Reading.{Parser, trigger_by, triggers_from, arguments_from, statements_from, form_by, statement, names_from, item_by, items_from, source}
 use Rattle.vparse.proofs.Steps.{and_then-cases, some-pair, take-some, expect-some, if-is, same_kind-true}
@@ -137,23 +138,23 @@ sound-arguments fuel (suc m) found all ts rest h = elim (if-is (sees k.Comma ts)
       rw (end.0, sym same.0, sym same.1) (record { more = []; is_all = sym (append-nil found); spells = no_argument end.1 }))
 ]
 
-sound-display : (fuel : ℕ) (s : Statement) (ts rest : PlainTokens) → kind ts ≡ k.Display → spec.display fuel ts ≡ Some (s, rest) → IsStatement s ts rest
-unfolding spec.display
-sound-display fuel s ts rest q h =
+sound-print : (task : Task) (fuel : ℕ) (s : Statement) (ts rest : PlainTokens) → kind ts ≡ task_kind task → spec.print task fuel ts ≡ Some (s, rest) → IsStatement s ts rest
+unfolding spec.print
+sound-print task fuel s ts rest q h =
     and_then-cases (take ts) _ _ h (λ t us took h1.
     and_then-cases (expect k.Open us) _ _ h1 (λ u vs opened h2.
     and_then-cases (expect k.Text vs) _ _ h2 (λ v ws format h3.
     and_then-cases (arguments_from fuel fuel [] ws) _ _ h3 (λ es xs read h4.
     and_then-cases (expect k.Semicolon xs) _ _ h4 (λ x ys ended h5.
-    let same = some-pair (tree.Display (string_text v.text) (expressions es)) s ys rest h5 in
+    let same = some-pair (tree.Print task (string_text v.text) (expressions es)) s ys rest h5 in
     let is = take-some ts t us took in
-    let p : t.kind ≡ k.Display = sym (ap kind is) ∙ q in
+    let p : t.kind ≡ task_kind task = sym (ap kind is) ∙ q in
     let start = expect-some k.Open us u vs opened in
     let f = expect-some k.Text vs v ws format in
     let end = expect-some k.Semicolon xs x ys ended in
     let r = sound-arguments fuel fuel [] es ws xs read in
     let d : IsArguments (expressions es) ws xs = rw r.is_all r.spells in
-    rw (is, start.0, f.0, sym same.0, sym same.1) (displayed p start.1 f.1 (rw end.0 at d) end.1))))))
+    rw (is, start.0, f.0, sym same.0, sym same.1) (printed p start.1 f.1 (rw end.0 at d) end.1))))))
 
 sound-finish : (s : Statement) (ts rest : PlainTokens) → kind ts ≡ k.Finish → spec.finish ts ≡ Some (s, rest) → IsStatement s ts rest
 unfolding spec.finish
@@ -305,7 +306,8 @@ module _ (inner : Parser Statement) (sound : (s : Statement) (ts rest : PlainTok
     by k.While q h = sound-loop fuel s ts rest q h
     by k.Hash q h = sound-delayed s ts rest q h
     by k.At q h = sound-awaited fuel s ts rest q h
-    by k.Display q h = sound-display fuel s ts rest q h
+    by k.Display q h = sound-print Task.Display fuel s ts rest q h
+    by k.Strobe q h = sound-print Task.Strobe fuel s ts rest q h
     by k.Finish q h = sound-finish s ts rest q h
     by _ q h = absurd (cc)
 

@@ -6,7 +6,7 @@
 --     item       = reg [ "[" decimal : decimal "]" ] name { , name } ;  |  initial statement  |  always statement
 --     statement  = ;  |  block  |  name "=" [ delay ] expression ;  |  name "<=" [ delay ] expression ;  |  delay statement
 --                | @ ( event { (or | ,) event } ) statement  |  if ( expression ) block [ else block ]
---                | while ( expression ) block  |  $display ( string { , expression } ) ;  |  $finish ;
+--                | while ( expression ) block  |  $display ( string { , expression } ) ;  |  $strobe ( string { , expression } ) ;  |  $finish ;
 --     block      = begin { statement } end
 --     delay      = # decimal
 --     event      = [ posedge | negedge ] name
@@ -20,13 +20,15 @@ use Rattle.tokens.specs.declared.token.Kind.{Kind}
 use Rattle.tokens.specs.declared.token.Kind.TheVariants as k
 use Rattle.tokens.specs.Tokens.{PlainToken, PlainTokens}
 use Rattle.tokens.specs.Lexing.{string_text}
+use Rattle.model.specs.declared.tree.Task.{Task}
+use Rattle.model.specs.declared.tree.Task.TheVariants.{Display, Strobe}
 use Rattle.model.specs.declared.tree.UnaryOperator.{UnaryOperator}
 use Rattle.model.specs.declared.tree.UnaryOperator.TheVariants as un
 use Rattle.model.specs.declared.tree.BinaryOperator.{BinaryOperator}
 use Rattle.model.specs.declared.tree.BinaryOperator.TheVariants as bin
 use Rattle.model.specs.declared.tree.Change.{Change}
 use Rattle.model.specs.declared.tree.Change.TheVariants.{Any, Posedge, Negedge}
-use Rattle.model.specs.Syntax.{Text, Expression, Register, Select, Literal, Concat, Unary, Binary, Conditional, Expressions, Nothing, Also, Statement, Empty, Block, Assign, AssignLater, Delay, Await, If, IfElse, While, Display, Finish, Statements, End, Then, Declaration, Process, Module}
+use Rattle.model.specs.Syntax.{Text, Expression, Register, Select, Literal, Concat, Unary, Binary, Conditional, Expressions, Nothing, Also, Statement, Empty, Block, Assign, AssignLater, Delay, Await, If, IfElse, While, Print, Finish, Statements, End, Then, Declaration, Process, Module}
 use Rattle.vparse.specs.Nodes.{Trigger}
 
 -- The level of a binary operator, from 1 for the loosest, and the operator (5.1.2, table 5-4).
@@ -62,6 +64,11 @@ prefix k.Ampersand = Some un.ReduceAnd
 prefix k.Bar = Some un.ReduceOr
 prefix k.Caret = Some un.ReduceXor
 prefix _ = None
+
+-- The system name of a task that prints a line (17.1).
+abbrev pub task_kind : Task → Kind
+task_kind Display = k.Display
+task_kind Strobe = k.Strobe
 
 mutual
   -- An expression: one without a conditional operator at its top, or a condition and two expressions, which groups to the
@@ -139,7 +146,7 @@ pub data IsArguments : Expressions Text → PlainTokens → PlainTokens → Type
 
 mutual
   -- A statement: the empty one, a block, a blocking (9.2.1) and a nonblocking assignment (9.2.2), a delay (9.7.1), an event
-  -- control (9.7.2), a conditional statement (9.4), a while loop (9.6), $display (17.1) and $finish (17.4.1).
+  -- control (9.7.2), a conditional statement (9.4), a while loop (9.6), $display and $strobe (17.1) and $finish (17.4.1).
   pub data IsStatement : Statement → PlainTokens → PlainTokens → Type 0 where
     emptied : {t : PlainToken} {rest : PlainTokens} → t.kind ≡ k.Semicolon → IsStatement Empty (t ∷ rest) rest
     grouped : {ss : Statements} {ts rest : PlainTokens} → IsBlock ss ts rest → IsStatement (Block ss) ts rest
@@ -161,9 +168,9 @@ mutual
     looped : {e : Expression Text} {ss : Statements} {t u v : PlainToken} {ts us rest : PlainTokens}
         → t.kind ≡ k.While → u.kind ≡ k.Open → IsExpression e ts (v ∷ us) → v.kind ≡ k.Close → IsBlock ss us rest
         → IsStatement (While e ss) (t ∷ u ∷ ts) rest
-    displayed : {es : Expressions Text} {t u v w : PlainToken} {ts rest : PlainTokens}
-        → t.kind ≡ k.Display → u.kind ≡ k.Open → v.kind ≡ k.Text → IsArguments es ts (w ∷ rest) → w.kind ≡ k.Semicolon
-        → IsStatement (Display (string_text v.text) es) (t ∷ u ∷ v ∷ ts) rest
+    printed : {task : Task} {es : Expressions Text} {t u v w : PlainToken} {ts rest : PlainTokens}
+        → t.kind ≡ task_kind task → u.kind ≡ k.Open → v.kind ≡ k.Text → IsArguments es ts (w ∷ rest) → w.kind ≡ k.Semicolon
+        → IsStatement (Print task (string_text v.text) es) (t ∷ u ∷ v ∷ ts) rest
     finished : {t u : PlainToken} {rest : PlainTokens} → t.kind ≡ k.Finish → u.kind ≡ k.Semicolon → IsStatement Finish (t ∷ u ∷ rest) rest
 
   -- Statements between `begin` and `end` (9.8.1).

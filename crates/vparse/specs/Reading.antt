@@ -4,6 +4,8 @@ use Rattle.logic4.specs.Vector.{Vector}
 use Rattle.tokens.specs.declared.token.Kind.{Kind}
 use Rattle.tokens.specs.declared.token.Kind.TheVariants as k
 use Rattle.tokens.specs.Tokens.{PlainTokens}
+use Rattle.model.specs.declared.tree.Task.{Task}
+use Rattle.model.specs.declared.tree.Task.TheVariants.{Display, Strobe}
 use Rattle.model.specs.declared.tree.UnaryOperator.{UnaryOperator}
 use Rattle.model.specs.declared.tree.BinaryOperator.{BinaryOperator}
 use Rattle.model.specs.declared.tree.Change.{Change}
@@ -159,10 +161,10 @@ arguments_from fuel (suc m) found ts =
     if sees k.Comma ts then and_then (take ts) (λ t us. and_then (expression fuel 0 us) (λ e. arguments_from fuel m (found ++ e ∷ [])))
     else and_then (expect k.Close ts) (λ t rest. Some (found, rest))
 
--- $display ( string arguments ) ;.
-unfoldable pub display : ℕ → Parser Statement
-display fuel ts = and_then (take ts) (λ t us. and_then (expect k.Open us) (λ u vs. and_then (expect k.Text vs) (λ v ws.
-    and_then (arguments_from fuel fuel [] ws) (λ es xs. and_then (expect k.Semicolon xs) (λ x rest. Some (tree.Display (string_text v.text) (expressions es), rest))))))
+-- $display ( string arguments ) ; or $strobe ( string arguments ) ;.
+unfoldable pub print : Task → ℕ → Parser Statement
+print task fuel ts = and_then (take ts) (λ t us. and_then (expect k.Open us) (λ u vs. and_then (expect k.Text vs) (λ v ws.
+    and_then (arguments_from fuel fuel [] ws) (λ es xs. and_then (expect k.Semicolon xs) (λ x rest. Some (tree.Print task (string_text v.text) (expressions es), rest))))))
 
 -- $finish ;.
 unfoldable pub finish : Parser Statement
@@ -215,7 +217,8 @@ module _ (inner : Parser Statement) where
   form_by fuel k.While ts = looped fuel ts
   form_by fuel k.Hash ts = delayed ts
   form_by fuel k.At ts = awaited fuel ts
-  form_by fuel k.Display ts = display fuel ts
+  form_by fuel k.Display ts = print Display fuel ts
+  form_by fuel k.Strobe ts = print Strobe fuel ts
   form_by fuel k.Finish ts = finish ts
   form_by fuel _ ts = None
 

@@ -7,7 +7,7 @@ ghost use Rattle.vparse.specs.Nodes.{expressions_view, statements_view, triggers
 ghost use Rattle.model.specs.Syntax as tree;
 
 use logic4::bits::Bits;
-use model::tree::{BinaryOperator, Event, Expression, Statement, UnaryOperator};
+use model::tree::{BinaryOperator, Event, Expression, Statement, Task, UnaryOperator};
 use std::alloc::{AllocError, Global};
 
 pub fn named(alloc: Global, name: &str) -> Result<Expression, AllocError>
@@ -131,8 +131,8 @@ pub fn loop_of(test: Expression, body: Vec<Statement>) -> Statement
     Statement::While(test, body)
 }
 
-pub fn display_of(format: Vec<u8>, arguments: Vec<Expression>) -> Statement
-    ensures { statement_of result ≡ tree.Display format.items (expressions (expressions_view arguments)) }
+pub fn print_of(task: Task, format: Vec<u8>, arguments: Vec<Expression>) -> Statement
+    ensures { statement_of result ≡ tree.Print task format.items (expressions (expressions_view arguments)) }
 {
-    Statement::Display(format, arguments)
+    Statement::Print(task, format, arguments)
 }

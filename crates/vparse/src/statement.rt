@@ -8,14 +8,14 @@ ghost use Rattle.vparse.specs.Grammar as grammar;
 ghost use Rattle.vparse.specs.Reading as spec;
 
 use crate::build::{
-    assign_later_of, assign_of, await_of, block_of, branch_of, branches_of, delay_of, display_of,
-    loop_of,
+    assign_later_of, assign_of, await_of, block_of, branch_of, branches_of, delay_of, loop_of,
+    print_of,
 };
 use crate::cursor::Cursor;
 use crate::expression::{Rules, expression};
 use crate::fault::Fault;
 use crate::strings::string_text;
-use model::tree::{Change, Event, Expression, Statement};
+use model::tree::{Change, Event, Expression, Statement, Task};
 use std::alloc::{AllocError, Global};
 use tokens::token::Kind;
 
@@ -163,17 +163,26 @@ fn arguments(
     Err(Fault::Syntax)
 }
 
-/// Reads a `$display`.
-#[tactic(auto, unfolding(crate::specs::Reading::display))]
-fn display(rules: Rules, tokens: &mut Cursor<'_, '_>, fuel: usize) -> Result<Statement, Fault>
-    ensures { Reads statement_of rules.stop (spec.display fuel (left_of tokens.old)) result (left_of tokens.new) }
+/// Reads a `$display` or a `$strobe`.
+#[tactic(auto, unfolding(crate::specs::Reading::print))]
+fn print(
+    rules: Rules,
+    tokens: &mut Cursor<'_, '_>,
+    task: Task,
+    fuel: usize,
+) -> Result<Statement, Fault>
+    ensures { Reads statement_of rules.stop (spec.print task fuel (left_of tokens.old)) result (left_of tokens.new) }
 {
     tokens.take(rules.stop)?;
     tokens.expect(rules.stop, Kind::Open)?;
     let format = tokens.expect(rules.stop, Kind::Text)?;
     let found = arguments(rules, tokens, fuel, Vec::new(rules.alloc))?;
     tokens.expect(rules.stop, Kind::Semicolon)?;
-    Ok(display_of(string_text(rules.alloc, format.text.as_bytes())?, found))
+    Ok(print_of(
+        task,
+        string_text(rules.alloc, format.text.as_bytes())?,
+        found,
+    ))
 }
 
 /// Reads `$finish ;`.
@@ -305,7 +314,8 @@ fn statement_form(
         Kind::While => looped(rules, tokens, fuel),
         Kind::Hash => delayed(rules, tokens, fuel),
         Kind::At => awaited(rules, tokens, fuel),
-        Kind::Display => display(rules, tokens, fuel),
+        Kind::Display => print(rules, tokens, Task::Display, fuel),
+        Kind::Strobe => print(rules, tokens, Task::Strobe, fuel),
         Kind::Finish => finish(rules, tokens),
         _ => Err(Fault::Syntax),
     }

@@ -75,6 +75,9 @@ impl<'d, K: Naming> GateState<'d, K> {
         if regions.legal(&Entry::ActivateNba) {
             return Entry::ActivateNba;
         }
+        if regions.legal(&Entry::ActivateMonitor) {
+            return Entry::ActivateMonitor;
+        }
         match regions.next_time() {
             Some(time) => Entry::Advance(time),
             None => unreachable!(),

@@ -8,13 +8,14 @@ use replay::replay;
 use std::alloc::Global;
 use std::process::Abort;
 
-/// Designs with races, waits of each kind, and updates.
-const SOURCES: [&str; 5] = [
+/// Designs with races, waits of each kind, updates, and strobes.
+const SOURCES: [&str; 6] = [
     "module t; reg a; initial a=1'b0; initial a=1'b1; initial #0 $display(\"%b\",a); endmodule",
     "module t; reg a, b; initial begin a=1'b0; b=1'b1; end initial #1 a=b; initial #1 b=a; initial #2 $display(\"%b %b\",a,b); endmodule",
     "module t; reg a; initial #0 a=1'b1; initial @(a) $display(\"p1\"); initial @(posedge a) $display(\"p2\"); endmodule",
     "module t; reg a, b; initial begin #0 a=1'b1; b<=1'b1; #5 b<= #2 1'b0; end always @(a or b) $display(\"%b %b\",a,b); always begin #3 a<=b; #1 ; end endmodule",
     "module t; reg a; initial begin a=1'b0; #4 $finish; end always begin #1 a<=1'b1; a<=1'b0; end always @(posedge a) $display(\"up\"); endmodule",
+    "module t; reg a; initial begin a=1'b0; $strobe(\"s %b\",a); a<=1'b1; #1 $strobe(\"t %b\",a); end always begin #1 $strobe(\"u %b\",a); a=~a; end endmodule",
 ];
 
 /// Numbers that a seed determines.
@@ -43,7 +44,11 @@ fn permitted(rt: &impl Abort, alloc: Global, design: &Design, entries: &[Entry])
         .ok()
         .expect(rt, "a lawful journal");
     let mut found = Vec::new(alloc);
-    for entry in [Entry::ActivateInactive, Entry::ActivateNba] {
+    for entry in [
+        Entry::ActivateInactive,
+        Entry::ActivateNba,
+        Entry::ActivateMonitor,
+    ] {
         if replayed.state.legal(&entry) {
             found.push(entry).expect(rt, "memory");
         }
@@ -82,7 +87,7 @@ fn changed(entry: Entry, number: u64) -> Entry {
         Entry::Turn(_) => Entry::Turn(number),
         Entry::Update(_) => Entry::Update(number),
         Entry::Advance(_) => Entry::Advance(number),
-        Entry::ActivateInactive | Entry::ActivateNba => entry,
+        Entry::ActivateInactive | Entry::ActivateNba | Entry::ActivateMonitor => entry,
     }
 }
 

@@ -2,7 +2,8 @@
 
 use super::{design_of, entry_refused};
 use drive::drive;
-use model::entry::Entry;
+use model::entry::{Entry, Refusal};
+use replay::{Cause, ReplayFault, replay};
 use std::alloc::Global;
 use std::process::Abort;
 use std::sync::Wait;
@@ -10,6 +11,8 @@ use std::sync::Wait;
 const I: Entry = Entry::ActivateInactive;
 
 const N: Entry = Entry::ActivateNba;
+
+const M: Entry = Entry::ActivateMonitor;
 
 const T0: Entry = Entry::Turn(0);
 
@@ -85,6 +88,20 @@ const NUMBERED: &str =
 /// A line every ten units of time.
 const CLOCK: &str = "module t; always #10 $display(\"t\"); endmodule";
 
+/// A strobe between two assignments of the register that it shows.
+const STROBE: &str =
+    "module t; reg a; initial begin a=1'b0; $strobe(\"s %b\",a); a<=1'b1; $display(\"d %b\",a); end endmodule";
+
+/// Two processes with a strobe each.
+const STROBES: &str = "module t; initial $strobe(\"p\"); initial $strobe(\"q\"); endmodule";
+
+/// A strobe at each of two times.
+const STROBES_APART: &str =
+    "module t; initial begin $strobe(\"a\"); #1 $strobe(\"b\"); end endmodule";
+
+/// A strobe before the end of the simulation.
+const STROBE_LOST: &str = "module t; initial begin $strobe(\"s\"); $finish; end endmodule";
+
 /// A turn that never ends.
 const ENDLESS: &str = "module t; always ; endmodule";
 
@@ -158,6 +175,58 @@ fn names_the_first_entry_that_is_not_lawful(rt: HostRuntime) {
             entry,
             "{source}"
         );
+    }
+}
+
+// The journal is refused for this reason at this entry, which is the first that a gate doesn't take.
+fn assert_barred<R: Abort + Wait>(
+    rt: &R,
+    alloc: Global,
+    source: &str,
+    entries: &[Entry],
+    entry: u64,
+    refusal: Refusal,
+) {
+    let design = design_of(rt, alloc, source);
+    assert_eq!(rt;
+        entry_refused(rt, alloc, &design, entries),
+        entry,
+        "{source}"
+    );
+    let cause = Cause::Refused(refusal);
+    let fault = replay(alloc, &design, entries).err();
+    assert!(rt; fault == Some(ReplayFault { entry, cause }), "{source}");
+}
+
+#[test]
+fn strobes_print_what_stands_after_the_updates(rt: HostRuntime) {
+    let rows: [(&str, &[Entry], &str); 6] = [
+        (STROBE, &[T0, N, U1], "d 0\n"),
+        (STROBE, &[T0, N, U1, M], "d 0\ns 1\n"),
+        (STROBES, &[T0, T1, M], "p\nq\n"),
+        (STROBES, &[T1, T0, M], "q\np\n"),
+        (STROBES_APART, &[T0, M, A1, T1, M], "a\nb\n"),
+        (STROBE_LOST, &[T0], ""),
+    ];
+    for (source, entries, lines) in rows {
+        assert_driven(&rt, rt.alloc(), source, entries, lines);
+    }
+}
+
+#[test]
+fn strobes_print_neither_early_nor_late(rt: HostRuntime) {
+    let rows: [(&str, &[Entry], u64, Refusal); 8] = [
+        (STROBE, &[T0, M], 2, Refusal::NotDue),
+        (STROBE, &[T0, N, M], 3, Refusal::NotDue),
+        (STROBES, &[T0, M], 2, Refusal::NotDue),
+        (STROBES, &[T0, T1, A1], 3, Refusal::NotDue),
+        (STROBES, &[T0, T1, M, M], 4, Refusal::NotDue),
+        (STROBES_APART, &[T0, A1], 2, Refusal::NotDue),
+        (HI, &[T0, M], 2, Refusal::NotDue),
+        (STROBE_LOST, &[T0, M], 2, Refusal::Finished),
+    ];
+    for (source, entries, entry, refusal) in rows {
+        assert_barred(&rt, rt.alloc(), source, entries, entry, refusal);
     }
 }
 

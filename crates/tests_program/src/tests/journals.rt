@@ -52,6 +52,23 @@ fn writes_no_line_after_a_cut_journal(rt: HostRuntime) -> Result<(), Fail> {
     Ok(())
 }
 
+/// The change to the monitor region has no line in version 1 of a journal's text.
+#[test]
+fn a_journal_with_a_monitor_entry_is_not_written(rt: HostRuntime) -> Result<(), Fail> {
+    let source = b"module t; initial $strobe(\"p\"); endmodule";
+    let left = run_line(&rt, rt.alloc(), SAVE, source)?;
+    let told = "vsimtx: K3 journal needs version 2\n";
+    assert_left(&rt, SAVE, &left, 1, "", told);
+    assert!(rt; left.made.is_empty());
+    let left = run_line(&rt, rt.alloc(), "vsimtx run t.v", source)?;
+    assert_left(&rt, "no journal", &left, 0, "p\n", "");
+    let finished = b"module t; initial begin $strobe(\"s\"); $finish; end endmodule";
+    let left = run_line(&rt, rt.alloc(), SAVE, finished)?;
+    assert_left(&rt, "finished", &left, 0, "", "");
+    assert!(rt; left.made.as_slice() == JOURNAL);
+    Ok(())
+}
+
 #[test]
 fn writes_the_journal_first(rt: HostRuntime) -> Result<(), Fail> {
     for (out_room, out) in ["", "h", "hi"].iter().enumerate() {

@@ -258,3 +258,61 @@ fn tells_that_output_is_cut(rt: HostRuntime) -> Result<(), Fail> {
     assert_left(&rt, "cut", &left, 1, "hel", "vsimtx: cannot write\n");
     Ok(())
 }
+
+/// Each of the sources runs without a journal and prints these lines.
+fn assert_prints_alone<R: Abort + Threads + Wait + Sync>(
+    rt: &R,
+    alloc: Global,
+    cases: &[(&str, &str)],
+) -> Result<(), AllocError> {
+    for (source, out) in cases {
+        let left = run_line(rt, alloc, "vsimtx run t.v", source.as_bytes())?;
+        assert_left(rt, source, &left, 0, out, "");
+    }
+    Ok(())
+}
+
+#[test]
+fn makes_strobes_at_the_end_of_their_time(rt: HostRuntime) -> Result<(), Fail> {
+    let cases = [
+        (
+            "module t; reg a; initial begin a=1'b0; $strobe(\"s %b\",a); a<=1'b1; $display(\"d %b\",a); end endmodule",
+            "d 0\ns 1\n",
+        ),
+        (
+            "module t; initial begin $strobe(\"a\"); #1 $strobe(\"b\"); end endmodule",
+            "a\nb\n",
+        ),
+        // Two strobes of one turn, in the order of the text.
+        (
+            "module t; initial begin $strobe(\"a\"); $strobe(\"b %h %0d\", 8'hf0, 8'd7); $display(\"c\"); end endmodule",
+            "c\na\nb f0 7\n",
+        ),
+        // A delay of 0 doesn't end the time.
+        (
+            "module t; reg a; initial begin a=1'b0; $strobe(\"s %b\",a); #0 a=1'b1; end endmodule",
+            "s 1\n",
+        ),
+        // What isn't made before $finish is lost.
+        (
+            "module t; initial begin $strobe(\"s\"); $finish; end endmodule",
+            "",
+        ),
+    ];
+    assert_prints_alone(&rt, rt.alloc(), &cases)?;
+    Ok(())
+}
+
+#[test]
+fn strobes_of_two_processes_come_in_the_order_of_their_turns(rt: HostRuntime) -> Result<(), Fail> {
+    let source = "module t; initial $strobe(\"p\"); initial $strobe(\"q\"); endmodule";
+    let left = run_line(&rt, rt.alloc(), "vsimtx run t.v", source.as_bytes())?;
+    assert_eq!(rt; left.status, 0);
+    assert!(rt; left.err.is_empty(), "no message");
+    let out = left.out.as_slice();
+    assert!(rt;
+        out == b"p\nq\n".as_slice() || out == b"q\np\n".as_slice(),
+        "both lines"
+    );
+    Ok(())
+}

@@ -146,6 +146,38 @@ fn a_clock_stops_at_its_limit_on_every_worker(rt: HostRuntime) {
     assert_source(&rt, rt.alloc(), source, ["t\nt\n", "t\nt\n"]);
 }
 
+/// A thousand runs of a source on 1, 4 and 16 workers each.
+fn assert_strobes<R: Abort + Threads + Wait + Sync>(
+    rt: &R,
+    alloc: Global,
+    source: &str,
+    texts: [&str; 2],
+) {
+    let design = read_design(alloc, source.as_bytes()).expect(rt, "a design");
+    assert_runs(rt, alloc, &design, 1, 1_000, texts);
+    assert_runs(rt, alloc, &design, 4, 1_000, texts);
+    assert_runs(rt, alloc, &design, 16, 1_000, texts);
+}
+
+#[test]
+fn strobes_of_one_time_come_in_the_order_of_the_turns(rt: HostRuntime) {
+    let source =
+        "module t; reg a; initial begin a=1'b0; $strobe(\"p %b\",a); a<=1'b1; end initial $strobe(\"q %b\",a); endmodule";
+    assert_strobes(&rt, rt.alloc(), source, ["p 1\nq 1\n", "q 1\np 1\n"]);
+}
+
+#[test]
+fn strobes_come_before_the_time_advances(rt: HostRuntime) {
+    let source =
+        "module t; reg [3:0] n; initial begin n=4'd0; while (n<4'd3) begin $strobe(\"n %0d\",n); n<=n+4'd1; #1; end end endmodule";
+    assert_strobes(
+        &rt,
+        rt.alloc(),
+        source,
+        ["n 1\nn 2\nn 3\n", "n 1\nn 2\nn 3\n"],
+    );
+}
+
 #[test]
 fn a_swap_has_one_outcome(rt: HostRuntime) {
     let source =

@@ -32,6 +32,10 @@ impl RegReader for Held {
 
     ghost gave = { λ s r x. Unit {0} };
 
+    ghost Lasting = { Unit {0} };
+
+    ghost lasting = { λ r. tt };
+
     fn read(&mut self, register: RegId) -> Seen {
         self.reads = self.reads.wrapping_add(1);
         match self.registers.get(register as usize) {

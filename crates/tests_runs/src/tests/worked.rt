@@ -52,6 +52,17 @@ fn empty_statements(alloc: Global, count: usize) -> Result<String, AllocError> {
 }
 
 #[test]
+fn reads_and_prints_nothing_for_a_strobe(rt: HostRuntime) {
+    let source =
+        "module t; reg a, b; initial begin $strobe(\"%b\", a); $display(\"%b\", b); if (b) begin $strobe(\"no\"); end $strobe(\"s\"); end endmodule";
+    assert_turn(&rt, rt.alloc(), source, 1, "x\n", 4);
+    let mut held = Held::all(Bits::unknown(1));
+    let log = first_turn(&rt, rt.alloc(), source, &mut held);
+    assert!(rt; log.strobes.as_slice() == [0, 4].as_slice());
+    assert!(rt; log.reads.contains_key(&1));
+}
+
+#[test]
 fn prints_what_a_loop_adds(rt: HostRuntime) {
     let source =
         "module t; reg [7:0] i, s; initial begin i=8'd0; s=8'd0; while (i<8'd5) begin i=i+8'd1; s=s+i; end $display(\"%0d %0d\",i,s); end endmodule";

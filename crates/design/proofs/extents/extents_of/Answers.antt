@@ -1,4 +1,4 @@
-use Rattle.std.proofs.Common.{◌≡◌, ◌+◌, ◌++◌, length, drop, map, sym, ◌∙◌, ap}
+use Rattle.std.proofs.Common.{◌+◌, ◌++◌, length, drop, map, sym, ◌∙◌, ap}
 use Rattle.design.specs.Trees.{process_of, statements_of}
 use Rattle.design.specs.Extents.{extents, all_extents}
 use Rattle.design.proofs.Places.{left_more}

@@ -1,7 +1,7 @@
 use Rattle.std.proofs.Common.{rules, ◌≡◌, length, map, sym, ap, ◌∙◌, subst}
 use Rattle.design.specs.Trees.{process_of}
-use Rattle.design.specs.Extents.{all_extents, IsMeasured}
-use Rattle.design.specs.Emit.{Emitted, starts_of}
+use Rattle.design.specs.Extents.{IsMeasured}
+use Rattle.design.specs.Emit.{Emitted}
 use Rattle.design.specs.Emitter.{emitted_of}
 use Rattle.design.proofs.Ends.{length_starts}
 use Rattle.design.proofs.Made.{sound_trees, table_measured, length_processes, behind_all, begun_there, all_there}

@@ -1,7 +1,7 @@
--- Each region that may not become active is empty, and then only the future is left.
+-- Each region that may not be emptied is empty, and then only the future is left.
 use Rattle.regcells.specs.Values.{last_value}
 use Rattle.std.proofs.Common.{map, ◌≡◌, ◌∙◌, true, sym, subst, None, Some}
-use Rattle.model.specs.declared.entry.Entry.TheVariants.{ActivateInactive, ActivateNba}
+use Rattle.model.specs.declared.entry.Entry.TheVariants.{ActivateInactive, ActivateNba, ActivateMonitor}
 use Rattle.model.specs.Runs.{refusal, is_idle, least_time}
 use Rattle.design.specs.Standing.{remainder_of}
 use Rattle.gateparts.specs.GateState.{GateState, state_in}
@@ -22,13 +22,22 @@ returns-then-legal-2 g c =
     let due = (c.legal-2.ensures (remainder_of code) (map last_value c.self.inside.parts.holder.seen)).0 c.if-legal-2.true in
     subst (λ (h : GateState). refusal (state_in code h) ActivateNba ≡ None) c.self.view_is due
 
+pub returns-then-legal-3 : goal.returns-then-legal-3
+returns-then-legal-3 g c =
+    let code = g.K.Naming.named.code in
+    let due = (c.legal-3.ensures (remainder_of code) (map last_value c.self.inside.parts.holder.seen)).0 c.if-legal-3.true in
+    subst (λ (h : GateState). refusal (state_in code h) ActivateMonitor ≡ None) c.self.view_is due
+
 pub unreachable-requires : goal.unreachable-requires
 unreachable-requires g c =
     let n = g.K.Naming.named in
     let parts = c.self.inside.parts in
     let rests = subst (λ (h : GateState). IsResting n.code h) (sym c.self.view_is) c.requires in
     some_time (state_in n.code (gate_state_of parts))
-    (only_future n.code n.limits (gate_state_of parts) c.legal.result c.legal-2.result c.self.invariant.guarded rests (c.legal.ensures (remainder_of n.code) (map last_value parts.holder.seen)) c.if-legal.false (c.legal-2.ensures (remainder_of n.code) (map last_value parts.holder.seen)) c.if-legal-2.false)
+    (only_future n.code n.limits (gate_state_of parts) c.legal.result c.legal-2.result c.legal-3.result c.self.invariant.guarded rests
+    (c.legal.ensures (remainder_of n.code) (map last_value parts.holder.seen)) c.if-legal.false
+    (c.legal-2.ensures (remainder_of n.code) (map last_value parts.holder.seen)) c.if-legal-2.false
+    (c.legal-3.ensures (remainder_of n.code) (map last_value parts.holder.seen)) c.if-legal-3.false)
     (sym (c.next_time.ensures (remainder_of n.code) (map last_value parts.holder.seen)) ∙ c.in-None.is)
 
 pub returns : goal.returns
@@ -37,6 +46,9 @@ returns g c =
     let parts = c.self.inside.parts in
     let rests = subst (λ (h : GateState). IsResting n.code h) (sym c.self.view_is) c.requires in
     let idle =
-    only_future n.code n.limits (gate_state_of parts) c.legal.result c.legal-2.result c.self.invariant.guarded rests (c.legal.ensures (remainder_of n.code) (map last_value parts.holder.seen)) c.if-legal.false (c.legal-2.ensures (remainder_of n.code) (map last_value parts.holder.seen)) c.if-legal-2.false in
+    only_future n.code n.limits (gate_state_of parts) c.legal.result c.legal-2.result c.legal-3.result c.self.invariant.guarded rests
+    (c.legal.ensures (remainder_of n.code) (map last_value parts.holder.seen)) c.if-legal.false
+    (c.legal-2.ensures (remainder_of n.code) (map last_value parts.holder.seen)) c.if-legal-2.false
+    (c.legal-3.ensures (remainder_of n.code) (map last_value parts.holder.seen)) c.if-legal-3.false in
     let least = sym (c.next_time.ensures (remainder_of n.code) (map last_value parts.holder.seen)) ∙ c.in-Some.is in
     subst (λ (h : GateState). (is_idle (state_in n.code h) ≡ true) × (least_time (state_in n.code h) ≡ Some c.in-Some.time)) c.self.view_is (idle, least)

@@ -1,6 +1,6 @@
-use Rattle.std.proofs.Common.{rules, arith, length, drop, ◌+◌, ◌≡◌}
-use Rattle.model.specs.Design.{inside, size}
-use Rattle.design.specs.Trees.{statement_of, statements_of}
+use Rattle.std.proofs.Common.{rules, arith, length, ◌+◌, ◌≡◌}
+use Rattle.model.specs.Design.{size}
+use Rattle.design.specs.Trees.{statements_of}
 use Rattle.design.specs.declared.tree.Statement.TheViews.{the_lemmas}
 use Rattle.design.proofs.Views.{first_body, second_body, length_both, on_ok}
 use Rattle.design.proofs.emitter.Emitter.+emit.Goals as goal

@@ -1,5 +1,4 @@
-use Rattle.std.proofs.Common.{refl, arith, ◌∙◌, zero-add}
-use Rattle.design.specs.Trees.{expressions_of}
+use Rattle.std.proofs.Common.{refl, ◌∙◌, zero-add}
 use Rattle.design.proofs.Lines.{how_many_there}
 use Rattle.design.proofs.emitter.Emitter.line.Goals as goal
 

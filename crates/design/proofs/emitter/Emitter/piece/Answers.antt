@@ -1,4 +1,4 @@
-use Rattle.std.proofs.Common.{rules, ◌<◌, length, subst, sym, arith}
+use Rattle.std.proofs.Common.{rules, ◌<◌, length, subst, sym}
 use Rattle.design.specs.declared.tree.Expression.{Expression}
 use Rattle.design.specs.Sound.{IsSoundExpression}
 use Rattle.design.specs.Trees.{expression_of}

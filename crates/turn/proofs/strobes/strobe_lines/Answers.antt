@@ -1,0 +1,45 @@
+use Rattle.std.proofs.Common.{◌≡◌, ◌∙◌, [], length, take, get_or, refl, ap, sym, subst}
+use Rattle.std.proofs.lemmas.List.{take_all}
+use Rattle.turn.specs.Progress.{status_of, fresh}
+use Rattle.turn.specs.Reads.{GaveAll}
+use Rattle.turn.specs.Evaluate.{NamesDeclared}
+use Rattle.turn.proofs.Values.{code_declared}
+use Rattle.turn.proofs.Strobed.{Strobed, strobed_none, strobed_next, strobed_all, printed}
+use Rattle.turn.proofs.strobes.strobe_lines.Goals as goal
+
+pub strobe_line-requires : goal.strobe_line-requires
+strobe_line-requires g c =
+    let n = g.R.RegReader.registers in
+    subst (NamesDeclared n) (sym c.ops-ops.ensures) (code_declared c.args.design.now n c.registers.ensures.compiled c.requires.registers)
+
+pub loop-place-init : goal.loop-place-init
+loop-place-init g c =
+    let design = c.args.design.now in
+    let begins : status_of c.in_ok-progress.progress ≡ fresh _ (length design.widths) = c.in_ok-progress.ensures ∙ ap (λ n. fresh _ n) c.registers.ensures.value in
+    record {
+      strobed = subst (Strobed design []) (sym begins) (strobed_none design _);
+      gave = subst (GaveAll _) (sym (ap (λ s. s.reads) begins)) tt;
+      lasting = refl;
+    }
+
+pub loop-place-preserved : goal.loop-place-preserved
+loop-place-preserved g c =
+    let code = c.args.design.now in
+    let places = c.args.places.now in
+    let i = c.loop-place.place-index in
+    let s = status_of c.loop-place.progress in
+    let t = status_of c.strobe_line.new.self in
+    let prints = printed code c.nodes-nodes.result.now c.ops-ops.result.now c.shown-shown.result.now (get_or places i 0) s t c.nodes-nodes.ensures c.ops-ops.ensures c.shown-shown.ensures c.in_ok-strobe_line.ensures.prints in
+    record {
+      strobed = strobed_next code places i s t c.loop-place-test.true c.registers.ensures.compiled c.loop-place.invariant.strobed prints;
+      gave = c.in_ok-strobe_line.ensures.gave c.loop-place.invariant.gave;
+      lasting = c.in_ok-strobe_line.ensures.lasting ∙ c.loop-place.invariant.lasting;
+    }
+
+pub returns-clause-lines : goal.returns-clause-lines
+returns-clause-lines g c =
+    let places = c.args.places.now in
+    let i = c.loop-place.place-index in
+    let all : take i places ≡ places = take_all i places c.loop-place-test.false in
+    strobed_all c.args.design.now places (status_of c.loop-place.progress) (g.R.RegReader.gave c.loop-place.reader) _
+    (subst (λ ps. Strobed c.args.design.now ps (status_of c.loop-place.progress)) all c.loop-place.invariant.strobed) c.loop-place.invariant.gave c.lines_of.ensures

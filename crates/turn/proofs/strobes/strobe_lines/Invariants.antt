@@ -1,0 +1,12 @@
+use Rattle.std.proofs.Common.{◌≡◌, take}
+use Rattle.turn.specs.Progress.{status_of}
+use Rattle.turn.specs.Reads.{GaveAll}
+use Rattle.turn.proofs.Strobed.{Strobed}
+use Rattle.turn.proofs.strobes.strobe_lines.Given as goal
+
+abbrev pub invariant-loop-place : goal.invariant-loop-place
+invariant-loop-place g l = record {
+  strobed : Strobed l.design (take l.place-index l.places) (status_of l.progress);
+  gave : GaveAll (g.R.RegReader.gave l.reader) l.progress.memory.reads.entries;
+  lasting : g.R.RegReader.lasting l.reader ≡ g.R.RegReader.lasting l.fn.reader;
+}
