@@ -6,16 +6,17 @@ use model::entry::Entry;
 use std::alloc::{AllocError, Global};
 use std::io;
 
-/// A journal of this many entries. Most of its numbers have ten digits or more.
+/// A journal of this many entries, of each kind in turn. Most of its numbers have ten digits or more.
 fn entries(alloc: Global, count: u32) -> Result<Vec<Entry>, AllocError> {
     let mut entries = Vec::new(alloc);
     for place in 0..count {
         let number = u64::from(place);
-        entries.push(match place % 5 {
+        entries.push(match place % 6 {
             0 => Entry::Turn(number.wrapping_mul(0x9e37_79b9_7f4a_7c15) >> 28),
             1 => Entry::Update(number),
             2 => Entry::ActivateNba,
             3 => Entry::ActivateInactive,
+            4 => Entry::ActivateMonitor,
             _ => Entry::Advance(number.wrapping_mul(0x9e37_79b9_7f4a_7c15)),
         })?;
     }

@@ -42,7 +42,6 @@ fault_not_four : (f : Fault) → status_of f ≡ 4 → ⊥
 fault_not_four (fault.CannotRead p) e = cc
 fault_not_four fault.CannotWrite e = cc
 fault_not_four fault.Memory e = cc
-fault_not_four fault.JournalVersion e = cc
 fault_not_four (fault.Source f) e = source_not_four f e
 fault_not_four (fault.Simulate f) e = cc
 fault_not_four (fault.Replay f) e = replay_not_four f e

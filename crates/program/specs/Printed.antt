@@ -1,13 +1,12 @@
 -- What a run or a replay leaves on standard output.
 use Rattle.std.specs.Prelude.{◌≡◌, ℕ, List, Option, Some}
-use Rattle.std.specs.Io.KnownBytes.{Appends, Keeps}
+use Rattle.std.specs.Io.KnownBytes.{Appends}
 use Rattle.design.specs.Compiled.{Compiled}
 use Rattle.frontend.specs.Sources.{IsDesignOf}
 use Rattle.commitgate.specs.Closing.{ClosedView}
 use Rattle.eventpool.specs.Pools.{Counts}
 use Rattle.simulate.specs.declared.run.Options.{Options}
 use Rattle.simulate.specs.Outcomes.{IsOutcome, limits_of}
-use Rattle.journal.specs.Written.{HasMonitor}
 use Rattle.replay.specs.Bytes.{Prints}
 use Rattle.program.specs.declared.fault.Stop.{Stop}
 use Rattle.program.specs.Options.{CanRun}
@@ -35,13 +34,6 @@ pub record HasStopped (old new : Option (List ℕ)) : Type 0 where
   pub can_run : CanRun options
   pub stop : Stop
   pub printed : HasPrinted options old new (Some stop)
-
--- the journal of a run has an entry for which version 1 of its text has no line, and output is as it was
-pub record HasNoText (options : Options) (old new : Option (List ℕ)) : Type 0 where
-  pub closed : ClosedView
-  pub is_run : IsRun options closed
-  pub monitor : HasMonitor closed.entries
-  pub kept : Keeps old new
 
 -- output grew by the lines of a journal that is lawful for the design that some source describes, and what was left to
 -- read, where that is known, is the text of this journal

@@ -50,13 +50,11 @@ replay_status_of (replaying.Read f) = read_status_of f
 replay_status_of (replaying.Replay f) = cause_status_of f.cause
 replay_status_of replaying.CannotWrite = 1
 
--- 1 files and output, a journal without a text among them, 3 a source, 5 a journal that is read, 6 memory or a worker
--- that couldn't be started
+-- 1 files and output, 3 a source, 5 a journal, 6 memory or a worker that couldn't be started
 abbrev pub status_of : Fault → ℕ
 status_of (fault.CannotRead path) = 1
 status_of fault.CannotWrite = 1
 status_of fault.Memory = 6
-status_of fault.JournalVersion = 1
 status_of (fault.Source f) = source_status_of f
 status_of (fault.Simulate f) = simulate_status_of f
 status_of (fault.Replay f) = replay_status_of f

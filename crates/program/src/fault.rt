@@ -21,13 +21,10 @@ pub enum Fault<'a> {
     CannotWrite,
     #[error("memory")]
     Memory,
-    /// The journal has an entry for which version 1 of its text has no line.
-    #[error("K3 journal needs version 2")]
-    JournalVersion,
     #[error(transparent)]
-    Source(SourceFault),
+    Source(#[from] SourceFault),
     #[error(transparent)]
-    Simulate(SimFault),
+    Simulate(#[from] SimFault),
     #[error(transparent)]
     Replay(BytesFault),
 }
@@ -85,13 +82,13 @@ impl Stop {
 }
 
 impl Fault<'_> {
-    /// The exit status: 1 for files and output, a journal without a text among them, 3 for a source, 5 for
-    /// a journal that is read, and 6 for memory or a worker that couldn't be started.
+    /// The exit status: 1 for files and output, 3 for a source, 5 for a journal, and 6 for memory or
+    /// a worker that couldn't be started.
     pub fn status(&self) -> u8
         ensures { result ≡ status_of self.now }
     {
         match self {
-            Fault::CannotRead(_) | Fault::CannotWrite | Fault::JournalVersion => 1,
+            Fault::CannotRead(_) | Fault::CannotWrite => 1,
             Fault::Memory => 6,
             Fault::Source(fault) => source_status(fault),
             Fault::Simulate(fault) => simulate_status(fault),

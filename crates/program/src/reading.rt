@@ -1,7 +1,5 @@
 //! Files that are read.
 
-ghost use Rattle.std.specs.Prelude.{◌≢◌, IfErr};
-
 use crate::fault::Fault;
 use crate::files::Files;
 use std::alloc::Global;
@@ -31,9 +29,7 @@ pub fn read_file<'a, F: Files>(
     alloc: Global,
     path: &'a str,
     files: &mut F,
-) -> Result<Vec<u8>, Fault<'a>>
-    ensures fault { IfErr result (λ fault. fault ≢ Fault.JournalVersion) }
-{
+) -> Result<Vec<u8>, Fault<'a>> {
     let mut file = open_file(path, files)?;
     let mut text = Vec::new(alloc);
     match file.read_to_end(&mut text) {
@@ -46,9 +42,7 @@ pub fn read_file<'a, F: Files>(
 pub fn open_file<'a, F: Files>(
     path: &'a str,
     files: &mut F,
-) -> Result<Retrying<F::Source>, Fault<'a>>
-    ensures fault { IfErr result (λ fault. fault ≢ Fault.JournalVersion) }
-{
+) -> Result<Retrying<F::Source>, Fault<'a>> {
     match files.open(path) {
         Ok(file) => Ok(Retrying { file }),
         Err(error) => Err(unread(path, &error)),
@@ -56,9 +50,7 @@ pub fn open_file<'a, F: Files>(
 }
 
 /// Why a file wasn't read: want of memory is told as such.
-fn unread<'a>(path: &'a str, error: &io::Error) -> Fault<'a>
-    ensures { result ≢ Fault.JournalVersion }
-{
+fn unread<'a>(path: &'a str, error: &io::Error) -> Fault<'a> {
     match error.kind() {
         ErrorKind::OutOfMemory => Fault::Memory,
         _ => Fault::CannotRead(path),

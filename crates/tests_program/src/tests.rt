@@ -22,6 +22,7 @@ mod replays;
 mod runs;
 mod sources;
 mod threads;
+mod versions;
 mod words;
 
 /// A file to read: its bytes, of which a read gives one, and then a fault, if there is one.

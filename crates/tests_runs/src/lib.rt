@@ -3,7 +3,8 @@
 //! 1. `operators` has the value of each operator, `turns` what small processes do in a turn, and `worked` whole turns that
 //!    are known. All are made by `turn` from a source.
 //! 2. `event_queue` has journals of small designs: which entries are permitted after each entry, and what is refused.
-//! 3. `journal_text` has texts of journals with what `journal` reads, and readers and writers that fail.
+//! 3. `journal_text` has texts of journals of both versions with what `journal` reads, what it writes, and readers and writers
+//!    that fail.
 //! 4. `replays` has replays from bytes to bytes, and what a fault prints.
 #![tactic(auto)]
 

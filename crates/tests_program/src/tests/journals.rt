@@ -1,4 +1,4 @@
-//! The journal of a run, which stands in OUT before the first line is written.
+//! The journal of a run, which stands in OUT, in version 2, before the first line is written.
 
 use super::{Setting, assert_left, over, run_in, run_line};
 use std::test::Fail;
@@ -7,7 +7,7 @@ const SAVE: &str = "vsimtx run t.v --journal OUT";
 
 const SOURCE: &[u8] = b"module t; initial $display(\"hi\"); endmodule";
 
-const JOURNAL: &[u8] = b"vsimtx-journal 1\nT 0\n";
+const JOURNAL: &[u8] = b"vsimtx-journal 2\nT 0\nE 1\n";
 
 const CANNOT_WRITE: &str = "vsimtx: cannot write\n";
 
@@ -19,6 +19,9 @@ fn keeps_the_journal_of_a_run(rt: HostRuntime) -> Result<(), Fail> {
     let left = run_line(&rt, rt.alloc(), "vsimtx run t.v", SOURCE)?;
     assert_left(&rt, "no journal", &left, 0, "hi\n", "");
     assert!(rt; left.made.is_empty());
+    let left = run_line(&rt, rt.alloc(), SAVE, b"module t; endmodule")?;
+    assert_left(&rt, "no entry", &left, 0, "", "");
+    assert!(rt; left.made.as_slice() == b"vsimtx-journal 2\nE 0\n".as_slice());
     Ok(())
 }
 
@@ -30,13 +33,14 @@ fn one_worker_has_one_journal(rt: HostRuntime) -> Result<(), Fail> {
         b"module t; reg a, b; initial a<=1'b1; initial b<=1'b1; initial @(a) $display(\"%b\",b); endmodule";
     let left = run_line(&rt, rt.alloc(), line, source)?;
     assert_left(&rt, line, &left, 0, "x\n", "");
-    let journal = b"vsimtx-journal 1\nT 0\nT 1\nT 2\nN\nU 3\nT 5\nU 4\n";
+    let journal = b"vsimtx-journal 2\nT 0\nT 1\nT 2\nN\nU 3\nT 5\nU 4\nE 7\n";
     assert!(rt; left.made.as_slice() == journal.as_slice());
     Ok(())
 }
 
 #[test]
 fn writes_no_line_after_a_cut_journal(rt: HostRuntime) -> Result<(), Fail> {
+    assert_eq!(rt; JOURNAL.len(), 25);
     for room in 0..JOURNAL.len() {
         let cut = Setting {
             room,
@@ -52,20 +56,42 @@ fn writes_no_line_after_a_cut_journal(rt: HostRuntime) -> Result<(), Fail> {
     Ok(())
 }
 
-/// The change to the monitor region has no line in version 1 of a journal's text.
+/// Each of these sources has one journal, in which a strobe that is shown has an entry.
 #[test]
-fn a_journal_with_a_monitor_entry_is_not_written(rt: HostRuntime) -> Result<(), Fail> {
-    let source = b"module t; initial $strobe(\"p\"); endmodule";
-    let left = run_line(&rt, rt.alloc(), SAVE, source)?;
-    let told = "vsimtx: K3 journal needs version 2\n";
-    assert_left(&rt, SAVE, &left, 1, "", told);
-    assert!(rt; left.made.is_empty());
-    let left = run_line(&rt, rt.alloc(), "vsimtx run t.v", source)?;
-    assert_left(&rt, "no journal", &left, 0, "p\n", "");
-    let finished = b"module t; initial begin $strobe(\"s\"); $finish; end endmodule";
-    let left = run_line(&rt, rt.alloc(), SAVE, finished)?;
-    assert_left(&rt, "finished", &left, 0, "", "");
-    assert!(rt; left.made.as_slice() == JOURNAL);
+fn a_journal_with_strobes_is_written_and_replayed(rt: HostRuntime) -> Result<(), Fail> {
+    let cases = [
+        (
+            "module t; initial $strobe(\"p\"); endmodule",
+            "p\n",
+            "vsimtx-journal 2\nT 0\nM\nE 2\n",
+        ),
+        (
+            "module t; reg a; initial begin a=1'b0; $strobe(\"s %b\",a); a<=1'b1; $display(\"d %b\",a); end endmodule",
+            "d 0\ns 1\n",
+            "vsimtx-journal 2\nT 0\nN\nU 1\nM\nE 4\n",
+        ),
+        (
+            "module t; initial begin $strobe(\"a\"); #1 $strobe(\"b\"); end endmodule",
+            "a\nb\n",
+            "vsimtx-journal 2\nT 0\nM\nA 1\nT 1\nM\nE 5\n",
+        ),
+        (
+            "module t; initial begin $strobe(\"s\"); $finish; end endmodule",
+            "",
+            "vsimtx-journal 2\nT 0\nE 1\n",
+        ),
+    ];
+    for (source, out, journal) in cases {
+        let left = run_line(&rt, rt.alloc(), SAVE, source.as_bytes())?;
+        assert_left(&rt, source, &left, 0, out, "");
+        assert!(rt; left.made.as_slice() == journal.as_bytes(), "{source}");
+        let kept = Setting {
+            journal: left.made.as_slice(),
+            ..over(source.as_bytes())
+        };
+        let again = run_in(&rt, rt.alloc(), "vsimtx replay t.v JOURNAL", &kept)?;
+        assert_left(&rt, source, &again, 0, out, "");
+    }
     Ok(())
 }
 

@@ -11,21 +11,21 @@ fn stops_at_its_limits(rt: HostRuntime) -> Result<(), Fail> {
             "--until 25",
             "t\nt\n",
             "vsimtx: stopped: until\n",
-            "vsimtx-journal 1\nT 0\nA 10\nT 1\nA 20\nT 2\n",
+            "vsimtx-journal 2\nT 0\nA 10\nT 1\nA 20\nT 2\nE 5\n",
         ),
         (
             "module t; always #10 $display(\"t\"); endmodule",
             "--until 0",
             "",
             "vsimtx: stopped: until\n",
-            "vsimtx-journal 1\nT 0\n",
+            "vsimtx-journal 2\nT 0\nE 1\n",
         ),
         (
             "module t; always #0 ; endmodule",
             "--max-entries 10",
             "",
             "vsimtx: stopped: entries\n",
-            "vsimtx-journal 1\nT 0\nI\nT 1\nI\nT 2\nI\nT 3\nI\nT 4\nI\n",
+            "vsimtx-journal 2\nT 0\nI\nT 1\nI\nT 2\nI\nT 3\nI\nT 4\nI\nE 10\n",
         ),
     ];
     for (source, limit, out, err, journal) in cases {

@@ -1,17 +1,25 @@
-//! Replays of journals that were written by hand.
+//! Replays of journals that were written by hand, most of them in version 1 of the text.
 
 use super::{Setting, assert_left, over, run_in};
+use std::alloc::{AllocError, Global};
+use std::process::Abort;
+use std::sync::Wait;
 use std::test::Fail;
+use std::thread::Threads;
 
-const REPLAY: &str = "vsimtx replay t.v JOURNAL";
+pub(super) const REPLAY: &str = "vsimtx replay t.v JOURNAL";
 
 /// One process, which prints a line.
-const HI: &str = "module t; initial $display(\"hi\"); endmodule";
+pub(super) const HI: &str = "module t; initial $display(\"hi\"); endmodule";
 
-const JOURNAL: &[u8] = b"vsimtx-journal 1\nT 0\n";
+/// The text of its journal in version 1.
+const ONE: &[u8] = b"vsimtx-journal 1\nT 0\n";
+
+/// The same in version 2.
+pub(super) const TWO: &[u8] = b"vsimtx-journal 2\nT 0\nE 1\n";
 
 /// Two processes write a register, and a third shows it once both are over.
-const RACE: &str =
+pub(super) const RACE: &str =
     "module t; reg a; initial a=1'b0; initial a=1'b1; initial #0 $display(\"%b\",a); endmodule";
 
 /// Two processes copy two registers into each other at one time.
@@ -73,6 +81,24 @@ fn prints_the_lines_of_a_lawful_journal(rt: HostRuntime) -> Result<(), Fail> {
     Ok(())
 }
 
+// Each journal has this fault on its source, and no line is printed.
+pub(super) fn assert_refused<R: Abort + Threads + Wait + Sync>(
+    rt: &R,
+    alloc: Global,
+    cases: &[(&str, &str, &str)],
+) -> Result<(), AllocError> {
+    for (source, journal, text) in cases {
+        let setting = Setting {
+            journal: journal.as_bytes(),
+            ..over(source.as_bytes())
+        };
+        let left = run_in(rt, alloc, REPLAY, &setting)?;
+        let err = format!(in alloc; "vsimtx: {text}\n")?;
+        assert_left(rt, text, &left, 5, "", err.as_str());
+    }
+    Ok(())
+}
+
 #[test]
 fn tells_the_fault_of_a_journal(rt: HostRuntime) -> Result<(), Fail> {
     let cases = [
@@ -113,16 +139,15 @@ fn tells_the_fault_of_a_journal(rt: HostRuntime) -> Result<(), Fail> {
             "vsimtx-journal 1\nT 0",
             "Q3 journal ends without newline",
         ),
+        (
+            HI,
+            "vsimtx-journal 1\nT 0\nvsimtx-journal 1\nT 0\n",
+            "Q2 journal line 3",
+        ),
+        (HI, "vsimtx-journal 1\nT 0\nM\n", "Q2 journal line 3"),
+        (HI, "vsimtx-journal 1\nT 0\nE 1\n", "Q2 journal line 3"),
     ];
-    for (source, journal, text) in cases {
-        let setting = Setting {
-            journal: journal.as_bytes(),
-            ..over(source.as_bytes())
-        };
-        let left = run_in(&rt, rt.alloc(), REPLAY, &setting)?;
-        let err = format!(in rt.alloc(); "vsimtx: {text}\n")?;
-        assert_left(&rt, text, &left, 5, "", err.as_str());
-    }
+    assert_refused(&rt, rt.alloc(), &cases)?;
     Ok(())
 }
 
@@ -147,14 +172,16 @@ fn tells_the_first_file_fault(rt: HostRuntime) -> Result<(), Fail> {
 
 #[test]
 fn tells_that_a_journal_breaks_off(rt: HostRuntime) -> Result<(), Fail> {
-    for count in 0..=JOURNAL.len() {
-        let setting = Setting {
-            journal: &JOURNAL[..count],
-            ..over(HI.as_bytes())
-        };
-        let left = run_in(&rt, rt.alloc(), "vsimtx replay t.v BROKEN", &setting)?;
-        let text = "vsimtx: Q4 journal read error\n";
-        assert_left(&rt, "broken", &left, 1, "", text);
+    for journal in [ONE, TWO] {
+        for count in 0..=journal.len() {
+            let setting = Setting {
+                journal: &journal[..count],
+                ..over(HI.as_bytes())
+            };
+            let left = run_in(&rt, rt.alloc(), "vsimtx replay t.v BROKEN", &setting)?;
+            let text = "vsimtx: Q4 journal read error\n";
+            assert_left(&rt, "broken", &left, 1, "", text);
+        }
     }
     Ok(())
 }
@@ -163,7 +190,7 @@ fn tells_that_a_journal_breaks_off(rt: HostRuntime) -> Result<(), Fail> {
 fn tells_that_lines_are_cut(rt: HostRuntime) -> Result<(), Fail> {
     for (out_room, out) in ["", "h", "hi"].iter().enumerate() {
         let setting = Setting {
-            journal: JOURNAL,
+            journal: TWO,
             out_room,
             ..over(HI.as_bytes())
         };

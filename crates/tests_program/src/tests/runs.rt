@@ -206,13 +206,13 @@ fn stops_where_time_or_a_turn_ends(rt: HostRuntime) -> Result<(), Fail> {
     let left = run_twice(&rt, alloc, "module t; always ; endmodule")?;
     let text = "vsimtx: stopped: process 0 too long\n";
     assert_left(&rt, "always ;", &left, 4, "", text);
-    assert!(rt; left.made.as_slice() == b"vsimtx-journal 1\n".as_slice());
+    assert!(rt; left.made.as_slice() == b"vsimtx-journal 2\nE 0\n".as_slice());
     let left = run_twice(&rt, alloc, "module t; always #4294967295 ; endmodule")?;
     assert_left(&rt, "last time", &left, 4, "", "vsimtx: stopped: time\n");
-    // The header and 131,073 entries, of which the last two are at the last time that is reached.
+    // The header, 131,073 entries, of which the last two are at the last time that is reached, and their count.
     let lines = left.made.iter().filter(|byte| **byte == b'\n').count();
-    assert_eq!(rt; lines, 131_074);
-    let last = b"A 281474976645120\nT 65536\n".as_slice();
+    assert_eq!(rt; lines, 131_075);
+    let last = b"A 281474976645120\nT 65536\nE 131073\n".as_slice();
     assert!(rt; left.made.as_slice().ends_with(last));
     Ok(())
 }
@@ -259,19 +259,6 @@ fn tells_that_output_is_cut(rt: HostRuntime) -> Result<(), Fail> {
     Ok(())
 }
 
-/// Each of the sources runs without a journal and prints these lines.
-fn assert_prints_alone<R: Abort + Threads + Wait + Sync>(
-    rt: &R,
-    alloc: Global,
-    cases: &[(&str, &str)],
-) -> Result<(), AllocError> {
-    for (source, out) in cases {
-        let left = run_line(rt, alloc, "vsimtx run t.v", source.as_bytes())?;
-        assert_left(rt, source, &left, 0, out, "");
-    }
-    Ok(())
-}
-
 #[test]
 fn makes_strobes_at_the_end_of_their_time(rt: HostRuntime) -> Result<(), Fail> {
     let cases = [
@@ -299,20 +286,13 @@ fn makes_strobes_at_the_end_of_their_time(rt: HostRuntime) -> Result<(), Fail> {
             "",
         ),
     ];
-    assert_prints_alone(&rt, rt.alloc(), &cases)?;
+    assert_prints(&rt, rt.alloc(), &cases)?;
     Ok(())
 }
 
 #[test]
 fn strobes_of_two_processes_come_in_the_order_of_their_turns(rt: HostRuntime) -> Result<(), Fail> {
     let source = "module t; initial $strobe(\"p\"); initial $strobe(\"q\"); endmodule";
-    let left = run_line(&rt, rt.alloc(), "vsimtx run t.v", source.as_bytes())?;
-    assert_eq!(rt; left.status, 0);
-    assert!(rt; left.err.is_empty(), "no message");
-    let out = left.out.as_slice();
-    assert!(rt;
-        out == b"p\nq\n".as_slice() || out == b"q\np\n".as_slice(),
-        "both lines"
-    );
+    assert_one_of(&rt, rt.alloc(), source, ["p\nq\n", "q\np\n"])?;
     Ok(())
 }

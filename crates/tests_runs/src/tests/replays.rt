@@ -21,6 +21,10 @@ const HI: &[u8] = b"module t; initial $display(\"hi\"); endmodule";
 const FINISH: &[u8] =
     b"module t; initial begin $display(\"a\"); $finish; $display(\"b\"); end initial $display(\"c\"); endmodule";
 
+/// A strobe before an update of its register.
+const STROBE: &[u8] =
+    b"module t; reg a; initial begin a=1'b0; $strobe(\"s %b\",a); a<=1'b1; $display(\"d %b\",a); end endmodule";
+
 /// What is left of a replay by a reader and a writer that fail after so many bytes: what was written, and then the line
 /// that tells of the fault, if there is one.
 fn left_of(
@@ -110,6 +114,14 @@ fn replays_entries(rt: HostRuntime) {
     assert!(rt; fault == Some(ReplayFault { entry: 5, cause }));
 }
 
+// Each source and text of a journal leaves its lines, or the line that tells of the fault.
+fn assert_left(rt: &impl Abort, alloc: Global, rows: &[(&[u8], &[u8], &str)]) {
+    for (place, (source, text, want)) in rows.iter().enumerate() {
+        let left = left_of(rt, alloc, (source, text), 100, 100);
+        assert_eq!(rt; left.as_str(), *want, "row {place}");
+    }
+}
+
 #[test]
 fn replays_bytes(rt: HostRuntime) {
     let rows: [(&[u8], &[u8], &str); 14] = [
@@ -148,18 +160,54 @@ fn replays_bytes(rt: HostRuntime) {
         ),
         (HI, b"", "Q1 journal header"),
     ];
-    for (place, (source, text, want)) in rows.iter().enumerate() {
-        let left = left_of(&rt, rt.alloc(), (source, text), 100, 100);
-        assert_eq!(rt; left.as_str(), *want, "row {place}");
-    }
+    assert_left(&rt, rt.alloc(), &rows);
+}
+
+#[test]
+fn replays_bytes_of_version_2(rt: HostRuntime) {
+    let rows: [(&[u8], &[u8], &str); 9] = [
+        (
+            RACE,
+            b"vsimtx-journal 2\nT 1\nT 0\nT 2\nI\nT 3\nE 5\n",
+            "0\n",
+        ),
+        (HI, b"vsimtx-journal 2\nT 0\nE 1\n", "hi\n"),
+        (HI, b"vsimtx-journal 2\nE 0\n", ""),
+        (
+            STROBE,
+            b"vsimtx-journal 2\nT 0\nN\nU 1\nM\nE 4\n",
+            "d 0\ns 1\n",
+        ),
+        (
+            STROBE,
+            b"vsimtx-journal 2\nT 0\nM\nE 2\n",
+            "entry 2: J3 region change not due",
+        ),
+        (
+            STROBE,
+            b"vsimtx-journal 1\nT 0\nN\nU 1\nM\n",
+            "Q2 journal line 5",
+        ),
+        (HI, b"vsimtx-journal 2\nT 0\n", "Q7 journal cut"),
+        (
+            HI,
+            b"vsimtx-journal 2\nT 0\nE 2\n",
+            "Q6 journal count at line 3",
+        ),
+        (HI, b"vsimtx-journal 3\nT 0\nE 1\n", "Q1 journal header"),
+    ];
+    assert_left(&rt, rt.alloc(), &rows);
 }
 
 #[test]
 fn a_failed_read_or_write_is_told(rt: HostRuntime) {
-    let text: &[u8] = b"vsimtx-journal 1\nT 0\n";
-    for reads in 0..=text.len() {
-        let left = left_of(&rt, rt.alloc(), (HI, text), reads, 100);
-        assert_eq!(rt; left.as_str(), "Q4 journal read error", "read {reads}");
+    let one: &[u8] = b"vsimtx-journal 1\nT 0\n";
+    let text: &[u8] = b"vsimtx-journal 2\nT 0\nE 1\n";
+    for both in [(HI, one), (HI, text)] {
+        for reads in 0..=both.1.len() {
+            let left = left_of(&rt, rt.alloc(), both, reads, 100);
+            assert_eq!(rt; left.as_str(), "Q4 journal read error", "read {reads}");
+        }
     }
     for (writes, want) in ["cannot write", "hcannot write", "hicannot write", "hi\n"]
         .iter()
