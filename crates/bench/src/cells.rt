@@ -22,6 +22,9 @@ use turn::{TurnLog, Workspace};
 /// The number of registers that are read and stored in turn.
 const REGISTERS: usize = 16;
 
+/// The digits of each of them.
+const DIGITS: u32 = 128;
+
 // So many reads, of the registers in turn. Answers what comes of them all.
 fn reads<R: Wait>(threads: &R, cells: &RegCells, mut seat: RegSeat, times: u32) -> u64
     requires cells { seat.cells ≡ cells.now }
@@ -54,7 +57,7 @@ fn stores<R: Wait>(threads: &R, cells: &RegCells, mut holder: Holder, times: u32
 }
 
 fn read_row<R: Wait>(rt: &HostRuntime, threads: &R, times: u32) -> io::Result<(Measure, u64)> {
-    let (cells, holder, mut seats) = RegCells::new(threads, rt.alloc(), &[64; REGISTERS], 1)?;
+    let (cells, holder, mut seats) = RegCells::new(threads, rt.alloc(), &[DIGITS; REGISTERS], 1)?;
     let Some(seat) = seats.pop() else {
         return Err(io::Error::from(io::ErrorKind::InvalidData));
     };
@@ -67,7 +70,7 @@ fn read_row<R: Wait>(rt: &HostRuntime, threads: &R, times: u32) -> io::Result<(M
 }
 
 fn store_row<R: Wait>(rt: &HostRuntime, threads: &R, times: u32) -> io::Result<(Measure, u64)> {
-    let (cells, holder, _) = RegCells::new(threads, rt.alloc(), &[64; REGISTERS], 1)?;
+    let (cells, holder, _) = RegCells::new(threads, rt.alloc(), &[DIGITS; REGISTERS], 1)?;
     if holder.registers() != REGISTERS {
         return Err(io::Error::from(io::ErrorKind::InvalidData));
     }

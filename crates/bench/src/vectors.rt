@@ -6,6 +6,7 @@ ghost use Rattle.std.specs.Prelude.{◌≡◌, ◌≤◌, length};
 
 use crate::timing::{How, Measure, Stopwatch, Unit, tell};
 use logic4::Bits;
+use logic4::bits::Word;
 use std::io;
 
 /// An operation of two vectors of one width.
@@ -87,7 +88,7 @@ struct Operands {
 // So many calls. Answers what comes of them all. Where it is called isn't seen in it, so that no loop is compiled for the digits
 // or for one width.
 #[inline(never)]
-fn calls<O: Operation>(count: u32, operands: &Operands) -> u64 {
+fn calls<O: Operation>(count: u32, operands: &Operands) -> Word {
     let Operands { start, step, other } = *operands;
     let mut operand = start;
     let mut found = Bits::from_u64(64, 0);

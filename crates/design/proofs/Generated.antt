@@ -103,7 +103,7 @@ combined_value op asked l r v w a b =
     ∙ ap (binary_value op asked v) (sized_right (sizing_of op) asked l r w b)
 
 joined_value : (v w : Vector) → length v + length w ≤ greatest_width → joined_two v w ≡ concat_vector v w
-joined_value v w h = ap (λ b. if b then concat_vector v w else v) (le-leb (length v + length w) 64 h)
+joined_value v w h = ap (λ b. if b then concat_vector v w else v) (le-leb (length v + length w) greatest_width h)
 
 -- one part more, in the least significant digits
 join_part : (v w x : Vector) → length v + length w ≤ greatest_width → concat_vector (joined_two v w) x ≡ concat_vector v (concat_vector w x)

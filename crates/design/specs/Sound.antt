@@ -51,7 +51,7 @@ abbrev mutual
   AreSoundStatements widths End = Unit {0}
   AreSoundStatements widths (Then s ss) = IsSoundStatement widths s × AreSoundStatements widths ss
 
--- at most 1,024 registers of 1 to 64 digits, and at most 256 processes of sound statements
+-- at most 1,024 registers of 1 to 128 digits, and at most 256 processes of sound statements
 pub record IsSound (design : Design) : Type 0 where
   pub some_digit : All (λ w. 1 ≤ w) design.widths
   pub few_digits : AreWithin design.widths

@@ -111,7 +111,7 @@ impl Design {
         self.widths.len() as u32
     }
 
-    /// The width of a register, 1 to 64 digits (4.2).
+    /// The width of a register, 1 to 128 digits (4.2).
     pub fn width(&self, register: RegId) -> u32
         requires { register < length self.now.widths }
         ensures value { result ≡ slice_index self.now.widths register }
@@ -144,7 +144,7 @@ impl Design {
 }
 
 impl Design {
-    /// The width of each register, in the order of their numbers: 1 to 64 digits (4.2).
+    /// The width of each register, in the order of their numbers: 1 to 128 digits (4.2).
     pub fn widths(&self) -> &[u32]
         ensures widths { result.now ≡ self.now.widths }
         ensures some_digit { All (λ w. 1 ≤ w) result.now }

@@ -181,8 +181,8 @@ few_registers before (d ∷ ds) h few =
     let k : length (before ++ d ∷ []) ≤ 1024 = omega (arith, e) in
     omega (arith, e, few_registers (before ++ d ∷ []) ds a.1 k)
 
--- an allowed range has 1 to 64 digits
-high_of : (high low : ℕ) → ((low == 0) && nat_lt high 64) ≡ true → high < 64
+-- an allowed range has 1 to 128 digits
+high_of : (high low : ℕ) → ((low == 0) && nat_lt high greatest_width) ≡ true → high < greatest_width
 high_of high low h = grind (arith, nat_tests)
 
 some_width : (r : Option (ℕ × ℕ)) → is_range r ≡ true → 1 ≤ width_of r

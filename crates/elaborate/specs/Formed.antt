@@ -1,4 +1,4 @@
--- The trees that the program's trees stand for: by their types a literal has 1 to 64 digits (3.5.1), and a concatenation has at
+-- The trees that the program's trees stand for: by their types a literal has 1 to 128 digits (3.5.1), and a concatenation has at
 -- least one part (5.1.14).
 use Rattle.std.specs.Prelude.{◌≤◌, List, [], ◌∷◌, length}
 use Rattle.model.specs.Syntax as source
@@ -10,7 +10,7 @@ abbrev pub HasParts : Expressions Text → Type 0
 HasParts Nothing = ⊥
 HasParts (Also e es) = Unit {0}
 
--- each literal has 1 to 64 digits, and each concatenation has a part
+-- each literal has 1 to 128 digits, and each concatenation has a part
 abbrev mutual
   pub IsFormed : Expression Text → Type 0
   IsFormed (Register name) = Unit {0}

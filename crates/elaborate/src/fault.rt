@@ -12,7 +12,7 @@ pub enum ElabFault {
     /// A name that is declared a second time (3.12).
     #[error("E2 declared twice {0}")]
     DeclaredTwice(String),
-    /// A range that isn't `[m:0]` with m below 64 (4.3.1).
+    /// A range that isn't `[m:0]` with m below 128 (4.3.1).
     #[error("E3 range of {0}")]
     BadRange(String),
     #[error("E4 more than 1024 registers")]
@@ -22,8 +22,8 @@ pub enum ElabFault {
     /// A format with another conversion than `%b`, `%h` and `%0d`, or not as many of them as there are arguments (17.1.1).
     #[error("E6 format and arguments")]
     BadFormat,
-    /// A concatenation whose parts have more than 64 digits together (5.1.14).
-    #[error("E7 concatenation over 64 bits")]
+    /// A concatenation whose parts have more than 128 digits together (5.1.14).
+    #[error("E7 concatenation over 128 bits")]
     WideConcat,
     /// A bit of a register without a range, or outside its range (5.2.1).
     #[error("E8 bit index of {0}")]

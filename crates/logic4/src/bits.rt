@@ -15,10 +15,10 @@ use crate::digit::Digit;
 use std::marker::Model;
 
 /// A word of `Bits::words`: bit i belongs to digit i.
-pub type Word = u64;
+pub type Word = u128;
 
 /// The most digits that a vector has.
-pub const MAX_WIDTH: u32 = 64;
+pub const MAX_WIDTH: u32 = 128;
 
 /// A vector of 1 to `MAX_WIDTH` digits. `==` is case equality: x equals x and z equals z.
 #[derive(Clone, Copy, Debug)]
@@ -98,6 +98,16 @@ impl Bits {
 
     /// A whole number modulo 2 to the width, with no digit x or z. `width` is 1 to `MAX_WIDTH`.
     pub fn from_u64(width: u32, value: u64) -> Self
+        requires some { 1 ≤ width }
+        requires within { width ≤ greatest_width }
+        ensures value { result ≡ vector width value }
+        ensures width { length result ≡ width }
+    {
+        Bits::from_u128(width, u128::from(value))
+    }
+
+    /// A whole number modulo 2 to the width, as `from_u64` takes it, of up to 128 bits.
+    pub fn from_u128(width: u32, value: u128) -> Self
         requires some { 1 ≤ width }
         requires within { width ≤ greatest_width }
         ensures value { result ≡ vector width value }

@@ -1,4 +1,4 @@
-//! Values of the simulator: vectors of 1 to 64 digits, each of them 0, 1, x or z (IEEE 1364-2005, 4.1 and 4.3).
+//! Values of the simulator: vectors of 1 to 128 digits, each of them 0, 1, x or z (IEEE 1364-2005, 4.1 and 4.3).
 //!
 //! A vector is held as two words, and each operation is a handful of word operations without a loop:
 //!

@@ -112,7 +112,7 @@ fn take_at<K: Naming, R: Wait + Abort>(
 // A register's value and version.
 fn seen_of(version: u64, width: u32, value: u64) -> Seen
     requires some { 1 ≤ width }
-    requires most { width ≤ 64 }
+    requires most { width ≤ 128 }
 {
     Seen {
         version,

@@ -76,7 +76,7 @@ fn read_and_meet<R: Wait + Abort>(
 
 #[test]
 fn a_read_gives_the_last_value_and_its_version(rt: HostRuntime) -> Result<(), Fail> {
-    let widths = [1, 8, 64];
+    let widths = [1, 8, 128];
     let (cells, mut holder, mut seats) = RegCells::new(&rt, rt.alloc(), &widths, 2)?;
     let mut seat = seats.pop().expect(&rt, "a seat");
     read_and_meet(&rt, &cells, &mut holder, &mut seat, 0);
@@ -250,7 +250,7 @@ fn race<R: Threads + Wait + Abort + Sync>(
 #[test]
 fn one_thread_stores_and_another_reads(rt: HostRuntime) -> Result<(), Fail> {
     for register in 0..3 {
-        let (cells, holder, mut seats) = RegCells::new(&rt, rt.alloc(), &[1, 8, 64], 1)?;
+        let (cells, holder, mut seats) = RegCells::new(&rt, rt.alloc(), &[1, 8, 128], 1)?;
         let seat = seats.pop().expect(&rt, "a seat");
         assert!(&rt; race(&rt, &cells, holder, seat, register));
     }

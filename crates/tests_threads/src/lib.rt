@@ -3,9 +3,12 @@
 //! 1. `deques` takes and steals tickets of pools of deques, by one thread and by four, and counts where each went.
 //! 2. `cells` stores and reads cells of registers, by one thread and by two: no read goes back, and each gives the value of
 //!    its version.
+//! 3. `wide_cells` stores a cell of 128 digits by one thread and reads it by another: each read gives a whole value.
 #![tactic(auto)]
 
 #[cfg(test)]
 mod cells;
 #[cfg(test)]
 mod deques;
+#[cfg(test)]
+mod wide_cells;

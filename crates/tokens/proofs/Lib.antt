@@ -2,6 +2,7 @@
 pub mod Ascii
 pub mod Steps
 pub mod Numbers
+pub mod Decimals
 pub mod Longest
 pub mod Chain
 mod Rows

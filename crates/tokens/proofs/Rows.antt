@@ -1,5 +1,5 @@
 -- Worked examples: the tokens of pieces, the digits of literals, the text of strings.
-use Rattle.std.specs.Prelude.{◌≡◌, ℕ, List, [], ◌∷◌, ◌++◌, false, true, codes, refl, Option, Some, None, replicate}
+use Rattle.std.specs.Prelude.{◌≡◌, ℕ, ◌-◌, ◌^◌, List, [], ◌∷◌, ◌++◌, false, true, codes, refl, Option, Some, None, replicate}
 use Rattle.logic4.specs.declared.digit.Digit.TheVariants.{Z}
 use Rattle.logic4.specs.Vector.{vector, unknown}
 use Rattle.tokens.specs.declared.token.Kind.{Kind}
@@ -103,14 +103,23 @@ z_and_one : literal_of (codes "8'hz1") ≡ Some (vector 4 1 ++ replicate 4 Z)
 unfolding literal_of decimal_of based hex_digits fitted
 z_and_one = refl
 
--- leading zeros of a size don't count, a size is 1 to 64, and there is a digit
+-- leading zeros of a size don't count, a size is 1 to 128, and there is a digit
 zeros_in_size : literal_of (codes "0008'd1") ≡ Some (vector 8 1)
 unfolding literal_of decimal_of based decimal_vector
 zeros_in_size = refl
 
-no_size : literal_of (codes "65'b0") ≡ None
+no_size : literal_of (codes "129'h0") ≡ None
 unfolding literal_of decimal_of
 no_size = refl
+
+-- the number of base d may have as many bits as the size
+greatest_number : literal_of (codes "128'd340282366920938463463374607431768211455") ≡ Some (vector 128 (2 ^ 128 - 1))
+unfolding literal_of decimal_of based decimal_vector
+greatest_number = refl
+
+too_great_a_number : literal_of (codes "128'd340282366920938463463374607431768211456") ≡ None
+unfolding literal_of decimal_of based decimal_vector
+too_great_a_number = refl
 
 no_digit : literal_of (codes "8'b") ≡ None
 unfolding literal_of decimal_of based

@@ -1,5 +1,6 @@
 -- Classes of bytes, and runs of them.
 use Rattle.std.specs.Prelude.{ℕ, suc, ◌+◌, ◌*◌, ◌-◌, ◌^◌, List, [], ◌∷◌, Bool, true, not, ◌&&◌, ◌||◌, ◌==◌, nat_lt, nat_le, if◌then◌else◌, Option, Some, None}
+use Rattle.logic4.specs.Vector.{greatest_width}
 
 -- A letter of ASCII, or _ (IEEE 1364-2005, 3.7).
 abbrev pub is_letter : ℕ → Bool
@@ -43,7 +44,7 @@ abbrev pub span : (ℕ → Bool) → List ℕ → ℕ
 span p [] = 0
 span p (b ∷ bs) = if p b then suc (span p bs) else 0
 
--- The number that digits stand for after those that gave n, where 64 bits hold it.
+-- The number that digits stand for after those that gave n, where a vector of the greatest width holds it.
 abbrev pub value_from : ℕ → List ℕ → Option ℕ
 value_from n [] = Some n
-value_from n (d ∷ ds) = if nat_lt (n * 10 + (d - 48)) (2 ^ 64) then value_from (n * 10 + (d - 48)) ds else None
+value_from n (d ∷ ds) = if nat_lt (n * 10 + (d - 48)) (2 ^ greatest_width) then value_from (n * 10 + (d - 48)) ds else None

@@ -1,7 +1,8 @@
 //! Plain decimals, and literals with a size.
 
-ghost use Rattle.std.specs.Prelude.{◌≡◌, ◌≤◌, ◌^◌, ◌%◌, ℕ, [], nat_lt, length, option_map, IfOk};
+ghost use Rattle.std.specs.Prelude.{◌≡◌, ◌≤◌, ◌^◌, ◌%◌, ℕ, [], true, nat_lt, length, option_map, IfOk};
 ghost use Rattle.logic4.specs.Vector.{bit_digit, vector, greatest_width};
+ghost use Rattle.tokens.specs.Bytes.{is_digit, all};
 ghost use Rattle.tokens.specs.Literals as spec;
 ghost use Rattle.tokens.specs.Literals.{AddsDigits, plain_worth};
 
@@ -12,7 +13,7 @@ use std::alloc::{AllocError, Global};
 
 /// The number of a run of digits, of at most 18.
 #[tactic(auto, unfolding(crate::specs::Literals::decimal_of))]
-fn decimal_of(text: &[u8]) -> Option<u64>
+fn decimal_of(text: &[u8]) -> Option<u128>
     ensures { result ≡ spec.decimal_of text.now }
 {
     if text.len() <= 18 {
@@ -163,16 +164,16 @@ fn fitted(mut found: Vec<Digit>, width: usize) -> Result<Option<Bits>, AllocErro
     Ok(None)
 }
 
-fn is_below(n: u64, width: u32) -> bool
+fn is_below(n: u128, width: u32) -> bool
     requires { width ≤ greatest_width }
     ensures { result ≡ nat_lt n (2 ^ width) }
 {
-    u128::from(n) < 2u128.pow(width)
+    width == MAX_WIDTH || n < 2u128.pow(width)
 }
 
 /// The vector of a literal of base d, where the width holds it.
 #[tactic(auto, unfolding(crate::specs::Literals::decimal_vector))]
-fn decimal_vector(width: u32, found: Option<u64>) -> Option<Bits>
+fn decimal_vector(width: u32, found: Option<u128>) -> Option<Bits>
     requires some { 1 ≤ width }
     requires within { width ≤ greatest_width }
     ensures { result ≡ spec.decimal_vector width found }
@@ -181,7 +182,7 @@ fn decimal_vector(width: u32, found: Option<u64>) -> Option<Bits>
     if !is_below(n, width) {
         return None;
     }
-    Some(Bits::from_u64(width, n))
+    Some(Bits::from_u128(width, n))
 }
 
 fn fitted_digits(
@@ -224,14 +225,14 @@ fn based(alloc: Global, width: u32, base: u8, text: &[u8]) -> Result<Option<Bits
 
 fn sized(
     alloc: Global,
-    size: Option<u64>,
+    size: Option<u128>,
     base: u8,
     text: &[u8],
 ) -> Result<Option<Bits>, AllocError>
     ensures { IfOk result (λ fit. fit ≡ spec.sized size base text.now) }
 {
     match size {
-        Some(width) if width >= 1 && width <= u64::from(MAX_WIDTH) => based(
+        Some(width) if width >= 1 && width <= u128::from(MAX_WIDTH) => based(
             alloc,
             width as u32,
             base,
@@ -262,10 +263,15 @@ fn literal_of(alloc: Global, text: &[u8]) -> Result<Option<Bits>, AllocError>
 /// The number that a token stands for, and its digits, which a sized literal has.
 pub type Worth = (u64, Option<Bits>);
 
-fn plain(n: Option<u64>) -> Option<Worth>
-    ensures { result ≡ option_map plain_worth n }
+/// What a run of digits stands for, of at most 18, which 64 bits hold.
+fn plain(text: &[u8]) -> Option<Worth>
+    requires { all is_digit text.now ≡ true }
+    ensures { result ≡ option_map plain_worth (spec.decimal_of text.now) }
 {
-    Some((n?, None))
+    match decimal_of(text) {
+        None => None,
+        Some(n) => Some((n as u64, None)),
+    }
 }
 
 /// The number of a plain decimal, or the digits of a sized literal; `None` where it is malformed or too wide.
@@ -274,7 +280,7 @@ pub fn number_of(alloc: Global, text: &[u8]) -> Result<Option<Worth>, AllocError
     ensures { IfOk result (λ found. found ≡ spec.number_of text.now) }
 {
     if all_digits(text) {
-        return Ok(plain(decimal_of(text)));
+        return Ok(plain(text));
     }
     match literal_of(alloc, text)? {
         None => Ok(None),

@@ -21,31 +21,49 @@ fn elaborates(rt: HostRuntime) {
 #[test]
 fn elaborates_concatenations_of_one_part(rt: HostRuntime) {
     let source =
-        "module t; reg [63:0] a; reg b; initial begin a = {a}; a = {{64'bz}}; b = {b}; end endmodule";
+        "module t; reg [127:0] a; reg b; initial begin a = {a}; a = {{128'bz}}; b = {b}; end endmodule";
     let made = module(&rt, rt.alloc(), source);
     let found = elaborate(rt.alloc(), &made).expect(&rt, "a module without faults");
-    assert!(rt; found.widths() == [64, 1].as_slice());
+    assert!(rt; found.widths() == [128, 1].as_slice());
 }
 
 #[test]
 fn refuses_a_wide_part(rt: HostRuntime) {
     for source in [
-        "module t; reg [63:0] a; reg b; initial a = {{a, b}}; endmodule",
-        "module t; reg [63:0] a; reg b; initial a = {{b, a}}; endmodule",
-        "module t; reg [63:0] a; initial a = {1'b0, {a}}; endmodule",
+        "module t; reg [127:0] a; reg b; initial a = {{a, b}}; endmodule",
+        "module t; reg [127:0] a; reg b; initial a = {{b, a}}; endmodule",
+        "module t; reg [127:0] a; initial a = {1'b0, {a}}; endmodule",
     ] {
         let made = module(&rt, rt.alloc(), source);
         let fault = elaborate(rt.alloc(), &made).err().expect(&rt, "a fault");
         let line = format!(in rt.alloc(); "{fault}").expect(&rt, "memory");
-        assert_eq!(rt; line.as_str(), "E7 concatenation over 64 bits", "{source}");
+        assert_eq!(rt; line.as_str(), "E7 concatenation over 128 bits", "{source}");
     }
 }
 
 #[test]
+fn elaborates_the_widest_registers(rt: HostRuntime) {
+    let made = module(
+        &rt,
+        rt.alloc(),
+        "module t; reg [64:0] w; reg [127:0] a; endmodule",
+    );
+    let found = elaborate(rt.alloc(), &made).expect(&rt, "a module without faults");
+    assert!(rt; found.widths() == [65, 128].as_slice());
+}
+
+#[test]
 fn refuses(rt: HostRuntime) {
-    let source = "module t; reg [7:0] a; reg b; initial b = B; endmodule";
-    let made = module(&rt, rt.alloc(), source);
-    let fault = elaborate(rt.alloc(), &made).err().expect(&rt, "a fault");
-    let line = format!(in rt.alloc(); "{fault}").expect(&rt, "memory");
-    assert_eq!(rt; line.as_str(), "E1 undeclared B");
+    for (source, want) in [
+        (
+            "module t; reg [7:0] a; reg b; initial b = B; endmodule",
+            "E1 undeclared B",
+        ),
+        ("module t; reg [128:0] w; endmodule", "E3 range of w"),
+    ] {
+        let made = module(&rt, rt.alloc(), source);
+        let fault = elaborate(rt.alloc(), &made).err().expect(&rt, "a fault");
+        let line = format!(in rt.alloc(); "{fault}").expect(&rt, "memory");
+        assert_eq!(rt; line.as_str(), want, "{source}");
+    }
 }

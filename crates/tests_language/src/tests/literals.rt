@@ -75,17 +75,36 @@ fn reads_literals(rt: HostRuntime) {
 
 #[test]
 fn reads_the_widest_literals(rt: HostRuntime) {
-    for (text, digits) in [
-        ("64'b1", "0000000000000001"),
-        ("64'bx", "xxxxxxxxxxxxxxxx"),
-        ("64'hfedcba9876543210", "fedcba9876543210"),
-        ("64'hz1", "zzzzzzzzzzzzzzz1"),
-        ("64'h0ffffffffffffffff", "ffffffffffffffff"),
-        ("64'd18446744073709551615", "ffffffffffffffff"),
+    for (text, width, digits) in [
+        ("64'b1", 64, "0000000000000001"),
+        ("64'bx", 64, "xxxxxxxxxxxxxxxx"),
+        ("64'hfedcba9876543210", 64, "fedcba9876543210"),
+        ("64'h0ffffffffffffffff", 64, "ffffffffffffffff"),
+        ("64'd18446744073709551615", 64, "ffffffffffffffff"),
+        ("65'b0", 65, "00000000000000000"),
+        ("65'd18446744073709551616", 65, "10000000000000000"),
+        ("128'b1", 128, "00000000000000000000000000000001"),
+        ("128'bx", 128, "xxxxxxxxxxxxxxxxxxxxxxxxxxxxxxxx"),
+        (
+            "128'hfedcba98765432100123456789abcdef",
+            128,
+            "fedcba98765432100123456789abcdef",
+        ),
+        ("128'hz1", 128, "zzzzzzzzzzzzzzzzzzzzzzzzzzzzzzz1"),
+        (
+            "128'h0ffffffffffffffffffffffffffffffff",
+            128,
+            "ffffffffffffffffffffffffffffffff",
+        ),
+        (
+            "128'd340282366920938463463374607431768211455",
+            128,
+            "ffffffffffffffffffffffffffffffff",
+        ),
     ] {
         let module = module(&rt, rt.alloc(), text);
         let bits = vector(&rt, assigned(&rt, &module));
-        assert_eq!(rt; bits.width(), 64, "{text}");
+        assert_eq!(rt; bits.width(), width, "{text}");
         let found = bits.show_h(rt.alloc()).expect(&rt, "memory");
         assert_eq!(rt; found.as_str(), digits, "{text}");
     }
@@ -94,9 +113,10 @@ fn reads_the_widest_literals(rt: HostRuntime) {
 #[test]
 fn refuses_literals_that_are_too_wide(rt: HostRuntime) {
     for text in [
-        "65'b0",
-        "65'hx",
-        "65'd0",
+        "129'b0",
+        "129'h0",
+        "129'hx",
+        "129'd0",
         "1'b10",
         "1'h2",
         "1'hx",
@@ -106,6 +126,11 @@ fn refuses_literals_that_are_too_wide(rt: HostRuntime) {
         "64'd18446744073709551616",
         "64'h10000000000000000",
         "64'h0x0000000000000000",
+        "127'd170141183460469231731687303715884105728",
+        "128'd340282366920938463463374607431768211456",
+        "128'd1000000000000000000000000000000000000000",
+        "128'h100000000000000000000000000000000",
+        "128'h0x00000000000000000000000000000000",
         "4'dx",
         "4'dz",
     ] {

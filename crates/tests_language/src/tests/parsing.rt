@@ -98,7 +98,7 @@ fn refuses_bytes_and_literals(rt: HostRuntime) {
             ParseFault::Literal(22),
         ),
         (
-            b"module t; initial a = 65'b0; endmodule",
+            b"module t; initial a = 129'h0; endmodule",
             ParseFault::Literal(22),
         ),
         (

@@ -12,7 +12,7 @@ const TASKS: [(&str, Task); 2] = [("$display", Task::Display), ("$strobe", Task:
 
 /// A module whose process calls a task. The task's name is token 5, at byte 18.
 fn source(rt: &impl Abort, alloc: Global, name: &str, call: &str) -> String {
-    let text = format!(in alloc; "module t; initial {name}{call} reg [63:0] a; reg b; endmodule");
+    let text = format!(in alloc; "module t; initial {name}{call} reg [127:0] a; reg b; endmodule");
     text.expect(rt, "memory")
 }
 
@@ -99,8 +99,8 @@ fn refuses_formats_and_arguments(rt: HostRuntime) {
             ("(\"%b\", a, b);", "E6 format and arguments"),
             ("(\"%d\", a);", "E6 format and arguments"),
             ("(\"%b\", c);", "E1 undeclared c"),
-            ("(\"%b\", {a, b});", "E7 concatenation over 64 bits"),
-            ("(\"%b\", a[64]);", "E8 bit index of a"),
+            ("(\"%b\", {a, b});", "E7 concatenation over 128 bits"),
+            ("(\"%b\", a[128]);", "E8 bit index of a"),
         ] {
             let fault = elaborated(&rt, rt.alloc(), name, call)
                 .err()

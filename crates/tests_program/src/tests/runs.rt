@@ -112,6 +112,34 @@ fn computes_with_digits_and_sizes(rt: HostRuntime) -> Result<(), Fail> {
 }
 
 #[test]
+fn computes_with_more_than_64_digits(rt: HostRuntime) -> Result<(), Fail> {
+    let cases = [
+        (
+            "module t; initial $display(\"%0d\", 128'hffffffffffffffffffffffffffffffff); endmodule",
+            "340282366920938463463374607431768211455\n",
+        ),
+        (
+            "module t; initial $display(\"%0d\", 128'hffffffffffffffffffffffffffffffff+128'h1); endmodule",
+            "0\n",
+        ),
+        (
+            "module t; initial $display(\"%h\", 128'h1<<8'd127); endmodule",
+            "80000000000000000000000000000000\n",
+        ),
+        (
+            "module t; reg [64:0] a; initial begin a = 64'hffffffffffffffff+64'h1; $display(\"%0d\",a); end endmodule",
+            "18446744073709551616\n",
+        ),
+        (
+            "module t; reg [127:0] a; initial begin a = 128'h1<<8'd127; a = a|128'h1; $display(\"%h %b\",a,a[127]); end endmodule",
+            "80000000000000000000000000000001 1\n",
+        ),
+    ];
+    assert_prints(&rt, rt.alloc(), &cases)?;
+    Ok(())
+}
+
+#[test]
 fn takes_events_region_by_region(rt: HostRuntime) -> Result<(), Fail> {
     let cases = [
         // A swap by nonblocking assignments.

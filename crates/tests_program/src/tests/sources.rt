@@ -52,6 +52,10 @@ fn tells_where_a_text_is_no_module(rt: HostRuntime) -> Result<(), Fail> {
             "module t; reg [7:0] a; initial a = 8'd256; endmodule",
             "P3 literal at 35",
         ),
+        (
+            "module t; reg [7:0] a; initial a = 129'h0; endmodule",
+            "P3 literal at 35",
+        ),
         ("module t; initial a = 1;", "P5 unsized number at token 7"),
         (
             "module t; reg [7:0] a; initial a = 1; endmodule",
@@ -67,7 +71,7 @@ fn tells_the_fault_of_a_module(rt: HostRuntime) -> Result<(), Fail> {
     let cases = [
         ("module t; initial a=1'b0; endmodule", "E1 undeclared a"),
         ("module t; reg a, a; endmodule", "E2 declared twice a"),
-        ("module t; reg [64:0] w; endmodule", "E3 range of w"),
+        ("module t; reg [128:0] w; endmodule", "E3 range of w"),
         ("module t; reg [3:1] w; endmodule", "E3 range of w"),
         (
             "module t; initial $display(\"%b\"); endmodule",
@@ -86,8 +90,8 @@ fn tells_the_fault_of_a_module(rt: HostRuntime) -> Result<(), Fail> {
             "E6 format and arguments",
         ),
         (
-            "module t; reg [63:0] a; initial a={a,1'b0}; endmodule",
-            "E7 concatenation over 64 bits",
+            "module t; reg [127:0] a; initial a={a,1'b0}; endmodule",
+            "E7 concatenation over 128 bits",
         ),
         (
             "module t; reg [3:0] a; initial a=a[4]; endmodule",
@@ -114,12 +118,12 @@ fn tells_the_first_of_several_faults(rt: HostRuntime) -> Result<(), Fail> {
             "E2 declared twice a",
         ),
         (
-            "module t; reg [64:0] w; reg a, a; endmodule",
+            "module t; reg [128:0] w; reg a, a; endmodule",
             "E3 range of w",
         ),
-        ("module t; reg [64:0] w, w; endmodule", "E3 range of w"),
+        ("module t; reg [128:0] w, w; endmodule", "E3 range of w"),
         (
-            "module t; reg w; reg [64:0] w; endmodule",
+            "module t; reg w; reg [128:0] w; endmodule",
             "E2 declared twice w",
         ),
         (
@@ -143,8 +147,8 @@ fn tells_the_first_of_several_faults(rt: HostRuntime) -> Result<(), Fail> {
             "E8 bit index of a",
         ),
         (
-            "module t; reg [63:0] a; initial a={a[64],a}; endmodule",
-            "E7 concatenation over 64 bits",
+            "module t; reg [127:0] a; initial a={a[128],a}; endmodule",
+            "E7 concatenation over 128 bits",
         ),
         (
             "module t; reg a; initial a = #4294967296 a[1]; endmodule",

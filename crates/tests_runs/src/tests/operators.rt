@@ -63,13 +63,14 @@ fn computes_other_operators(rt: HostRuntime) {
     }
 }
 
-// No design joins more than 64 digits.
+// No design joins more than 128 digits.
 #[test]
 fn refuses_to_join_too_many_digits(rt: HostRuntime) {
-    let source = "module t; reg [59:0] a; reg [7:0] b; reg [59:0] q; initial q = {a, b}; endmodule";
+    let source =
+        "module t; reg [119:0] a; reg [8:0] b; reg [59:0] q; initial q = {a, b}; endmodule";
     let fault = read_design(rt.alloc(), source.as_bytes())
         .err()
         .expect(&rt, "a fault");
     let line = format!(in rt.alloc(); "{fault}").expect(&rt, "memory");
-    assert_eq!(rt; line.as_str(), "E7 concatenation over 64 bits");
+    assert_eq!(rt; line.as_str(), "E7 concatenation over 128 bits");
 }

@@ -145,13 +145,13 @@ fn nets_of_two_registers(rt: HostRuntime) {
     assert_net(&rt, rt.alloc(), log.nets.get(1), (0, "0001", 0, "0001"));
 }
 
-/// The steps of an expression are a part of all steps: none where its ends are turned, or past the last step. More than 64
+/// The steps of an expression are a part of all steps: none where its ends are turned, or past the last step. More than 128
 /// digits aren't joined. No design has such a part, or such digits.
 fn parts_are_known()
     ensures inside { piece {A = ℕ} (1 ∷ 2 ∷ 3 ∷ []) (record { from = 1; to = 3 }) ≡ 2 ∷ 3 ∷ [] }
     ensures turned { piece {A = ℕ} (1 ∷ 2 ∷ 3 ∷ []) (record { from = 2; to = 1 }) ≡ [] }
     ensures past { piece {A = ℕ} (1 ∷ 2 ∷ 3 ∷ []) (record { from = 1; to = 4 }) ≡ [] }
-    ensures joined { joined_two (vector 60 7) (vector 8 2) ≡ vector 60 7 }
+    ensures joined { joined_two (vector 120 7) (vector 9 2) ≡ vector 120 7 }
 {}
 
 #[test]

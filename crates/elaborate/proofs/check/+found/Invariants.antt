@@ -1,4 +1,5 @@
 use Rattle.std.proofs.Common.{◌≡◌, ◌+◌, ◌≤◌, map, drop}
+use Rattle.logic4.specs.Vector.{greatest_width}
 use Rattle.model.specs.Trees.{expression_of, expressions}
 use Rattle.model.specs.Elaboration.{all_resolved, widths_of}
 use Rattle.model.specs.Expressions.{total_size}
@@ -10,7 +11,7 @@ abbrev pub invariant-expressions-loop-part : goal.invariant-expressions-loop-par
 invariant-expressions-loop-part l = record {
   size : capped (total_size (widths_of l.names) (all_resolved l.names (expressions (map expression_of l.parts))))
       ≡ capped (l.size + total_size (widths_of l.names) (all_resolved l.names (expressions (map expression_of (drop l.part-index l.parts)))));
-  small : l.size ≤ 65;
+  small : l.size ≤ greatest_width + 1;
   formed : AreFormed (expressions (map expression_of (drop l.part-index l.parts))) → AreFormed (expressions (map expression_of l.parts));
   found : all_found l.names (expressions (map expression_of l.parts)) ≡ or_else (verdict l.verdict) (all_found l.names (expressions (map expression_of (drop l.part-index l.parts))));
 }

@@ -101,7 +101,10 @@ fn check_places(rt: &impl Abort, a: Bits, left: &Plain) {
     let (first, second) = a.words();
     assert!(rt; Bits::from_words(a.width(), first, second) == a);
     if left.is_known() {
-        assert!(rt; Bits::from_u64(a.width(), left.number()) == a);
+        assert!(rt; Bits::from_u128(a.width(), left.number()) == a);
+        if let Ok(number) = u64::try_from(left.number()) {
+            assert!(rt; Bits::from_u64(a.width(), number) == a);
+        }
     }
 }
 
@@ -134,8 +137,10 @@ fn letter(digit: Digit) -> u8 {
 
 fn group_letter(group: &Plain) -> u8 {
     if group.is_known() {
-        let value = group.number() as usize;
-        b"0123456789abcdef".get(value).copied().unwrap_or(b'?')
+        b"0123456789abcdef"
+            .get(group.place())
+            .copied()
+            .unwrap_or(b'?')
     } else {
         group.unknown_letter()
     }
@@ -160,7 +165,7 @@ fn check_texts(rt: &impl Abort, alloc: Global, a: Bits, left: &Plain) {
 fn check_decimal(rt: &impl Abort, alloc: Global, a: Bits, left: &Plain) {
     let decimal = a.show_d0(alloc).expect(rt, "memory");
     if left.is_known() {
-        assert!(rt; decimal.as_str().parse::<u64>() == Ok(left.number()));
+        assert!(rt; decimal.as_str().parse::<u128>() == Ok(left.number()));
         assert!(rt; decimal.len() == 1 || !decimal.as_str().starts_with('0'));
     } else {
         assert!(rt; decimal.as_bytes() == [left.unknown_letter()].as_slice());
@@ -196,7 +201,7 @@ fn check_width(rt: &impl Abort, alloc: Global, width: usize) {
     for _turn in 0..400u32 {
         let (left, right) = random.pair(width);
         check_pair(rt, alloc, &left, &right);
-        let (_, distance) = random.pair(7);
+        let (_, distance) = random.pair(8);
         check_shifts(
             rt,
             bits_of(rt, &left),
@@ -209,15 +214,16 @@ fn check_width(rt: &impl Abort, alloc: Global, width: usize) {
 
 #[test]
 fn pairs_at_each_width(rt: HostRuntime) {
-    for width in [1, 2, 3, 4, 5, 8, 31, 32, 33, 63, 64] {
+    for width in [1, 2, 3, 4, 5, 8, 31, 32, 33, 63, 64, 65, 127, 128] {
         check_width(&rt, rt.alloc(), width);
     }
 }
 
 #[test]
 fn constants_at_each_width(rt: HostRuntime) {
-    let number = 0xd1e2_c3b4_a596_8778;
-    let digits = Plain::of_number(number);
+    let low: u64 = 0xd1e2_c3b4_a596_8778;
+    let number: u128 = 0x8f1e_2d3c_4b5a_6978_d1e2_c3b4_a596_8778;
+    let (low_digits, digits) = (Plain::of_number(u128::from(low)), Plain::of_number(number));
     for width in 1..=Bits::MAX_WIDTH {
         check(
             &rt,
@@ -226,7 +232,12 @@ fn constants_at_each_width(rt: HostRuntime) {
         );
         check(
             &rt,
-            Bits::from_u64(width, number),
+            Bits::from_u64(width, low),
+            &low_digits.resized(width as usize),
+        );
+        check(
+            &rt,
+            Bits::from_u128(width, number),
             &digits.resized(width as usize),
         );
     }

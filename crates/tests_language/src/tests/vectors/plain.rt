@@ -3,7 +3,7 @@
 use logic4::digit::{Digit, Edge, Truth};
 
 /// The greatest width.
-pub const ROOM: usize = 64;
+pub const ROOM: usize = 128;
 
 /// The digits of a vector, the least significant first. Those from `width` on are 0.
 #[derive(Clone, Copy)]
@@ -72,8 +72,8 @@ impl Plain {
         vector
     }
 
-    /// 64 digits.
-    pub fn of_number(number: u64) -> Self {
+    /// 128 digits.
+    pub fn of_number(number: u128) -> Self {
         let mut vector = Plain::all(ROOM, Digit::Zero);
         let mut rest = number;
         for index in 0..ROOM {
@@ -124,15 +124,20 @@ impl Plain {
         false
     }
 
-    /// The whole number of known digits, or the greatest `u64` where it is greater.
-    pub fn number(&self) -> u64 {
-        let mut number = 0u64;
+    /// The whole number of known digits.
+    pub fn number(&self) -> u128 {
+        let mut number = 0u128;
         for index in (0..self.width).rev() {
             number = number
                 .saturating_mul(2)
-                .saturating_add(u64::from(self.at(index) == Digit::One));
+                .saturating_add(u128::from(self.at(index) == Digit::One));
         }
         number
+    }
+
+    /// The same number, or the greatest `usize` where it is greater.
+    pub fn place(&self) -> usize {
+        usize::try_from(self.number()).unwrap_or(usize::MAX)
     }
 
     pub fn inverted(&self) -> Self {
@@ -281,8 +286,8 @@ pub fn shifted_left(vector: &Plain, by: &Plain) -> Plain {
     }
     let mut out = Plain::all(vector.width, Digit::Zero);
     for index in 0..vector.width {
-        if let Some(from) = (index as u64).checked_sub(by.number()) {
-            out.put(index, vector.at(from as usize));
+        if let Some(from) = index.checked_sub(by.place()) {
+            out.put(index, vector.at(from));
         }
     }
     out
@@ -294,10 +299,7 @@ pub fn shifted_right(vector: &Plain, by: &Plain) -> Plain {
     }
     let mut out = Plain::all(vector.width, Digit::Zero);
     for index in 0..vector.width {
-        out.put(
-            index,
-            vector.at((index as u64).saturating_add(by.number()) as usize),
-        );
+        out.put(index, vector.at(index.saturating_add(by.place())));
     }
     out
 }

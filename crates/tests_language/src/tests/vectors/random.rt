@@ -1,6 +1,6 @@
 //! A fixed run of pseudo-random vectors.
 
-use super::plain::Plain;
+use super::plain::{Plain, ROOM};
 use logic4::digit::Digit;
 
 #[derive(Drop)]
@@ -58,7 +58,7 @@ impl Random {
     // the same, or another digit at one place
     fn near(&mut self, vector: &Plain) -> Plain {
         let mut out = *vector;
-        let place = (self.next() % 80) as usize;
+        let place = (self.next() % 160) as usize;
         if place < vector.width {
             out.put(place, self.any_digit());
         }
@@ -70,16 +70,16 @@ impl Random {
         match self.next() % 6 {
             0 => (self.any(width), self.any(width)),
             1 => (self.any(width), self.known(width, 6)),
-            2 => (self.known(width, 64), self.known(width, 7)),
+            2 => (self.known(width, ROOM), self.known(width, 8)),
             3 => {
                 let left = self.any(width);
                 (left, self.near(&left))
             }
             4 => {
-                let left = self.known(width, 64);
+                let left = self.known(width, ROOM);
                 (left, self.near(&left))
             }
-            _ => (self.known(width, 64), self.known(width, 64)),
+            _ => (self.known(width, ROOM), self.known(width, ROOM)),
         }
     }
 }

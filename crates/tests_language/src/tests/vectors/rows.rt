@@ -90,6 +90,37 @@ fn sums(rt: HostRuntime) {
     assert!(rt; found.as_str() == "0");
 }
 
+/// At 128 digits, and at 65.
+#[test]
+fn wide_texts(rt: HostRuntime) {
+    let ones = Bits::from_u128(128, 0xffff_ffff_ffff_ffff_ffff_ffff_ffff_ffff);
+    let one = Bits::from_u64(128, 1);
+    let low = Bits::from_u64(64, 0xffff_ffff_ffff_ffff).resize(65);
+    for (value, hex, decimal) in [
+        (
+            ones,
+            "ffffffffffffffffffffffffffffffff",
+            "340282366920938463463374607431768211455",
+        ),
+        (ones.add(one), "00000000000000000000000000000000", "0"),
+        (
+            one.shl(Bits::from_u64(8, 127)),
+            "80000000000000000000000000000000",
+            "170141183460469231731687303715884105728",
+        ),
+        (
+            low.add(Bits::from_u64(65, 1)),
+            "10000000000000000",
+            "18446744073709551616",
+        ),
+    ] {
+        let found = value.show_h(rt.alloc()).expect(&rt, "memory");
+        assert!(rt; found.as_str() == hex);
+        let found = value.show_d0(rt.alloc()).expect(&rt, "memory");
+        assert!(rt; found.as_str() == decimal);
+    }
+}
+
 fn check_equal(rt: &impl Abort, left: &str, right: &str, logical: Digit, case: Digit) {
     let (left, right) = (vector(rt, left), vector(rt, right));
     assert!(rt; left.width() == right.width());
