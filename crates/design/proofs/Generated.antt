@@ -1,6 +1,8 @@
 -- The code of an expression computes its value, and reads its registers from left to right.
 use Rattle.std.proofs.Common.{◌≡◌, ℕ, zero, suc, ◌+◌, ◌≤◌, max, if◌then◌else◌, List, [], ◌∷◌, ◌++◌, length, refl, sym, ap, ◌∙◌, arith, length-append, le-leb, append_assoc, true, false, Bool}
-use Rattle.std.specs.Prelude.{slice_index}
+use Rattle.std.specs.Prelude.{nat_le, slice_index}
+use Rattle.std.proofs.Math.Nat.{max-eq_left, max-eq_right}
+use Rattle.std.proofs.lemmas.Bool.{leb-true, leb-false}
 use Rattle.logic4.specs.declared.digit.Truth.{Truth}
 use Rattle.logic4.specs.declared.digit.Truth.TheVariants.{False, True, Unknown}
 use Rattle.logic4.specs.Vector.{Vector, resize, greatest_width}
@@ -19,7 +21,7 @@ use Rattle.design.specs.declared.code.Op.TheVariants.{Unary, Binary, Join, Resiz
 use Rattle.design.specs.Operate.{sized, combined, joined_two}
 use Rattle.design.specs.Sound.{IsSoundExpression, AreSoundExpressions}
 use Rattle.design.specs.Steps.{topmost, act, run_ops, reads_of, all_reads, Computes}
-use Rattle.design.specs.Generate.{join_code, expression_code, parts_code, own_code, assigned_code}
+use Rattle.design.specs.Generate.{direct_step, step_or, join_code, expression_code, parts_code, own_code, fitted_code, assigned_code}
 
 pub run_ops-append : (values : Store) (xs ys : List Op) (st : List Vector) → run_ops values (xs ++ ys) st ≡ run_ops values ys (run_ops values xs st)
 run_ops-append values [] ys st = refl
@@ -109,6 +111,26 @@ joined_value v w h = ap (λ b. if b then concat_vector v w else v) (le-leb (leng
 join_part : (v w x : Vector) → length v + length w ≤ greatest_width → concat_vector (joined_two v w) x ≡ concat_vector v (concat_vector w x)
 join_part v w x h = ap (λ y. concat_vector y x) (joined_value v w h) ∙ sym (append_assoc x w v)
 
+-- an operator that takes its right operand itself gives what it gives with that on the stack
+direct_runs : (widths : List ℕ) (values : Store) (op : BinaryOperator) (l asked r : ℕ) (f : Expression ℕ) (x : Vector) (st : List Vector) → run_ops values (step_or (direct_step op l asked r f) (expression_code widths r f ++ Binary op l asked ∷ [])) (x ∷ st) ≡ run_ops values (expression_code widths r f ++ Binary op l asked ∷ []) (x ∷ st)
+direct_runs widths values op l asked r (tree.Register q) x st = refl
+direct_runs widths values op l asked r (tree.Select q i) x st = refl
+direct_runs widths values op l asked r (tree.Literal v) x st = refl
+direct_runs widths values op l asked r (tree.Concat parts) x st = refl
+direct_runs widths values op l asked r (tree.Unary unary e) x st = refl
+direct_runs widths values op l asked r (tree.Binary binary e f) x st = refl
+direct_runs widths values op l asked r (tree.Conditional c e f) x st = refl
+
+-- and it reads what that reads
+direct_reads : (widths : List ℕ) (op : BinaryOperator) (l asked r : ℕ) (f : Expression ℕ) → all_reads (step_or (direct_step op l asked r f) (expression_code widths r f ++ Binary op l asked ∷ [])) ≡ all_reads (expression_code widths r f ++ Binary op l asked ∷ [])
+direct_reads widths op l asked r (tree.Register q) = refl
+direct_reads widths op l asked r (tree.Select q i) = refl
+direct_reads widths op l asked r (tree.Literal v) = refl
+direct_reads widths op l asked r (tree.Concat parts) = refl
+direct_reads widths op l asked r (tree.Unary unary e) = refl
+direct_reads widths op l asked r (tree.Binary binary e f) = refl
+direct_reads widths op l asked r (tree.Conditional c e f) = refl
+
 mutual
   -- the code of an expression puts its value on the stack
   pub run_expression : (widths : List ℕ) (values : Store) (asked : ℕ) (e : Expression ℕ) (st : List Vector) → IsSoundExpression widths e → run_ops values (expression_code widths asked e) st ≡ eval widths values asked e ∷ st
@@ -135,8 +157,10 @@ mutual
       let x = eval widths values l e in
       let y = eval widths values r f in
       let last = Binary op l asked ∷ [] in
-      run_ops-append values (expression_code widths l e) (expression_code widths r f ++ last) st
-      ∙ ap (run_ops values (expression_code widths r f ++ last)) (run_expression widths values l e st h)
+      let behind = step_or (direct_step op l asked r f) (expression_code widths r f ++ last) in
+      run_ops-append values (expression_code widths l e) behind st
+      ∙ ap (run_ops values behind) (run_expression widths values l e st h)
+      ∙ direct_runs widths values op l asked r f x st
       ∙ run_ops-append values (expression_code widths r f) last (x ∷ st)
       ∙ ap (run_ops values last) (run_expression widths values r f (x ∷ st) j)
       ∙ ap (λ z. z ∷ st) (combined_value op asked (own_size widths e) (own_size widths f) x y (length_eval widths values l e) (length_eval widths values r f))
@@ -192,8 +216,8 @@ mutual
   reads_expression widths asked (tree.Binary op e f) =
       let l = left_size (sizing_of op) asked (own_size widths e) (own_size widths f) in
       let r = right_size (sizing_of op) asked (own_size widths e) (own_size widths f) in
-      reads_both (expression_code widths l e) (expression_code widths r f ++ Binary op l asked ∷ []) _ _ (reads_expression widths l e)
-      (reads_last (expression_code widths r f) (Binary op l asked) _ refl (reads_expression widths r f))
+      reads_both (expression_code widths l e) _ _ _ (reads_expression widths l e)
+      (direct_reads widths op l asked r f ∙ reads_last (expression_code widths r f) (Binary op l asked) _ refl (reads_expression widths r f))
   reads_expression widths asked (tree.Conditional c e f) =
       reads_both (expression_code widths (own_size widths c) c) _ _ _ (reads_expression widths (own_size widths c) c)
       (reads_both (expression_code widths asked e) _ _ _ (reads_expression widths asked e)
@@ -212,11 +236,25 @@ own_computes widths e h = record {
   uses = reads_expression widths (own_size widths e) e;
 }
 
+-- an expression at the greater of a width and its own size, cut to that width
+fitted_computes : (widths : List ℕ) (w own : ℕ) (e : Expression ℕ) → IsSoundExpression widths e → Computes (fitted_code widths w own e) (λ values. resize w (eval widths values (max w own) e)) (registers_of e)
+fitted_computes widths w own e h = fitted (nat_le own w) refl where
+  last : List Op
+  last = Resize w ∷ []
+
+  fitted : (b : Bool) → nat_le own w ≡ b → Computes (if b then expression_code widths w e else expression_code widths own e ++ last) (λ values. resize w (eval widths values (max w own) e)) (registers_of e)
+  fitted true within = record {
+    gives = λ values st.
+        ap topmost (run_expression widths values w e st h)
+        ∙ sym (ap (λ n. resize w (eval widths values n e)) (max-eq_left (leb-true own w within)) ∙ resize_same w (eval widths values w e) (length_eval widths values w e));
+    uses = reads_expression widths w e;
+  }
+  fitted false beyond = record {
+    gives = λ values st.
+        ap topmost (run_ops-append values (expression_code widths own e) last st ∙ ap (run_ops values last) (run_expression widths values own e st h))
+        ∙ sym (ap (λ n. resize w (eval widths values n e)) (max-eq_right (omega (arith, leb-false own w beyond))));
+    uses = reads_last (expression_code widths own e) (Resize w) _ refl (reads_expression widths own e);
+  }
+
 pub assigned_computes : (widths : List ℕ) (r : ℕ) (e : Expression ℕ) → IsSoundExpression widths e → Computes (assigned_code widths r e) (λ values. assigned_value widths values r e) (registers_of e)
-assigned_computes widths r e h =
-    let n = max (slice_index widths r) (own_size widths e) in
-    let last = Resize (slice_index widths r) ∷ [] in
-    record {
-      gives = λ values st. ap topmost (run_ops-append values (expression_code widths n e) last st ∙ ap (run_ops values last) (run_expression widths values n e st h));
-      uses = reads_last (expression_code widths n e) (Resize (slice_index widths r)) _ refl (reads_expression widths n e);
-    }
+assigned_computes widths r e h = fitted_computes widths (slice_index widths r) (own_size widths e) e h

@@ -1,6 +1,8 @@
 -- What is emitted for a sound design is its code.
 use Rattle.std.proofs.Common.{ℕ, zero, suc, ◌+◌, List, [], ◌∷◌, ◌++◌, length, true, false, Bool, arith}
+use Rattle.std.specs.Prelude.{nat_le, if◌then◌else◌, slice_index}
 use Rattle.std.specs.List.{All}
+use Rattle.model.specs.declared.tree.BinaryOperator.{BinaryOperator}
 use Rattle.std.proofs.lemmas.List.Elements.{All-append}
 use Rattle.model.specs.Syntax as tree
 use Rattle.model.specs.Syntax.{Expression, Expressions}
@@ -10,7 +12,7 @@ use Rattle.design.specs.declared.code.Op.{Op}
 use Rattle.design.specs.declared.code.Op.TheVariants.{Unary, Binary, Join, Resize, Choose}
 use Rattle.design.specs.Sound.{IsSoundExpression, AreSoundExpressions, IsSoundStatement, AreSoundStatements}
 use Rattle.design.specs.Steps.{IsOpOf}
-use Rattle.design.specs.Generate.{join_code, expression_code, parts_code, own_code, assigned_code}
+use Rattle.design.specs.Generate.{direct_step, step_or, join_code, expression_code, parts_code, own_code, assigned_code}
 use Rattle.design.specs.Emit.{Emitted, with_ops, with_shown, with_line, with_statement, with_all, with_bodies, first_of}
 use Rattle.design.proofs.Emitted.{delay_node, await_node, if_node, while_node}
 use Rattle.design.proofs.Ends.{AreSoundProcesses}
@@ -25,6 +27,16 @@ no_ops widths k d lt = absurd (omega arith)
 one_op : (widths : List ℕ) (op : Op) → IsOpOf (length widths) op → AreOps widths (op ∷ [])
 one_op widths op h zero d lt = h
 one_op widths op h (suc k) d lt = absurd (omega arith)
+
+-- an operator's step that takes its right operand reads what that names
+direct_ops : (widths : List ℕ) (op : BinaryOperator) (size asked other : ℕ) (e : Expression ℕ) (ops : List Op) → IsSoundExpression widths e → AreOps widths ops → AreOps widths (step_or (direct_step op size asked other e) ops)
+direct_ops widths op size asked other (tree.Register r) ops h all = one_op widths _ h
+direct_ops widths op size asked other (tree.Select r i) ops h all = all
+direct_ops widths op size asked other (tree.Literal v) ops h all = one_op widths _ tt
+direct_ops widths op size asked other (tree.Concat parts) ops h all = all
+direct_ops widths op size asked other (tree.Unary unary e) ops h all = all
+direct_ops widths op size asked other (tree.Binary binary e f) ops h all = all
+direct_ops widths op size asked other (tree.Conditional c e f) ops h all = all
 
 both_ops : (widths : List ℕ) (xs ys : List Op) → AreOps widths xs → AreOps widths ys → AreOps widths (xs ++ ys)
 both_ops widths xs ys h j = All-append (IsOpOf (length widths)) xs ys h j
@@ -45,8 +57,9 @@ mutual
   expression_ops widths asked (tree.Binary op e f) (h, j) =
       let l = left_size (sizing_of op) asked (own_size widths e) (own_size widths f) in
       let r = right_size (sizing_of op) asked (own_size widths e) (own_size widths f) in
-      both_ops widths (expression_code widths l e) (expression_code widths r f ++ Binary op l asked ∷ []) (expression_ops widths l e h)
-      (both_ops widths (expression_code widths r f) (Binary op l asked ∷ []) (expression_ops widths r f j) (one_op widths (Binary op l asked) tt))
+      both_ops widths (expression_code widths l e) _ (expression_ops widths l e h)
+      (direct_ops widths op l asked r f _ j
+      (both_ops widths (expression_code widths r f) (Binary op l asked ∷ []) (expression_ops widths r f j) (one_op widths (Binary op l asked) tt)))
   expression_ops widths asked (tree.Conditional c e f) (h, j, k) =
       let last = Choose asked ∷ [] in
       both_ops widths (expression_code widths (own_size widths c) c) (expression_code widths asked e ++ (expression_code widths asked f ++ last)) (expression_ops widths (own_size widths c) c h)
@@ -60,7 +73,10 @@ mutual
       (both_ops widths (join_code is_first) (parts_code widths false es) (join_ops widths is_first) (parts_ops widths false es all))
 
 assigned_ops : (widths : List ℕ) (r : ℕ) (e : Expression ℕ) → IsSoundExpression widths e → AreOps widths (assigned_code widths r e)
-assigned_ops widths r e h = both_ops widths _ _ (expression_ops widths _ e h) (one_op widths _ tt)
+assigned_ops widths r e h = fitted (nat_le (own_size widths e) (slice_index widths r)) where
+  fitted : (b : Bool) → AreOps widths (if b then expression_code widths (slice_index widths r) e else expression_code widths (own_size widths e) e ++ Resize (slice_index widths r) ∷ [])
+  fitted true = expression_ops widths _ e h
+  fitted false = both_ops widths _ _ (expression_ops widths _ e h) (one_op widths _ tt)
 
 line_ops : (widths : List ℕ) (e : Emitted) (ps : List Piece) (es : Expressions ℕ) → AreSoundExpressions widths es → AreOps widths e.ops → AreOps widths (with_line widths e ps es).ops
 line_ops widths e [] es h all = all

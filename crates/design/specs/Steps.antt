@@ -4,7 +4,7 @@ use Rattle.logic4.specs.Vector.{Vector, resize, unknown}
 use Rattle.logic4.specs.Operators.{select_digit}
 use Rattle.model.specs.Expressions.{Store, value_of, unary_value, one_digit}
 use Rattle.design.specs.declared.code.Op.{Op}
-use Rattle.design.specs.declared.code.Op.TheVariants.{Load, Pick, Constant, Unary, Binary, Join, Resize, Choose}
+use Rattle.design.specs.declared.code.Op.TheVariants.{Load, Pick, Constant, Unary, Binary, BinaryConstant, BinaryRegister, Join, Resize, Choose}
 use Rattle.design.specs.declared.code.Span.{Span}
 use Rattle.design.specs.Operate.{combined, joined_two, chosen}
 
@@ -25,6 +25,8 @@ act values (Pick r i size) st = one_digit size (select_digit (value_of values r)
 act values (Constant v) st = v ∷ st
 act values (Unary op asked) st = unary_value op asked (topmost st) ∷ below st
 act values (Binary op size asked) st = combined op size asked (topmost (below st)) (topmost st) ∷ below (below st)
+act values (BinaryConstant op size asked v) st = combined op size asked (topmost st) v ∷ below st
+act values (BinaryRegister op size asked r other) st = combined op size asked (topmost st) (resize other (value_of values r)) ∷ below st
 act values Join st = joined_two (topmost (below st)) (topmost st) ∷ below (below st)
 act values (Resize size) st = resize size (topmost st) ∷ below st
 act values (Choose size) st =
@@ -39,6 +41,7 @@ run_ops values (op ∷ ops) st = run_ops values ops (act values op st)
 abbrev pub reads_of : Op → List ℕ
 reads_of (Load r size) = r ∷ []
 reads_of (Pick r i size) = r ∷ []
+reads_of (BinaryRegister op size asked r other) = r ∷ []
 reads_of op = []
 
 -- the registers that the steps read, in their order
@@ -50,6 +53,7 @@ all_reads (op ∷ ops) = reads_of op ++ all_reads ops
 abbrev pub IsOpOf : ℕ → Op → Type 0
 IsOpOf n (Load r size) = r < n
 IsOpOf n (Pick r i size) = r < n
+IsOpOf n (BinaryRegister op size asked r other) = r < n
 IsOpOf n op = Unit {0}
 
 -- these steps leave this value on any stack, and read these registers in this order

@@ -80,6 +80,21 @@ pub enum Op {
         size: Size,
         asked: Size,
     },
+    /// An operator on the topmost vector, as its left operand, and a vector.
+    BinaryConstant {
+        operator: BinaryOperator,
+        size: Size,
+        asked: Size,
+        value: Bits,
+    },
+    /// An operator on the topmost vector, as its left operand, and the value of a register, extended or cut to the size `other`.
+    BinaryRegister {
+        operator: BinaryOperator,
+        size: Size,
+        asked: Size,
+        register: RegId,
+        other: Size,
+    },
     /// The two topmost vectors as one, the topmost in the least significant digits (5.1.14).
     Join,
     /// The topmost vector, extended or cut.

@@ -4,12 +4,13 @@ ghost use Rattle.std.specs.List.{All};
 ghost use Rattle.logic4.specs.Vector.{AreWithin};
 ghost use Rattle.design.specs.Sound.{IsSoundExpression, AreSoundExpressions};
 ghost use Rattle.design.specs.Trees.{expression_of, expressions_of};
-ghost use Rattle.design.specs.Generate.{expression_code, parts_code, join_code, own_code, assigned_code};
+ghost use Rattle.design.specs.Generate.{direct_step, expression_code, parts_code, join_code, own_code, assigned_code};
 
 use crate::code::{Op, Size};
 use crate::control::RegId;
-use crate::sizes::{greater, left_size, operand_size, own_size, right_size, width_of};
+use crate::sizes::{left_size, operand_size, own_size, right_size, width_of};
 use crate::tree::Expression;
+use model::tree::BinaryOperator;
 use std::alloc::AllocError;
 
 fn put(ops: &mut Vec<Op>, op: Op) -> Result<(), AllocError>
@@ -23,6 +24,34 @@ fn join(ops: &mut Vec<Op>, is_first: bool) -> Result<(), AllocError>
     ensures { OnOk result (ops.new.items ≡ ops.old.items ++ join_code is_first) }
 {
     if is_first { Ok(()) } else { put(ops, Op::Join) }
+}
+
+// The step of an operator that takes its right operand, a register or a vector, without the stack.
+fn direct(
+    operator: BinaryOperator,
+    size: Size,
+    asked: Size,
+    other: Size,
+    right: &Expression,
+) -> Option<Op>
+    ensures { result ≡ direct_step operator size asked other (expression_of right.now) }
+{
+    match right {
+        Expression::Register(register) => Some(Op::BinaryRegister {
+            operator,
+            size,
+            asked,
+            register: *register,
+            other,
+        }),
+        Expression::Literal(value) => Some(Op::BinaryConstant {
+            operator,
+            size,
+            asked,
+            value: value.resize(other.get()),
+        }),
+        _ => None,
+    }
 }
 
 #[cycle(emit)]
@@ -81,15 +110,20 @@ fn emit(
             let size = left_size(operator, asked, own_left, own_right);
             let other = right_size(operator, asked, own_left, own_right);
             emit(ops, widths, size, left)?;
-            emit(ops, widths, other, right)?;
-            put(
-                ops,
-                Op::Binary {
-                    operator,
-                    size,
-                    asked,
-                },
-            )
+            match direct(operator, size, asked, other, right) {
+                Some(op) => put(ops, op),
+                None => {
+                    emit(ops, widths, other, right)?;
+                    put(
+                        ops,
+                        Op::Binary {
+                            operator,
+                            size,
+                            asked,
+                        },
+                    )
+                }
+            }
         }
         Expression::Conditional(condition, first, second) => {
             emit(ops, widths, own_size(widths, condition), condition)?;
@@ -144,7 +178,11 @@ pub fn emit_assigned(
     ensures { OnOk result (ops.new.items ≡ ops.old.items ++ assigned_code widths.now register (expression_of expression.now)) }
 {
     let width = width_of(widths, register);
-    let size = greater(width, own_size(widths, expression));
-    emit(ops, widths, size, expression)?;
-    put(ops, Op::Resize { size: width })
+    let own = own_size(widths, expression);
+    if own.get() <= width.get() {
+        emit(ops, widths, width, expression)
+    } else {
+        emit(ops, widths, own, expression)?;
+        put(ops, Op::Resize { size: width })
+    }
 }

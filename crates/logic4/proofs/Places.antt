@@ -53,6 +53,18 @@ module _ {v : Vector} {w a b : ℕ} (p : AreWords w a b) (view : of_words w a b 
 
   -- ---- a new width
 
+  pub extended_words : (n : ℕ) → n ≤ greatest_width → w ≤ n → AreWords n a b
+  extended_words n within wider =
+      record {
+        some = omega (arith, p.some, wider);
+        within = within;
+        first = omega (arith, p.first, pow_mono wider);
+        second = omega (arith, p.second, pow_mono wider);
+      }
+
+  pub extended : (n : ℕ) → of_words n a b ≡ resize n v
+  extended n = sym (resize-of_words n w a b p.first p.second) ∙ ap (resize n) view
+
   pub resized : (n m : ℕ) → m ≡ 2 ^ n - 1 → of_words n (bit_and a m) (bit_and b m) ≡ resize n v
   resized n m mask = masked n m a b mask ∙ sym (resize-of_words n w a b p.first p.second) ∙ ap (resize n) view
 

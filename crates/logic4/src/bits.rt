@@ -222,6 +222,14 @@ impl Bits {
         ensures value { result ≡ resized width self }
         ensures width { length result ≡ width }
     {
+        // digits that are added are 0 in the words already
+        if self.width <= width {
+            return Bits {
+                width,
+                a: self.a,
+                b: self.b,
+            };
+        }
         let ones = mask(width);
         Bits {
             width,

@@ -6,8 +6,9 @@ use Rattle.logic4.specs.Operators.{select_digit}
 use Rattle.model.specs.Expressions.{Store, value_of, one_digit}
 use Rattle.model.specs.Turns.{contains, with_uses}
 use Rattle.design.specs.declared.code.Op.{Op}
-use Rattle.design.specs.declared.code.Op.TheVariants.{Load, Pick, Constant, Unary, Binary, Join, Resize, Choose}
-use Rattle.design.specs.Steps.{act, run_ops, reads_of, all_reads, IsOpOf}
+use Rattle.design.specs.declared.code.Op.TheVariants.{Load, Pick, Constant, Unary, Binary, BinaryConstant, BinaryRegister, Join, Resize, Choose}
+use Rattle.design.specs.Operate.{combined}
+use Rattle.design.specs.Steps.{topmost, below, act, run_ops, reads_of, all_reads, IsOpOf}
 use Rattle.turn.specs.declared.memory.Seen.{Seen}
 use Rattle.turn.specs.Reads.{registers}
 use Rattle.turn.specs.Evaluate.{Acts, Ran, Knows, Continues, written_in}
@@ -73,6 +74,9 @@ ran_one (Pick r i size) k s st k' s' st' lt (v, (l, e)) =
 ran_one (Constant v) k s st k' s' st' lt h = ran_plain (Constant v) k s st k' s' st' refl (λ values. refl) h
 ran_one (Unary op asked) k s st k' s' st' lt h = ran_plain (Unary op asked) k s st k' s' st' refl (λ values. refl) h
 ran_one (Binary op size asked) k s st k' s' st' lt h = ran_plain (Binary op size asked) k s st k' s' st' refl (λ values. refl) h
+ran_one (BinaryConstant op size asked v) k s st k' s' st' lt h = ran_plain (BinaryConstant op size asked v) k s st k' s' st' refl (λ values. refl) h
+ran_one (BinaryRegister op size asked r other) k s st k' s' st' lt (v, (l, e)) =
+    ran_look (BinaryRegister op size asked r other) r v k s st k' s' st' refl (λ values h. ap (λ w. combined op size asked (topmost st) (resize other w) ∷ below st) h ∙ sym e) (looked r v k s k' s' lt l)
 ran_one Join k s st k' s' st' lt h = ran_plain Join k s st k' s' st' refl (λ values. refl) h
 ran_one (Resize size) k s st k' s' st' lt h = ran_plain (Resize size) k s st k' s' st' refl (λ values. refl) h
 ran_one (Choose size) k s st k' s' st' lt h = ran_plain (Choose size) k s st k' s' st' refl (λ values. refl) h

@@ -12,7 +12,7 @@ use Rattle.model.specs.Design.{Piece, Byte, Argument}
 use Rattle.model.specs.Expressions.{Store, value_of, own_value, assigned_value}
 use Rattle.model.specs.Turns.{contains, line_text, own_values}
 use Rattle.design.specs.declared.code.Op.{Op}
-use Rattle.design.specs.declared.code.Op.TheVariants.{Load, Pick, Constant, Unary, Binary, Join, Resize, Choose}
+use Rattle.design.specs.declared.code.Op.TheVariants.{Load, Pick, Constant, Unary, Binary, BinaryConstant, BinaryRegister, Join, Resize, Choose}
 use Rattle.design.specs.declared.code.Span.{Span}
 use Rattle.design.specs.declared.code.Shown.{Shown}
 use Rattle.design.specs.declared.code.Shown.TheVariants as pieces
@@ -40,6 +40,8 @@ op_within n m (Pick r i size) le lt = omega (arith, le, lt)
 op_within n m (Constant v) le h = tt
 op_within n m (Unary op asked) le h = tt
 op_within n m (Binary op size asked) le h = tt
+op_within n m (BinaryConstant op size asked v) le h = tt
+op_within n m (BinaryRegister op size asked r other) le lt = omega (arith, le, lt)
 op_within n m Join le h = tt
 op_within n m (Resize size) le h = tt
 op_within n m (Choose size) le h = tt

@@ -6,8 +6,9 @@ use Rattle.logic4.specs.Operators.{select_digit}
 use Rattle.model.specs.Expressions.{Store, value_of, one_digit}
 use Rattle.model.specs.Turns.{contains, with_uses}
 use Rattle.design.specs.declared.code.Op.{Op}
-use Rattle.design.specs.declared.code.Op.TheVariants.{Load, Pick}
-use Rattle.design.specs.Steps.{topmost, act, run_ops, all_reads, IsOpOf}
+use Rattle.design.specs.declared.code.Op.TheVariants.{Load, Pick, BinaryRegister}
+use Rattle.design.specs.Operate.{combined}
+use Rattle.design.specs.Steps.{topmost, below, act, run_ops, all_reads, IsOpOf}
 use Rattle.turn.specs.declared.memory.Seen.{Seen}
 use Rattle.turn.specs.Reads.{registers, AreDeclared, Agrees}
 use Rattle.turn.specs.Memory.{Looks}
@@ -20,6 +21,7 @@ NamesDeclared n ops = All (IsOpOf n) ops
 abbrev pub Acts : Op → List (Option Vector) → List (ℕ × Seen) → List Vector → List (Option Vector) → List (ℕ × Seen) → List Vector → Type 0
 Acts (Load r size) k s st k' s' st' = (v : Vector) × (Looks k s r v k' s' × (st' ≡ resize size v ∷ st))
 Acts (Pick r i size) k s st k' s' st' = (v : Vector) × (Looks k s r v k' s' × (st' ≡ one_digit size (select_digit v i) ∷ st))
+Acts (BinaryRegister op size asked r other) k s st k' s' st' = (v : Vector) × (Looks k s r v k' s' × (st' ≡ combined op size asked (topmost st) (resize other v) ∷ below st))
 Acts op k s st k' s' st' = (k' ≡ k) × (s' ≡ s) × (st' ≡ act [] op st)
 
 -- the values of these registers are those that are known

@@ -81,6 +81,29 @@ fn step<R: RegReader>(
             let left = pop(stack);
             put(stack, binary(*operator, *size, *asked, left, right))
         }
+        Op::BinaryConstant {
+            operator,
+            size,
+            asked,
+            value,
+        } => {
+            let left = pop(stack);
+            put(stack, binary(*operator, *size, *asked, left, *value))
+        }
+        Op::BinaryRegister {
+            operator,
+            size,
+            asked,
+            register,
+            other,
+        } => {
+            let value = memory.look(reader, *register)?;
+            let left = pop(stack);
+            put(
+                stack,
+                binary(*operator, *size, *asked, left, value.resize(other.get())),
+            )
+        }
         Op::Join => {
             let low = pop(stack);
             let high = pop(stack);

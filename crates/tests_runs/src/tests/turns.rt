@@ -5,7 +5,7 @@ ghost use Rattle.logic4.specs.Vector.{vector};
 ghost use Rattle.design.specs.Operate.{joined_two};
 ghost use Rattle.model.specs.Expressions.{Store};
 ghost use Rattle.model.specs.declared.tree.BinaryOperator.TheVariants.{Add};
-ghost use Rattle.design.specs.declared.code.Op.TheVariants.{Load, Binary};
+ghost use Rattle.design.specs.declared.code.Op.TheVariants.{Load, BinaryRegister};
 ghost use Rattle.design.specs.Steps.{below, piece, run_ops};
 
 use super::held::{Held, beginning, design_of, first_turn, turn_from};
@@ -21,7 +21,7 @@ fn three() -> Held {
 
 /// The steps of `b + a + b` leave one vector on an empty stack, and so nothing below it.
 fn one_value_is_left()
-    ensures { (values : Store) → below (run_ops values (Load 1 8 ∷ Load 0 8 ∷ Binary Add 8 8 ∷ Load 1 8 ∷ Binary Add 8 8 ∷ []) []) ≡ [] }
+    ensures { (values : Store) → below (run_ops values (Load 1 8 ∷ BinaryRegister Add 8 8 0 8 ∷ BinaryRegister Add 8 8 1 8 ∷ []) []) ≡ [] }
 {}
 
 #[test]
