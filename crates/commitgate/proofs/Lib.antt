@@ -1,4 +1,4 @@
--- Lemmas of the gate: what seats have seen, validation, what holds at the lock and after each step, rests, ends, and that a gate may cross threads.
+-- Lemmas of the gate: what seats have seen, validation, what holds at the lock and after each step, rests, ends, and that a gate may cross threads, and several updates one after another.
 mod Agreeing
 mod Staying
 mod AtLock
@@ -17,3 +17,4 @@ mod Counting
 mod Openings
 mod Barring
 mod Evaluating
+mod Batches

@@ -10,6 +10,7 @@ pub mod Regions
 pub mod Replies
 pub mod HeldTurns
 pub mod Told
+pub mod Batches
 pub mod Closing
 pub mod Sitting
 pub mod Standing

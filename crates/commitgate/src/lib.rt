@@ -14,7 +14,8 @@
 //!    became active gets a ticket (`state`, over `gateparts`). A turn that is too long stops the run in its place
 //!    (`state/long`).
 //!
-//! A worker without a ticket asks for the first active update (`state/update`) or, where none is active, for the change of the
+//! A worker without a ticket asks for the first active update, or for all of them in one holding of the lock
+//! (`state/update`), or, where none is active, for the change of the
 //! regions that is due, and waits while evaluations alone are active (`state/region`). Both read under the lock alone, so
 //! there is nothing to validate.
 //!
@@ -39,7 +40,7 @@ pub use closed::Closed;
 pub use gate::Gate;
 pub use naming::Naming;
 pub use reader::SeatReader;
-pub use reply::{Grant, Reply, Rest, UpdateReply};
+pub use reply::{Grant, Reply, Rest, UpdateReply, UpdatesEnd};
 pub use seat::Seat;
 pub use seated::{SeatedReader, Seating};
 pub use state::GateState;

@@ -10,8 +10,8 @@ use eventpool::{Owner, Stolen, Thief};
 use std::sync::Wait;
 use std::thread;
 
-// How often a worker looks again for a ticket before it rests: some microseconds, at the end of which it lets others run.
-const LOOKS: u32 = 11;
+/// How often a worker looks again for a ticket before it rests: some microseconds, at the end of which it lets others run.
+pub(crate) const LOOKS: u32 = 11;
 
 // Steals the first ticket of a deque. Where another is quicker it tries again.
 fn steal_one<T: Drop, R: Wait>(rt: &R, thief: &mut Thief<T>) -> Option<T>
@@ -59,12 +59,13 @@ pub(crate) fn take<T: Drop, R: Wait>(
     }
 }
 
-/// Looks for a ticket again for some microseconds, where there are other workers. The one whose entry made events active may
+/// Looks for a ticket again, so often, where there are other workers. The one whose entry made events active may
 /// still be putting their tickets, and a worker that rests isn't woken before the next entry.
 pub(crate) fn take_soon<T: Drop, R: Wait>(
     rt: &R,
     owner: &mut Owner<T>,
     row: &mut Vec<Thief<T>>,
+    looks: u32,
 ) -> Option<T>
     ensures ends { SameEnds owner.old row.old.items owner.new row.new.items }
     ensures some { IfSome result (λ _. got_by_ends owner.new row.new.items ≡ got_by_ends owner.old row.old.items + 1) }
@@ -74,7 +75,7 @@ pub(crate) fn take_soon<T: Drop, R: Wait>(
         return None;
     }
     let backoff = Backoff::new();
-    for _ in 0..LOOKS {
+    for _ in 0..looks {
         backoff.snooze();
         if let Some(ticket) = take(rt, owner, row) {
             return Some(ticket);

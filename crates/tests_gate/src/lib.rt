@@ -5,6 +5,7 @@
 //! 3. `examples` has worked examples of one and of two seats: what each call answers, and what the gate leaves.
 //! 4. `held` reads registers while another thread has the lock.
 //! 5. `strobes` has a run of one seat with strobes, and its lines.
+//! 6. `updates` makes several updates in one holding of the lock.
 #![tactic(auto)]
 
 #[cfg(test)]
@@ -17,3 +18,5 @@ mod examples;
 mod held;
 #[cfg(test)]
 mod strobes;
+#[cfg(test)]
+mod updates;

@@ -1,10 +1,13 @@
-//! The first active update.
-ghost use Rattle.std.specs.Prelude.{◌≡◌};
+//! The first active update, and all of them up to one that wakes a process.
+ghost use Rattle.std.specs.Prelude.{◌≡◌, vec_len};
+ghost use Rattle.std.specs.Vec.{vec_capacity};
+ghost use Rattle.commitgate.specs.Batches.{TicketsEnd, UpdatesAnswered, UpdatesAnsweredTo};
+ghost use Rattle.commitgate.specs.declared.reply.UpdatesEnd.TheVariants.{NoRoom};
 ghost use Rattle.commitgate.specs.Replies.{UpdateAnswered};
 ghost use Rattle.commitgate.specs.Told.{UpdateAnsweredTo};
 
 use crate::naming::Naming;
-use crate::reply::UpdateReply;
+use crate::reply::{Grant, UpdateReply, UpdatesEnd};
 use crate::seat::Seat;
 use crate::state::GateState;
 use gateparts::MarkCell;
@@ -50,5 +53,43 @@ impl<'d, K: Naming> GateState<'d, K> {
             }
             Err(_) => UpdateReply::NoMemory,
         }
+    }
+
+    /// Makes the active updates in the order of their numbers, and appends each, up to the first one that makes evaluations
+    /// active, as long as the run goes on, the journal isn't full and the list has room for one more grant. What the list
+    /// held before is dropped.
+    pub fn apply_updates<R: Wait>(
+        &mut self,
+        rt: &R,
+        cells: &RegCells,
+        mark: &MarkCell,
+        alloc: Global,
+        seat: &mut Seat<K>,
+        grants: &mut Vec<Grant<K>>,
+    ) -> UpdatesEnd
+        requires cells { cells.now ≡ K.named.cells }
+        requires mark { mark.now.table.shared.table_id ≡ K.named.mark }
+        ensures state { UpdatesAnswered K.named.code K.named.limits seat.old.worker self.old grants.new.items result self.new }
+        ensures seat { UpdatesAnsweredTo K.named seat.old grants.new.items result seat.new }
+        ensures tickets { TicketsEnd grants.new.items result }
+        ensures capacity { vec_capacity grants.new ≡ vec_capacity grants.old }
+        ensures full { result ≡ NoRoom → vec_len grants.new ≡ vec_capacity grants.new }
+    {
+        grants.clear();
+        while grants.len() < grants.capacity() {
+            match self.apply_update(rt, cells, mark, alloc, seat) {
+                UpdateReply::Accepted(grant) => {
+                    let is_quiet = grant.tickets.is_empty();
+                    grants.push_reserved(grant);
+                    if !is_quiet {
+                        return UpdatesEnd::Woke;
+                    }
+                }
+                UpdateReply::Nothing => return UpdatesEnd::Nothing,
+                UpdateReply::Stopped(why) => return UpdatesEnd::Stopped(why),
+                UpdateReply::NoMemory => return UpdatesEnd::NoMemory,
+            }
+        }
+        UpdatesEnd::NoRoom
     }
 }
