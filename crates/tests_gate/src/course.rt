@@ -1,5 +1,5 @@
 // The steps of a worker at an open gate.
-ghost use Rattle.std.specs.Prelude.{◌≡◌, ◌<◌, ◌∷◌, []};
+ghost use Rattle.std.specs.Prelude.{◌≡◌, ◌<◌, ◌∷◌, [], IfSome};
 ghost use Rattle.turn.specs.declared.log.TurnFault.TheVariants.{TooLong};
 ghost use Rattle.turn.specs.Answers.{IsTurnLog, IsNoTurn};
 ghost use Rattle.turn.specs.Reads.{GaveAll};
@@ -12,7 +12,7 @@ use indexmap::IndexMap;
 use std::alloc::Global;
 use std::process::Abort;
 use std::sync::Wait;
-use turn::{RegReader, Seen, TurnLog, Workspace, run_turn};
+use turn::{RegReader, Seen, TurnFault, TurnLog, Workspace, run_turn};
 
 /// An open gate, and its design.
 #[derive(Drop)]
@@ -37,6 +37,23 @@ impl<'g, 'd, K: Naming, R: Wait + Abort> Course<'g, 'd, K, R> {
             panic!(self.rt; "no short turn")
         };
         (reader.into_seat(), log)
+    }
+
+    /// The same turn, or nothing where memory was refused.
+    pub fn try_evaluate(&self, seat: Seat<K>, ticket: &Ticket<K>) -> (Seat<K>, Option<TurnLog>)
+        ensures turn { IfSome result.1 (λ log. IsTurnLog K.named.code ticket.now.state ticket.now.time log) }
+        ensures gave { IfSome result.1 (λ log. GaveAll (IsRead K.named.code result.0.fresh) log.reads.entries) }
+    {
+        let mut reader = self.gate.reader(self.rt, seat);
+        let state = ticket.state();
+        let now = ticket.time();
+        match run_turn(self.alloc, self.design, &state, now, &mut reader) {
+            Ok(log) => (reader.into_seat(), Some(log)),
+            Err(fault) => {
+                assert!(self.rt; matches!(fault, TurnFault::Memory), "no short turn");
+                (reader.into_seat(), None)
+            }
+        }
     }
 
     /// Commits a turn that was evaluated without the lock.

@@ -4,8 +4,10 @@
 //! 2. `between` has a reader that lets another seat commit a turn between two reads.
 //! 3. `examples` has worked examples of one and of two seats: what each call answers, and what the gate leaves.
 //! 4. `held` reads registers while another thread has the lock.
-//! 5. `strobes` has a run of one seat with strobes, and its lines.
-//! 6. `updates` makes several updates in one holding of the lock.
+//! 5. `refused` leads a run of one seat in too little memory: what each call answers, and that it succeeds with more.
+//! 6. `stops` stops a run of two seats after each reply: what later calls answer, and what the gate leaves.
+//! 7. `strobes` has a run of one seat with strobes, and its lines.
+//! 8. `updates` makes several updates in one holding of the lock.
 #![tactic(auto)]
 
 #[cfg(test)]
@@ -16,6 +18,10 @@ mod course;
 mod examples;
 #[cfg(test)]
 mod held;
+#[cfg(test)]
+mod refused;
+#[cfg(test)]
+mod stops;
 #[cfg(test)]
 mod strobes;
 #[cfg(test)]

@@ -14,10 +14,12 @@ use std::thread::Threads;
 
 mod counts;
 mod examples;
+mod forged;
 mod journals;
 mod limits;
 mod placing;
 mod probes;
+mod refused;
 mod replays;
 mod runs;
 mod sources;

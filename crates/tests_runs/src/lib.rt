@@ -6,6 +6,7 @@
 //! 3. `journal_text` has texts of journals of both versions with what `journal` reads, what it writes, and readers and writers
 //!    that fail.
 //! 4. `replays` has replays from bytes to bytes, and what a fault prints.
+//! 5. `refused` makes the calls from bytes to bytes in too little memory.
 #![tactic(auto)]
 
 #[cfg(test)]

@@ -4,6 +4,7 @@ mod event_queue;
 mod held;
 mod journal_text;
 mod operators;
+mod refused;
 mod replays;
 mod streams;
 mod strobes;

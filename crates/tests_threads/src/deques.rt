@@ -4,6 +4,7 @@ ghost use Rattle.eventpool.specs.Ends.{owner_card, thief_card};
 ghost use Rattle.eventpool.specs.Pools.{cards_of, IsPool};
 
 use eventpool::{Owner, Pool, Stolen, Thief, close};
+use hoard::Hoard;
 use std::alloc::Global;
 use std::sync::Wait;
 use std::test::*;
@@ -118,6 +119,25 @@ fn take_all<R: Wait>(
         }
     }
     (owners, got)
+}
+
+// A deque has room for 64 tickets. The next put is refused where memory is, and then the deque has what it had.
+#[test]
+fn a_put_that_is_refused_changes_nothing(rt: HostRuntime) -> Result<(), Fail> {
+    let (mut owners, _thieves) = Pool::new::<Ticket>(rt.alloc(), 2)?;
+    assert!(rt; fill(&mut owners, 0, 64), "the first puts");
+    let hoard = Hoard::new(rt.alloc(), 0, 0)?;
+    let one = put_at(&mut owners, 0, 64);
+    let two = put_at(&mut owners, 0, 64);
+    drop(hoard);
+    assert!(rt; !one && !two, "memory was refused");
+    assert!(rt; put_at(&mut owners, 0, 64), "a put with more memory");
+    let (_owners, got) = take_all(&rt, rt.alloc(), owners, 0);
+    assert_eq!(rt; got.len(), 65);
+    for (place, event) in got.iter().enumerate() {
+        assert_eq!(rt; *event, place as u64);
+    }
+    Ok(())
 }
 
 // Steals by the thief i of a row until its deque is empty.

@@ -217,3 +217,27 @@ fn a_failed_read_or_write_is_told(rt: HostRuntime) {
         assert_eq!(rt; left.as_str(), *want, "write {writes}");
     }
 }
+
+#[test]
+fn a_longer_journal_that_breaks_off_is_told(rt: HostRuntime) {
+    let source: &[u8] =
+        b"module t; reg a, b; initial begin a=1'b0; b=1'b1; #1 a<=b; b<=a; #1 $display(\"%b %b\",a,b); end endmodule";
+    let text: &[u8] = b"vsimtx-journal 1\nT 0\nA 1\nT 1\nN\nU 2\nU 3\nA 2\nT 4\n";
+    for reads in 0..=text.len() {
+        let left = left_of(&rt, rt.alloc(), (source, text), reads, 100);
+        assert_eq!(rt; left.as_str(), "Q4 journal read error", "read {reads}");
+    }
+    for (writes, want) in [
+        "cannot write",
+        "1cannot write",
+        "1 cannot write",
+        "1 0cannot write",
+        "1 0\n",
+    ]
+    .iter()
+    .enumerate()
+    {
+        let left = left_of(&rt, rt.alloc(), (source, text), 100, writes);
+        assert_eq!(rt; left.as_str(), *want, "write {writes}");
+    }
+}

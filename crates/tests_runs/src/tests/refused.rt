@@ -1,0 +1,196 @@
+//! Calls from bytes to bytes in too little memory: each answers as it has to, or tells of memory, and then nothing was written
+//! but a beginning.
+
+use frontend::read_design;
+use hoard::Hoard;
+use journal::{Counted, ReadFault, WriteFault, read_journal, write_journal};
+use model::entry::Entry;
+use replay::replay_bytes;
+use std::alloc::Global;
+use std::process::Abort;
+use std::test::Fail;
+
+/// How much more memory a call gets each time, and how often at most.
+const STEP: usize = 48;
+
+const ROOMS: usize = 512;
+
+/// The bytes of a piece of memory.
+const PIECE: usize = 32 << 10;
+
+/// More bytes than any of the texts has.
+const TEXT: usize = 256;
+
+/// A swap by nonblocking assignments, its journal, and its line.
+const SWAP: &[u8] =
+    b"module t; reg a, b; initial begin a=1'b0; b=1'b1; #1 a<=b; b<=a; #1 $display(\"%b %b\",a,b); end endmodule";
+
+const JOURNAL: &[u8] = b"vsimtx-journal 1\nT 0\nA 1\nT 1\nN\nU 2\nU 3\nA 2\nT 4\n";
+
+const ENTRIES: [Entry; 8] = [
+    Entry::Turn(0),
+    Entry::Advance(1),
+    Entry::Turn(1),
+    Entry::ActivateNba,
+    Entry::Update(2),
+    Entry::Update(3),
+    Entry::Advance(2),
+    Entry::Turn(4),
+];
+
+const LINE: &[u8] = b"1 0\n";
+
+// Leaves memory for a call that is made again and again.
+fn leave(rt: &impl Abort, hoard: &mut Hoard, count: usize) {
+    let is_left = hoard.leave(count.saturating_mul(STEP));
+    assert!(rt; is_left, "a piece of memory");
+}
+
+// Whether a design is read, where the text of a fault tells of memory alone.
+fn is_design(rt: &impl Abort, alloc: Global, hoard: &mut Hoard, count: usize) -> bool {
+    leave(rt, hoard, count);
+    let answer = read_design(alloc, SWAP);
+    assert!(rt; hoard.open(), "a piece of memory");
+    match answer {
+        Ok(design) => {
+            assert_eq!(rt; design.registers(), 2);
+            true
+        }
+        Err(fault) => {
+            let told = format!(in alloc; "{fault}").expect(rt, "memory for a line");
+            assert!(rt;
+                told.as_str() == "P6 memory" || told.as_str() == "E10 memory",
+                "{told}"
+            );
+            false
+        }
+    }
+}
+
+#[test]
+fn a_source_is_read_or_refused_memory(rt: HostRuntime) -> Result<(), Fail> {
+    let mut hoard = Hoard::new(rt.alloc(), 2 * ROOMS, PIECE)?;
+    for count in 0..ROOMS {
+        let is_read = is_design(&rt, rt.alloc(), &mut hoard, count);
+        hoard.shut();
+        if is_read {
+            assert!(rt; count > 0, "memory was refused");
+            return Ok(());
+        }
+    }
+    panic!(rt; "no design");
+}
+
+// Whether a journal is read.
+fn is_journal(rt: &impl Abort, alloc: Global, hoard: &mut Hoard, count: usize) -> bool {
+    leave(rt, hoard, count);
+    match read_journal(alloc, &mut Counted::new(JOURNAL)) {
+        Ok(entries) => {
+            assert!(rt; entries.as_slice() == ENTRIES.as_slice(), "the entries");
+            true
+        }
+        Err(fault) => {
+            assert!(rt; fault == ReadFault::Memory, "another fault");
+            false
+        }
+    }
+}
+
+#[test]
+fn a_journal_is_read_or_refused_memory(rt: HostRuntime) -> Result<(), Fail> {
+    let mut hoard = Hoard::new(rt.alloc(), ROOMS, PIECE)?;
+    for count in 0..ROOMS {
+        let is_read = is_journal(&rt, rt.alloc(), &mut hoard, count);
+        hoard.shut();
+        if is_read {
+            assert!(rt; count > 0, "memory was refused");
+            return Ok(());
+        }
+    }
+    panic!(rt; "no journal");
+}
+
+// Whether a journal is written, into room that is there already.
+fn is_written(
+    rt: &impl Abort,
+    alloc: Global,
+    hoard: &mut Hoard,
+    out: Vec<u8>,
+    whole: &[u8],
+    count: usize,
+) -> (Vec<u8>, bool) {
+    leave(rt, hoard, count);
+    let mut out = Counted::new(out);
+    let answer = write_journal(alloc, &mut out, &ENTRIES);
+    hoard.shut();
+    let mut out = out.into_inner();
+    match answer {
+        Ok(()) => assert!(rt; out.as_slice() == whole, "the text"),
+        Err(fault) => {
+            assert!(rt; fault == WriteFault::Memory, "another fault");
+            assert!(rt; whole.starts_with(out.as_slice()), "a beginning");
+        }
+    }
+    out.clear();
+    (out, answer.is_ok())
+}
+
+#[test]
+fn a_journal_is_written_or_refused_memory(rt: HostRuntime) -> Result<(), Fail> {
+    let mut whole = Counted::new(Vec::new(rt.alloc()));
+    assert!(rt; write_journal(rt.alloc(), &mut whole, &ENTRIES).is_ok());
+    let whole = whole.into_inner();
+    let mut out = Vec::with_capacity(rt.alloc(), TEXT)?;
+    let mut hoard = Hoard::new(rt.alloc(), ROOMS, PIECE)?;
+    for count in 0..ROOMS {
+        let (left, is_whole) = is_written(&rt, rt.alloc(), &mut hoard, out, &whole, count);
+        out = left;
+        if is_whole {
+            assert!(rt; count > 0, "memory was refused");
+            return Ok(());
+        }
+    }
+    panic!(rt; "no text");
+}
+
+// Whether the lines of a replay are written, into room that is there already.
+fn is_replayed(
+    rt: &impl Abort,
+    alloc: Global,
+    hoard: &mut Hoard,
+    out: Vec<u8>,
+    count: usize,
+) -> (Vec<u8>, bool) {
+    leave(rt, hoard, count);
+    let mut out = Counted::new(out);
+    let answer = replay_bytes(alloc, SWAP, &mut Counted::new(JOURNAL), &mut out);
+    assert!(rt; hoard.open(), "a piece of memory");
+    let mut out = out.into_inner();
+    let is_whole = answer.is_ok();
+    match answer {
+        Ok(()) => assert!(rt; out.as_slice() == LINE, "the line"),
+        Err(fault) => {
+            let told = format!(in alloc; "{fault}").expect(rt, "memory for a line");
+            assert!(rt; told.ends_with("memory"), "{told}");
+            assert!(rt; out.is_empty(), "lines before a fault");
+        }
+    }
+    out.clear();
+    (out, is_whole)
+}
+
+#[test]
+fn a_journal_is_replayed_or_refused_memory(rt: HostRuntime) -> Result<(), Fail> {
+    let mut out = Vec::with_capacity(rt.alloc(), TEXT)?;
+    let mut hoard = Hoard::new(rt.alloc(), 2 * ROOMS, PIECE)?;
+    for count in 0..ROOMS {
+        let (left, is_whole) = is_replayed(&rt, rt.alloc(), &mut hoard, out, count);
+        hoard.shut();
+        out = left;
+        if is_whole {
+            assert!(rt; count > 0, "memory was refused");
+            return Ok(());
+        }
+    }
+    panic!(rt; "no replay");
+}
