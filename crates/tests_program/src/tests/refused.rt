@@ -42,7 +42,10 @@ fn assert_begun<R: Abort>(rt: &R, alloc: Global, source: &str, whole: &[Entry], 
         end == End::Quiet || end == End::Stopped(Why::Memory),
         "the end"
     );
-    assert!(rt; whole.starts_with(entries.as_slice()), "a beginning of the journal");
+    assert!(rt;
+        whole.starts_with(entries.as_slice()),
+        "a beginning of the journal"
+    );
     assert!(rt;
         end != End::Quiet || entries.len() == whole.len(),
         "a whole journal"

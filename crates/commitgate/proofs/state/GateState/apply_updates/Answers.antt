@@ -29,20 +29,22 @@ returns-then-not-is_quiet-clause-state g c =
     let n = g.K.Naming.named in
     let at = c.loop-alloc in
     let grant = c.in-Accepted.grant in
-    let one = subst (λ (w : ℕ). IsUpdated n.code n.limits w at.self grant.position grant.entry grant.tickets.items c.apply_update.new.self) at.invariant.worker c.in-Accepted.ensures.state in
-    ( c.apply_update.new.self
-    , subst (λ gs. AreUpdated n.code n.limits c.args.seat.now.worker c.args.self.now gs c.apply_update.new.self) (sym c.push_reserved.ensures.items)
-        (updated_more n.code n.limits c.args.seat.now.worker c.args.self.now at.self c.apply_update.new.self at.grants.items grant at.invariant.state one)
-    , refl )
+    let one = subst (λ (w : ℕ). IsUpdated n.code n.limits w at.self grant.position grant.entry grant.tickets.items c.apply_update.new.self) at.invariant.worker c.in-Accepted.ensures.state in (
+      c.apply_update.new.self,
+      subst (λ gs. AreUpdated n.code n.limits c.args.seat.now.worker c.args.self.now gs c.apply_update.new.self) (sym c.push_reserved.ensures.items)
+          (updated_more n.code n.limits c.args.seat.now.worker c.args.self.now at.self c.apply_update.new.self at.grants.items grant at.invariant.state one),
+      refl,
+    )
 
 pub returns-then-not-is_quiet-clause-seat : goal.returns-then-not-is_quiet-clause-seat
 returns-then-not-is_quiet-clause-seat g c =
     let n = g.K.Naming.named in
-    let at = c.loop-alloc in
-    ( c.apply_update.new.seat
-    , subst (λ gs. AreUpdatedTo n c.args.seat.now gs c.apply_update.new.seat) (sym c.push_reserved.ensures.items)
-        (told_more n c.args.seat.now at.seat c.apply_update.new.seat at.grants.items c.in-Accepted.grant at.invariant.seat c.in-Accepted.ensures.seat)
-    , refl )
+    let at = c.loop-alloc in (
+      c.apply_update.new.seat,
+      subst (λ gs. AreUpdatedTo n c.args.seat.now gs c.apply_update.new.seat) (sym c.push_reserved.ensures.items)
+          (told_more n c.args.seat.now at.seat c.apply_update.new.seat at.grants.items c.in-Accepted.grant at.invariant.seat c.in-Accepted.ensures.seat),
+      refl,
+    )
 
 pub returns-then-not-is_quiet-clause-tickets : goal.returns-then-not-is_quiet-clause-tickets
 returns-then-not-is_quiet-clause-tickets g c =
