@@ -36,7 +36,7 @@ def changed(entries, numbers):
             entries[other:other] = at
         elif what == 2 and place < len(entries) and other < len(entries):
             entries[place], entries[other] = entries[other], entries[place]
-        elif what == 3 and at and at[0][2:]:
+        elif what == 3 and at and at[0][2:].isdigit():
             near = max(0, int(at[0][2:]) + numbers.randint(-3, 3))
             entries[place] = at[0][:2] + numbers.choice((b"%d" % near, numbers.choice(NUMBERS)))
         elif what == 4 and at and at[0][2:]:
