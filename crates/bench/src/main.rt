@@ -1,22 +1,19 @@
 //! Measures what the crates below cost. `rt run -- WHAT` makes a measure, and prints the least of several runs; `WHAT N` makes
-//! it with N as the amount of work. `MEASURES` has the names. `sources NAME` prints one of the generated sources, for another
-//! simulator. Without a word each measure is made once on a little work, and it is printed how much there was.
+//! it with N as the amount of work. `MEASURES` has the names. Without a word each measure is made once on a little work, and it
+//! is printed how much there was. `tools/speed` times the program as a whole.
 #![tactic(auto)]
 
 mod cells;
 mod deques;
 mod journal_text;
-mod reading;
 mod run;
 mod sources;
 mod steps;
 mod timing;
 mod turns;
 mod vectors;
-mod workers;
 
 use std::sync::Wait;
-use std::thread::Threads;
 use std::{env, io};
 use timing::{How, must};
 
@@ -24,57 +21,38 @@ use timing::{How, must};
 #[derive(Clone, Copy)]
 enum What {
     Vectors,
-    Source,
     Turn,
     Apply,
     Update,
     JournalText,
-    Workers,
-    Replay,
     Cells,
     Deques,
 }
 
-const MEASURES: [(&str, What); 10] = [
+const MEASURES: [(&str, What); 7] = [
     ("vectors", What::Vectors),
-    ("source", What::Source),
     ("turn", What::Turn),
     ("apply", What::Apply),
     ("update", What::Update),
     ("journal-text", What::JournalText),
-    ("workers", What::Workers),
-    ("replay", What::Replay),
     ("cells", What::Cells),
     ("deques", What::Deques),
 ];
 
-fn make<R: Threads + Wait + Sync>(
-    rt: &HostRuntime,
-    threads: &R,
-    what: What,
-    how: How,
-) -> io::Result<()> {
+fn make<R: Wait>(rt: &HostRuntime, threads: &R, what: What, how: How) -> io::Result<()> {
     match what {
         What::Vectors => vectors::measure(rt, how),
-        What::Source => reading::measure(rt, how),
         What::Turn => turns::measure(rt, how),
         What::Apply => steps::measure(rt, how),
         What::Update => steps::measure_updates(rt, how),
         What::JournalText => journal_text::measure(rt, how),
-        What::Workers => workers::measure(rt, threads, how),
-        What::Replay => workers::measure_replay(rt, threads, how),
         What::Cells => cells::measure(rt, threads, how),
         What::Deques => deques::measure(rt, how),
     }
 }
 
 /// Makes the measure of this name, or all where the word is empty.
-fn make_named<R: Threads + Wait + Sync>(
-    rt: &HostRuntime,
-    threads: &R,
-    word: &str,
-    how: How,
-) -> io::Result<()> {
+fn make_named<R: Wait>(rt: &HostRuntime, threads: &R, word: &str, how: How) -> io::Result<()> {
     let mut is_name = false;
     for (name, what) in MEASURES {
         if word.is_empty() || word == name {
@@ -84,20 +62,6 @@ fn make_named<R: Threads + Wait + Sync>(
         }
     }
     must(is_name)
-}
-
-/// Prints the source of this name.
-fn print_source(rt: &HostRuntime, name: &str) -> io::Result<()> {
-    let alloc = rt.alloc();
-    let text = match name {
-        "adds" => sources::adds(alloc, 20_000)?,
-        "short" => sources::short(alloc, 256)?,
-        "ring" => sources::ring(alloc, 256, "=")?,
-        "wide" => sources::wide(alloc, 1_000_000)?,
-        _ => return must(false),
-    };
-    print!(rt; "{text}")?;
-    Ok(())
 }
 
 fn main(rt: HostRuntime) -> io::Result<()> {
@@ -111,9 +75,6 @@ fn main(rt: HostRuntime) -> io::Result<()> {
         return make_named(&rt, &rt, "", how);
     };
     let second = words.next().unwrap_or(String::new(rt.alloc()));
-    if word.as_str() == "sources" {
-        return print_source(&rt, second.as_str());
-    }
     let how = How {
         is_timed: true,
         size: second.as_str().parse::<u32>().ok(),

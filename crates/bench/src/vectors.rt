@@ -85,6 +85,17 @@ struct Operands {
     ghost narrow: { length start ≤ 32 },
 }
 
+// What comes of one call more, joined to what came of those before.
+#[inline(always)]
+fn joined<O: Operation>(operand: Bits, other: Bits, found: Bits) -> Bits
+    requires same { length operand ≡ length other }
+    requires narrow { length operand ≤ 32 }
+    requires found { length found ≡ 64 }
+    ensures { length result ≡ 64 }
+{
+    found.xor(O::of(operand, other).resize(64))
+}
+
 // So many calls. Answers what comes of them all. Where it is called isn't seen in it, so that no loop is compiled for the digits
 // or for one width.
 #[inline(never)]
@@ -94,7 +105,7 @@ fn calls<O: Operation>(count: u32, operands: &Operands) -> Word {
     let mut found = Bits::from_u64(64, 0);
     for _turn in 0..count {
         operand = operand.add(step);
-        found = found.xor(O::of(operand, other).resize(64));
+        found = joined::<O>(operand, other, found);
     }
     found.words().0
 }

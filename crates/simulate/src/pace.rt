@@ -2,7 +2,7 @@
 //! a worker whose turns are short takes tickets only while it is in the lane, where one worker is at a time; the others nap.
 //! That decides who evaluates a turn and when, and never what a run may answer.
 
-use std::sync::atomic::{AtomicBool, Ordering};
+use std::sync::atomic::{AtomicBool, AtomicU64, Ordering};
 use std::sync::{Condvar, Wait};
 use std::time::Duration;
 use turn::{TurnFault, TurnLog};
@@ -13,16 +13,15 @@ const SHORT: u64 = 100;
 // In the mean the last turn has the weight of one in so many.
 const WEIGHT: u64 = 8;
 
-// How long a nap is, in microseconds.
+// How long a nap is, in microseconds. A worker in the lane that makes no round for so long is held up.
 const NAP: u64 = 500;
-
-// After so many naps a worker takes a ticket all the same, since the worker in the lane may be held up.
-const NAPS: u32 = 8;
 
 /// The lane of short turns, in which one worker is at a time.
 #[derive(Drop)]
 pub(crate) struct Lane {
     taken: AtomicBool,
+    // How many rounds the workers in it have begun.
+    rounds: AtomicU64,
     // Notified where the lane is left for good, or a run is over.
     left: Condvar,
 }
@@ -32,6 +31,7 @@ impl Lane {
     pub(crate) fn new() -> Lane {
         Lane {
             taken: AtomicBool::new(false),
+            rounds: AtomicU64::new(0),
             left: Condvar::new(),
         }
     }
@@ -53,7 +53,8 @@ pub(crate) struct Pace {
     // The mean of the counted steps of its turns, times WEIGHT.
     steps: u64,
     in_lane: bool,
-    naps: u32,
+    // The lane's rounds at the beginning of the last nap, where no ticket was looked for since.
+    rounds: Option<u64>,
 }
 
 impl Pace {
@@ -62,7 +63,7 @@ impl Pace {
         Pace {
             steps: 4 * SHORT * WEIGHT,
             in_lane: false,
-            naps: 0,
+            rounds: None,
         }
     }
 
@@ -92,7 +93,8 @@ impl Pace {
         lane.left.notify_all();
     }
 
-    /// Whether the worker may take a ticket now. Else it has napped.
+    /// Whether the worker may take a ticket now: it is in the lane, or the one who is there was held up for a whole nap. Else
+    /// it has napped.
     pub(crate) fn may_go<R: Wait>(&mut self, rt: &R, lane: &Lane) -> bool {
         if !self.is_short() {
             if self.in_lane {
@@ -101,11 +103,16 @@ impl Pace {
             return true;
         }
         self.in_lane = self.in_lane || lane.enter();
-        if self.in_lane || self.naps >= NAPS {
-            self.naps = 0;
+        if self.in_lane {
+            lane.rounds.fetch_add(1, Ordering::Relaxed);
             return true;
         }
-        self.naps += 1;
+        let rounds = lane.rounds.load(Ordering::Relaxed);
+        if self.rounds == Some(rounds) {
+            self.rounds = None;
+            return true;
+        }
+        self.rounds = Some(rounds);
         lane.nap(rt);
         false
     }

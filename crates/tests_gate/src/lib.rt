@@ -3,17 +3,20 @@
 //! 1. `course` has the steps of a worker: a turn is evaluated, committed, found too long, or evaluated under the lock.
 //! 2. `between` has a reader that lets another seat commit a turn between two reads.
 //! 3. `examples` has worked examples of one and of two seats: what each call answers, and what the gate leaves.
-//! 4. `held` reads registers while another thread has the lock.
-//! 5. `refused` leads a run of one seat in too little memory: what each call answers, and that it succeeds with more.
-//! 6. `stops` stops a run of two seats after each reply: what later calls answer, and what the gate leaves.
-//! 7. `strobes` has a run of one seat with strobes, and its lines.
-//! 8. `updates` makes several updates in one holding of the lock.
+//! 4. `driven` leads whole journals through a gate by `drive`.
+//! 5. `held` reads registers while another thread has the lock.
+//! 6. `refused` leads a run of one seat in too little memory: what each call answers, and that it succeeds with more.
+//! 7. `stops` stops a run of two seats after each reply: what later calls answer, and what the gate leaves.
+//! 8. `strobes` has a run of one seat with strobes, and its lines.
+//! 9. `updates` makes several updates in one holding of the lock.
 #![tactic(auto)]
 
 #[cfg(test)]
 mod between;
 #[cfg(test)]
 mod course;
+#[cfg(test)]
+mod driven;
 #[cfg(test)]
 mod examples;
 #[cfg(test)]

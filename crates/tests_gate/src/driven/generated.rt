@@ -1,7 +1,8 @@
-//! Journals that a generator makes from a seed: lawful ones, and ones that were cut, shuffled or changed.
+// Journals that a generator makes from a seed: lawful ones, and ones that were cut, shuffled or changed.
 ghost use Rattle.std.specs.Prelude.{◌<◌};
 
-use super::{design_of, entry_refused};
+use super::entry_refused;
+use crate::course::design_of;
 use design::Design;
 use model::entry::Entry;
 use replay::replay;

@@ -1,8 +1,11 @@
-//! Journals through a gate of one seat.
+// Journals that are led through a gate of one seat: each is answered as one thread's replay answers it.
+//
+// 1. `worked` has journals that were written by hand, with their lines or the first entry that isn't lawful.
+// 2. `generated` has journals that a generator makes: lawful ones, and ones that were cut, shuffled or changed.
 
+use crate::course::design_of;
 use design::Design;
 use drive::{DriveFault, drive};
-use frontend::read_design;
 use model::entry::Entry;
 use replay::replay;
 use std::alloc::Global;
@@ -11,13 +14,6 @@ use std::sync::Wait;
 
 mod generated;
 mod worked;
-
-/// The design of a source.
-fn design_of(rt: &impl Abort, alloc: Global, source: &str) -> Design {
-    read_design(alloc, source.as_bytes())
-        .ok()
-        .expect(rt, "a module without faults")
-}
 
 // The lines of a lawful journal.
 fn assert_lines(rt: &impl Abort, alloc: Global, design: &Design, entries: &[Entry], lines: &str) {

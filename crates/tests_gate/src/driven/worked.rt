@@ -1,6 +1,7 @@
-//! Journals that were written by hand.
+// Journals that were written by hand.
 
-use super::{design_of, entry_refused};
+use super::entry_refused;
+use crate::course::design_of;
 use drive::drive;
 use model::entry::{Entry, Refusal};
 use replay::{Cause, ReplayFault, replay};

@@ -1,2 +1,0 @@
--- The lists that cells begin with.
-pub mod Beginnings
