@@ -7,19 +7,17 @@ mod rows;
 
 use logic4::bits::Bits;
 use logic4::digit::Digit;
+use std::alloc::AllocError;
 use std::process::Abort;
 
 // the vector of the letters 0, 1, x and z, the most significant first
 fn vector(rt: &impl Abort, letters: &str) -> Bits {
-    let mut found: Option<Bits> = None;
-    for letter in letters.bytes() {
-        let low = Bits::from_digit(digit(letter));
-        found = Some(match found {
-            None => low,
-            Some(high) => joined(rt, high, low),
-        });
+    let (first, others) = letters.as_bytes().split_first().expect(rt, "a digit");
+    let mut found = Bits::from_digit(digit(*first));
+    for letter in others {
+        found = joined(rt, found, Bits::from_digit(digit(*letter)));
     }
-    found.expect(rt, "a digit")
+    found
 }
 
 fn digit(letter: u8) -> Digit {
@@ -34,4 +32,10 @@ fn digit(letter: u8) -> Digit {
 fn joined(rt: &impl Abort, high: Bits, low: Bits) -> Bits {
     assert!(rt; high.width() + low.width() <= Bits::MAX_WIDTH, "too wide");
     Bits::concat(high, low)
+}
+
+// memory is there, and the text is the one that is wanted
+fn assert_text(rt: &impl Abort, found: Result<String, AllocError>, wanted: &str) {
+    let text = found.expect(rt, "memory");
+    assert!(rt; text.as_str() == wanted, "{text}");
 }

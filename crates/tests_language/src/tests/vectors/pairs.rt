@@ -42,6 +42,9 @@ fn check_bitwise(rt: &impl Abort, a: Bits, b: Bits, left: &Plain, right: &Plain)
         a.merge(b),
         &plain::each(left, right, plain::merge_digit),
     );
+}
+
+fn check_reduced(rt: &impl Abort, a: Bits, left: &Plain) {
     check(rt, a.not(), &left.inverted());
     check_digit(
         rt,
@@ -98,6 +101,9 @@ fn check_places(rt: &impl Abort, a: Bits, left: &Plain) {
     for width in 1..=Bits::MAX_WIDTH {
         check(rt, a.resize(width), &left.resized(width as usize));
     }
+}
+
+fn check_words(rt: &impl Abort, a: Bits, left: &Plain) {
     let (first, second) = a.words();
     assert!(rt; Bits::from_words(a.width(), first, second) == a);
     if left.is_known() {
@@ -146,44 +152,71 @@ fn group_letter(group: &Plain) -> u8 {
     }
 }
 
-fn check_texts(rt: &impl Abort, alloc: Global, a: Bits, left: &Plain) {
+fn check_binary(rt: &impl Abort, alloc: Global, a: Bits, left: &Plain) {
     let binary = a.show_b(alloc).expect(rt, "memory");
     assert!(rt; binary.len() == left.width);
     for (index, byte) in binary.bytes().rev().enumerate() {
         assert!(rt; byte == letter(left.at(index)));
     }
+}
+
+// the letter of the four digits from a place on, or of as many as there are
+fn letter_from(left: &Plain, from: usize) -> u8 {
+    group_letter(&left.part(from, left.width.saturating_sub(from).min(4)))
+}
+
+fn check_hex(rt: &impl Abort, alloc: Global, a: Bits, left: &Plain) {
     let hex = a.show_h(alloc).expect(rt, "memory");
     assert!(rt; hex.len() == left.width.div_ceil(4));
     for (index, byte) in hex.bytes().rev().enumerate() {
-        let from = index.saturating_mul(4);
-        let group = left.part(from, left.width.saturating_sub(from).min(4));
-        assert!(rt; byte == group_letter(&group));
+        assert!(rt; byte == letter_from(left, index.saturating_mul(4)));
     }
+}
+
+fn check_texts(rt: &impl Abort, alloc: Global, a: Bits, left: &Plain) {
+    check_binary(rt, alloc, a, left);
+    check_hex(rt, alloc, a, left);
     check_decimal(rt, alloc, a, left);
 }
 
 fn check_decimal(rt: &impl Abort, alloc: Global, a: Bits, left: &Plain) {
     let decimal = a.show_d0(alloc).expect(rt, "memory");
+    check_decimal_text(rt, decimal.as_str(), left);
+}
+
+fn check_decimal_text(rt: &impl Abort, decimal: &str, left: &Plain) {
     if left.is_known() {
-        assert!(rt; decimal.as_str().parse::<u128>() == Ok(left.number()));
-        assert!(rt; decimal.len() == 1 || !decimal.as_str().starts_with('0'));
+        assert!(rt; decimal.parse::<u128>().ok() == Some(left.number()));
+        assert!(rt; decimal.len() == 1 || !decimal.starts_with('0'));
     } else {
         assert!(rt; decimal.as_bytes() == [left.unknown_letter()].as_slice());
     }
+}
+
+fn check_one(rt: &impl Abort, alloc: Global, a: Bits, left: &Plain) {
+    check(rt, a, left);
+    check_reduced(rt, a, left);
+    check_places(rt, a, left);
+    check_words(rt, a, left);
+    check_texts(rt, alloc, a, left);
+}
+
+fn check_two(rt: &impl Abort, a: Bits, b: Bits, left: &Plain, right: &Plain)
+    requires { length a ≡ length b }
+{
+    check_bitwise(rt, a, b, left, right);
+    check_arithmetic(rt, a, b, left, right);
+    check_compare(rt, a, b, left, right);
 }
 
 fn check_pair(rt: &impl Abort, alloc: Global, left: &Plain, right: &Plain) {
     let a = bits_of(rt, left);
     let b = bits_of(rt, right);
     assert!(rt; a.width() == b.width());
-    check(rt, a, left);
-    check_bitwise(rt, a, b, left, right);
-    check_arithmetic(rt, a, b, left, right);
+    check_two(rt, a, b, left, right);
+    check_one(rt, alloc, a, left);
     check_shifts(rt, a, b, left, right);
-    check_compare(rt, a, b, left, right);
-    check_places(rt, a, left);
     check_joined(rt, a, b, left, right);
-    check_texts(rt, alloc, a, left);
 }
 
 #[test]
