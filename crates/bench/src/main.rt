@@ -29,7 +29,7 @@ enum What {
     Deques,
 }
 
-const MEASURES: [(&str, What); 7] = [
+const MEASURES: &[(&str, What)] = &[
     ("vectors", What::Vectors),
     ("turn", What::Turn),
     ("apply", What::Apply),
@@ -54,7 +54,7 @@ fn make<R: Wait>(rt: &HostRuntime, threads: &R, what: What, how: How) -> io::Res
 /// Makes the measure of this name, or all where the word is empty.
 fn make_named<R: Wait>(rt: &HostRuntime, threads: &R, word: &str, how: How) -> io::Result<()> {
     let mut is_name = false;
-    for (name, what) in MEASURES {
+    for &(name, what) in MEASURES {
         if word.is_empty() || word == name {
             println!(rt; "{name}:")?;
             make(rt, threads, what, how)?;

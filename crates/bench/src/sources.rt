@@ -15,9 +15,14 @@ pub fn design_of(alloc: Global, source: &str) -> io::Result<Design> {
 
 /// A process that adds in a loop of this many turns, with vectors of 64 digits. A turn has 3 counted steps.
 pub fn adds(alloc: Global, turns: u32) -> Result<String, AllocError> {
-    format!(in alloc;
-        "module adds; reg [63:0] i, s; initial begin i=64'd0; s=64'd0; while (i<64'd{turns}) begin i=i+64'd1; s=s+i; end end endmodule\n"
-    )
+    let mut text = String::from_str(
+        alloc,
+        "module adds; reg [63:0] i, s; initial begin i=64'd0; s=64'd0;",
+    )?;
+    text.push_str(" while (i<64'd")?;
+    write!(text, "{turns}")?;
+    text.push_str(") begin i=i+64'd1; s=s+i; end end endmodule\n")?;
+    Ok(text)
 }
 
 /// So many processes in a ring: each changes the register that the next one waits for, by assignments with this sign.
