@@ -1,10 +1,12 @@
 //! Turns, regions, texts of journals and replays.
 
+mod compare;
 mod event_queue;
 mod held;
 mod journal_text;
 mod operators;
 mod refused;
+mod replayed;
 mod replays;
 mod streams;
 mod strobes;

@@ -1,11 +1,12 @@
 //! Registers that a test holds, and turns of the first process of a source on them.
 
 use design::{Design, ProcState, RegId};
-use frontend::read_design;
+use frontend::{SourceFault, read_design};
+use indexmap::IndexMap;
 use logic4::bits::Bits;
 use std::alloc::Global;
 use std::process::Abort;
-use turn::{RegReader, Seen, TurnLog, run_turn};
+use turn::{RegReader, Seen, TurnFault, TurnLog, run_turn};
 
 /// The version and the value of each register by its number, and how many were read.
 #[derive(Drop)]
@@ -49,16 +50,46 @@ impl RegReader for Held {
 }
 
 /// The design of a source.
-pub fn design_of(rt: &impl Abort, alloc: Global, source: &str) -> Design {
-    read_design(alloc, source.as_bytes())
+pub fn design_of(rt: &impl Abort, alloc: Global, source: &[u8]) -> Design {
+    read_design(alloc, source)
         .ok()
         .expect(rt, "a module without faults")
+}
+
+/// What the fault of a source prints.
+pub fn text_of_fault(rt: &impl Abort, alloc: Global, fault: &SourceFault) -> String {
+    format!(in alloc; "{fault}").expect(rt, "memory for a line")
 }
 
 /// Where the first process of a design begins.
 pub fn beginning(rt: &impl Abort, design: &Design) -> ProcState {
     assert!(rt; design.processes() > 0, "no process");
     design.start(0)
+}
+
+/// A register stands at this place of the reads of a turn.
+pub fn assert_read_at(
+    rt: &impl Abort,
+    reads: &IndexMap<RegId, Seen>,
+    register: RegId,
+    place: usize,
+) {
+    assert!(rt; reads.get_index_of(&register) == Some(place), "{register}");
+}
+
+/// The first turn of the first process of a source, at a time below 2 to the 32. Else why it has no log.
+pub fn try_first_turn(
+    rt: &impl Abort,
+    alloc: Global,
+    source: &str,
+    now: u32,
+    held: &mut Held,
+) -> Result<TurnLog, TurnFault> {
+    let design = design_of(rt, alloc, source.as_bytes());
+    let state = beginning(rt, &design);
+    // The answer tells that there are at most 1,024, which is what the reader takes.
+    let _registers = design.registers();
+    run_turn(alloc, &design, &state, u64::from(now), held)
 }
 
 /// The turn of a process in a state, at a time below 2 to the 32.
@@ -70,7 +101,6 @@ pub fn turn_from(
     now: u32,
     held: &mut Held,
 ) -> TurnLog {
-    // The answer tells that there are at most 1,024, which is what the reader takes.
     let _registers = design.registers();
     run_turn(alloc, design, &state, u64::from(now), held)
         .ok()
@@ -79,7 +109,7 @@ pub fn turn_from(
 
 /// The first turn of the first process of a source, at time 7.
 pub fn first_turn(rt: &impl Abort, alloc: Global, source: &str, held: &mut Held) -> TurnLog {
-    let design = design_of(rt, alloc, source);
-    let state = beginning(rt, &design);
-    turn_from(rt, alloc, &design, state, 7, held)
+    try_first_turn(rt, alloc, source, 7, held)
+        .ok()
+        .expect(rt, "a short turn")
 }

@@ -1,6 +1,7 @@
 //! The values of operators (5.1), as a turn computes and prints them.
 
-use super::held::{Held, first_turn};
+use super::compare::assert_text;
+use super::held::{Held, first_turn, text_of_fault};
 use frontend::read_design;
 use logic4::bits::Bits;
 use std::alloc::Global;
@@ -11,6 +12,11 @@ use std::process::Abort;
 const HEAD: &str =
     "module t; reg [7:0] two, top, zero, x, q; reg u, b; reg [15:0] w; initial begin two = 8'd2; top = 8'd255; zero = 8'd0; ";
 
+// The line of a value is the one that is wanted.
+fn assert_line(rt: &impl Abort, value: &str, found: &str, wanted: &str) {
+    assert!(rt; found == wanted, "{value}: {found}");
+}
+
 // The value of an expression that a register takes, digit by digit, and a newline.
 fn assert_value(rt: &impl Abort, alloc: Global, target: &str, value: &str, line: &str) {
     let source = format!(in alloc;
@@ -18,49 +24,59 @@ fn assert_value(rt: &impl Abort, alloc: Global, target: &str, value: &str, line:
     ).expect(rt, "memory");
     let mut held = Held::all(Bits::unknown(8));
     let log = first_turn(rt, alloc, source.as_str(), &mut held);
-    assert!(rt; log.lines.as_str() == line, "{value}");
+    assert_line(rt, value, log.lines.as_str(), line);
+}
+
+/// A register that takes a value, the value, and the line that shows it.
+type Row = (&'static str, &'static str, &'static str);
+
+const BINARY: [Row; 17] = [
+    ("q", "top + two", "00000001\n"),
+    ("q", "two - top", "00000011\n"),
+    ("q", "top & two", "00000010\n"),
+    ("q", "top | two", "11111111\n"),
+    ("q", "top ^ two", "11111101\n"),
+    ("q", "top << two", "11111100\n"),
+    ("q", "top >> two", "00111111\n"),
+    ("b", "two < top", "1\n"),
+    ("b", "top <= two", "0\n"),
+    ("b", "top > two", "1\n"),
+    ("b", "two >= two", "1\n"),
+    ("b", "two == x", "x\n"),
+    ("b", "two != top", "1\n"),
+    ("b", "x === x", "1\n"),
+    ("q", "x !== two", "00000001\n"),
+    ("b", "two && x", "x\n"),
+    ("b", "two || x", "1\n"),
+];
+
+const OTHER: [Row; 9] = [
+    ("q", "~two", "11111101\n"),
+    ("q", "!zero", "00000001\n"),
+    ("b", "&two", "0\n"),
+    ("b", "|two", "1\n"),
+    ("b", "^two", "1\n"),
+    ("w", "{two, zero}", "0000001000000000\n"),
+    ("q", "two ? zero : two", "00000000\n"),
+    ("q", "zero ? zero : two", "00000010\n"),
+    ("q", "u ? two : two", "00000010\n"),
+];
+
+// Each row shows its line.
+fn assert_values(rt: &impl Abort, alloc: Global, rows: &[Row]) {
+    for (target, value, line) in rows {
+        assert_value(rt, alloc, target, value, line);
+    }
 }
 
 #[test]
 fn computes_binary_operators(rt: HostRuntime) {
-    for (target, value, line) in [
-        ("q", "top + two", "00000001\n"),
-        ("q", "two - top", "00000011\n"),
-        ("q", "top & two", "00000010\n"),
-        ("q", "top | two", "11111111\n"),
-        ("q", "top ^ two", "11111101\n"),
-        ("q", "top << two", "11111100\n"),
-        ("q", "top >> two", "00111111\n"),
-        ("b", "two < top", "1\n"),
-        ("b", "top <= two", "0\n"),
-        ("b", "top > two", "1\n"),
-        ("b", "two >= two", "1\n"),
-        ("b", "two == x", "x\n"),
-        ("b", "two != top", "1\n"),
-        ("b", "x === x", "1\n"),
-        ("q", "x !== two", "00000001\n"),
-        ("b", "two && x", "x\n"),
-        ("b", "two || x", "1\n"),
-    ] {
-        assert_value(&rt, rt.alloc(), target, value, line);
-    }
+    assert_values(&rt, rt.alloc(), &BINARY);
 }
 
 #[test]
 fn computes_other_operators(rt: HostRuntime) {
-    for (target, value, line) in [
-        ("q", "~two", "11111101\n"),
-        ("q", "!zero", "00000001\n"),
-        ("b", "&two", "0\n"),
-        ("b", "|two", "1\n"),
-        ("b", "^two", "1\n"),
-        ("w", "{two, zero}", "0000001000000000\n"),
-        ("q", "two ? zero : two", "00000000\n"),
-        ("q", "zero ? zero : two", "00000010\n"),
-        ("q", "u ? two : two", "00000010\n"),
-    ] {
-        assert_value(&rt, rt.alloc(), target, value, line);
-    }
+    assert_values(&rt, rt.alloc(), &OTHER);
 }
 
 // No design joins more than 128 digits.
@@ -71,6 +87,6 @@ fn refuses_to_join_too_many_digits(rt: HostRuntime) {
     let fault = read_design(rt.alloc(), source.as_bytes())
         .err()
         .expect(&rt, "a fault");
-    let line = format!(in rt.alloc(); "{fault}").expect(&rt, "memory");
-    assert_eq!(rt; line.as_str(), "E7 concatenation over 128 bits");
+    let line = text_of_fault(&rt, rt.alloc(), &fault);
+    assert_text(&rt, line.as_str(), "E7 concatenation over 128 bits");
 }

@@ -1,14 +1,15 @@
 //! Calls from bytes to bytes in too little memory: each answers as it has to, or tells of memory, and then nothing was written
 //! but a beginning.
 
+use super::compare::{assert_entries, assert_number};
+use super::held::text_of_fault;
 use frontend::read_design;
 use hoard::Hoard;
 use journal::{Counted, ReadFault, WriteFault, read_journal, write_journal};
 use model::entry::Entry;
-use replay::replay_bytes;
+use replay::{BytesFault, replay_bytes};
 use std::alloc::Global;
 use std::process::Abort;
-use std::test::Fail;
 
 /// How much more memory a call gets each time, and how often at most.
 const STEP: usize = 48;
@@ -40,42 +41,53 @@ const ENTRIES: [Entry; 8] = [
 
 const LINE: &[u8] = b"1 0\n";
 
+// Takes all memory but so many pieces.
+fn take_all(rt: &impl Abort, alloc: Global, pieces: usize) -> Hoard {
+    Hoard::new(alloc, pieces, PIECE).expect(rt, "memory")
+}
+
+// Room for any of the texts.
+fn room(rt: &impl Abort, alloc: Global) -> Vec<u8> {
+    Vec::with_capacity(alloc, TEXT).expect(rt, "memory")
+}
+
 // Leaves memory for a call that is made again and again.
 fn leave(rt: &impl Abort, hoard: &mut Hoard, count: usize) {
     let is_left = hoard.leave(count.saturating_mul(STEP));
     assert!(rt; is_left, "a piece of memory");
 }
 
-// Whether a design is read, where the text of a fault tells of memory alone.
+// The text of the fault of a source tells of memory alone.
+fn assert_memory(rt: &impl Abort, told: &str) {
+    assert!(rt; told == "P6 memory" || told == "E10 memory", "{told}");
+}
+
+// Whether a design is read.
 fn is_design(rt: &impl Abort, alloc: Global, hoard: &mut Hoard, count: usize) -> bool {
     leave(rt, hoard, count);
     let answer = read_design(alloc, SWAP);
     assert!(rt; hoard.open(), "a piece of memory");
     match answer {
         Ok(design) => {
-            assert_eq!(rt; design.registers(), 2);
+            assert_number(rt, u64::from(design.registers()), 2);
             true
         }
         Err(fault) => {
-            let told = format!(in alloc; "{fault}").expect(rt, "memory for a line");
-            assert!(rt;
-                told.as_str() == "P6 memory" || told.as_str() == "E10 memory",
-                "{told}"
-            );
+            assert_memory(rt, text_of_fault(rt, alloc, &fault).as_str());
             false
         }
     }
 }
 
 #[test]
-fn a_source_is_read_or_refused_memory(rt: HostRuntime) -> Result<(), Fail> {
-    let mut hoard = Hoard::new(rt.alloc(), 2 * ROOMS, PIECE)?;
+fn a_source_is_read_or_refused_memory(rt: HostRuntime) {
+    let mut hoard = take_all(&rt, rt.alloc(), 2 * ROOMS);
     for count in 0..ROOMS {
         let is_read = is_design(&rt, rt.alloc(), &mut hoard, count);
         hoard.shut();
         if is_read {
             assert!(rt; count > 0, "memory was refused");
-            return Ok(());
+            return;
         }
     }
     panic!(rt; "no design");
@@ -86,7 +98,7 @@ fn is_journal(rt: &impl Abort, alloc: Global, hoard: &mut Hoard, count: usize) -
     leave(rt, hoard, count);
     match read_journal(alloc, &mut Counted::new(JOURNAL)) {
         Ok(entries) => {
-            assert!(rt; entries.as_slice() == ENTRIES.as_slice(), "the entries");
+            assert_entries(rt, &entries, &ENTRIES);
             true
         }
         Err(fault) => {
@@ -97,17 +109,24 @@ fn is_journal(rt: &impl Abort, alloc: Global, hoard: &mut Hoard, count: usize) -
 }
 
 #[test]
-fn a_journal_is_read_or_refused_memory(rt: HostRuntime) -> Result<(), Fail> {
-    let mut hoard = Hoard::new(rt.alloc(), ROOMS, PIECE)?;
+fn a_journal_is_read_or_refused_memory(rt: HostRuntime) {
+    let mut hoard = take_all(&rt, rt.alloc(), ROOMS);
     for count in 0..ROOMS {
         let is_read = is_journal(&rt, rt.alloc(), &mut hoard, count);
         hoard.shut();
         if is_read {
             assert!(rt; count > 0, "memory was refused");
-            return Ok(());
+            return;
         }
     }
     panic!(rt; "no journal");
+}
+
+// The text of the journal.
+fn whole_text(rt: &impl Abort, alloc: Global) -> Vec<u8> {
+    let mut out = Counted::new(Vec::new(alloc));
+    assert!(rt; write_journal(alloc, &mut out, &ENTRIES).is_ok());
+    out.into_inner()
 }
 
 // Whether a journal is written, into room that is there already.
@@ -136,21 +155,31 @@ fn is_written(
 }
 
 #[test]
-fn a_journal_is_written_or_refused_memory(rt: HostRuntime) -> Result<(), Fail> {
-    let mut whole = Counted::new(Vec::new(rt.alloc()));
-    assert!(rt; write_journal(rt.alloc(), &mut whole, &ENTRIES).is_ok());
-    let whole = whole.into_inner();
-    let mut out = Vec::with_capacity(rt.alloc(), TEXT)?;
-    let mut hoard = Hoard::new(rt.alloc(), ROOMS, PIECE)?;
+fn a_journal_is_written_or_refused_memory(rt: HostRuntime) {
+    let whole = whole_text(&rt, rt.alloc());
+    let mut out = room(&rt, rt.alloc());
+    let mut hoard = take_all(&rt, rt.alloc(), ROOMS);
     for count in 0..ROOMS {
         let (left, is_whole) = is_written(&rt, rt.alloc(), &mut hoard, out, &whole, count);
         out = left;
         if is_whole {
             assert!(rt; count > 0, "memory was refused");
-            return Ok(());
+            return;
         }
     }
     panic!(rt; "no text");
+}
+
+// A text tells of memory.
+fn assert_told(rt: &impl Abort, told: &str) {
+    assert!(rt; told.ends_with("memory"), "{told}");
+}
+
+// The text of the fault of a replay tells of memory, and no lines were written.
+fn assert_refused_replay(rt: &impl Abort, alloc: Global, fault: &BytesFault, out: &[u8]) {
+    let told = format!(in alloc; "{fault}").expect(rt, "memory for a line");
+    assert_told(rt, told.as_str());
+    assert!(rt; out.is_empty(), "lines before a fault");
 }
 
 // Whether the lines of a replay are written, into room that is there already.
@@ -169,27 +198,23 @@ fn is_replayed(
     let is_whole = answer.is_ok();
     match answer {
         Ok(()) => assert!(rt; out.as_slice() == LINE, "the line"),
-        Err(fault) => {
-            let told = format!(in alloc; "{fault}").expect(rt, "memory for a line");
-            assert!(rt; told.ends_with("memory"), "{told}");
-            assert!(rt; out.is_empty(), "lines before a fault");
-        }
+        Err(fault) => assert_refused_replay(rt, alloc, &fault, &out),
     }
     out.clear();
     (out, is_whole)
 }
 
 #[test]
-fn a_journal_is_replayed_or_refused_memory(rt: HostRuntime) -> Result<(), Fail> {
-    let mut out = Vec::with_capacity(rt.alloc(), TEXT)?;
-    let mut hoard = Hoard::new(rt.alloc(), 2 * ROOMS, PIECE)?;
+fn a_journal_is_replayed_or_refused_memory(rt: HostRuntime) {
+    let mut out = room(&rt, rt.alloc());
+    let mut hoard = take_all(&rt, rt.alloc(), 2 * ROOMS);
     for count in 0..ROOMS {
         let (left, is_whole) = is_replayed(&rt, rt.alloc(), &mut hoard, out, count);
         hoard.shut();
         out = left;
         if is_whole {
             assert!(rt; count > 0, "memory was refused");
-            return Ok(());
+            return;
         }
     }
     panic!(rt; "no replay");

@@ -1,11 +1,11 @@
 //! What a fault prints, and replays from bytes to bytes: their lines, or the line that tells of the fault.
 
+use super::compare::{assert_row, assert_text};
+use super::replayed::{assert_prints, assert_refuses};
 use super::streams::{ByteReader, ByteWriter};
-use design::Design;
-use frontend::read_design;
 use journal::Counted;
 use model::entry::{Entry, Refusal};
-use replay::{Cause, ReplayFault, replay, replay_bytes};
+use replay::{Cause, ReplayFault, replay_bytes};
 use std::alloc::Global;
 use std::io::ErrorKind;
 use std::process::Abort;
@@ -58,7 +58,7 @@ fn left_of(
 fn assert_line(rt: &impl Abort, alloc: Global, entry: u64, cause: Cause, want: &str) {
     let fault = ReplayFault { entry, cause };
     let line = format!(in alloc; "{fault}").expect(rt, "memory");
-    assert_eq!(rt; line.as_str(), want);
+    assert_text(rt, line.as_str(), want);
 }
 
 #[test]
@@ -90,16 +90,8 @@ fn says_why(rt: HostRuntime) {
     }
 }
 
-// A journal of the race is lawful, and leaves this line and nothing to do.
-fn assert_replayed(rt: &impl Abort, alloc: Global, design: &Design, journal: &[Entry], line: &str) {
-    let replayed = replay(alloc, design, journal).ok().expect(rt, "lawful");
-    assert!(rt; replayed.state.is_quiet());
-    assert_eq!(rt; replayed.made.lines.as_str(), line);
-}
-
 #[test]
 fn replays_entries(rt: HostRuntime) {
-    let design = read_design(rt.alloc(), RACE).ok().expect(&rt, "a source");
     let mut journal = [
         Entry::Turn(1),
         Entry::Turn(0),
@@ -107,18 +99,50 @@ fn replays_entries(rt: HostRuntime) {
         Entry::ActivateInactive,
         Entry::Turn(3),
     ];
-    assert_replayed(&rt, rt.alloc(), &design, &journal, "0\n");
+    let is_over = assert_prints(&rt, rt.alloc(), RACE, &journal, "0\n");
+    assert!(rt; is_over, "nothing is left to do");
     journal[4] = Entry::Turn(4);
-    let fault = replay(rt.alloc(), &design, &journal).err();
-    let cause = Cause::Refused(Refusal::NotActive);
-    assert!(rt; fault == Some(ReplayFault { entry: 5, cause }));
+    assert_refuses(&rt, rt.alloc(), RACE, &journal, 5, Refusal::NotActive);
+}
+
+// A replay by a reader and a writer that fail after so many bytes leaves this. It stands at this place of its test.
+fn assert_left_of(
+    rt: &impl Abort,
+    alloc: Global,
+    both: (&[u8], &[u8]),
+    limits: (usize, usize),
+    want: &str,
+    place: usize,
+) {
+    let left = left_of(rt, alloc, both, limits.0, limits.1);
+    assert_row(rt, left.as_str(), want, place);
+}
+
+// By a reader that fails after so few bytes that the text of the journal isn't read to its end, only that is told.
+fn assert_failed_reads(rt: &impl Abort, alloc: Global, both: (&[u8], &[u8])) {
+    for reads in 0..=both.1.len() {
+        assert_left_of(
+            rt,
+            alloc,
+            both,
+            (reads, 100),
+            "Q4 journal read error",
+            reads,
+        );
+    }
+}
+
+// By a writer that fails after 0, 1, .. bytes, these are left.
+fn assert_failed_writes(rt: &impl Abort, alloc: Global, both: (&[u8], &[u8]), wants: &[&str]) {
+    for (writes, want) in wants.iter().enumerate() {
+        assert_left_of(rt, alloc, both, (100, writes), want, writes);
+    }
 }
 
 // Each source and text of a journal leaves its lines, or the line that tells of the fault.
 fn assert_left(rt: &impl Abort, alloc: Global, rows: &[(&[u8], &[u8], &str)]) {
     for (place, (source, text, want)) in rows.iter().enumerate() {
-        let left = left_of(rt, alloc, (source, text), 100, 100);
-        assert_eq!(rt; left.as_str(), *want, "row {place}");
+        assert_left_of(rt, alloc, (source, text), (100, 100), want, place);
     }
 }
 
@@ -203,19 +227,10 @@ fn replays_bytes_of_version_2(rt: HostRuntime) {
 fn a_failed_read_or_write_is_told(rt: HostRuntime) {
     let one: &[u8] = b"vsimtx-journal 1\nT 0\n";
     let text: &[u8] = b"vsimtx-journal 2\nT 0\nE 1\n";
-    for both in [(HI, one), (HI, text)] {
-        for reads in 0..=both.1.len() {
-            let left = left_of(&rt, rt.alloc(), both, reads, 100);
-            assert_eq!(rt; left.as_str(), "Q4 journal read error", "read {reads}");
-        }
-    }
-    for (writes, want) in ["cannot write", "hcannot write", "hicannot write", "hi\n"]
-        .iter()
-        .enumerate()
-    {
-        let left = left_of(&rt, rt.alloc(), (HI, text), 100, writes);
-        assert_eq!(rt; left.as_str(), *want, "write {writes}");
-    }
+    assert_failed_reads(&rt, rt.alloc(), (HI, one));
+    assert_failed_reads(&rt, rt.alloc(), (HI, text));
+    let wants = ["cannot write", "hcannot write", "hicannot write", "hi\n"];
+    assert_failed_writes(&rt, rt.alloc(), (HI, text), &wants);
 }
 
 #[test]
@@ -223,21 +238,13 @@ fn a_longer_journal_that_breaks_off_is_told(rt: HostRuntime) {
     let source: &[u8] =
         b"module t; reg a, b; initial begin a=1'b0; b=1'b1; #1 a<=b; b<=a; #1 $display(\"%b %b\",a,b); end endmodule";
     let text: &[u8] = b"vsimtx-journal 1\nT 0\nA 1\nT 1\nN\nU 2\nU 3\nA 2\nT 4\n";
-    for reads in 0..=text.len() {
-        let left = left_of(&rt, rt.alloc(), (source, text), reads, 100);
-        assert_eq!(rt; left.as_str(), "Q4 journal read error", "read {reads}");
-    }
-    for (writes, want) in [
+    assert_failed_reads(&rt, rt.alloc(), (source, text));
+    let wants = [
         "cannot write",
         "1cannot write",
         "1 cannot write",
         "1 0cannot write",
         "1 0\n",
-    ]
-    .iter()
-    .enumerate()
-    {
-        let left = left_of(&rt, rt.alloc(), (source, text), 100, writes);
-        assert_eq!(rt; left.as_str(), *want, "write {writes}");
-    }
+    ];
+    assert_failed_writes(&rt, rt.alloc(), (source, text), &wants);
 }

@@ -1,23 +1,20 @@
 //! Journals of designs with `$strobe` (17.1.2): their lines, and which entries are refused.
 
-use frontend::read_design;
+use super::replayed::{assert_prints, assert_refuses};
 use model::entry::{Entry, Refusal};
-use replay::{Cause, ReplayFault, replay};
-use std::alloc::Global;
-use std::process::Abort;
 
 /// A strobe before an update of its register.
-const STROBE: &str =
-    "module t; reg a; initial begin a=1'b0; $strobe(\"s %b\",a); a<=1'b1; $display(\"d %b\",a); end endmodule";
+const STROBE: &[u8] =
+    b"module t; reg a; initial begin a=1'b0; $strobe(\"s %b\",a); a<=1'b1; $display(\"d %b\",a); end endmodule";
 
 /// Strobes of two processes.
-const TWO: &str = "module t; initial $strobe(\"p\"); initial $strobe(\"q\"); endmodule";
+const TWO: &[u8] = b"module t; initial $strobe(\"p\"); initial $strobe(\"q\"); endmodule";
 
 /// Strobes of two times.
-const TIMES: &str = "module t; initial begin $strobe(\"a\"); #1 $strobe(\"b\"); end endmodule";
+const TIMES: &[u8] = b"module t; initial begin $strobe(\"a\"); #1 $strobe(\"b\"); end endmodule";
 
 /// A strobe before the end of the run.
-const LOST: &str = "module t; initial begin $strobe(\"s\"); $finish; end endmodule";
+const LOST: &[u8] = b"module t; initial begin $strobe(\"s\"); $finish; end endmodule";
 
 // The entries of a journal as one letter each, with its number, if it has one.
 const M: Entry = Entry::ActivateMonitor;
@@ -26,32 +23,6 @@ const N: Entry = Entry::ActivateNba;
 
 fn turn(event: u64) -> Entry {
     Entry::Turn(event)
-}
-
-// The journal of the source is lawful, and prints these lines.
-fn assert_prints(rt: &impl Abort, alloc: Global, source: &str, journal: &[Entry], lines: &str) {
-    let design = read_design(alloc, source.as_bytes())
-        .ok()
-        .expect(rt, "a source");
-    let replayed = replay(alloc, &design, journal).ok().expect(rt, "lawful");
-    assert_eq!(rt; replayed.made.lines.as_str(), lines);
-}
-
-// An entry of the journal, counted from 1, is refused.
-fn assert_refuses(
-    rt: &impl Abort,
-    alloc: Global,
-    source: &str,
-    journal: &[Entry],
-    entry: u64,
-    refusal: Refusal,
-) {
-    let design = read_design(alloc, source.as_bytes())
-        .ok()
-        .expect(rt, "a source");
-    let fault = replay(alloc, &design, journal).err();
-    let cause = Cause::Refused(refusal);
-    assert!(rt; fault == Some(ReplayFault { entry, cause }));
 }
 
 #[test]

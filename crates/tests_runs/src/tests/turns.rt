@@ -8,8 +8,9 @@ ghost use Rattle.model.specs.declared.tree.BinaryOperator.TheVariants.{Add};
 ghost use Rattle.design.specs.declared.code.Op.TheVariants.{Load, BinaryRegister};
 ghost use Rattle.design.specs.Steps.{below, piece, run_ops};
 
-use super::held::{Held, beginning, design_of, first_turn, turn_from};
-use design::RegId;
+use super::compare::{assert_length, assert_number, assert_text};
+use super::held::{Held, assert_read_at, beginning, design_of, first_turn, turn_from};
+use design::{Design, ProcState, RegId};
 use logic4::bits::Bits;
 use std::alloc::Global;
 use std::process::Abort;
@@ -24,16 +25,21 @@ fn one_value_is_left()
     ensures { (values : Store) → below (run_ops values (Load 1 8 ∷ BinaryRegister Add 8 8 0 8 ∷ BinaryRegister Add 8 8 1 8 ∷ []) []) ≡ [] }
 {}
 
+// The writes of a turn.
+fn assert_writes(rt: &impl Abort, log: &TurnLog, wanted: &[(RegId, Bits)]) {
+    assert!(rt; log.writes.as_slice() == wanted);
+}
+
 #[test]
 fn reads_a_register_once(rt: HostRuntime) {
     one_value_is_left();
     let source = "module t; reg [7:0] a, b, q; initial q = b + a + b; endmodule";
     let mut held = three();
     let log = first_turn(&rt, rt.alloc(), source, &mut held);
-    assert_eq!(rt; held.reads, 2);
-    assert!(rt; log.reads.get_index_of(&1) == Some(0));
-    assert!(rt; log.reads.get_index_of(&0) == Some(1));
-    assert!(rt; log.writes.as_slice() == [(2, Bits::from_u64(8, 9))].as_slice());
+    assert_number(&rt, held.reads, 2);
+    assert_read_at(&rt, &log.reads, 1, 0);
+    assert_read_at(&rt, &log.reads, 0, 1);
+    assert_writes(&rt, &log, &[(2, Bits::from_u64(8, 9))]);
 }
 
 // The first turn of the first process, in room that is kept.
@@ -44,7 +50,7 @@ fn turn_in(
     source: &str,
     held: &mut Held,
 ) -> TurnLog {
-    let design = design_of(rt, alloc, source);
+    let design = design_of(rt, alloc, source.as_bytes());
     let state = beginning(rt, &design);
     let _registers = design.registers();
     run_turn_in(alloc, workspace, &design, &state, 7, held)
@@ -60,15 +66,28 @@ const TWO: &str =
 const THREE: &str =
     "module t; reg [3:0] a, b, c; initial begin a = 4'd5; $display(\"%0d %0d\", a, b); end endmodule";
 
+// In room that is kept a turn shows both values. So many reads were made by then.
+fn assert_shows(
+    rt: &impl Abort,
+    alloc: Global,
+    workspace: &mut Workspace,
+    source: &str,
+    held: &mut Held,
+    reads: u64,
+) {
+    let log = turn_in(rt, alloc, workspace, source, held);
+    assert_text(rt, log.lines.as_str(), "5 3\n");
+    assert_number(rt, held.reads, reads);
+}
+
 #[test]
 fn knows_nothing_of_the_turn_before(rt: HostRuntime) {
     let mut workspace = Workspace::new(rt.alloc());
     let mut held = three();
-    for (source, reads) in [(TWO, 1), (TWO, 2), (THREE, 3), (TWO, 4)] {
-        let log = turn_in(&rt, rt.alloc(), &mut workspace, source, &mut held);
-        assert_eq!(rt; log.lines.as_str(), "5 3\n");
-        assert_eq!(rt; held.reads, reads);
-    }
+    assert_shows(&rt, rt.alloc(), &mut workspace, TWO, &mut held, 1);
+    assert_shows(&rt, rt.alloc(), &mut workspace, TWO, &mut held, 2);
+    assert_shows(&rt, rt.alloc(), &mut workspace, THREE, &mut held, 3);
+    assert_shows(&rt, rt.alloc(), &mut workspace, TWO, &mut held, 4);
 }
 
 /// One read, one write, one nonblocking assignment and one line.
@@ -89,29 +108,50 @@ fn sizes(log: &TurnLog) -> [usize; 5] {
     ]
 }
 
+// A log has so many of each.
+fn assert_sizes(rt: &impl Abort, log: &TurnLog, wanted: [usize; 5]) {
+    assert!(rt; sizes(log) == wanted);
+}
+
+// The log of a turn in room that is kept, which has so many of each.
+fn log_of_sizes(
+    rt: &impl Abort,
+    alloc: Global,
+    workspace: &mut Workspace,
+    source: &str,
+    wanted: [usize; 5],
+) -> TurnLog {
+    let log = turn_in(rt, alloc, workspace, source, &mut three());
+    assert_sizes(rt, &log, wanted);
+    log
+}
+
+// How many writes there is room for in the empty log of a turn in room that is kept.
+fn room_of_nothing(rt: &impl Abort, alloc: Global, workspace: &mut Workspace) -> usize {
+    let log = log_of_sizes(rt, alloc, workspace, EMPTY, [0; 5]);
+    log.writes.capacity()
+}
+
 #[test]
 fn empties_a_log_that_was_given_back(rt: HostRuntime) {
     let mut workspace = Workspace::new(rt.alloc());
-    let mut held = three();
-    let full = turn_in(&rt, rt.alloc(), &mut workspace, FULL, &mut held);
-    assert_eq!(rt; sizes(&full), [1, 1, 1, 1, 2]);
+    let full = log_of_sizes(&rt, rt.alloc(), &mut workspace, FULL, [1, 1, 1, 1, 2]);
     workspace.give_back(Some(full));
-    let empty = turn_in(&rt, rt.alloc(), &mut workspace, EMPTY, &mut held);
-    assert_eq!(rt; sizes(&empty), [0; 5]);
-    assert!(rt; empty.writes.capacity() >= 1);
+    let room = room_of_nothing(&rt, rt.alloc(), &mut workspace);
+    assert!(rt; room >= 1);
     workspace.give_back(None);
-    let empty = turn_in(&rt, rt.alloc(), &mut workspace, EMPTY, &mut held);
-    assert_eq!(rt; sizes(&empty), [0; 5]);
+    let _room = room_of_nothing(&rt, rt.alloc(), &mut workspace);
 }
 
 // After a write of `b` a turn shows values, of which it reads so many, and ends behind its two statements.
 fn assert_known(rt: &impl Abort, alloc: Global, source: &str, line: &str, reads: u64) {
     let mut held = three();
     let log = first_turn(rt, alloc, source, &mut held);
-    assert_eq!(rt; log.lines.as_str(), line);
-    assert_eq!(rt; held.reads, reads);
-    assert_eq!(rt; log.next.place, 2);
-    assert_eq!(rt; (log.writes.len(), log.nets.len()), (1, 1));
+    assert_text(rt, log.lines.as_str(), line);
+    assert_number(rt, held.reads, reads);
+    assert_length(rt, log.next.place, 2);
+    assert_length(rt, log.writes.len(), 1);
+    assert_length(rt, log.nets.len(), 1);
 }
 
 #[test]
@@ -124,15 +164,19 @@ fn knows_what_it_wrote(rt: HostRuntime) {
     assert_known(&rt, rt.alloc(), source, "5 3\n", 1);
 }
 
+// A value has these binary digits.
+fn assert_digits(rt: &impl Abort, alloc: Global, value: &Bits, wanted: &str) {
+    let digits = value.show_b(alloc).expect(rt, "memory");
+    assert_text(rt, digits.as_str(), wanted);
+}
+
 // A net is of this register, first value, number of changes, and last value.
 fn assert_net(rt: &impl Abort, alloc: Global, net: Option<&Net>, wanted: (RegId, &str, u64, &str)) {
     let net = net.expect(rt, "a net");
-    let first = net.first.show_b(alloc).expect(rt, "memory");
-    let last = net.last.show_b(alloc).expect(rt, "memory");
-    assert_eq!(rt; net.register, wanted.0);
-    assert_eq!(rt; first.as_str(), wanted.1);
-    assert_eq!(rt; net.changes, wanted.2);
-    assert_eq!(rt; last.as_str(), wanted.3);
+    assert_number(rt, u64::from(net.register), u64::from(wanted.0));
+    assert_number(rt, net.changes, wanted.2);
+    assert_digits(rt, alloc, &net.first, wanted.1);
+    assert_digits(rt, alloc, &net.last, wanted.3);
 }
 
 #[test]
@@ -140,7 +184,8 @@ fn nets_of_two_registers(rt: HostRuntime) {
     let source =
         "module t; reg [3:0] a, b; initial begin b = 4'd5; a = 4'd1; b = 4'd5; b = 4'd6; a = 4'd1; b = 4'd5; end endmodule";
     let log = first_turn(&rt, rt.alloc(), source, &mut three());
-    assert_eq!(rt; (log.writes.len(), log.nets.len()), (6, 2));
+    assert_length(&rt, log.writes.len(), 6);
+    assert_length(&rt, log.nets.len(), 2);
     assert_net(&rt, rt.alloc(), log.nets.get(0), (1, "0101", 2, "0101"));
     assert_net(&rt, rt.alloc(), log.nets.get(1), (0, "0001", 0, "0001"));
 }
@@ -164,8 +209,13 @@ fn prints_a_line(rt: HostRuntime) {
     let source = "module t; reg [5:0] a; initial $display(\"a%b %h%0d\", a, a, a); endmodule";
     let mut held = Held::all(Bits::from_u64(6, 43));
     let log = first_turn(&rt, rt.alloc(), source, &mut held);
-    assert_eq!(rt; log.lines.as_str(), "a101011 2b43\n");
-    assert_eq!(rt; log.next.place, 1);
+    assert_text(&rt, log.lines.as_str(), "a101011 2b43\n");
+    assert_length(&rt, log.next.place, 1);
+}
+
+// A process is over, and the simulation isn't.
+fn assert_ended(rt: &impl Abort, log: &TurnLog) {
+    assert!(rt; matches!(log.suspend, Suspend::Ended) && !log.finish);
 }
 
 #[test]
@@ -174,10 +224,10 @@ fn loops_to_the_end(rt: HostRuntime) {
         "module t; reg [3:0] r; initial while (r < 4'd5) begin r = r + 4'd1; end endmodule";
     let mut held = three();
     let log = first_turn(&rt, rt.alloc(), source, &mut held);
-    assert_eq!(rt; log.count, 5);
-    assert!(rt; matches!(log.suspend, Suspend::Ended) && !log.finish);
-    assert_eq!(rt; held.reads, 1);
-    assert_eq!(rt; log.writes.len(), 2);
+    assert_number(&rt, u64::from(log.count), 5);
+    assert_ended(&rt, &log);
+    assert_number(&rt, held.reads, 1);
+    assert_length(&rt, log.writes.len(), 2);
 }
 
 /// When the first nonblocking assignment is due.
@@ -188,17 +238,44 @@ fn first_due(log: &TurnLog) -> u64 {
     }
 }
 
+// A turn waits until time 10.
+fn assert_waits(rt: &impl Abort, log: &TurnLog) {
+    assert!(rt; matches!(log.suspend, Suspend::Until(10)));
+}
+
+// The first turn, at time 7, waits until time 10. This is where the process goes on.
+fn wait(rt: &impl Abort, alloc: Global, design: &Design, held: &mut Held) -> ProcState {
+    let state = beginning(rt, design);
+    let log = turn_from(rt, alloc, design, state, 7, held);
+    assert_waits(rt, &log);
+    log.next
+}
+
+// A turn waits for the inactive region, to assign 3 to the second register.
+fn assert_pending(rt: &impl Abort, log: &TurnLog) {
+    assert!(rt; matches!(log.suspend, Suspend::Inactive));
+    assert!(rt; log.next.pending == Some((1, Bits::from_u64(4, 3))));
+}
+
+// The turn at time 10 assigns at time 12, and waits for the inactive region to assign the value of the first register.
+fn assert_assigns_later(
+    rt: &impl Abort,
+    alloc: Global,
+    design: &Design,
+    state: ProcState,
+    held: &mut Held,
+) {
+    let log = turn_from(rt, alloc, design, state, 10, held);
+    assert_number(rt, first_due(&log), 12);
+    assert_pending(rt, &log);
+}
+
 #[test]
 fn waits_and_assigns_later(rt: HostRuntime) {
     let source =
         "module t; reg [3:0] r, q; initial begin #3 q <= #2 r; q = #0 r; $finish; end endmodule";
-    let design = design_of(&rt, rt.alloc(), source);
+    let design = design_of(&rt, rt.alloc(), source.as_bytes());
     let mut held = three();
-    let state = beginning(&rt, &design);
-    let log = turn_from(&rt, rt.alloc(), &design, state, 7, &mut held);
-    assert!(rt; matches!(log.suspend, Suspend::Until(10)));
-    let log = turn_from(&rt, rt.alloc(), &design, log.next, 10, &mut held);
-    assert_eq!(rt; first_due(&log), 12);
-    assert!(rt; matches!(log.suspend, Suspend::Inactive));
-    assert!(rt; log.next.pending == Some((1, Bits::from_u64(4, 3))));
+    let state = wait(&rt, rt.alloc(), &design, &mut held);
+    assert_assigns_later(&rt, rt.alloc(), &design, state, &mut held);
 }

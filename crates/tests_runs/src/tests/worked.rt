@@ -1,12 +1,13 @@
 //! Sources whose first turn is known.
 
-use super::held::{Held, beginning, design_of, first_turn};
+use super::compare::{assert_length, assert_number, assert_text};
+use super::held::{Held, assert_read_at, first_turn, try_first_turn};
 use design::RegId;
 use indexmap::IndexMap;
 use logic4::bits::Bits;
 use std::alloc::{AllocError, Global};
 use std::process::Abort;
-use turn::{Seen, TurnFault, run_turn};
+use turn::{Seen, TurnFault, TurnLog};
 
 // The first turn of a process reads so many registers, prints this, and has so many counted steps, where every register
 // is unknown.
@@ -20,9 +21,9 @@ fn assert_turn(
 ) {
     let mut held = Held::all(Bits::unknown(1));
     let log = first_turn(rt, alloc, source, &mut held);
-    assert_eq!(rt; log.reads.len(), reads);
-    assert_eq!(rt; log.lines.as_str(), lines);
-    assert_eq!(rt; log.count, count);
+    assert_length(rt, log.reads.len(), reads);
+    assert_text(rt, log.lines.as_str(), lines);
+    assert_number(rt, u64::from(log.count), u64::from(count));
 }
 
 // The reads of the first turn of a process, which is too long.
@@ -32,10 +33,7 @@ fn too_long(
     source: &str,
     held: &mut Held,
 ) -> IndexMap<RegId, Seen> {
-    let design = design_of(rt, alloc, source);
-    let state = beginning(rt, &design);
-    let _registers = design.registers();
-    match run_turn(alloc, &design, &state, 3, held) {
+    match try_first_turn(rt, alloc, source, 3, held) {
         Err(TurnFault::TooLong(reads)) => reads,
         _ => panic!(rt; "short"),
     }
@@ -51,6 +49,11 @@ fn empty_statements(alloc: Global, count: usize) -> Result<String, AllocError> {
     Ok(source)
 }
 
+// The strobes of a turn.
+fn assert_strobes(rt: &impl Abort, log: &TurnLog, wanted: &[usize]) {
+    assert!(rt; log.strobes.as_slice() == wanted);
+}
+
 #[test]
 fn reads_and_prints_nothing_for_a_strobe(rt: HostRuntime) {
     let source =
@@ -58,8 +61,8 @@ fn reads_and_prints_nothing_for_a_strobe(rt: HostRuntime) {
     assert_turn(&rt, rt.alloc(), source, 1, "x\n", 4);
     let mut held = Held::all(Bits::unknown(1));
     let log = first_turn(&rt, rt.alloc(), source, &mut held);
-    assert!(rt; log.strobes.as_slice() == [0, 4].as_slice());
-    assert!(rt; log.reads.contains_key(&1));
+    assert_strobes(&rt, &log, &[0, 4]);
+    assert_read_at(&rt, &log.reads, 1, 0);
 }
 
 #[test]
@@ -120,6 +123,18 @@ fn prints_wide_values(rt: HostRuntime) {
     }
 }
 
+// A register stands at this place of the reads, with this seen of it.
+fn assert_seen(
+    rt: &impl Abort,
+    reads: &IndexMap<RegId, Seen>,
+    register: RegId,
+    place: usize,
+    wanted: &Seen,
+) {
+    assert_read_at(rt, reads, register, place);
+    assert!(rt; reads.get(&register) == Some(wanted), "{register}");
+}
+
 const DIFFER: &str = "module t; reg a, b; initial while (a!==b) begin end endmodule";
 
 #[test]
@@ -129,36 +144,35 @@ fn unknown_digits_are_the_same(rt: HostRuntime) {
 
 #[test]
 fn reads_before_it_is_too_long(rt: HostRuntime) {
-    let known = [
-        Seen {
-            version: 1,
-            value: Bits::from_u64(1, 0),
-        },
-        Seen {
-            version: 0,
-            value: Bits::from_u64(1, 1),
-        },
-    ];
+    let first = Seen {
+        version: 1,
+        value: Bits::from_u64(1, 0),
+    };
+    let second = Seen {
+        version: 0,
+        value: Bits::from_u64(1, 1),
+    };
     let mut held = Held::all(Bits::unknown(1));
-    held.registers[0] = known[0];
-    held.registers[1] = known[1];
+    held.registers[0] = first;
+    held.registers[1] = second;
     let reads = too_long(&rt, rt.alloc(), DIFFER, &mut held);
-    assert_eq!(rt; reads.len(), known.len());
-    for (place, seen) in known.iter().enumerate() {
-        let register = place as RegId;
-        assert_eq!(rt; reads.get_index_of(&register), Some(place));
-        assert_eq!(rt; reads.get(&register).copied(), Some(*seen));
-    }
+    assert_length(&rt, reads.len(), 2);
+    assert_seen(&rt, &reads, 0, 0, &first);
+    assert_seen(&rt, &reads, 1, 1, &second);
+}
+
+// The first turn of a process is too long, and reads no register.
+fn assert_reads_nothing(rt: &impl Abort, alloc: Global, source: &str) {
+    let reads = too_long(rt, alloc, source, &mut Held::all(Bits::unknown(1)));
+    assert_length(rt, reads.len(), 0);
 }
 
 #[test]
 fn has_so_many_steps_and_no_more(rt: HostRuntime) {
     let alloc = rt.alloc();
-    let mut held = Held::all(Bits::unknown(1));
     let source = empty_statements(alloc, 65_536).expect(&rt, "memory");
     assert_turn(&rt, alloc, source.as_str(), 0, "", 65_536);
     let source = empty_statements(alloc, 65_537).expect(&rt, "memory");
-    assert!(rt; too_long(&rt, alloc, source.as_str(), &mut held).is_empty());
-    let source = "module t; always ; endmodule";
-    assert!(rt; too_long(&rt, alloc, source, &mut held).is_empty());
+    assert_reads_nothing(&rt, alloc, source.as_str());
+    assert_reads_nothing(&rt, alloc, "module t; always ; endmodule");
 }

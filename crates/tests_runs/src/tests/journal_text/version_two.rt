@@ -1,6 +1,9 @@
 //! Texts of version 2, whose last line counts the entries.
 
-use super::{EACH_ENTRY, EACH_OF_TWO, TWO, assert_faults, assert_malformed, assert_read, count};
+use super::{
+    EACH_ENTRY, EACH_OF_TWO, TWO, assert_fault, assert_faults, assert_malformed, assert_read,
+};
+use crate::tests::compare::assert_length;
 use journal::ReadFault;
 use model::entry::Entry;
 
@@ -8,7 +11,7 @@ const HEADER: &[u8] = b"vsimtx-journal 2\n";
 
 #[test]
 fn a_text_cut_short_has_the_fault_of_its_cut(rt: HostRuntime) {
-    assert_eq!(rt; TWO.len(), 25);
+    assert_length(&rt, TWO.len(), 25);
     for length in 0..=24usize {
         let text = TWO.get(..length).expect(&rt, "short");
         let wanted = match length {
@@ -16,7 +19,7 @@ fn a_text_cut_short_has_the_fault_of_its_cut(rt: HostRuntime) {
             17 | 21 => ReadFault::Uncounted,
             _ => ReadFault::Cut,
         };
-        assert!(rt; count(rt.alloc(), text) == Err(wanted), "at {length}");
+        assert_fault(&rt, rt.alloc(), text, wanted, length);
     }
     assert_read(&rt, rt.alloc(), TWO, &[Entry::Turn(0)]);
 }
