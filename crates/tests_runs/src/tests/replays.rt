@@ -61,31 +61,37 @@ fn assert_line(rt: &impl Abort, alloc: Global, entry: u64, cause: Cause, want: &
     assert_text(rt, line.as_str(), want);
 }
 
+/// Entries that are refused, and what is printed of them.
+const REFUSALS: &[(u64, Refusal, &str)] = &[
+    (3, Refusal::NotActive, "entry 3: J1 event not active"),
+    (
+        4,
+        Refusal::EarlierUpdate,
+        "entry 4: J2 earlier update active",
+    ),
+    (1, Refusal::NotDue, "entry 1: J3 region change not due"),
+    (12, Refusal::WrongTime, "entry 12: J4 wrong time"),
+    (9, Refusal::PastLimit, "entry 9: J5 time limit"),
+    (8, Refusal::Finished, "entry 8: J6 finished"),
+];
+
+/// Other faults of entries, and what is printed of them.
+const FAULTS: &[(u64, Cause, &str)] = &[
+    (2, Cause::TooLong, "entry 2: turn too long"),
+    (
+        4294967296,
+        Cause::TooMany,
+        "entry 4294967296: too many entries",
+    ),
+    (0, Cause::Memory, "entry 0: memory"),
+];
+
 #[test]
 fn says_why(rt: HostRuntime) {
-    for (entry, refusal, want) in [
-        (3, Refusal::NotActive, "entry 3: J1 event not active"),
-        (
-            4,
-            Refusal::EarlierUpdate,
-            "entry 4: J2 earlier update active",
-        ),
-        (1, Refusal::NotDue, "entry 1: J3 region change not due"),
-        (12, Refusal::WrongTime, "entry 12: J4 wrong time"),
-        (9, Refusal::PastLimit, "entry 9: J5 time limit"),
-        (8, Refusal::Finished, "entry 8: J6 finished"),
-    ] {
+    for &(entry, refusal, want) in REFUSALS {
         assert_line(&rt, rt.alloc(), entry, Cause::Refused(refusal), want);
     }
-    for (entry, cause, want) in [
-        (2, Cause::TooLong, "entry 2: turn too long"),
-        (
-            4294967296,
-            Cause::TooMany,
-            "entry 4294967296: too many entries",
-        ),
-        (0, Cause::Memory, "entry 0: memory"),
-    ] {
+    for &(entry, cause, want) in FAULTS {
         assert_line(&rt, rt.alloc(), entry, cause, want);
     }
 }

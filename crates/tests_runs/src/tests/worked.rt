@@ -79,46 +79,49 @@ fn extends_to_the_size_of_the_context(rt: HostRuntime) {
     assert_turn(&rt, rt.alloc(), source, 0, "16 0\n", 2);
 }
 
+/// Sources with values of up to 128 digits, each with its line and its counted steps.
+const WIDE: &[(&str, &str, u32)] = &[
+    (
+        "module t; initial $display(\"%0d\", 128'hffffffffffffffffffffffffffffffff); endmodule",
+        "340282366920938463463374607431768211455\n",
+        1,
+    ),
+    (
+        "module t; initial $display(\"%0d\", 128'hffffffffffffffffffffffffffffffff+128'h1); endmodule",
+        "0\n",
+        1,
+    ),
+    (
+        "module t; initial $display(\"%h\", 128'h1<<8'd127); endmodule",
+        "80000000000000000000000000000000\n",
+        1,
+    ),
+    (
+        "module t; initial $display(\"%h\", {64'hfedcba9876543210, 64'h1}); endmodule",
+        "fedcba98765432100000000000000001\n",
+        1,
+    ),
+    (
+        "module t; initial $display(\"%b\", 128'd170141183460469231731687303715884105728>>8'd126); endmodule",
+        "00000000000000000000000000000000000000000000000000000000000000000000000000000000000000000000000000000000000000000000000000000010\n",
+        1,
+    ),
+    (
+        "module t; reg [64:0] a; initial begin a = 64'hffffffffffffffff+64'h1; $display(\"%0d\",a); end endmodule",
+        "18446744073709551616\n",
+        2,
+    ),
+    (
+        "module t; reg [127:0] a; initial begin a = 128'bz; $display(\"%h %0d\",a,a[127]); end endmodule",
+        "zzzzzzzzzzzzzzzzzzzzzzzzzzzzzzzz z\n",
+        2,
+    ),
+];
+
 /// Literals, sums, shifts, concatenations and registers of up to 128 digits.
 #[test]
 fn prints_wide_values(rt: HostRuntime) {
-    for (source, line, count) in [
-        (
-            "module t; initial $display(\"%0d\", 128'hffffffffffffffffffffffffffffffff); endmodule",
-            "340282366920938463463374607431768211455\n",
-            1,
-        ),
-        (
-            "module t; initial $display(\"%0d\", 128'hffffffffffffffffffffffffffffffff+128'h1); endmodule",
-            "0\n",
-            1,
-        ),
-        (
-            "module t; initial $display(\"%h\", 128'h1<<8'd127); endmodule",
-            "80000000000000000000000000000000\n",
-            1,
-        ),
-        (
-            "module t; initial $display(\"%h\", {64'hfedcba9876543210, 64'h1}); endmodule",
-            "fedcba98765432100000000000000001\n",
-            1,
-        ),
-        (
-            "module t; initial $display(\"%b\", 128'd170141183460469231731687303715884105728>>8'd126); endmodule",
-            "00000000000000000000000000000000000000000000000000000000000000000000000000000000000000000000000000000000000000000000000000000010\n",
-            1,
-        ),
-        (
-            "module t; reg [64:0] a; initial begin a = 64'hffffffffffffffff+64'h1; $display(\"%0d\",a); end endmodule",
-            "18446744073709551616\n",
-            2,
-        ),
-        (
-            "module t; reg [127:0] a; initial begin a = 128'bz; $display(\"%h %0d\",a,a[127]); end endmodule",
-            "zzzzzzzzzzzzzzzzzzzzzzzzzzzzzzzz z\n",
-            2,
-        ),
-    ] {
+    for &(source, line, count) in WIDE {
         assert_turn(&rt, rt.alloc(), source, 0, line, count);
     }
 }
