@@ -1,15 +1,19 @@
 //! The program over files in memory, with exact bytes and statuses.
 
+use design::Design;
+use frontend::read_design;
 use journal::Counted;
+use model::entry::Entry;
 use program::{Files, command};
-use std::alloc::{AllocError, Global};
+use replay::{Replayed, replay};
+use simulate::{Outcome, SimFault};
+use std::alloc::Global;
 use std::cell::RefCell;
 use std::io;
 use std::io::{ErrorKind, Read, Write};
 use std::process::Abort;
 use std::rc::Rc;
 use std::sync::Wait;
-use std::test::Fail;
 use std::thread::Threads;
 
 mod counts;
@@ -26,6 +30,19 @@ mod sources;
 mod threads;
 mod versions;
 mod words;
+
+/// A run of the source, with no journal.
+const RUN: &str = "vsimtx run t.v";
+
+/// A run that keeps its journal.
+const SAVE: &str = "vsimtx run t.v --journal OUT";
+
+const REPLAY: &str = "vsimtx replay t.v JOURNAL";
+
+const CANNOT_WRITE: &str = "vsimtx: cannot write\n";
+
+/// Bytes that a writer puts there, and that stay once it is gone.
+type Shared = Rc<RefCell<Vec<u8>>>;
 
 /// A file to read: its bytes, of which a read gives one, and then a fault, if there is one.
 #[derive(Drop)]
@@ -54,7 +71,7 @@ impl Read for Source<'_> {
 struct Memory<'a> {
     source: &'a [u8],
     journal: &'a [u8],
-    made: Rc<RefCell<Vec<u8>>>,
+    made: Shared,
     room: usize,
 }
 
@@ -91,7 +108,7 @@ impl<'a> Files for Memory<'a> {
 #[derive(Drop)]
 struct Target {
     room: usize,
-    written: Rc<RefCell<Vec<u8>>>,
+    written: Shared,
 }
 
 impl Write for Target {
@@ -119,17 +136,22 @@ impl Write for Target {
 /// file.
 #[derive(Clone, Copy)]
 struct Setting<'a> {
-    source: &'a [u8],
+    source: &'a str,
     journal: &'a [u8],
     out_room: usize,
     room: usize,
 }
 
 /// A source, no journal, and room for all that is written.
-fn over(source: &[u8]) -> Setting<'_> {
+fn over(source: &str) -> Setting<'_> {
+    over_journal(source, b"")
+}
+
+/// A source, a journal, and room for all that is written.
+fn over_journal<'a>(source: &'a str, journal: &'a [u8]) -> Setting<'a> {
     Setting {
         source,
-        journal: b"",
+        journal,
         out_room: usize::MAX,
         room: usize::MAX,
     }
@@ -145,64 +167,246 @@ struct Left {
     made: Vec<u8>,
 }
 
-fn words_of(alloc: Global, line: &str) -> Result<Vec<String>, AllocError> {
+/// What a command is to leave: its status, and what stands on output and on standard error.
+#[derive(Clone, Copy)]
+struct Wanted<'a> {
+    status: u8,
+    out: &'a str,
+    err: &'a str,
+}
+
+/// These lines, and no fault.
+fn prints(out: &str) -> Wanted<'_> {
+    Wanted {
+        status: 0,
+        out,
+        err: "",
+    }
+}
+
+/// A status and its line, and nothing on output.
+fn tells(status: u8, err: &str) -> Wanted<'_> {
+    Wanted {
+        status,
+        out: "",
+        err,
+    }
+}
+
+/// The two texts that a source may print.
+#[derive(Clone, Copy)]
+struct Texts<'a> {
+    one: &'a str,
+    other: &'a str,
+}
+
+fn either<'a>(one: &'a str, other: &'a str) -> Texts<'a> {
+    Texts { one, other }
+}
+
+fn only(text: &str) -> Texts<'_> {
+    either(text, text)
+}
+
+impl Texts<'_> {
+    fn has(&self, lines: &[u8]) -> bool {
+        lines == self.one.as_bytes() || lines == self.other.as_bytes()
+    }
+}
+
+fn append(rt: &impl Abort, text: &mut String, part: &str) {
+    text.push_str(part).expect(rt, "memory");
+}
+
+/// Texts, one behind the other.
+fn joined(rt: &impl Abort, alloc: Global, texts: &[&str]) -> String {
+    let mut all = String::new(alloc);
+    for &text in texts {
+        append(rt, &mut all, text);
+    }
+    all
+}
+
+/// A text, another so many times, and whatever ends it.
+fn repeated(
+    rt: &impl Abort,
+    alloc: Global,
+    before: &str,
+    part: &str,
+    times: usize,
+    after: &str,
+) -> String {
+    let mut text = joined(rt, alloc, &[before]);
+    for _ in 0..times {
+        append(rt, &mut text, part);
+    }
+    append(rt, &mut text, after);
+    text
+}
+
+/// The line of a fault.
+fn fault_line(rt: &impl Abort, alloc: Global, text: &str) -> String {
+    joined(rt, alloc, &["vsimtx: ", text, "\n"])
+}
+
+fn design_of(rt: &impl Abort, alloc: Global, source: &str) -> Design {
+    read_design(alloc, source.as_bytes()).expect(rt, "a design")
+}
+
+/// What a run left, which had workers and memory.
+fn outcome_of(rt: &impl Abort, answer: Result<Outcome, SimFault>) -> Outcome {
+    answer.expect(rt, "a run")
+}
+
+/// What a lawful journal replays to.
+fn replayed(rt: &impl Abort, alloc: Global, design: &Design, entries: &[Entry]) -> Replayed {
+    replay(alloc, design, entries).expect(rt, "a lawful journal")
+}
+
+fn words_of(rt: &impl Abort, alloc: Global, line: &str) -> Vec<String> {
     let mut words = Vec::new(alloc);
     for word in line.split(' ') {
-        words.push(String::from_str(alloc, word)?)?;
+        let word = joined(rt, alloc, &[word]);
+        words.push(word).expect(rt, "memory");
     }
-    Ok(words)
+    words
+}
+
+fn shared(rt: &impl Abort, alloc: Global) -> Shared {
+    Rc::new(alloc, RefCell::new(Vec::new(alloc))).expect(rt, "memory")
 }
 
 /// The bytes that a writer put there.
-fn copy(alloc: Global, bytes: &Rc<RefCell<Vec<u8>>>) -> Result<Vec<u8>, AllocError> {
+fn copy(rt: &impl Abort, alloc: Global, bytes: &Shared) -> Vec<u8> {
     match bytes.try_borrow() {
-        Ok(bytes) => bytes.clone(),
-        Err(_) => Ok(Vec::new(alloc)),
+        Ok(bytes) => bytes.clone().expect(rt, "memory"),
+        Err(_) => Vec::new(alloc),
     }
 }
 
+fn files_in<'a>(rt: &impl Abort, setting: &Setting<'a>, made: &Shared) -> Memory<'a> {
+    Memory {
+        source: setting.source.as_bytes(),
+        journal: setting.journal,
+        made: made.clone().expect(rt, "memory"),
+        room: setting.room,
+    }
+}
+
+fn output(rt: &impl Abort, room: usize, shown: &Shared) -> Counted<Target> {
+    let written = shown.clone().expect(rt, "memory");
+    Counted::new(Target { room, written })
+}
+
 /// What a command line leaves in a setting.
-fn run_in<R: Threads + Wait + Sync>(
+fn run_in<R: Abort + Threads + Wait + Sync>(
     rt: &R,
     alloc: Global,
     line: &str,
     setting: &Setting<'_>,
-) -> Result<Left, AllocError> {
-    let words = words_of(alloc, line)?;
-    let made = Rc::new(alloc, RefCell::new(Vec::new(alloc)))?;
-    let shown = Rc::new(alloc, RefCell::new(Vec::new(alloc)))?;
-    let mut files = Memory {
-        source: setting.source,
-        journal: setting.journal,
-        made: made.clone()?,
-        room: setting.room,
-    };
-    let mut out = Counted::new(Target {
-        room: setting.out_room,
-        written: shown.clone()?,
-    });
+) -> Left {
+    let words = words_of(rt, alloc, line);
+    let made = shared(rt, alloc);
+    let shown = shared(rt, alloc);
+    let mut files = files_in(rt, setting, &made);
+    let mut out = output(rt, setting.out_room, &shown);
     let mut err = Vec::new(alloc);
     let status = command(rt, alloc, words.as_slice(), &mut files, &mut out, &mut err);
-    Ok(Left {
+    Left {
         status,
-        out: copy(alloc, &shown)?,
+        out: copy(rt, alloc, &shown),
         err,
-        made: copy(alloc, &made)?,
-    })
+        made: copy(rt, alloc, &made),
+    }
 }
 
-/// What a command line leaves where `t.v` has these bytes.
-fn run_line<R: Threads + Wait + Sync>(
+/// What a command line leaves where `t.v` is this source.
+fn run_line<R: Abort + Threads + Wait + Sync>(
     rt: &R,
     alloc: Global,
     line: &str,
-    source: &[u8],
-) -> Result<Left, AllocError> {
+    source: &str,
+) -> Left {
     run_in(rt, alloc, line, &over(source))
 }
 
-fn assert_left(rt: &impl Abort, what: &str, left: &Left, status: u8, out: &str, err: &str) {
-    assert_eq!(rt; left.status, status, "{what}");
-    assert!(rt; left.out.as_slice() == out.as_bytes(), "{what}");
-    assert!(rt; left.err.as_slice() == err.as_bytes(), "{what}");
+fn assert_status(rt: &impl Abort, what: &str, status: u8, wanted: u8) {
+    assert!(rt; status == wanted, "the status of {what}");
+}
+
+fn assert_bytes(rt: &impl Abort, what: &str, bytes: &[u8], wanted: &[u8]) {
+    assert!(rt; bytes == wanted, "{what}");
+}
+
+fn assert_left(rt: &impl Abort, what: &str, left: &Left, wanted: Wanted<'_>) {
+    assert_status(rt, what, left.status, wanted.status);
+    assert_bytes(rt, what, left.out.as_slice(), wanted.out.as_bytes());
+    assert_bytes(rt, what, left.err.as_slice(), wanted.err.as_bytes());
+}
+
+/// A command line leaves this in a setting.
+fn assert_in<R: Abort + Threads + Wait + Sync>(
+    rt: &R,
+    alloc: Global,
+    what: &str,
+    line: &str,
+    setting: &Setting<'_>,
+    wanted: Wanted<'_>,
+) {
+    assert_left(rt, what, &run_in(rt, alloc, line, setting), wanted);
+}
+
+/// A command line leaves this where `t.v` is this source.
+fn assert_line<R: Abort + Threads + Wait + Sync>(
+    rt: &R,
+    alloc: Global,
+    line: &str,
+    source: &str,
+    wanted: Wanted<'_>,
+) {
+    assert_in(rt, alloc, line, line, &over(source), wanted);
+}
+
+/// A run of a source, with no journal, leaves this.
+fn assert_source<R: Abort + Threads + Wait + Sync>(
+    rt: &R,
+    alloc: Global,
+    source: &str,
+    wanted: Wanted<'_>,
+) {
+    assert_in(rt, alloc, source, RUN, &over(source), wanted);
+}
+
+/// Where there is only room for this much of the lines, just that is printed.
+fn assert_cut<R: Abort + Threads + Wait + Sync>(
+    rt: &R,
+    alloc: Global,
+    line: &str,
+    setting: Setting<'_>,
+    out: &str,
+) {
+    let cut = Setting {
+        out_room: out.len(),
+        ..setting
+    };
+    let wanted = Wanted {
+        status: 1,
+        out,
+        err: CANNOT_WRITE,
+    };
+    assert_in(rt, alloc, line, line, &cut, wanted);
+}
+
+/// A replay of a run's journal prints the lines of the run.
+fn assert_replayed<R: Abort + Threads + Wait + Sync>(
+    rt: &R,
+    alloc: Global,
+    source: &str,
+    left: &Left,
+) {
+    let kept = over_journal(source, left.made.as_slice());
+    let again = run_in(rt, alloc, REPLAY, &kept);
+    assert_status(rt, source, again.status, 0);
+    assert_bytes(rt, source, again.err.as_slice(), b"");
+    assert_bytes(rt, source, again.out.as_slice(), left.out.as_slice());
 }

@@ -1,141 +1,124 @@
 //! Forged journals, and sources at their limits, each with its answer.
 
-use super::{Setting, assert_left, over, run_in, run_line};
-use std::alloc::{AllocError, Global};
+use super::replays::{FIRST_LINE, HI, RACE, assert_refused};
+use super::{append, assert_source, joined, prints, repeated, tells};
+use std::alloc::Global;
 use std::process::Abort;
 use std::sync::Wait;
-use std::test::Fail;
 use std::thread::Threads;
 
-const REPLAY: &str = "vsimtx replay t.v JOURNAL";
+const CLOCK: &str = "module t; always #10 $display(\"t\"); endmodule";
 
-/// A replay of a source and of these entries of a journal is refused with this line.
-fn assert_refused<R: Abort + Threads + Wait + Sync>(
+/// A replay of a source and of these entries of a journal, in version 1, is refused with this line.
+fn assert_forged<R: Abort + Threads + Wait + Sync>(
     rt: &R,
     alloc: Global,
     source: &str,
     entries: &str,
     told: &str,
-) -> Result<(), AllocError> {
-    let text = format!(in alloc; "vsimtx-journal 1\n{entries}")?;
-    let setting = Setting {
-        journal: text.as_bytes(),
-        ..over(source.as_bytes())
-    };
-    let left = run_in(rt, alloc, REPLAY, &setting)?;
-    let err = format!(in alloc; "vsimtx: {told}\n")?;
-    assert_left(rt, told, &left, 5, "", err.as_str());
-    Ok(())
+) {
+    let journal = joined(rt, alloc, &[FIRST_LINE, entries]);
+    assert_refused(rt, alloc, source, journal.as_str(), told);
 }
+
+/// Sources, entries, and what is told of these.
+const FORGED: &[(&str, &str, &str)] = &[
+    (
+        RACE,
+        "T 0\nT 1\nT 2\nN\n",
+        "entry 4: J3 region change not due",
+    ),
+    (CLOCK, "T 0\nA 1\n", "entry 2: J4 wrong time"),
+    (
+        CLOCK,
+        "T 0\nA 10\nA 20\n",
+        "entry 3: J3 region change not due",
+    ),
+    (HI, "U 0\n", "entry 1: J1 event not active"),
+    (
+        "module t; always ; endmodule",
+        "T 0\n",
+        "entry 1: turn too long",
+    ),
+    // The text of a journal, twice.
+    (HI, "T 0\nvsimtx-journal 1\nT 0\n", "Q2 journal line 3"),
+];
 
 #[test]
-fn tells_the_entry_that_is_forged(rt: HostRuntime) -> Result<(), Fail> {
-    let race =
-        "module t; reg a; initial a=1'b0; initial a=1'b1; initial #0 $display(\"%b\",a); endmodule";
-    let clock = "module t; always #10 $display(\"t\"); endmodule";
-    let hi = "module t; initial $display(\"hi\"); endmodule";
-    let cases = [
-        (
-            race,
-            "T 0\nT 1\nT 2\nN\n",
-            "entry 4: J3 region change not due",
-        ),
-        (clock, "T 0\nA 1\n", "entry 2: J4 wrong time"),
-        (
-            clock,
-            "T 0\nA 10\nA 20\n",
-            "entry 3: J3 region change not due",
-        ),
-        (hi, "U 0\n", "entry 1: J1 event not active"),
-        (
-            "module t; always ; endmodule",
-            "T 0\n",
-            "entry 1: turn too long",
-        ),
-        // The text of a journal, twice.
-        (hi, "T 0\nvsimtx-journal 1\nT 0\n", "Q2 journal line 3"),
-    ];
-    for (source, entries, told) in cases {
-        assert_refused(&rt, rt.alloc(), source, entries, told)?;
+fn tells_the_entry_that_is_forged(rt: HostRuntime) {
+    for &(source, entries, told) in FORGED {
+        assert_forged(&rt, rt.alloc(), source, entries, told);
     }
-    Ok(())
 }
 
-/// The entries of a process that waits as long as it may, up to its last turn within the time that there is.
-fn entries_of_longest_waits(alloc: Global) -> Result<String, AllocError> {
-    let mut entries = String::from_str(alloc, "T 0\n")?;
+/// The entries of a turn, and of the end of its wait.
+fn turn_after_wait(rt: &impl Abort, alloc: Global, turn: u64) -> String {
+    let time = turn.saturating_mul(4_294_967_295);
+    format!(in alloc; "A {time}\nT {turn}\n").expect(rt, "memory")
+}
+
+/// The entries of a process that waits as long as it may, up to its last turn within the time that there is, and those
+/// after.
+fn entries_of_longest_waits(rt: &impl Abort, alloc: Global, after: &str) -> String {
+    let mut entries = joined(rt, alloc, &["T 0\n"]);
     for turn in 1..=65_536_u64 {
-        let time = turn.saturating_mul(4_294_967_295);
-        entries.push_str(format!(in alloc; "A {time}\nT {turn}\n")?.as_str())?;
+        let next = turn_after_wait(rt, alloc, turn);
+        append(rt, &mut entries, next.as_str());
     }
-    Ok(entries)
+    append(rt, &mut entries, after);
+    entries
 }
 
 #[test]
-fn no_journal_goes_past_the_last_time(rt: HostRuntime) -> Result<(), Fail> {
+fn no_journal_goes_past_the_last_time(rt: HostRuntime) {
     let source = "module t; always #4294967295 ; endmodule";
-    let mut entries = entries_of_longest_waits(rt.alloc())?;
-    entries.push_str("A 281479271612415\n")?;
+    let entries = entries_of_longest_waits(&rt, rt.alloc(), "A 281479271612415\n");
     let told = "entry 131074: J5 time limit";
-    assert_refused(&rt, rt.alloc(), source, entries.as_str(), told)?;
-    Ok(())
+    assert_forged(&rt, rt.alloc(), source, entries.as_str(), told);
 }
 
-/// A text, with another so many times inside.
-fn repeated(
-    alloc: Global,
-    before: &str,
-    part: &str,
-    times: usize,
-    after: &str,
-) -> Result<String, AllocError> {
-    let mut text = String::from_str(alloc, before)?;
-    for _ in 0..times {
-        text.push_str(part)?;
-    }
-    text.push_str(after)?;
-    Ok(text)
+/// Blocks within blocks, as many as there may be, run.
+fn assert_deepest_blocks<R: Abort + Threads + Wait + Sync>(rt: &R, alloc: Global) {
+    let blocks = repeated(rt, alloc, "module t; initial ", "begin ", 64, "");
+    let source = repeated(rt, alloc, blocks.as_str(), "end ", 64, "endmodule");
+    assert_source(rt, alloc, source.as_str(), prints(""));
 }
 
-/// A run of the source ends so.
-fn assert_run<R: Abort + Threads + Wait + Sync>(
+/// A run of an assignment of so many sums within sums ends so.
+fn assert_sums<R: Abort + Threads + Wait + Sync>(
     rt: &R,
     alloc: Global,
-    source: &str,
+    assignment: &str,
+    sums: usize,
     status: u8,
     err: &str,
-) -> Result<(), AllocError> {
-    let left = run_line(rt, alloc, "vsimtx run t.v", source.as_bytes())?;
-    assert_left(rt, err, &left, status, "", err);
-    Ok(())
+) {
+    let before = joined(rt, alloc, &["module t; reg a; initial ", assignment]);
+    let source = repeated(rt, alloc, before.as_str(), "+1'b0", sums, "; endmodule");
+    assert_source(rt, alloc, source.as_str(), tells(status, err));
 }
 
+const SUMS: &[(&str, usize, u8, &str)] = &[
+    ("a=1'b0", 64, 0, ""),
+    ("a=1'b0", 65, 3, "vsimtx: P4 nesting at token 139\n"),
+    ("a<=1'b0", 63, 0, ""),
+    ("a<=1'b0", 64, 3, "vsimtx: P4 nesting at token 137\n"),
+];
+
 #[test]
-fn the_deepest_sources_run(rt: HostRuntime) -> Result<(), Fail> {
-    let alloc = rt.alloc();
-    let blocks = repeated(alloc, "module t; initial ", "begin ", 64, "")?;
-    let source = repeated(alloc, blocks.as_str(), "end ", 64, "endmodule")?;
-    assert_run(&rt, alloc, source.as_str(), 0, "")?;
-    for (sign, times, status, err) in [
-        ("=", 64, 0, ""),
-        ("=", 65, 3, "vsimtx: P4 nesting at token 139\n"),
-        ("<=", 63, 0, ""),
-        ("<=", 64, 3, "vsimtx: P4 nesting at token 137\n"),
-    ] {
-        let before = format!(in alloc; "module t; reg a; initial a{sign}1'b0")?;
-        let source = repeated(alloc, before.as_str(), "+1'b0", times, "; endmodule")?;
-        assert_run(&rt, alloc, source.as_str(), status, err)?;
+fn the_deepest_sources_run(rt: HostRuntime) {
+    assert_deepest_blocks(&rt, rt.alloc());
+    for &(assignment, sums, status, err) in SUMS {
+        assert_sums(&rt, rt.alloc(), assignment, sums, status, err);
     }
-    Ok(())
 }
 
 #[test]
-fn a_delay_has_so_many_digits(rt: HostRuntime) -> Result<(), Fail> {
-    let text = "vsimtx: E9 delay over 4294967295\n";
+fn a_delay_has_so_many_digits(rt: HostRuntime) {
+    let wanted = tells(3, "vsimtx: E9 delay over 4294967295\n");
     let source = "module t; initial #999999999999999999 ; endmodule";
-    assert_run(&rt, rt.alloc(), source, 3, text)?;
-    let text = "vsimtx: P3 literal at 19\n";
+    assert_source(&rt, rt.alloc(), source, wanted);
+    let wanted = tells(3, "vsimtx: P3 literal at 19\n");
     let source = "module t; initial #9999999999999999999 ; endmodule";
-    assert_run(&rt, rt.alloc(), source, 3, text)?;
-    Ok(())
+    assert_source(&rt, rt.alloc(), source, wanted);
 }

@@ -2,8 +2,8 @@
 //! one way alone.
 
 use super::counts::Count;
+use super::{design_of, outcome_of};
 use design::RegId;
-use frontend::read_design;
 use simulate::{Options, Outcome, Probe, ReplyKind, simulate};
 use std::alloc::Global;
 use std::process::Abort;
@@ -39,12 +39,16 @@ impl Looked {
         self.evaluations.wait(least, &self.given_up);
     }
 
-    fn assert(&self, rt: &impl Abort, digits: [u64; 4]) {
+    fn assert(&self, rt: &impl Abort, digits: &[u64; 4]) {
         assert!(rt; self.given_up.get() == 0, "the waits ended");
         for (worker, wanted) in self.workers.iter().zip(digits) {
-            assert!(rt; worker.get() == wanted, "{} and not {wanted}", worker.get());
+            assert_digits(rt, worker.get(), *wanted);
         }
     }
+}
+
+fn assert_digits(rt: &impl Abort, digits: u64, wanted: u64) {
+    assert!(rt; digits == wanted, "{digits} and not {wanted}");
 }
 
 /// Keeps the evaluation of each event open until so many evaluations have begun as the list has at its number.
@@ -67,6 +71,17 @@ impl Probe for HoldsEvaluations<'_> {
     fn replied(&self, _worker: u32, _event: u64, _kind: ReplyKind) {}
 }
 
+const TWO_WORKERS: Options = Options {
+    workers: 2,
+    until: None,
+    max_entries: 100,
+};
+
+const FOUR_WORKERS: Options = Options {
+    workers: 4,
+    ..TWO_WORKERS
+};
+
 /// Runs a source on two or four workers.
 fn run<P: Probe, R: Abort + Threads + Wait + Sync>(
     rt: &R,
@@ -75,13 +90,13 @@ fn run<P: Probe, R: Abort + Threads + Wait + Sync>(
     four: bool,
     probe: &P,
 ) -> Outcome {
-    let design = read_design(alloc, source.as_bytes()).expect(rt, "a design");
-    let options = Options {
-        workers: if four { 4 } else { 2 },
-        until: None,
-        max_entries: 100,
+    let design = design_of(rt, alloc, source);
+    let answer = if four {
+        simulate(rt, alloc, &design, FOUR_WORKERS, probe)
+    } else {
+        simulate(rt, alloc, &design, TWO_WORKERS, probe)
     };
-    simulate(rt, alloc, &design, options, probe).expect(rt, "a run")
+    outcome_of(rt, answer)
 }
 
 /// So many tickets were put, of which so many were stolen, and none is left.
@@ -91,47 +106,77 @@ fn assert_tally(rt: &impl Abort, outcome: &Outcome, puts: u128, steals: u128) {
     assert!(rt; outcome.tally.left() == 0, "what is left");
 }
 
+/// A source, on two or four workers, how long its evaluations are held, and what comes of it.
+#[derive(Clone, Copy)]
+struct Held<'a> {
+    source: &'a str,
+    four: bool,
+    begun: &'a [u64],
+    digits: &'a [u64; 4],
+    puts: u128,
+    steals: u128,
+}
+
+fn assert_held<R: Abort + Threads + Wait + Sync>(rt: &R, alloc: Global, held: &Held<'_>) {
+    let probe = HoldsEvaluations {
+        begun: held.begun,
+        looked: Looked::new(),
+    };
+    let outcome = run(rt, alloc, held.source, held.four, &probe);
+    probe.looked.assert(rt, held.digits);
+    assert_tally(rt, &outcome, held.puts, held.steals);
+}
+
+/// The same comes of each of a hundred runs.
+fn assert_all_held<R: Abort + Threads + Wait + Sync>(rt: &R, alloc: Global, held: &Held<'_>) {
+    for _ in 0..100u32 {
+        assert_held(rt, alloc, held);
+    }
+}
+
 const EIGHT_PROCESSES: &str =
     "module t; initial ; initial ; initial ; initial ; initial ; initial ; initial ; initial ; endmodule";
 
+const PLACED: Held<'static> = Held {
+    source: EIGHT_PROCESSES,
+    four: true,
+    begun: &[4, 4, 4, 4, 8, 8, 8, 8],
+    digits: &[15, 26, 37, 48],
+    puts: 8,
+    steals: 0,
+};
+
 #[test]
 fn first_tickets_are_placed_round_and_round(rt: HostRuntime) {
-    for _ in 0..100u32 {
-        let probe = HoldsEvaluations {
-            begun: &[4, 4, 4, 4, 8, 8, 8, 8],
-            looked: Looked::new(),
-        };
-        let outcome = run(&rt, rt.alloc(), EIGHT_PROCESSES, true, &probe);
-        probe.looked.assert(&rt, [15, 26, 37, 48]);
-        assert_tally(&rt, &outcome, 8, 0);
-    }
+    assert_all_held(&rt, rt.alloc(), &PLACED);
 }
+
+const STOLEN: Held<'static> = Held {
+    source: EIGHT_PROCESSES,
+    four: true,
+    begun: &[8, 8, 4, 8],
+    digits: &[1, 2, 37_856, 4],
+    puts: 8,
+    steals: 3,
+};
 
 #[test]
 fn a_worker_steals_from_the_next_first(rt: HostRuntime) {
-    for _ in 0..100u32 {
-        let probe = HoldsEvaluations {
-            begun: &[8, 8, 4, 8],
-            looked: Looked::new(),
-        };
-        let outcome = run(&rt, rt.alloc(), EIGHT_PROCESSES, true, &probe);
-        probe.looked.assert(&rt, [1, 2, 37_856, 4]);
-        assert_tally(&rt, &outcome, 8, 3);
-    }
+    assert_all_held(&rt, rt.alloc(), &STOLEN);
 }
+
+const LATER: Held<'static> = Held {
+    source: "module t; reg a; initial a=1'b1; initial @(a) ; initial ; initial ; endmodule",
+    four: false,
+    begun: &[3, 0, 0, 5],
+    digits: &[135, 24, 0, 0],
+    puts: 5,
+    steals: 0,
+};
 
 #[test]
 fn a_later_ticket_goes_to_the_worker_that_made_it(rt: HostRuntime) {
-    let source = "module t; reg a; initial a=1'b1; initial @(a) ; initial ; initial ; endmodule";
-    for _ in 0..100u32 {
-        let probe = HoldsEvaluations {
-            begun: &[3, 0, 0, 5],
-            looked: Looked::new(),
-        };
-        let outcome = run(&rt, rt.alloc(), source, false, &probe);
-        probe.looked.assert(&rt, [135, 24, 0, 0]);
-        assert_tally(&rt, &outcome, 5, 0);
-    }
+    assert_all_held(&rt, rt.alloc(), &LATER);
 }
 
 /// Keeps the evaluation of event 0 open until the second read of event 1 has begun, that read until event 2 is evaluated,
@@ -161,17 +206,21 @@ impl Probe for HoldsOther {
     fn replied(&self, _worker: u32, _event: u64, _kind: ReplyKind) {}
 }
 
-#[test]
-fn a_stale_ticket_goes_back_to_its_worker(rt: HostRuntime) {
+fn assert_stale<R: Abort + Threads + Wait + Sync>(rt: &R, alloc: Global) {
     let source =
         "module t; reg a, b; initial begin a=1'b0; b=1'b0; end initial if (a!==b) begin end initial ; endmodule";
+    let probe = HoldsOther {
+        looked: Looked::new(),
+        reads: Count::new(),
+    };
+    let outcome = run(rt, alloc, source, false, &probe);
+    probe.looked.assert(rt, &[13, 22, 0, 0]);
+    assert_tally(rt, &outcome, 4, 0);
+}
+
+#[test]
+fn a_stale_ticket_goes_back_to_its_worker(rt: HostRuntime) {
     for _ in 0..100u32 {
-        let probe = HoldsOther {
-            looked: Looked::new(),
-            reads: Count::new(),
-        };
-        let outcome = run(&rt, rt.alloc(), source, false, &probe);
-        probe.looked.assert(&rt, [13, 22, 0, 0]);
-        assert_tally(&rt, &outcome, 4, 0);
+        assert_stale(&rt, rt.alloc());
     }
 }

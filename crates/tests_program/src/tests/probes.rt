@@ -2,9 +2,10 @@
 //! evaluated again.
 
 use super::counts::Count;
+use super::{design_of, outcome_of};
 use design::{Design, RegId};
-use frontend::read_design;
 use model::end::End;
+use model::entry::Entry;
 use simulate::{Options, Probe, ReplyKind, simulate};
 use std::alloc::Global;
 use std::process::Abort;
@@ -16,6 +17,27 @@ const TWO_WORKERS: Options = Options {
     until: None,
     max_entries: 100,
 };
+
+/// A run on two workers. It ends by itself after two entries.
+fn run<P: Probe, R: Abort + Threads + Wait + Sync>(
+    rt: &R,
+    alloc: Global,
+    design: &Design,
+    probe: &P,
+) {
+    let answer = simulate(rt, alloc, design, TWO_WORKERS, probe);
+    let outcome = outcome_of(rt, answer);
+    assert_entries(rt, outcome.closed.entries());
+    assert_end(rt, outcome.closed.end());
+}
+
+fn assert_entries(rt: &impl Abort, entries: &[Entry]) {
+    assert!(rt; entries.len() == 2, "the entries");
+}
+
+fn assert_end(rt: &impl Abort, end: End) {
+    assert!(rt; end == End::Quiet, "the end");
+}
 
 /// Keeps the first evaluation open until the gate has answered to another ticket.
 #[derive(Drop)]
@@ -39,23 +61,22 @@ impl Probe for HoldsFirst {
     }
 }
 
+/// Each of two processes is evaluated once, though one stays open until the other is over.
 fn assert_overlap<R: Abort + Threads + Wait + Sync>(rt: &R, alloc: Global, design: &Design) {
     let probe = HoldsFirst {
         evaluations: Count::new(),
         replies: Count::new(),
         given_up: Count::new(),
     };
-    let outcome = simulate(rt, alloc, design, TWO_WORKERS, &probe).expect(rt, "a run");
+    run(rt, alloc, design, &probe);
     assert!(rt; probe.given_up.get() == 0, "another reply came in time");
     assert!(rt; probe.evaluations.get() == 2, "the evaluations");
-    assert!(rt; outcome.closed.entries().len() == 2, "the entries");
-    assert!(rt; outcome.closed.end() == End::Quiet, "the end");
 }
 
 #[test]
 fn evaluations_overlap(rt: HostRuntime) {
     let source = "module t; initial $display(\"a\"); initial $display(\"b\"); endmodule";
-    let design = read_design(rt.alloc(), source.as_bytes()).expect(&rt, "a design");
+    let design = design_of(&rt, rt.alloc(), source);
     for _ in 0..100u32 {
         assert_overlap(&rt, rt.alloc(), &design);
     }
@@ -94,6 +115,7 @@ impl Probe for HoldsRead {
     }
 }
 
+/// The turn whose two reads are of two moments is evaluated again.
 fn assert_stale<R: Abort + Threads + Wait + Sync>(rt: &R, alloc: Global, design: &Design) {
     let probe = HoldsRead {
         reads: Count::new(),
@@ -102,22 +124,20 @@ fn assert_stale<R: Abort + Threads + Wait + Sync>(rt: &R, alloc: Global, design:
         stale_at_first: Count::new(),
         given_up: Count::new(),
     };
-    let outcome = simulate(rt, alloc, design, TWO_WORKERS, &probe).expect(rt, "a run");
+    run(rt, alloc, design, &probe);
     assert!(rt; probe.given_up.get() == 0, "the waits ended");
     assert!(rt;
         probe.stale_at_first.get() == 1,
         "the first reply to event 1"
     );
     assert!(rt; probe.second_replies.get() == 2, "the replies to event 1");
-    assert!(rt; outcome.closed.entries().len() == 2, "the entries");
-    assert!(rt; outcome.closed.end() == End::Quiet, "the end");
 }
 
 #[test]
 fn a_turn_over_two_moments_is_stale(rt: HostRuntime) {
     let source =
         "module t; reg a, b; initial begin a=1'b0; b=1'b0; end initial while (a!==b) begin end endmodule";
-    let design = read_design(rt.alloc(), source.as_bytes()).expect(&rt, "a design");
+    let design = design_of(&rt, rt.alloc(), source);
     for _ in 0..100u32 {
         assert_stale(&rt, rt.alloc(), &design);
     }

@@ -1,16 +1,16 @@
 //! Runs on one worker in too little memory: each ends before its first entry, is stopped for memory with a beginning of its
 //! journal, or is whole.
 
-use frontend::read_design;
+use super::{design_of, outcome_of, replayed};
+use commitgate::Closed;
+use design::Design;
 use hoard::Hoard;
 use model::end::{End, Why};
 use model::entry::Entry;
-use replay::replay;
 use simulate::{Options, Outcome, SimFault, Unobserved, simulate};
-use std::alloc::{AllocError, Global};
+use std::alloc::Global;
 use std::process::Abort;
 use std::sync::Wait;
-use std::test::Fail;
 use std::thread::Threads;
 
 /// How much more memory a run gets each time, and how often at most.
@@ -34,59 +34,104 @@ struct Refused {
     stops: u32,
 }
 
+/// How far a run came.
+#[derive(Clone, Copy)]
+enum Reached {
+    Nothing,
+    Stop,
+    End,
+}
+
+fn how_far(end: End) -> Reached {
+    match end {
+        End::Quiet => Reached::End,
+        _ => Reached::Stop,
+    }
+}
+
+/// Either the run is over, with a whole journal, or it was stopped for memory.
+fn assert_end(rt: &impl Abort, end: End, is_whole: bool) {
+    let is_end = match end {
+        End::Quiet => is_whole,
+        _ => end == End::Stopped(Why::Memory),
+    };
+    assert!(rt; is_end, "the end");
+}
+
+/// A journal replays to these lines.
+fn assert_lines(rt: &impl Abort, alloc: Global, design: &Design, entries: &[Entry], lines: &str) {
+    let again = replayed(rt, alloc, design, entries);
+    assert!(rt; again.made.lines.as_str() == lines, "the lines");
+}
+
 /// A run of one worker has one journal, of which the run that was stopped has a beginning, with its lines.
-fn assert_begun<R: Abort>(rt: &R, alloc: Global, source: &str, whole: &[Entry], outcome: Outcome) {
-    let design = read_design(alloc, source.as_bytes()).expect(rt, "a design");
-    let (entries, lines, end, _committed) = outcome.closed.into_parts();
-    assert!(rt;
-        end == End::Quiet || end == End::Stopped(Why::Memory),
-        "the end"
-    );
-    assert!(rt;
-        whole.starts_with(entries.as_slice()),
-        "a beginning of the journal"
-    );
-    assert!(rt;
-        end != End::Quiet || entries.len() == whole.len(),
-        "a whole journal"
-    );
-    let again = replay(alloc, &design, entries.as_slice()).expect(rt, "a lawful journal");
-    assert_eq!(rt; again.made.lines.as_str(), lines.as_str());
+fn assert_begun(rt: &impl Abort, alloc: Global, design: &Design, whole: &[Entry], closed: Closed) {
+    let (entries, lines, end, _committed) = closed.into_parts();
+    let entries = entries.as_slice();
+    assert!(rt; whole.starts_with(entries), "a beginning of the journal");
+    assert_end(rt, end, entries.len() == whole.len());
+    assert_lines(rt, alloc, design, entries, lines.as_str());
+}
+
+fn run<R: Abort + Threads + Wait + Sync>(rt: &R, alloc: Global, design: &Design) -> Outcome {
+    let answer = simulate(rt, alloc, design, ONE_WORKER, &Unobserved);
+    outcome_of(rt, answer)
+}
+
+/// What a run leaves in so much memory, if it begins. Then there is a piece of memory for a look at it.
+fn run_within<R: Abort + Threads + Wait + Sync>(
+    rt: &R,
+    alloc: Global,
+    design: &Design,
+    hoard: &mut Hoard,
+    room: usize,
+) -> Result<Outcome, SimFault> {
+    assert!(rt; hoard.leave(room), "a piece of memory");
+    let answer = simulate(rt, alloc, design, ONE_WORKER, &Unobserved);
+    assert!(rt; hoard.open(), "a piece of memory");
+    answer
+}
+
+/// How far a run comes in so much memory.
+fn try_within<R: Abort + Threads + Wait + Sync>(
+    rt: &R,
+    alloc: Global,
+    design: &Design,
+    whole: &[Entry],
+    hoard: &mut Hoard,
+    room: usize,
+) -> Reached {
+    match run_within(rt, alloc, design, hoard, room) {
+        Ok(outcome) => {
+            let reached = how_far(outcome.closed.end());
+            assert_begun(rt, alloc, design, whole, outcome.closed);
+            reached
+        }
+        Err(fault) => {
+            assert!(rt; fault == SimFault::Memory, "memory before the first worker");
+            Reached::Nothing
+        }
+    }
 }
 
 /// Runs a source in more and more memory, until it meets no refusal.
 fn run_starved<R: Abort + Threads + Wait + Sync>(
     rt: &R,
     alloc: Global,
-    source: &str,
-) -> Result<Refused, AllocError> {
-    let design = read_design(alloc, source.as_bytes()).expect(rt, "a design");
-    let whole = simulate(rt, alloc, &design, ONE_WORKER, &Unobserved).expect(rt, "a run");
-    let mut hoard = Hoard::new(alloc, 2 * ROOMS, PIECE)?;
+    design: &Design,
+    whole: &[Entry],
+) -> Refused {
+    let mut hoard = Hoard::new(alloc, 2 * ROOMS, PIECE).expect(rt, "memory");
     let mut refused = Refused {
         begins: 0,
         stops: 0,
     };
     for count in 0..ROOMS {
-        assert!(rt;
-            hoard.leave(count.saturating_mul(STEP)),
-            "a piece of memory"
-        );
-        let answer = simulate(rt, alloc, &design, ONE_WORKER, &Unobserved);
-        assert!(rt; hoard.open(), "a piece of memory");
-        match answer {
-            Ok(outcome) => {
-                let is_whole = outcome.closed.end() == End::Quiet;
-                assert_begun(rt, alloc, source, whole.closed.entries(), outcome);
-                if is_whole {
-                    return Ok(refused);
-                }
-                refused.stops = refused.stops.saturating_add(1);
-            }
-            Err(fault) => {
-                assert!(rt; fault == SimFault::Memory, "memory before the first worker");
-                refused.begins = refused.begins.saturating_add(1);
-            }
+        let room = count.saturating_mul(STEP);
+        match try_within(rt, alloc, design, whole, &mut hoard, room) {
+            Reached::End => return refused,
+            Reached::Stop => refused.stops = refused.stops.saturating_add(1),
+            Reached::Nothing => refused.begins = refused.begins.saturating_add(1),
         }
         hoard.shut();
     }
@@ -94,44 +139,37 @@ fn run_starved<R: Abort + Threads + Wait + Sync>(
 }
 
 /// A source is refused memory before its run begins, and while it goes on.
-fn assert_starved<R: Abort + Threads + Wait + Sync>(
-    rt: &R,
-    alloc: Global,
-    source: &str,
-) -> Result<(), AllocError> {
-    let refused = run_starved(rt, alloc, source)?;
+fn assert_starved<R: Abort + Threads + Wait + Sync>(rt: &R, alloc: Global, source: &str) {
+    let design = design_of(rt, alloc, source);
+    let whole = run(rt, alloc, &design);
+    let refused = run_starved(rt, alloc, &design, whole.closed.entries());
     assert!(rt; refused.begins > 0 && refused.stops > 0, "{source}");
-    Ok(())
 }
 
 #[test]
-fn a_swap_is_stopped_for_memory(rt: HostRuntime) -> Result<(), Fail> {
+fn a_swap_is_stopped_for_memory(rt: HostRuntime) {
     let source =
         "module t; reg a, b; initial begin a=1'b0; b=1'b1; #1 a<=b; b<=a; #1 $display(\"%b %b\",a,b); end endmodule";
-    assert_starved(&rt, rt.alloc(), source)?;
-    Ok(())
+    assert_starved(&rt, rt.alloc(), source);
 }
 
 #[test]
-fn a_glitch_is_stopped_for_memory(rt: HostRuntime) -> Result<(), Fail> {
+fn a_glitch_is_stopped_for_memory(rt: HostRuntime) {
     let source =
         "module t; reg a; initial begin a=1'b1; #1 a=1'b0; a=1'b1; end initial #0 @(posedge a) $display(\"glitch\"); endmodule";
-    assert_starved(&rt, rt.alloc(), source)?;
-    Ok(())
+    assert_starved(&rt, rt.alloc(), source);
 }
 
 #[test]
-fn two_writers_are_stopped_for_memory(rt: HostRuntime) -> Result<(), Fail> {
+fn two_writers_are_stopped_for_memory(rt: HostRuntime) {
     let source =
         "module t; reg a; initial a=1'b0; initial a=1'b1; initial #0 $display(\"%b\",a); endmodule";
-    assert_starved(&rt, rt.alloc(), source)?;
-    Ok(())
+    assert_starved(&rt, rt.alloc(), source);
 }
 
 #[test]
-fn a_copy_is_stopped_for_memory(rt: HostRuntime) -> Result<(), Fail> {
+fn a_copy_is_stopped_for_memory(rt: HostRuntime) {
     let source =
         "module t; reg a, b; initial a=1'b1; initial b=a; initial #1 $display(\"%b\",b); endmodule";
-    assert_starved(&rt, rt.alloc(), source)?;
-    Ok(())
+    assert_starved(&rt, rt.alloc(), source);
 }

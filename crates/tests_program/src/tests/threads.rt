@@ -3,12 +3,12 @@
 
 ghost use Rattle.std.specs.Prelude.{◌≤◌};
 
+use super::{Texts, design_of, either, only, outcome_of, replayed};
+use commitgate::Closed;
 use design::Design;
-use frontend::read_design;
 use model::entry::Entry;
 use regions::State;
-use replay::replay;
-use simulate::{Options, Unobserved, simulate};
+use simulate::{Options, Outcome, Unobserved, simulate};
 use std::alloc::Global;
 use std::process::Abort;
 use std::sync::Wait;
@@ -35,25 +35,55 @@ fn total(numbers: &[u64]) -> u64 {
     sum
 }
 
+fn is_active(state: &State, event: u64) -> bool {
+    state.evaluation(event).is_some()
+}
+
 /// How many evaluations are still active.
 fn active_in(state: &State) -> u64 {
     let mut active = 0u64;
     for event in 0..EVENTS {
-        if state.evaluation(event).is_some() {
-            active = active.saturating_add(1);
-        }
+        active = active.saturating_add(u64::from(is_active(state, event)));
     }
     active
 }
 
-/// A run prints one of the texts, and replays to it. There are at most four evaluations of a turn, and of an evaluation that
-/// is still active at the end.
+/// How many evaluations are active after a run's journal. A replay of it prints the same lines.
+fn active_after(rt: &impl Abort, alloc: Global, design: &Design, closed: &Closed) -> u64 {
+    let again = replayed(rt, alloc, design, closed.entries());
+    let lines = again.made.lines.as_str();
+    assert!(rt; lines == closed.lines(), "the lines of the replay");
+    active_in(&again.state)
+}
+
+/// There are at most four evaluations of a turn, and of an evaluation that is still active at the end.
+fn assert_evaluations(rt: &impl Abort, turns: u64, active: u64, evaluations: u64) {
+    assert!(rt; turns <= evaluations, "evaluations of all turns");
+    let most = turns.saturating_add(active).saturating_mul(4);
+    assert!(rt; evaluations <= most, "four evaluations of a turn");
+}
+
+/// A run prints one of the texts, and replays to it.
+fn assert_outcome(
+    rt: &impl Abort,
+    alloc: Global,
+    design: &Design,
+    outcome: &Outcome,
+    texts: Texts<'_>,
+) {
+    let closed = &outcome.closed;
+    assert!(rt; texts.has(closed.lines().as_bytes()), "the lines");
+    let active = active_after(rt, alloc, design, closed);
+    let evaluations = total(outcome.evaluations.as_slice());
+    assert_evaluations(rt, turns_in(closed.entries()), active, evaluations);
+}
+
 fn assert_run<R: Abort + Threads + Wait + Sync>(
     rt: &R,
     alloc: Global,
     design: &Design,
     workers: u32,
-    texts: [&str; 2],
+    texts: Texts<'_>,
 )
     requires some { 1 ≤ workers }
     requires few { workers ≤ 16 }
@@ -63,27 +93,9 @@ fn assert_run<R: Abort + Threads + Wait + Sync>(
         until: Some(25),
         max_entries: 1_000,
     };
-    let outcome = simulate(rt, alloc, design, options, &Unobserved).expect(
-        rt,
-        "workers and memory",
-    );
-    let (entries, lines, _end, _committed) = outcome.closed.into_parts();
-    let again = replay(alloc, design, entries.as_slice()).expect(rt, "a lawful journal");
-    assert!(rt;
-        again.made.lines.as_str() == lines.as_str(),
-        "the lines of the replay"
-    );
-    assert!(rt;
-        lines.as_str() == texts[0] || lines.as_str() == texts[1],
-        "the lines"
-    );
-    let turns = turns_in(entries.as_slice());
-    let evaluations = total(outcome.evaluations.as_slice());
-    assert!(rt; turns <= evaluations, "evaluations of all turns");
-    let most = turns
-        .saturating_add(active_in(&again.state))
-        .saturating_mul(4);
-    assert!(rt; evaluations <= most, "four evaluations of a turn");
+    let answer = simulate(rt, alloc, design, options, &Unobserved);
+    let outcome = outcome_of(rt, answer);
+    assert_outcome(rt, alloc, design, &outcome, texts);
 }
 
 /// So many runs on so many workers.
@@ -93,7 +105,7 @@ fn assert_runs<R: Abort + Threads + Wait + Sync>(
     design: &Design,
     workers: u32,
     runs: u32,
-    texts: [&str; 2],
+    texts: Texts<'_>,
 )
     requires some { 1 ≤ workers }
     requires few { workers ≤ 16 }
@@ -108,9 +120,9 @@ fn assert_source<R: Abort + Threads + Wait + Sync>(
     rt: &R,
     alloc: Global,
     source: &str,
-    texts: [&str; 2],
+    texts: Texts<'_>,
 ) {
-    let design = read_design(alloc, source.as_bytes()).expect(rt, "a design");
+    let design = design_of(rt, alloc, source);
     assert_runs(rt, alloc, &design, 1, 100, texts);
     assert_runs(rt, alloc, &design, 2, 1_000, texts);
     assert_runs(rt, alloc, &design, 3, 100, texts);
@@ -123,27 +135,27 @@ fn assert_source<R: Abort + Threads + Wait + Sync>(
 fn copies_race_as_whole_turns(rt: HostRuntime) {
     let source =
         "module t; reg a, b; initial begin a=1'b0; b=1'b1; end initial #1 a=b; initial #1 b=a; initial #2 $display(\"%b %b\",a,b); endmodule";
-    assert_source(&rt, rt.alloc(), source, ["1 1\n", "0 0\n"]);
+    assert_source(&rt, rt.alloc(), source, either("1 1\n", "0 0\n"));
 }
 
 #[test]
 fn waiters_wake_in_either_order(rt: HostRuntime) {
     let source =
         "module t; reg a; initial #0 a=1'b1; initial @(a) $display(\"p1\"); initial @(posedge a) $display(\"p2\"); endmodule";
-    assert_source(&rt, rt.alloc(), source, ["p1\np2\n", "p2\np1\n"]);
+    assert_source(&rt, rt.alloc(), source, either("p1\np2\n", "p2\np1\n"));
 }
 
 #[test]
 fn a_finished_run_ends_on_every_worker(rt: HostRuntime) {
     let source =
         "module t; initial begin $display(\"a\"); $finish; $display(\"b\"); end initial $display(\"c\"); endmodule";
-    assert_source(&rt, rt.alloc(), source, ["a\n", "c\na\n"]);
+    assert_source(&rt, rt.alloc(), source, either("a\n", "c\na\n"));
 }
 
 #[test]
 fn a_clock_stops_at_its_limit_on_every_worker(rt: HostRuntime) {
     let source = "module t; always #10 $display(\"t\"); endmodule";
-    assert_source(&rt, rt.alloc(), source, ["t\nt\n", "t\nt\n"]);
+    assert_source(&rt, rt.alloc(), source, only("t\nt\n"));
 }
 
 /// A thousand runs of a source on 1, 4 and 16 workers each.
@@ -151,9 +163,9 @@ fn assert_strobes<R: Abort + Threads + Wait + Sync>(
     rt: &R,
     alloc: Global,
     source: &str,
-    texts: [&str; 2],
+    texts: Texts<'_>,
 ) {
-    let design = read_design(alloc, source.as_bytes()).expect(rt, "a design");
+    let design = design_of(rt, alloc, source);
     assert_runs(rt, alloc, &design, 1, 1_000, texts);
     assert_runs(rt, alloc, &design, 4, 1_000, texts);
     assert_runs(rt, alloc, &design, 16, 1_000, texts);
@@ -163,24 +175,19 @@ fn assert_strobes<R: Abort + Threads + Wait + Sync>(
 fn strobes_of_one_time_come_in_the_order_of_the_turns(rt: HostRuntime) {
     let source =
         "module t; reg a; initial begin a=1'b0; $strobe(\"p %b\",a); a<=1'b1; end initial $strobe(\"q %b\",a); endmodule";
-    assert_strobes(&rt, rt.alloc(), source, ["p 1\nq 1\n", "q 1\np 1\n"]);
+    assert_strobes(&rt, rt.alloc(), source, either("p 1\nq 1\n", "q 1\np 1\n"));
 }
 
 #[test]
 fn strobes_come_before_the_time_advances(rt: HostRuntime) {
     let source =
         "module t; reg [3:0] n; initial begin n=4'd0; while (n<4'd3) begin $strobe(\"n %0d\",n); n<=n+4'd1; #1; end end endmodule";
-    assert_strobes(
-        &rt,
-        rt.alloc(),
-        source,
-        ["n 1\nn 2\nn 3\n", "n 1\nn 2\nn 3\n"],
-    );
+    assert_strobes(&rt, rt.alloc(), source, only("n 1\nn 2\nn 3\n"));
 }
 
 #[test]
 fn a_swap_has_one_outcome(rt: HostRuntime) {
     let source =
         "module t; reg a, b; initial begin a=1'b0; b=1'b1; #1 a<=b; b<=a; #1 $display(\"%b %b\",a,b); end endmodule";
-    assert_source(&rt, rt.alloc(), source, ["1 0\n", "1 0\n"]);
+    assert_source(&rt, rt.alloc(), source, only("1 0\n"));
 }

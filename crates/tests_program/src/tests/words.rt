@@ -1,83 +1,87 @@
 //! Command lines and files that give no run.
 
-use super::{Setting, assert_left, over, run_in, run_line};
-use std::test::Fail;
+use super::{assert_cut, assert_line, over, run_line, tells};
+use std::alloc::Global;
+use std::process::Abort;
+use std::sync::Wait;
+use std::thread::Threads;
 
-const EMPTY: &[u8] = b"module t; endmodule";
+const EMPTY: &str = "module t; endmodule";
+
+/// A line is refused: a text tells why, and nothing is printed.
+fn assert_refused<R: Abort + Threads + Wait + Sync>(rt: &R, alloc: Global, line: &str) {
+    let left = run_line(rt, alloc, line, EMPTY);
+    let is_refused = left.status == 2 && left.out.is_empty() && !left.err.is_empty();
+    assert!(rt; is_refused, "{line}");
+}
+
+const WRONG: &[&str] = &[
+    "vsimtx",
+    "vsimtx run",
+    "vsimtx walk t.v",
+    "vsimtx run t.v u.v",
+    "vsimtx run t.v --walk",
+    "vsimtx run t.v --workers 0",
+    "vsimtx run t.v --workers 17",
+    "vsimtx run t.v --workers two",
+    "vsimtx run t.v --workers 2 --workers 3",
+    "vsimtx run t.v --until 281474976710657",
+    "vsimtx run t.v --max-entries 0",
+    "vsimtx run t.v --max-entries 4294967296",
+    "vsimtx run t.v --journal",
+    "vsimtx replay",
+    "vsimtx replay t.v",
+    "vsimtx replay t.v JOURNAL --workers 2",
+];
 
 #[test]
-fn refuses_wrong_words(rt: HostRuntime) -> Result<(), Fail> {
-    let cases = [
-        "vsimtx",
-        "vsimtx run",
-        "vsimtx walk t.v",
-        "vsimtx run t.v u.v",
-        "vsimtx run t.v --walk",
-        "vsimtx run t.v --workers 0",
-        "vsimtx run t.v --workers 17",
-        "vsimtx run t.v --workers two",
-        "vsimtx run t.v --workers 2 --workers 3",
-        "vsimtx run t.v --until 281474976710657",
-        "vsimtx run t.v --max-entries 0",
-        "vsimtx run t.v --max-entries 4294967296",
-        "vsimtx run t.v --journal",
-        "vsimtx replay",
-        "vsimtx replay t.v",
-        "vsimtx replay t.v JOURNAL --workers 2",
-    ];
-    for line in cases {
-        let left = run_line(&rt, rt.alloc(), line, EMPTY)?;
-        assert_eq!(rt; left.status, 2, "{line}");
-        assert!(rt; left.out.is_empty(), "{line}");
-        assert!(rt; !left.err.is_empty(), "{line}");
+fn refuses_wrong_words(rt: HostRuntime) {
+    for &line in WRONG {
+        assert_refused(&rt, rt.alloc(), line);
     }
-    let left = run_line(&rt, rt.alloc(), "vsimtx run t.v u.v", EMPTY)?;
+    let line = "vsimtx run t.v u.v";
     let text =
         "error: unexpected argument 'u.v' found\n\nUsage: vsimtx run [OPTIONS] <FILE>\n\nFor more information, try '--help'.\n";
-    assert_left(&rt, "u.v", &left, 2, "", text);
-    let left = run_line(&rt, rt.alloc(), "vsimtx run t.v --workers 17", EMPTY)?;
+    assert_line(&rt, rt.alloc(), line, EMPTY, tells(2, text));
+    let line = "vsimtx run t.v --workers 17";
     let text =
         "error: invalid value '17' for '--workers <N>': 17 is not in 1..=16\n\nFor more information, try '--help'.\n";
-    assert_left(&rt, "17", &left, 2, "", text);
-    Ok(())
+    assert_line(&rt, rt.alloc(), line, EMPTY, tells(2, text));
 }
 
-#[test]
-fn shows_help(rt: HostRuntime) -> Result<(), Fail> {
-    let lines = [
-        "vsimtx --help",
-        "vsimtx run --help",
-        "vsimtx replay --help",
-        "vsimtx help run",
-    ];
-    for line in lines {
-        let left = run_line(&rt, rt.alloc(), line, EMPTY)?;
-        assert_eq!(rt; left.status, 0, "{line}");
-        assert!(rt; !left.out.is_empty(), "{line}");
-        assert!(rt; left.err.is_empty(), "{line}");
-    }
-    let cut = Setting {
-        out_room: 5,
-        ..over(EMPTY)
-    };
-    let left = run_in(&rt, rt.alloc(), "vsimtx --help", &cut)?;
-    assert_left(&rt, "cut", &left, 1, "Simul", "vsimtx: cannot write\n");
-    Ok(())
+/// A line prints a text, and tells of no fault.
+fn assert_help<R: Abort + Threads + Wait + Sync>(rt: &R, alloc: Global, line: &str) {
+    let left = run_line(rt, alloc, line, EMPTY);
+    let is_shown = left.status == 0 && !left.out.is_empty() && left.err.is_empty();
+    assert!(rt; is_shown, "{line}");
 }
 
+const HELP: &[&str] = &[
+    "vsimtx --help",
+    "vsimtx run --help",
+    "vsimtx replay --help",
+    "vsimtx help run",
+];
+
 #[test]
-fn tells_why_a_file_was_not_read(rt: HostRuntime) -> Result<(), Fail> {
-    let cases = [
-        ("missing.v", 1, "vsimtx: cannot read missing.v\n"),
-        ("broken.v", 1, "vsimtx: cannot read broken.v\n"),
-        ("large.v", 6, "vsimtx: memory\n"),
-        ("interrupted.v", 3, "vsimtx: E1 undeclared a\n"),
-    ];
-    for (path, status, text) in cases {
-        let line = format!(in rt.alloc(); "vsimtx run {path}")?;
-        let source = b"module t; initial a = 1'b0; endmodule";
-        let left = run_line(&rt, rt.alloc(), line.as_str(), source)?;
-        assert_left(&rt, path, &left, status, "", text);
+fn shows_help(rt: HostRuntime) {
+    for &line in HELP {
+        assert_help(&rt, rt.alloc(), line);
     }
-    Ok(())
+    assert_cut(&rt, rt.alloc(), "vsimtx --help", over(EMPTY), "Simul");
+}
+
+const FILE_FAULTS: &[(&str, u8, &str)] = &[
+    ("vsimtx run missing.v", 1, "vsimtx: cannot read missing.v\n"),
+    ("vsimtx run broken.v", 1, "vsimtx: cannot read broken.v\n"),
+    ("vsimtx run large.v", 6, "vsimtx: memory\n"),
+    ("vsimtx run interrupted.v", 3, "vsimtx: E1 undeclared a\n"),
+];
+
+#[test]
+fn tells_why_a_file_was_not_read(rt: HostRuntime) {
+    let source = "module t; initial a = 1'b0; endmodule";
+    for &(line, status, text) in FILE_FAULTS {
+        assert_line(&rt, rt.alloc(), line, source, tells(status, text));
+    }
 }
