@@ -5,7 +5,7 @@ ghost use Rattle.turn.specs.Answers.{IsNoTurn};
 ghost use Rattle.turn.specs.Reads.{GaveAll};
 ghost use Rattle.gateparts.specs.Histories.{IsRead};
 
-use crate::course::{Course, accepted};
+use crate::course::Course;
 use commitgate::{Naming, Seat, SeatReader, Ticket};
 use design::RegId;
 use indexmap::IndexMap;
@@ -20,9 +20,7 @@ fn overtake<K: Naming, R: Wait + Abort>(
     other: &mut Option<Seat<K>>,
 ) {
     if let Some((seat, ticket)) = waits.take() {
-        let (seat, reply) = course.serve(seat, ticket);
-        accepted(course.rt, reply);
-        *other = Some(seat);
+        *other = Some(course.serve_at(seat, ticket, 0));
     }
 }
 

@@ -30,13 +30,8 @@ impl<'g, 'd, K: Naming, R: Wait + Abort> Course<'g, 'd, K, R> {
         ensures turn { IsTurnLog K.named.code ticket.now.state ticket.now.time result.1 }
         ensures gave { GaveAll (IsRead K.named.code result.0.fresh) result.1.reads.entries }
     {
-        let mut reader = self.gate.reader(self.rt, seat);
-        let state = ticket.state();
-        let now = ticket.time();
-        let Ok(log) = run_turn(self.alloc, self.design, &state, now, &mut reader) else {
-            panic!(self.rt; "no short turn")
-        };
-        (reader.into_seat(), log)
+        let (seat, log) = self.try_evaluate(seat, ticket);
+        (seat, log.expect(self.rt, "memory"))
     }
 
     /// The same turn, or nothing where memory was refused.
@@ -77,10 +72,8 @@ impl<'g, 'd, K: Naming, R: Wait + Abort> Course<'g, 'd, K, R> {
         requires turn { IsTurnLog K.named.code ticket.state ticket.time log }
         requires gave { GaveAll (IsRead K.named.code seat.fresh) log.reads.entries }
     {
-        assert!(self.rt; ticket.tries() < 3, "refused three times");
         let count = self.gate.entries(self.rt, &mut seat);
-        let mut workspace = Workspace::new(self.alloc);
-        let reply = self.gate.commit(self.rt, self.alloc, &mut workspace, &mut seat, ticket, log);
+        let (seat, reply) = self.commit(seat, ticket, log);
         (seat, count, reply)
     }
 
@@ -88,6 +81,13 @@ impl<'g, 'd, K: Naming, R: Wait + Abort> Course<'g, 'd, K, R> {
     pub fn serve(&self, seat: Seat<K>, ticket: Ticket<K>) -> (Seat<K>, Reply<K>) {
         let (seat, log) = self.evaluate(seat, &ticket);
         self.commit(seat, ticket, log)
+    }
+
+    /// The same, and the entry stands at this position.
+    pub fn serve_at(&self, seat: Seat<K>, ticket: Ticket<K>, position: u64) -> Seat<K> {
+        let (seat, reply) = self.serve(seat, ticket);
+        assert!(self.rt; position_of(self.rt, reply) == position, "another position");
+        seat
     }
 
     /// Gives up a turn that was evaluated without the lock and is too long.
@@ -122,6 +122,13 @@ impl<'g, 'd, K: Naming, R: Wait + Abort> Course<'g, 'd, K, R> {
         let seen = reader.read(register);
         (reader.into_seat(), seen)
     }
+
+    /// A seat reads this of a register.
+    pub fn read_as(&self, seat: Seat<K>, register: RegId, wanted: &Seen) -> Seat<K> {
+        let (seat, seen) = self.read(seat, register);
+        assert!(self.rt; seen == *wanted, "another value");
+        seat
+    }
 }
 
 /// The design of a source.
@@ -129,6 +136,12 @@ pub fn design_of(rt: &impl Abort, alloc: Global, source: &str) -> Design {
     read_design(alloc, source.as_bytes())
         .ok()
         .expect(rt, "a module without faults")
+}
+
+/// The first ticket of those that are left.
+pub fn first<K: Naming>(rt: &impl Abort, tickets: &mut Vec<Ticket<K>>) -> Ticket<K> {
+    assert!(rt; !tickets.is_empty(), "a ticket");
+    tickets.remove(0)
 }
 
 /// The last ticket of those that are left.
@@ -144,11 +157,29 @@ pub fn accepted<K: Naming>(rt: &impl Abort, reply: Reply<K>) -> Grant<K> {
     }
 }
 
-/// The register and the ticket of a stale turn. Any other answer ends the test.
-pub fn stale<K: Naming>(rt: &impl Abort, reply: Reply<K>) -> (RegId, Ticket<K>) {
+/// The position of an accepted entry. Any other answer ends the test.
+pub fn position_of<K: Naming>(rt: &impl Abort, reply: Reply<K>) -> u64 {
+    accepted(rt, reply).position
+}
+
+/// The ticket of a turn that is stale for register 0, with so many tries. Any other answer ends the test.
+pub fn stale<K: Naming>(rt: &impl Abort, reply: Reply<K>, tries: u8) -> Ticket<K> {
     match reply {
-        Reply::Stale(register, ticket) => (register, ticket),
+        Reply::Stale(register, ticket) => {
+            assert!(rt;
+                register == 0 && ticket.tries() == tries,
+                "another stale turn"
+            );
+            ticket
+        }
         _ => panic!(rt; "not stale"),
+    }
+}
+
+/// Puts tickets behind those that are there.
+pub fn keep<K: Naming>(rt: &impl Abort, tickets: &mut Vec<Ticket<K>>, more: Vec<Ticket<K>>) {
+    for ticket in more {
+        tickets.push(ticket).expect(rt, "room for a ticket");
     }
 }
 

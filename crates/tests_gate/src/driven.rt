@@ -4,6 +4,7 @@
 // 2. `generated` has journals that a generator makes: lawful ones, and ones that were cut, shuffled or changed.
 
 use crate::course::design_of;
+use commitgate::Closed;
 use design::Design;
 use drive::{DriveFault, drive};
 use model::entry::Entry;
@@ -20,7 +21,10 @@ fn assert_lines(rt: &impl Abort, alloc: Global, design: &Design, entries: &[Entr
     let replayed = replay(alloc, design, entries)
         .ok()
         .expect(rt, "a lawful journal");
-    assert_eq!(rt; lines, replayed.made.lines.as_str());
+    assert!(rt;
+        replayed.made.lines.as_str() == lines,
+        "other lines than the replay's"
+    );
 }
 
 // The first entry that isn't lawful.
@@ -28,31 +32,38 @@ fn assert_refused(rt: &impl Abort, alloc: Global, design: &Design, entries: &[En
     let fault = replay(alloc, design, entries)
         .err()
         .expect(rt, "no lawful journal");
-    assert_eq!(rt; entry, fault.entry);
+    assert!(rt; fault.entry == entry, "another entry than the replay's");
 }
 
-/// A journal that is led through a gate gives the lines of its replay, or the entry that the replay names. Answers that
-/// entry, or 0 for lines.
+/// A journal that is led through a gate gives the lines of its replay, or the entry that the replay names. Answers those
+/// lines, or that entry.
+fn answer<R: Abort + Wait>(
+    rt: &R,
+    alloc: Global,
+    design: &Design,
+    entries: &[Entry],
+) -> Result<Closed, u64> {
+    assert!(rt; entries.len() < 1_000_000, "a short journal");
+    match drive(rt, alloc, design, entries) {
+        Ok(closed) => {
+            assert!(rt; closed.entries() == entries, "the entries");
+            assert_lines(rt, alloc, design, entries, closed.lines());
+            Ok(closed)
+        }
+        Err(DriveFault::Unlawful(entry)) => {
+            assert_refused(rt, alloc, design, entries, entry);
+            Err(entry)
+        }
+        Err(DriveFault::Memory) => panic!(rt; "memory"),
+    }
+}
+
+/// The entry that is refused, or 0 for a lawful journal.
 fn entry_refused<R: Abort + Wait>(
     rt: &R,
     alloc: Global,
     design: &Design,
     entries: &[Entry],
 ) -> u64 {
-    assert!(rt; entries.len() < 1_000_000, "a short journal");
-    match drive(rt, alloc, design, entries) {
-        Ok(closed) => {
-            assert!(rt; closed.entries() == entries, "the entries");
-            assert_lines(rt, alloc, design, entries, closed.lines());
-            0
-        }
-        Err(DriveFault::Unlawful(entry)) => {
-            assert_refused(rt, alloc, design, entries, entry);
-            entry
-        }
-        Err(DriveFault::Memory) => {
-            assert!(rt; false, "memory");
-            0
-        }
-    }
+    answer(rt, alloc, design, entries).err().unwrap_or(0)
 }

@@ -1,18 +1,19 @@
 // Worked examples: what each call answers, and what the gate leaves.
-ghost use Rattle.std.specs.Prelude.{◌≡◌, ◌≤◌};
+ghost use Rattle.std.specs.Prelude.{◌≤◌};
 
+use crate::alone::{Alone, play_alone};
 use crate::between::mixed;
-use crate::course::{Course, accepted, close_one, close_two, design_of, last, stale};
-use commitgate::{Blank, Closed, Gate, Naming, Seat, Ticket};
-use design::{Design, RegId};
+use crate::course::{Course, accepted, design_of, first, last, position_of, stale};
+use crate::pair::{Pair, play_pair};
+use commitgate::{Naming, Seat, Ticket};
+use design::RegId;
+use indexmap::IndexMap;
 use logic4::bits::Bits;
-use model::end::{End, Limits};
+use model::end::End;
 use model::entry::Entry;
-use std::alloc::{AllocError, Global};
-use std::marker::Brand;
+use std::alloc::Global;
 use std::process::Abort;
 use std::sync::Wait;
-use std::test::*;
 use turn::{Seen, TurnLog};
 
 // How two workers take turns once their gate is open.
@@ -42,55 +43,39 @@ fn take_one<K: Naming, R: Wait + Abort>(
 // It has then seen the turn's entry, and the value that the turn gave its register.
 fn look_back<K: Naming, R: Wait + Abort>(course: &Course<'_, '_, K, R>, seat: Seat<K>) -> Seat<K> {
     let rt = course.rt;
-    let nine = Seen {
-        version: 1,
-        value: Bits::from_u64(4, 9),
-    };
-    let (mut seat, seen) = course.read(seat, 0);
-    let count = course.gate.entries(rt, &mut seat);
-    assert!(rt; seen == nine && count == 1);
-    let journal = course
-        .gate
-        .snapshot(rt, course.alloc, &mut seat)
-        .expect(rt, "memory");
-    assert!(rt; journal.as_slice() == [Entry::Turn(0)].as_slice());
+    let mut seat = course.read_as(seat, 0, &seen_of(1, 4, 9));
+    assert!(rt;
+        course.gate.entries(rt, &mut seat) == 1,
+        "another number of entries"
+    );
+    assert_journal(course, &mut seat);
     seat
 }
 
-// Opens a gate for one worker, which takes one turn, and closes it.
-fn run_one<K: Naming, R: Wait + Abort>(
-    rt: &R,
-    alloc: Global,
-    design: &Design,
-    blank: Blank<'_>,
-) -> Result<Closed, AllocError>
-    requires name { blank ≡ K.named }
-    requires design { design.now ≡ K.named.code }
-    requires workers { K.named.workers ≡ 1 }
-{
-    let (gate, mut seats, mut tickets) = blank.open::<K>(alloc)?;
-    let seat = seats.pop().expect(rt, "a seat");
-    let ticket = last(rt, &mut tickets);
-    let course = Course {
-        rt,
-        alloc,
-        gate: &gate,
-        design,
-    };
-    let seat = look_back(&course, take_one(&course, seat, ticket));
-    drop(course);
-    Ok(close_one(rt, alloc, gate, seat))
+// The journal is that turn's entry.
+fn assert_journal<K: Naming, R: Wait + Abort>(course: &Course<'_, '_, K, R>, seat: &mut Seat<K>) {
+    let rt = course.rt;
+    let journal = course
+        .gate
+        .snapshot(rt, course.alloc, seat)
+        .expect(rt, "memory");
+    assert!(rt; journal.as_slice() == [Entry::Turn(0)].as_slice());
 }
 
-// The same for the gate of a source.
-fn play_one<R: Wait + Abort>(rt: &R, alloc: Global, source: &str) -> Result<Closed, AllocError> {
-    let design = design_of(rt, alloc, source);
-    let limits = Limits {
-        until: None,
-        max_entries: 1_000,
-    };
-    let blank = Gate::new(rt, alloc, &design, 1, limits)?;
-    run_one::<Brand, R>(rt, alloc, &design, blank)
+// The only worker takes one turn.
+#[derive(Drop)]
+struct TakeOne;
+
+impl Alone for TakeOne {
+    fn lead<K: Naming, R: Wait + Abort>(
+        &mut self,
+        course: &Course<'_, '_, K, R>,
+        seat: Seat<K>,
+        mut tickets: Vec<Ticket<K>>,
+    ) -> Seat<K> {
+        let seat = take_one(course, seat, last(course.rt, &mut tickets));
+        look_back(course, seat)
+    }
 }
 
 // The second seat takes a turn, and its entry stands at this position. It then reads this of a register.
@@ -101,12 +86,8 @@ fn take_at<K: Naming, R: Wait + Abort>(
     position: u64,
     wanted: (RegId, Seen),
 ) -> Seat<K> {
-    let rt = course.rt;
-    let (two, reply) = course.serve(two, ticket);
-    let grant = accepted(rt, reply);
-    let (two, seen) = course.read(two, wanted.0);
-    assert!(rt; grant.position == position && seen == wanted.1);
-    two
+    let two = course.serve_at(two, ticket, position);
+    course.read_as(two, wanted.0, &wanted.1)
 }
 
 // A register's value and version.
@@ -138,14 +119,12 @@ fn too_early<K: Naming, R: Wait + Abort>(
 ) -> (Seat<K>, Seat<K>) {
     let rt = course.rt;
     let late = last(rt, &mut tickets);
-    let early = last(rt, &mut tickets);
     let (two, log) = course.evaluate(two, &late);
-    assert!(rt; read_unknown(&log));
-    let (one, reply) = course.serve(one, early);
-    assert!(rt; accepted(rt, reply).position == 0);
+    assert!(rt; read_unknown(&log), "a value that isn't x");
+    let one = course.serve_at(one, first(rt, &mut tickets), 0);
     let (two, count, reply) = course.look_and_commit(two, late, log);
-    let (register, late) = stale(rt, reply);
-    assert!(rt; count == 1 && register == 0 && late.tries() == 1);
+    assert!(rt; count == 1, "another number of entries");
+    let late = stale(rt, reply, 1);
     (one, take_at(course, two, late, 1, (1, seen_of(1, 1, 1))))
 }
 
@@ -156,17 +135,14 @@ fn first_instead<K: Naming, R: Wait + Abort>(
     two: Seat<K>,
     mut tickets: Vec<Ticket<K>>,
 ) -> (Seat<K>, Seat<K>) {
-    let rt = course.rt;
-    let late = last(rt, &mut tickets);
-    let early = last(rt, &mut tickets);
     let unknown = Seen {
         version: 0,
         value: Bits::unknown(1),
     };
+    let late = last(course.rt, &mut tickets);
     let two = take_at(course, two, late, 0, (1, unknown));
-    let (one, reply) = course.serve(one, early);
-    assert!(rt; accepted(rt, reply).position == 1);
-    (one, two)
+    let early = first(course.rt, &mut tickets);
+    (course.serve_at(one, early, 1), two)
 }
 
 // The first seat commits a turn between the second seat's evaluation and its commit, which is refused for register 0. The
@@ -174,19 +150,17 @@ fn first_instead<K: Naming, R: Wait + Abort>(
 fn overtake<K: Naming, R: Wait + Abort>(
     course: &Course<'_, '_, K, R>,
     one: Seat<K>,
-    early: Ticket<K>,
     two: Seat<K>,
+    tickets: &mut Vec<Ticket<K>>,
     late: Ticket<K>,
     tries: u8,
 ) -> (Seat<K>, Seat<K>, Ticket<K>) {
     let rt = course.rt;
     let (two, log) = course.evaluate(two, &late);
-    let (one, reply) = course.serve(one, early);
+    let (one, reply) = course.serve(one, first(rt, tickets));
     accepted(rt, reply);
     let (two, reply) = course.commit(two, late, log);
-    let (register, late) = stale(rt, reply);
-    assert!(rt; register == 0 && late.tries() == tries);
-    (one, two, late)
+    (one, two, stale(rt, reply, tries))
 }
 
 // The second seat's turn under the lock, after three refusals.
@@ -195,12 +169,9 @@ fn take_held<K: Naming, R: Wait + Abort>(
     two: Seat<K>,
     late: Ticket<K>,
 ) -> Seat<K> {
-    let rt = course.rt;
     let (two, reply) = course.commit_held(two, late);
-    let grant = accepted(rt, reply);
-    let (two, seen) = course.read(two, 1);
-    assert!(rt; grant.position == 3 && seen == seen_of(1, 2, 3));
-    two
+    assert!(course.rt; position_of(course.rt, reply) == 3, "another position");
+    course.read_as(two, 1, &seen_of(1, 2, 3))
 }
 
 /// Three turns overtake a fourth, one after each of its evaluations.
@@ -210,14 +181,10 @@ pub fn overtake_thrice<K: Naming, R: Wait + Abort>(
     two: Seat<K>,
     mut tickets: Vec<Ticket<K>>,
 ) -> (Seat<K>, Seat<K>, Ticket<K>) {
-    let rt = course.rt;
-    let late = last(rt, &mut tickets);
-    let third = last(rt, &mut tickets);
-    let second = last(rt, &mut tickets);
-    let first = last(rt, &mut tickets);
-    let (one, two, late) = overtake(course, one, first, two, late, 1);
-    let (one, two, late) = overtake(course, one, second, two, late, 2);
-    overtake(course, one, third, two, late, 3)
+    let late = last(course.rt, &mut tickets);
+    let (one, two, late) = overtake(course, one, two, &mut tickets, late, 1);
+    let (one, two, late) = overtake(course, one, two, &mut tickets, late, 2);
+    overtake(course, one, two, &mut tickets, late, 3)
 }
 
 // The fourth turn is then evaluated under the lock.
@@ -231,6 +198,11 @@ fn three_times<K: Naming, R: Wait + Abort>(
     (one, take_held(course, two, late))
 }
 
+// Whether a turn read that register 1 was given 0.
+fn read_zero(reads: &IndexMap<RegId, Seen>) -> bool {
+    reads.get(&1) == Some(&seen_of(1, 1, 0))
+}
+
 // A turn that never ends, since it saw one register before another turn and the other after it, is refused. Evaluated
 // again it ends.
 fn two_moments<K: Naming, R: Wait + Abort>(
@@ -241,12 +213,11 @@ fn two_moments<K: Naming, R: Wait + Abort>(
 ) -> (Seat<K>, Seat<K>) {
     let rt = course.rt;
     let late = last(rt, &mut tickets);
-    let early = last(rt, &mut tickets);
+    let early = first(rt, &mut tickets);
     let (one, two, reads) = mixed(course, one, early, two, &late);
-    assert!(rt; reads.get(&1) == Some(&seen_of(1, 1, 0)));
+    assert!(rt; read_zero(&reads), "another value");
     let (two, reply) = course.give_up(two, late, reads);
-    let (register, late) = stale(rt, reply);
-    assert!(rt; register == 0 && late.tries() == 1);
+    let late = stale(rt, reply, 1);
     (one, take_at(course, two, late, 1, (0, seen_of(1, 1, 0))))
 }
 
@@ -259,19 +230,12 @@ fn there_and_back<K: Naming, R: Wait + Abort>(
 ) -> (Seat<K>, Seat<K>) {
     let rt = course.rt;
     let late = last(rt, &mut tickets);
-    let back = last(rt, &mut tickets);
-    let there = last(rt, &mut tickets);
-    let first = last(rt, &mut tickets);
-    let (one, reply) = course.serve(one, first);
-    accepted(rt, reply);
+    let one = course.serve_at(one, first(rt, &mut tickets), 0);
     let (two, log) = course.evaluate(two, &late);
-    let (one, reply) = course.serve(one, there);
-    accepted(rt, reply);
-    let (one, reply) = course.serve(one, back);
-    accepted(rt, reply);
+    let one = course.serve_at(one, first(rt, &mut tickets), 1);
+    let one = course.serve_at(one, first(rt, &mut tickets), 2);
     let (two, reply) = course.commit(two, late, log);
-    let (register, late) = stale(rt, reply);
-    assert!(rt; register == 0 && late.tries() == 1);
+    let late = stale(rt, reply, 1);
     (one, take_at(course, two, late, 3, (1, seen_of(1, 1, 0))))
 }
 
@@ -285,119 +249,96 @@ fn equal_value<K: Naming, R: Wait + Abort>(
     let rt = course.rt;
     let late = last(rt, &mut tickets);
     let same = last(rt, &mut tickets);
-    let _other = last(rt, &mut tickets);
-    let first = last(rt, &mut tickets);
-    let (one, reply) = course.serve(one, first);
-    accepted(rt, reply);
+    let one = course.serve_at(one, first(rt, &mut tickets), 0);
     let (two, log) = course.evaluate(two, &late);
-    let (one, reply) = course.serve(one, same);
-    accepted(rt, reply);
+    let one = course.serve_at(one, same, 1);
     let (two, reply) = course.commit(two, late, log);
-    assert!(rt; accepted(rt, reply).position == 2);
+    assert!(rt; position_of(rt, reply) == 2, "another position");
     (one, two)
 }
 
-fn lead<K: Naming, R: Wait + Abort>(
-    course: &Course<'_, '_, K, R>,
-    one: Seat<K>,
-    two: Seat<K>,
-    tickets: Vec<Ticket<K>>,
-    example: Example,
-) -> (Seat<K>, Seat<K>) {
-    match example {
-        Example::TooEarly => too_early(course, one, two, tickets),
-        Example::FirstInstead => first_instead(course, one, two, tickets),
-        Example::ThreeTimes => three_times(course, one, two, tickets),
-        Example::TwoMoments => two_moments(course, one, two, tickets),
-        Example::ThereAndBack => there_and_back(course, one, two, tickets),
-        Example::EqualValue => equal_value(course, one, two, tickets),
+impl Pair for Example {
+    fn lead<K: Naming, R: Wait + Abort>(
+        &self,
+        course: &Course<'_, '_, K, R>,
+        one: Seat<K>,
+        two: Seat<K>,
+        tickets: Vec<Ticket<K>>,
+    ) -> (Seat<K>, Seat<K>) {
+        match self {
+            Example::TooEarly => too_early(course, one, two, tickets),
+            Example::FirstInstead => first_instead(course, one, two, tickets),
+            Example::ThreeTimes => three_times(course, one, two, tickets),
+            Example::TwoMoments => two_moments(course, one, two, tickets),
+            Example::ThereAndBack => there_and_back(course, one, two, tickets),
+            Example::EqualValue => equal_value(course, one, two, tickets),
+        }
     }
 }
 
-// Opens a gate for two workers, which take their turns, and closes it.
-fn run_two<K: Naming, R: Wait + Abort>(
-    rt: &R,
-    alloc: Global,
-    design: &Design,
-    blank: Blank<'_>,
-    example: Example,
-) -> Result<Closed, AllocError>
-    requires name { blank ≡ K.named }
-    requires design { design.now ≡ K.named.code }
-    requires workers { K.named.workers ≡ 2 }
-{
-    let (gate, mut seats, tickets) = blank.open::<K>(alloc)?;
-    let two = seats.pop().expect(rt, "a seat");
-    let one = seats.pop().expect(rt, "a seat");
-    let course = Course {
-        rt,
-        alloc,
-        gate: &gate,
-        design,
-    };
-    let (one, two) = lead(&course, one, two, tickets, example);
-    drop(course);
-    Ok(close_two(rt, alloc, gate, one, two))
+#[test]
+fn a_turn_alone_stands(rt: HostRuntime) {
+    let source = "module t; reg [3:0] r; initial r=4'd9; endmodule";
+    let closed = play_alone(&rt, rt.alloc(), source, &mut TakeOne);
+    assert!(rt; closed.end() == End::Quiet && closed.committed() == [1].as_slice());
 }
 
-// The same for the gate of a source.
-fn play_two<R: Wait + Abort>(
+// An example of a source ends so, after so many entries of each seat.
+fn assert_ends<R: Wait + Abort>(
     rt: &R,
     alloc: Global,
     source: &str,
     example: Example,
-) -> Result<Closed, AllocError> {
+    end: End,
+    committed: [u64; 2],
+) {
     let design = design_of(rt, alloc, source);
-    let limits = Limits {
-        until: None,
-        max_entries: 1_000,
-    };
-    let blank = Gate::new(rt, alloc, &design, 2, limits)?;
-    run_two::<Brand, R>(rt, alloc, &design, blank, example)
-}
-
-#[test]
-fn a_turn_alone_stands(rt: HostRuntime) -> Result<(), Fail> {
-    let source = "module t; reg [3:0] r; initial r=4'd9; endmodule";
-    let closed = play_one(&rt, rt.alloc(), source)?;
-    assert!(rt; closed.end() == End::Quiet && closed.committed() == [1].as_slice());
-    Ok(())
+    let closed = play_pair(rt, alloc, &design, 1_000, &example);
+    assert!(rt; closed.end() == end && closed.committed() == committed.as_slice());
 }
 
 /// One process gives a register a value, and another reads it.
 const COPY: &str = "module t; reg a, b; initial a=1'b1; initial b=a; endmodule";
 
 #[test]
-fn a_turn_that_read_too_early_is_stale(rt: HostRuntime) -> Result<(), Fail> {
-    let closed = play_two(&rt, rt.alloc(), COPY, Example::TooEarly)?;
-    assert!(rt; closed.end() == End::Quiet && closed.committed() == [1, 1].as_slice());
-    Ok(())
+fn a_turn_that_read_too_early_is_stale(rt: HostRuntime) {
+    assert_ends(&rt, rt.alloc(), COPY, Example::TooEarly, End::Quiet, [1, 1]);
 }
 
 #[test]
-fn the_same_turn_committed_first_stands(rt: HostRuntime) -> Result<(), Fail> {
-    let closed = play_two(&rt, rt.alloc(), COPY, Example::FirstInstead)?;
+fn the_same_turn_committed_first_stands(rt: HostRuntime) {
+    let design = design_of(&rt, rt.alloc(), COPY);
+    let closed = play_pair(&rt, rt.alloc(), &design, 1_000, &Example::FirstInstead);
     let journal = [Entry::Turn(1), Entry::Turn(0)];
     assert!(rt; closed.entries() == journal.as_slice());
-    Ok(())
 }
 
 #[test]
-fn a_turn_refused_three_times_is_evaluated_under_the_lock(rt: HostRuntime) -> Result<(), Fail> {
+fn a_turn_refused_three_times_is_evaluated_under_the_lock(rt: HostRuntime) {
     let source =
         "module t; reg [1:0] a, b; initial a=2'd1; initial a=2'd2; initial a=2'd3; initial b=a; endmodule";
-    let closed = play_two(&rt, rt.alloc(), source, Example::ThreeTimes)?;
-    assert!(rt; closed.end() == End::Quiet && closed.committed() == [3, 1].as_slice());
-    Ok(())
+    assert_ends(
+        &rt,
+        rt.alloc(),
+        source,
+        Example::ThreeTimes,
+        End::Quiet,
+        [3, 1],
+    );
 }
 
 #[test]
-fn a_turn_of_two_moments_is_stale(rt: HostRuntime) -> Result<(), Fail> {
+fn a_turn_of_two_moments_is_stale(rt: HostRuntime) {
     let source =
         "module t; reg a, b; initial begin a=1'b0; b=1'b0; end initial while (a!==b) begin end endmodule";
-    let closed = play_two(&rt, rt.alloc(), source, Example::TwoMoments)?;
-    assert!(rt; closed.end() == End::Quiet && closed.committed() == [1, 1].as_slice());
-    Ok(())
+    assert_ends(
+        &rt,
+        rt.alloc(),
+        source,
+        Example::TwoMoments,
+        End::Quiet,
+        [1, 1],
+    );
 }
 
 /// A register is given a value, another and the first again, and read.
@@ -405,15 +346,25 @@ const BACK: &str =
     "module t; reg r, b; initial r=1'b0; initial r=1'b1; initial r=1'b0; initial b=r; endmodule";
 
 #[test]
-fn a_register_that_came_back_has_changed(rt: HostRuntime) -> Result<(), Fail> {
-    let closed = play_two(&rt, rt.alloc(), BACK, Example::ThereAndBack)?;
-    assert!(rt; closed.end() == End::Quiet && closed.committed() == [3, 1].as_slice());
-    Ok(())
+fn a_register_that_came_back_has_changed(rt: HostRuntime) {
+    assert_ends(
+        &rt,
+        rt.alloc(),
+        BACK,
+        Example::ThereAndBack,
+        End::Quiet,
+        [3, 1],
+    );
 }
 
 #[test]
-fn an_equal_value_is_no_change(rt: HostRuntime) -> Result<(), Fail> {
-    let closed = play_two(&rt, rt.alloc(), BACK, Example::EqualValue)?;
-    assert!(rt; closed.end() == End::Running && closed.committed() == [2, 1].as_slice());
-    Ok(())
+fn an_equal_value_is_no_change(rt: HostRuntime) {
+    assert_ends(
+        &rt,
+        rt.alloc(),
+        BACK,
+        Example::EqualValue,
+        End::Running,
+        [2, 1],
+    );
 }

@@ -3,17 +3,16 @@ ghost use Rattle.std.specs.Prelude.{◌≡◌};
 ghost use Rattle.std.specs.Thread.{IsSend, IsSync};
 ghost use Rattle.design.specs.contracts.design.Design as design_rows;
 
-use crate::course::{Course, accepted, design_of};
+use crate::course::{Course, design_of, position_of};
 use crate::examples::overtake_thrice;
 use commitgate::{Blank, Gate, Naming, Seat, Ticket};
 use design::Design;
 use model::end::Limits;
-use std::alloc::{AllocError, Global};
+use std::alloc::Global;
 use std::marker::Brand;
 use std::process::Abort;
 use std::sync::Wait;
 use std::sync::atomic::{AtomicBool, Ordering};
-use std::test::*;
 use std::thread;
 use std::thread::{Threads, yield_now};
 
@@ -31,7 +30,7 @@ fn hold<K: Naming, R: Wait + Abort>(
     began.store(true, Ordering::SeqCst);
     let (two, reply) = course.commit_held(two, late);
     over.store(true, Ordering::SeqCst);
-    accepted(course.rt, reply);
+    position_of(course.rt, reply);
     two
 }
 
@@ -102,11 +101,11 @@ fn run<K: Naming + Send + Sync, R: Threads + Wait + Abort + Sync>(
     alloc: Global,
     design: &Design,
     blank: Blank<'_>,
-) -> Result<u32, AllocError>
+) -> u32
     requires name { blank ≡ K.named }
     requires design { design.now ≡ K.named.code }
 {
-    let (gate, mut seats, tickets) = blank.open::<K>(alloc)?;
+    let (gate, mut seats, tickets) = blank.open::<K>(alloc).expect(rt, "memory");
     let two = seats.pop().expect(rt, "a seat");
     let one = seats.pop().expect(rt, "a seat");
     let course = Course {
@@ -118,31 +117,27 @@ fn run<K: Naming + Send + Sync, R: Threads + Wait + Abort + Sync>(
     let (one, two, late) = overtake_thrice(&course, one, two, tickets);
     design_is_shared();
     let (_one, _two, times) = race(&course, one, two, late);
-    Ok(times)
+    times
 }
 
 // The same for the gate of a source.
-fn play<R: Threads + Wait + Abort + Sync>(
-    rt: &R,
-    alloc: Global,
-    source: &str,
-) -> Result<u32, AllocError> {
+fn play<R: Threads + Wait + Abort + Sync>(rt: &R, alloc: Global, source: &str) -> u32 {
     let design = design_of(rt, alloc, source);
     let limits = Limits {
         until: None,
         max_entries: 1_000,
     };
-    let blank = Gate::new(rt, alloc, &design, 2, limits)?;
+    let blank = Gate::new(rt, alloc, &design, 2, limits).expect(rt, "memory");
     run::<Brand, R>(rt, alloc, &design, blank)
 }
 
 #[test]
-fn registers_are_read_while_the_lock_is_held(rt: HostRuntime) -> Result<(), Fail> {
+fn registers_are_read_while_the_lock_is_held(rt: HostRuntime) {
     let source =
         "module t; reg [15:0] a, b, i; initial a=16'd1; initial a=16'd2; initial a=16'd3; initial begin i=16'd0; while (i<16'd30000) begin i=i+16'd1; end b=a; end endmodule";
     for _ in 0..100 {
-        if play(&rt, rt.alloc(), source)? >= 100 {
-            return Ok(());
+        if play(&rt, rt.alloc(), source) >= 100 {
+            return;
         }
     }
     panic!(rt; "no read while the lock was held");

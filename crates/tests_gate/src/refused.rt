@@ -1,19 +1,16 @@
 // A run of one seat in too little memory. A call that is refused memory changes nothing, and with more it succeeds.
-ghost use Rattle.std.specs.Prelude.{◌≡◌};
 ghost use Rattle.turn.specs.Answers.{IsTurnLog};
 ghost use Rattle.turn.specs.Reads.{GaveAll};
 ghost use Rattle.gateparts.specs.Histories.{IsRead};
 
-use crate::course::{Course, close_one, design_of};
-use commitgate::{Blank, Closed, Gate, Grant, Naming, Reply, Rest, Seat, Ticket, UpdateReply};
-use design::Design;
+use crate::alone::{Alone, play_alone};
+use crate::course::{Course, first, keep};
+use commitgate::{Grant, Naming, Reply, Rest, Seat, Ticket, UpdateReply};
 use hoard::Hoard;
-use model::end::{End, Limits};
-use std::alloc::{AllocError, Global};
-use std::marker::Brand;
+use model::end::End;
+use std::alloc::Global;
 use std::process::Abort;
 use std::sync::Wait;
-use std::test::*;
 use turn::TurnLog;
 
 // How much more memory a call gets each time, and how often at most.
@@ -54,6 +51,13 @@ enum Came<K: Naming> {
     NoMemory,
 }
 
+// A call of a worker without a ticket.
+#[derive(Clone, Copy)]
+enum Call {
+    Update,
+    Rest,
+}
+
 fn came_of_update<K: Naming>(rt: &impl Abort, reply: UpdateReply<K>) -> Came<K> {
     match reply {
         UpdateReply::Accepted(grant) => Came::Entry(grant),
@@ -69,6 +73,21 @@ fn came_of_rest<K: Naming>(rt: &impl Abort, rest: Rest<K>) -> Came<K> {
         Rest::Quiet => Came::Nothing,
         Rest::NoMemory => Came::NoMemory,
         Rest::Busy | Rest::Stopped(_) => panic!(rt; "busy or stopped"),
+    }
+}
+
+// The grant of an accepted turn, or the ticket of one that was refused memory: this event's, with no tries.
+fn granted<K: Naming>(rt: &impl Abort, reply: Reply<K>, event: u64) -> Result<Grant<K>, Ticket<K>> {
+    match reply {
+        Reply::Accepted(grant) => Ok(grant),
+        Reply::NoMemory(back) => {
+            assert!(rt;
+                back.tries() == 0 && back.event() == event,
+                "another ticket"
+            );
+            Err(back)
+        }
+        _ => panic!(rt; "neither accepted nor refused memory"),
     }
 }
 
@@ -110,81 +129,93 @@ impl<'c, 'h, 'g, 'd, K: Naming, R: Wait + Abort> Starved<'c, 'h, 'g, 'd, K, R> {
         (seat, log)
     }
 
-    // Commits the turn of a ticket with more and more memory. A ticket that comes back has as many tries as before, and is
-    // evaluated again.
+    // Commits the turn of a ticket in so little memory. A ticket that comes back has as many tries as before.
+    fn try_commit(
+        &mut self,
+        seat: Seat<K>,
+        ticket: Ticket<K>,
+        count: usize,
+    ) -> (Seat<K>, Result<Grant<K>, Ticket<K>>) {
+        let event = ticket.event();
+        let (seat, log) = self.evaluate_again(seat, &ticket);
+        self.leave(count);
+        let (seat, reply) = self.course.commit(seat, ticket, log);
+        self.hoard.shut();
+        (seat, granted(self.course.rt, reply, event))
+    }
+
+    // Commits the turn of a ticket with more and more memory. A ticket that comes back is evaluated again.
     fn commit(&mut self, seat: Seat<K>, ticket: Ticket<K>) -> (Seat<K>, Grant<K>) {
-        let rt = self.course.rt;
         let (mut seat, _log) = self.evaluate(seat, &ticket);
         let mut ticket = ticket;
-        let event = ticket.event();
         for count in 0..ROOMS {
-            let (served, log) = self.evaluate_again(seat, &ticket);
-            self.leave(count);
-            let (served, reply) = self.course.commit(served, ticket, log);
-            self.hoard.shut();
-            match reply {
-                Reply::Accepted(grant) => return (served, grant),
-                Reply::NoMemory(back) => {
-                    assert!(rt;
-                        back.tries() == 0 && back.event() == event,
-                        "another ticket"
-                    );
-                    ticket = back;
-                }
-                _ => panic!(rt; "neither accepted nor refused memory"),
-            }
+            let (served, answer) = self.try_commit(seat, ticket, count);
             seat = served;
+            match answer {
+                Ok(grant) => return (seat, grant),
+                Err(back) => ticket = back,
+            }
             self.refused.commits = self.refused.commits.saturating_add(1);
         }
-        panic!(rt; "not accepted")
+        panic!(self.course.rt; "not accepted")
     }
 
-    // Asks for an update with more and more memory.
-    fn update(&mut self, seat: &mut Seat<K>) -> Option<Grant<K>> {
+    // What comes of a call in so little memory.
+    fn ask(&mut self, seat: &mut Seat<K>, call: Call, count: usize) -> Came<K> {
         let course = self.course;
+        self.leave(count);
+        let came = match call {
+            Call::Update => {
+                let reply = course.gate.update(course.rt, course.alloc, seat);
+                came_of_update(course.rt, reply)
+            }
+            Call::Rest => {
+                let rest = course.gate.rest(course.rt, course.alloc, seat);
+                came_of_rest(course.rt, rest)
+            }
+        };
+        self.hoard.shut();
+        came
+    }
+
+    // Counts a call that was refused memory.
+    fn count_refused(&mut self, call: Call) {
+        let refused = &mut self.refused;
+        match call {
+            Call::Update => refused.updates = refused.updates.saturating_add(1),
+            Call::Rest => refused.rests = refused.rests.saturating_add(1),
+        }
+    }
+
+    // Asks with more and more memory.
+    fn insist(&mut self, seat: &mut Seat<K>, call: Call) -> Option<Grant<K>> {
         for count in 0..ROOMS {
-            self.leave(count);
-            let reply = course.gate.update(course.rt, course.alloc, seat);
-            self.hoard.shut();
-            match came_of_update(course.rt, reply) {
+            match self.ask(seat, call, count) {
                 Came::Entry(grant) => return Some(grant),
                 Came::Nothing => return None,
                 Came::NoMemory => {}
             }
-            self.refused.updates = self.refused.updates.saturating_add(1);
+            self.count_refused(call);
         }
-        panic!(course.rt; "no update")
+        panic!(self.course.rt; "no answer")
     }
 
-    // Asks for a change of the regions with more and more memory.
-    fn rest(&mut self, seat: &mut Seat<K>) -> Option<Grant<K>> {
-        let course = self.course;
-        for count in 0..ROOMS {
-            self.leave(count);
-            let rest = course.gate.rest(course.rt, course.alloc, seat);
-            self.hoard.shut();
-            match came_of_rest(course.rt, rest) {
-                Came::Entry(grant) => return Some(grant),
-                Came::Nothing => return None,
-                Came::NoMemory => {}
-            }
-            self.refused.rests = self.refused.rests.saturating_add(1);
+    // An update, or else a change of the regions.
+    fn step_alone(&mut self, seat: &mut Seat<K>) -> Option<Grant<K>> {
+        match self.insist(seat, Call::Update) {
+            None => self.insist(seat, Call::Rest),
+            update => update,
         }
-        panic!(course.rt; "no change of the regions")
     }
 
     // One entry more, where the run isn't quiet.
     fn step(&mut self, seat: Seat<K>, tickets: &mut Vec<Ticket<K>>) -> (Seat<K>, Option<Grant<K>>) {
         if tickets.is_empty() {
             let mut seat = seat;
-            let update = self.update(&mut seat);
-            if update.is_some() {
-                return (seat, update);
-            }
-            let change = self.rest(&mut seat);
-            return (seat, change);
+            let grant = self.step_alone(&mut seat);
+            return (seat, grant);
         }
-        let (seat, grant) = self.commit(seat, tickets.remove(0));
+        let (seat, grant) = self.commit(seat, first(self.course.rt, tickets));
         (seat, Some(grant))
     }
 
@@ -200,110 +231,99 @@ impl<'c, 'h, 'g, 'd, K: Naming, R: Wait + Abort> Starved<'c, 'h, 'g, 'd, K, R> {
                 grant.position == position as u64,
                 "entries before this one"
             );
-            for ticket in grant.tickets {
-                tickets.push(ticket).expect(rt, "room for a ticket");
-            }
+            keep(rt, &mut tickets, grant.tickets);
         }
         panic!(rt; "no end")
     }
 }
 
-// Leads a run to its end in too little memory, and counts how often it was refused.
-fn starve<K: Naming, R: Wait + Abort>(
-    course: &Course<'_, '_, K, R>,
-    hoard: &mut Hoard,
-    seat: Seat<K>,
-    tickets: Vec<Ticket<K>>,
-) -> (Seat<K>, Refused) {
-    let mut starved = Starved {
-        course,
-        hoard,
-        refused: Refused {
-            evaluations: 0,
-            commits: 0,
-            updates: 0,
-            rests: 0,
-        },
-    };
-    let seat = starved.lead(seat, tickets);
-    (seat, starved.refused)
+// No refusals yet.
+const NONE_YET: Refused = Refused {
+    evaluations: 0,
+    commits: 0,
+    updates: 0,
+    rests: 0,
+};
+
+// The tickets, with room for all that the run will have.
+fn roomy<K: Naming>(rt: &impl Abort, alloc: Global, tickets: Vec<Ticket<K>>) -> Vec<Ticket<K>> {
+    let mut held = Vec::with_capacity(alloc, ENTRIES).expect(rt, "memory");
+    keep(rt, &mut held, tickets);
+    held
 }
 
-// Opens a gate for one worker, which runs in too little memory, and closes it.
-fn run<K: Naming, R: Wait + Abort>(
-    rt: &R,
-    alloc: Global,
-    design: &Design,
-    blank: Blank<'_>,
-) -> Result<(Closed, Refused), AllocError>
-    requires name { blank ≡ K.named }
-    requires design { design.now ≡ K.named.code }
-    requires workers { K.named.workers ≡ 1 }
-{
-    let (gate, mut seats, tickets) = blank.open::<K>(alloc)?;
-    let seat = seats.pop().expect(rt, "a seat");
-    let mut held = Vec::with_capacity(alloc, ENTRIES)?;
-    for ticket in tickets {
-        held.push(ticket)?;
+// All memory but so many pieces is taken.
+fn take_all(rt: &impl Abort, alloc: Global) -> Hoard {
+    Hoard::new(alloc, PIECES, PIECE).expect(rt, "memory")
+}
+
+// The only worker leads the run in too little memory. This is how often it was refused.
+#[derive(Drop)]
+struct Starving {
+    refused: Refused,
+}
+
+impl Alone for Starving {
+    fn lead<K: Naming, R: Wait + Abort>(
+        &mut self,
+        course: &Course<'_, '_, K, R>,
+        seat: Seat<K>,
+        tickets: Vec<Ticket<K>>,
+    ) -> Seat<K> {
+        let held = roomy(course.rt, course.alloc, tickets);
+        let mut hoard = take_all(course.rt, course.alloc);
+        let mut starved = Starved {
+            course,
+            hoard: &mut hoard,
+            refused: self.refused,
+        };
+        let seat = starved.lead(seat, held);
+        self.refused = starved.refused;
+        seat
     }
-    let course = Course {
-        rt,
-        alloc,
-        gate: &gate,
-        design,
-    };
-    let mut hoard = Hoard::new(alloc, PIECES, PIECE)?;
-    let (seat, refused) = starve(&course, &mut hoard, seat, held);
-    drop(hoard);
-    drop(course);
-    Ok((close_one(rt, alloc, gate, seat), refused))
 }
 
-// The same for the gate of a source, whose run is quiet at last and has these lines.
+// How often memory was refused to the gate of a source, whose run is quiet at last and has these lines.
 fn play<R: Wait + Abort>(
     rt: &R,
     alloc: Global,
     source: &str,
     entries: usize,
     lines: &str,
-) -> Result<Refused, AllocError> {
-    let design = design_of(rt, alloc, source);
-    let limits = Limits {
-        until: None,
-        max_entries: 1_000,
-    };
-    let blank = Gate::new(rt, alloc, &design, 1, limits)?;
-    let (closed, refused) = run::<Brand, R>(rt, alloc, &design, blank)?;
-    assert!(rt; closed.end() == End::Quiet, "the end");
-    assert_eq!(rt; closed.entries().len(), entries);
-    assert_eq!(rt; closed.lines(), lines);
-    Ok(refused)
+) -> Refused {
+    let mut starving = Starving { refused: NONE_YET };
+    let closed = play_alone(rt, alloc, source, &mut starving);
+    assert!(rt;
+        closed.end() == End::Quiet && closed.entries().len() == entries,
+        "the end"
+    );
+    assert!(rt; closed.lines() == lines, "the lines");
+    starving.refused
 }
 
 #[test]
-fn a_swap_runs_through_refusals(rt: HostRuntime) -> Result<(), Fail> {
+fn a_swap_runs_through_refusals(rt: HostRuntime) {
     let source =
         "module t; reg a, b; initial begin a=1'b0; b=1'b1; #1 a<=b; b<=a; #1 $display(\"%b %b\",a,b); end endmodule";
-    let refused = play(&rt, rt.alloc(), source, 8, "1 0\n")?;
-    assert!(rt; refused.evaluations > 0, "evaluations");
-    assert!(rt; refused.commits > 0, "commits");
-    Ok(())
+    let refused = play(&rt, rt.alloc(), source, 8, "1 0\n");
+    assert!(rt;
+        refused.evaluations > 0 && refused.commits > 0,
+        "evaluations and commits"
+    );
 }
 
 #[test]
-fn a_glitch_runs_through_refusals(rt: HostRuntime) -> Result<(), Fail> {
+fn a_glitch_runs_through_refusals(rt: HostRuntime) {
     let source =
         "module t; reg a; initial begin a=1'b1; #1 a=1'b0; a=1'b1; end initial #0 @(posedge a) $display(\"glitch\"); endmodule";
-    let refused = play(&rt, rt.alloc(), source, 7, "glitch\n")?;
+    let refused = play(&rt, rt.alloc(), source, 7, "glitch\n");
     assert!(rt; refused.evaluations > 0 && refused.commits > 0 && refused.rests > 0);
-    Ok(())
 }
 
 #[test]
-fn an_update_that_wakes_runs_through_refusals(rt: HostRuntime) -> Result<(), Fail> {
+fn an_update_that_wakes_runs_through_refusals(rt: HostRuntime) {
     let source =
         "module t; reg a; initial begin a<=1'b0; a<=1'b1; end initial @(posedge a) $display(\"up %b\",a); endmodule";
-    let refused = play(&rt, rt.alloc(), source, 6, "up 1\n")?;
+    let refused = play(&rt, rt.alloc(), source, 6, "up 1\n");
     assert!(rt; refused.updates > 0, "updates");
-    Ok(())
 }

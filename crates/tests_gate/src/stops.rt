@@ -1,19 +1,17 @@
 // A run of two seats that one of them stops: every later call is answered by the stop, and the journal stays as it was.
-ghost use Rattle.std.specs.Prelude.{◌≡◌};
 
 use crate::between::mixed;
-use crate::course::{Course, accepted, close_two, design_of, last};
+use crate::course::{Course, accepted, design_of, first, keep, last};
 use crate::examples::overtake_thrice;
-use commitgate::{Blank, Closed, Gate, Grant, Naming, Reply, Rest, Seat, Ticket, UpdateReply};
+use crate::pair::{Pair, play_pair};
+use commitgate::{Closed, Grant, Naming, Reply, Rest, Seat, Ticket, UpdateReply};
 use design::Design;
-use model::end::{End, Limits, Why};
+use model::end::{End, Why};
 use model::entry::Entry;
 use replay::replay;
-use std::alloc::{AllocError, Global};
-use std::marker::Brand;
+use std::alloc::Global;
 use std::process::Abort;
 use std::sync::Wait;
-use std::test::*;
 
 // A register goes down and up again within one turn, and what waits for it wakes.
 const GLITCH: &str =
@@ -63,10 +61,8 @@ fn step<K: Naming, R: Wait + Abort>(
         *tickets = changed(course.rt, rest).tickets;
         return seat;
     }
-    let (seat, reply) = course.serve(seat, tickets.remove(0));
-    for ticket in accepted(course.rt, reply).tickets {
-        tickets.push(ticket).expect(course.rt, "memory");
-    }
+    let (seat, reply) = course.serve(seat, first(course.rt, tickets));
+    keep(course.rt, tickets, accepted(course.rt, reply).tickets);
     seat
 }
 
@@ -98,41 +94,39 @@ fn assert_reply<K: Naming>(rt: &impl Abort, reply: Reply<K>, why: Why) {
     }
 }
 
-// An update and a rest are answered by this stop, and there are so many entries.
-fn assert_stopped<K: Naming, R: Wait + Abort>(
-    course: &Course<'_, '_, K, R>,
-    seat: &mut Seat<K>,
-    why: Why,
-    entries: u64,
-) {
-    let rt = course.rt;
-    match course.gate.update(rt, course.alloc, seat) {
-        UpdateReply::Stopped(found) => assert!(rt; found == why, "another stop of an update"),
-        _ => panic!(rt; "an update that isn't stopped"),
+// How the run ended, as the answer to an update tells.
+fn end_of_update<K: Naming>(rt: &impl Abort, reply: UpdateReply<K>) -> End {
+    match reply {
+        UpdateReply::Nothing => End::Quiet,
+        UpdateReply::Stopped(why) => End::Stopped(why),
+        _ => panic!(rt; "an update of a run that is over"),
     }
-    match course.gate.rest(rt, course.alloc, seat) {
-        Rest::Stopped(found) => assert!(rt; found == why, "another stop of a rest"),
-        _ => panic!(rt; "a rest that isn't stopped"),
-    }
-    assert_eq!(rt; course.gate.entries(rt, seat), entries);
 }
 
-// The same of a run that is quiet.
-fn assert_quiet<K: Naming, R: Wait + Abort>(
+// The same of the answer to a rest.
+fn end_of_rest<K: Naming>(rt: &impl Abort, rest: Rest<K>) -> End {
+    match rest {
+        Rest::Quiet => End::Quiet,
+        Rest::Stopped(why) => End::Stopped(why),
+        _ => panic!(rt; "a rest that is neither quiet nor stopped"),
+    }
+}
+
+// An update and a rest tell that the run ended so, and there are so many entries.
+fn assert_over<K: Naming, R: Wait + Abort>(
     course: &Course<'_, '_, K, R>,
     seat: &mut Seat<K>,
+    end: End,
     entries: u64,
 ) {
     let rt = course.rt;
-    match course.gate.update(rt, course.alloc, seat) {
-        UpdateReply::Nothing => {}
-        _ => panic!(rt; "an update of a quiet run"),
-    }
-    match course.gate.rest(rt, course.alloc, seat) {
-        Rest::Quiet => {}
-        _ => panic!(rt; "a rest that isn't quiet"),
-    }
-    assert_eq!(rt; course.gate.entries(rt, seat), entries);
+    let update = end_of_update(rt, course.gate.update(rt, course.alloc, seat));
+    let rest = end_of_rest(rt, course.gate.rest(rt, course.alloc, seat));
+    assert!(rt; update == end && rest == end, "another end");
+    assert!(rt;
+        course.gate.entries(rt, seat) == entries,
+        "another number of entries"
+    );
 }
 
 // Each ticket is refused for this stop.
@@ -151,30 +145,44 @@ fn assert_refused<K: Naming, R: Wait + Abort>(
     seat
 }
 
-// Seat 1 stops the run, and seat 0 does so too. Seat 0 has evaluated the first ticket's turn before.
+// Seat 1 stops the run after seat 0 has evaluated a ticket's turn.
+fn stop_before_commit<K: Naming, R: Wait + Abort>(
+    course: &Course<'_, '_, K, R>,
+    one: Seat<K>,
+    two: &mut Seat<K>,
+    ticket: Ticket<K>,
+) -> Seat<K> {
+    let (one, log) = course.evaluate(one, &ticket);
+    course.gate.stop(course.rt, two);
+    let (one, reply) = course.commit(one, ticket, log);
+    assert_reply(course.rt, reply, Why::Memory);
+    one
+}
+
+// Seat 1 stops the run. Seat 0 has evaluated the first ticket's turn before.
 fn stop_between<K: Naming, R: Wait + Abort>(
     course: &Course<'_, '_, K, R>,
     one: Seat<K>,
-    two: Seat<K>,
+    two: &mut Seat<K>,
     tickets: &mut Vec<Ticket<K>>,
-) -> (Seat<K>, Seat<K>) {
-    let mut two = two;
+) -> Seat<K> {
     if tickets.is_empty() {
-        let mut one = one;
-        course.gate.stop(course.rt, &mut two);
-        course.gate.stop(course.rt, &mut one);
-        return (one, two);
+        course.gate.stop(course.rt, two);
+        return one;
     }
-    let ticket = tickets.remove(0);
-    let (one, log) = course.evaluate(one, &ticket);
-    course.gate.stop(course.rt, &mut two);
-    let (mut one, reply) = course.commit(one, ticket, log);
-    assert_reply(course.rt, reply, Why::Memory);
-    course.gate.stop(course.rt, &mut one);
-    (one, two)
+    stop_before_commit(course, one, two, first(course.rt, tickets))
 }
 
-// The whole run of the glitch is quiet after its last entry. Before that seat 1 stops it.
+// How the run of the glitch ends that is stopped after so many entries: it is quiet after its last one.
+fn end_after(entries: usize) -> End {
+    if entries == JOURNAL.len() {
+        End::Quiet
+    } else {
+        End::Stopped(Why::Memory)
+    }
+}
+
+// Seat 1 stops the run of the glitch, and then seat 0 does so too.
 fn stopped_after<K: Naming, R: Wait + Abort>(
     course: &Course<'_, '_, K, R>,
     one: Seat<K>,
@@ -182,16 +190,13 @@ fn stopped_after<K: Naming, R: Wait + Abort>(
     mut tickets: Vec<Ticket<K>>,
     entries: usize,
 ) -> (Seat<K>, Seat<K>) {
-    let (one, two) = lead(course, one, two, &mut tickets, entries);
-    let (one, mut two) = stop_between(course, one, two, &mut tickets);
+    let (one, mut two) = lead(course, one, two, &mut tickets, entries);
+    let mut one = stop_between(course, one, &mut two, &mut tickets);
+    course.gate.stop(course.rt, &mut one);
     let mut one = assert_refused(course, one, tickets, Why::Memory);
-    if entries == JOURNAL.len() {
-        assert_quiet(course, &mut one, entries as u64);
-        assert_quiet(course, &mut two, entries as u64);
-    } else {
-        assert_stopped(course, &mut one, Why::Memory, entries as u64);
-        assert_stopped(course, &mut two, Why::Memory, entries as u64);
-    }
+    let end = end_after(entries);
+    assert_over(course, &mut one, end, entries as u64);
+    assert_over(course, &mut two, end, entries as u64);
     (one, two)
 }
 
@@ -203,12 +208,13 @@ fn full<K: Naming, R: Wait + Abort>(
     mut tickets: Vec<Ticket<K>>,
     entries: usize,
 ) -> (Seat<K>, Seat<K>) {
+    let end = End::Stopped(Why::Entries);
     let (one, mut two) = lead(course, one, two, &mut tickets, entries);
     let mut one = assert_refused(course, one, tickets, Why::Entries);
-    assert_stopped(course, &mut one, Why::Entries, entries as u64);
+    assert_over(course, &mut one, end, entries as u64);
     course.gate.stop(course.rt, &mut two);
     course.gate.stop(course.rt, &mut one);
-    assert_stopped(course, &mut two, Why::Entries, entries as u64);
+    assert_over(course, &mut two, end, entries as u64);
     (one, two)
 }
 
@@ -234,7 +240,7 @@ fn before_long_turn<K: Naming, R: Wait + Abort>(
     mut tickets: Vec<Ticket<K>>,
 ) -> (Seat<K>, Seat<K>) {
     let late = last(course.rt, &mut tickets);
-    let early = last(course.rt, &mut tickets);
+    let early = first(course.rt, &mut tickets);
     let (mut one, two, reads) = mixed(course, one, early, two, &late);
     course.gate.stop(course.rt, &mut one);
     let (two, reply) = course.give_up(two, late, reads);
@@ -242,117 +248,121 @@ fn before_long_turn<K: Naming, R: Wait + Abort>(
     (one, two)
 }
 
-fn play_to_end<K: Naming, R: Wait + Abort>(
-    course: &Course<'_, '_, K, R>,
-    one: Seat<K>,
-    two: Seat<K>,
-    tickets: Vec<Ticket<K>>,
-    example: Example,
-) -> (Seat<K>, Seat<K>) {
-    match example {
-        Example::StoppedAfter(entries) => stopped_after(course, one, two, tickets, entries),
-        Example::Full(entries) => full(course, one, two, tickets, entries),
-        Example::BeforeHeldTurn => before_held_turn(course, one, two, tickets),
-        Example::BeforeLongTurn => before_long_turn(course, one, two, tickets),
+impl Pair for Example {
+    fn lead<K: Naming, R: Wait + Abort>(
+        &self,
+        course: &Course<'_, '_, K, R>,
+        one: Seat<K>,
+        two: Seat<K>,
+        tickets: Vec<Ticket<K>>,
+    ) -> (Seat<K>, Seat<K>) {
+        match self {
+            Example::StoppedAfter(entries) => stopped_after(course, one, two, tickets, *entries),
+            Example::Full(entries) => full(course, one, two, tickets, *entries),
+            Example::BeforeHeldTurn => before_held_turn(course, one, two, tickets),
+            Example::BeforeLongTurn => before_long_turn(course, one, two, tickets),
+        }
     }
 }
 
-// Opens a gate for two workers, which run and stop, and closes it.
-fn run<K: Naming, R: Wait + Abort>(
-    rt: &R,
-    alloc: Global,
-    design: &Design,
-    blank: Blank<'_>,
-    example: Example,
-) -> Result<Closed, AllocError>
-    requires name { blank ≡ K.named }
-    requires design { design.now ≡ K.named.code }
-    requires workers { K.named.workers ≡ 2 }
-{
-    let (gate, mut seats, tickets) = blank.open::<K>(alloc)?;
-    let two = seats.pop().expect(rt, "a seat");
-    let one = seats.pop().expect(rt, "a seat");
-    let course = Course {
-        rt,
-        alloc,
-        gate: &gate,
-        design,
-    };
-    let (one, two) = play_to_end(&course, one, two, tickets, example);
-    drop(course);
-    Ok(close_two(rt, alloc, gate, one, two))
+// The journal that is left is replayed to the lines that are.
+fn assert_replayed(rt: &impl Abort, alloc: Global, design: &Design, closed: &Closed) {
+    let replayed = replay(alloc, design, closed.entries())
+        .ok()
+        .expect(rt, "a lawful journal");
+    assert!(rt;
+        replayed.made.lines.as_str() == closed.lines(),
+        "other lines"
+    );
 }
 
-// The same for the gate of a source. The journal that is left is replayed to the lines that are.
+// What the gate of a source leaves.
 fn play<R: Wait + Abort>(
     rt: &R,
     alloc: Global,
     source: &str,
     max_entries: u32,
     example: Example,
-) -> Result<Closed, AllocError> {
-    assert!(rt; max_entries > 0, "room for an entry");
+) -> Closed {
     let design = design_of(rt, alloc, source);
-    let limits = Limits {
-        until: None,
-        max_entries,
-    };
-    let blank = Gate::new(rt, alloc, &design, 2, limits)?;
-    let closed = run::<Brand, R>(rt, alloc, &design, blank, example)?;
-    let replayed = replay(alloc, &design, closed.entries())
-        .ok()
-        .expect(rt, "a lawful journal");
-    assert_eq!(rt; replayed.made.lines.as_str(), closed.lines());
-    Ok(closed)
+    let closed = play_pair(rt, alloc, &design, max_entries, &example);
+    assert_replayed(rt, alloc, &design, &closed);
+    closed
+}
+
+// The gate of the glitch leaves so many entries of its journal, this end and these lines.
+fn assert_left<R: Wait + Abort>(
+    rt: &R,
+    alloc: Global,
+    max_entries: u32,
+    example: Example,
+    entries: usize,
+    end: End,
+    lines: &str,
+) {
+    let closed = play(rt, alloc, GLITCH, max_entries, example);
+    assert!(rt;
+        JOURNAL.get(..entries) == Some(closed.entries()),
+        "after {entries}"
+    );
+    assert!(rt;
+        closed.end() == end && closed.lines() == lines,
+        "after {entries}"
+    );
+}
+
+// The gate of a source whose journal would go on is stopped after so many entries.
+fn assert_stopped<R: Wait + Abort>(
+    rt: &R,
+    alloc: Global,
+    source: &str,
+    example: Example,
+    entries: usize,
+) {
+    let closed = play(rt, alloc, source, 1_000, example);
+    assert!(rt; closed.entries().len() == entries && closed.end() == End::Stopped(Why::Memory));
 }
 
 #[test]
-fn a_stop_after_any_reply_leaves_what_was_committed(rt: HostRuntime) -> Result<(), Fail> {
+fn a_stop_after_any_reply_leaves_what_was_committed(rt: HostRuntime) {
+    let end = End::Stopped(Why::Memory);
     for entries in 0..JOURNAL.len() {
         let example = Example::StoppedAfter(entries);
-        let closed = play(&rt, rt.alloc(), GLITCH, 1_000, example)?;
-        assert!(rt; closed.entries() == &JOURNAL[..entries], "after {entries}");
-        assert!(rt;
-            closed.end() == End::Stopped(Why::Memory),
-            "after {entries}"
-        );
-        assert_eq!(rt; closed.lines(), "");
+        assert_left(&rt, rt.alloc(), 1_000, example, entries, end, "");
     }
-    Ok(())
 }
 
 #[test]
-fn a_stop_of_a_quiet_run_changes_nothing(rt: HostRuntime) -> Result<(), Fail> {
-    let example = Example::StoppedAfter(JOURNAL.len());
-    let closed = play(&rt, rt.alloc(), GLITCH, 1_000, example)?;
-    assert!(rt; closed.entries() == JOURNAL.as_slice());
-    assert!(rt; closed.end() == End::Quiet);
-    assert_eq!(rt; closed.lines(), "glitch\n");
-    Ok(())
+fn a_stop_of_a_quiet_run_changes_nothing(rt: HostRuntime) {
+    let entries = JOURNAL.len();
+    let example = Example::StoppedAfter(entries);
+    assert_left(
+        &rt,
+        rt.alloc(),
+        1_000,
+        example,
+        entries,
+        End::Quiet,
+        "glitch\n",
+    );
 }
 
 #[test]
-fn a_stop_of_a_stopped_run_changes_nothing(rt: HostRuntime) -> Result<(), Fail> {
-    let closed = play(&rt, rt.alloc(), GLITCH, 3, Example::Full(3))?;
-    assert!(rt; closed.entries() == &JOURNAL[..3]);
-    assert!(rt; closed.end() == End::Stopped(Why::Entries));
-    Ok(())
+fn a_stop_of_a_stopped_run_changes_nothing(rt: HostRuntime) {
+    let end = End::Stopped(Why::Entries);
+    assert_left(&rt, rt.alloc(), 3, Example::Full(3), 3, end, "");
 }
 
 #[test]
-fn a_stop_comes_before_a_turn_under_the_lock(rt: HostRuntime) -> Result<(), Fail> {
+fn a_stop_comes_before_a_turn_under_the_lock(rt: HostRuntime) {
     let source =
         "module t; reg [1:0] a, b; initial a=2'd1; initial a=2'd2; initial a=2'd3; initial b=a; endmodule";
-    let closed = play(&rt, rt.alloc(), source, 1_000, Example::BeforeHeldTurn)?;
-    assert!(rt; closed.entries().len() == 3 && closed.end() == End::Stopped(Why::Memory));
-    Ok(())
+    assert_stopped(&rt, rt.alloc(), source, Example::BeforeHeldTurn, 3);
 }
 
 #[test]
-fn a_stop_comes_before_a_turn_that_is_too_long(rt: HostRuntime) -> Result<(), Fail> {
+fn a_stop_comes_before_a_turn_that_is_too_long(rt: HostRuntime) {
     let source =
         "module t; reg a, b; initial begin a=1'b0; b=1'b0; end initial while (a!==b) begin end endmodule";
-    let closed = play(&rt, rt.alloc(), source, 1_000, Example::BeforeLongTurn)?;
-    assert!(rt; closed.entries().len() == 1 && closed.end() == End::Stopped(Why::Memory));
-    Ok(())
+    assert_stopped(&rt, rt.alloc(), source, Example::BeforeLongTurn, 1);
 }

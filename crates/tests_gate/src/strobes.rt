@@ -1,16 +1,12 @@
 // A run with strobes: the gate empties the monitor region before the time advances.
-ghost use Rattle.std.specs.Prelude.{◌≡◌};
 
-use crate::course::{Course, accepted, close_one, design_of, last};
-use commitgate::{Blank, Closed, Gate, Grant, Naming, Rest, Seat, Ticket, UpdateReply};
-use design::Design;
-use model::end::{End, Limits};
+use crate::alone::{Alone, play_alone};
+use crate::course::{Course, last};
+use commitgate::{Grant, Naming, Rest, Seat, Ticket, UpdateReply};
+use model::end::End;
 use model::entry::Entry;
-use std::alloc::{AllocError, Global};
-use std::marker::Brand;
 use std::process::Abort;
 use std::sync::Wait;
-use std::test::*;
 
 /// A strobe before a nonblocking assignment of the register that it shows, and another at the next time.
 const STROBES: &str =
@@ -71,18 +67,6 @@ fn change_alone<K: Naming, R: Wait + Abort>(
     assert!(course.rt; tickets.is_empty());
 }
 
-// Takes the turn of a ticket, and its entry stands at this position.
-fn take_at<K: Naming, R: Wait + Abort>(
-    course: &Course<'_, '_, K, R>,
-    seat: Seat<K>,
-    ticket: Ticket<K>,
-    at: u64,
-) -> Seat<K> {
-    let (seat, reply) = course.serve(seat, ticket);
-    assert!(course.rt; accepted(course.rt, reply).position == at);
-    seat
-}
-
 // Takes the update, which is the entry at position 2.
 fn update<K: Naming, R: Wait + Abort>(course: &Course<'_, '_, K, R>, seat: &mut Seat<K>) {
     let rt = course.rt;
@@ -92,61 +76,31 @@ fn update<K: Naming, R: Wait + Abort>(course: &Course<'_, '_, K, R>, seat: &mut 
 }
 
 // The only worker leads the run to its end.
-fn lead<K: Naming, R: Wait + Abort>(
-    course: &Course<'_, '_, K, R>,
-    seat: Seat<K>,
-    ticket: Ticket<K>,
-) -> Seat<K> {
-    let rt = course.rt;
-    let mut seat = take_at(course, seat, ticket, 0);
-    change_alone(course, &mut seat, Entry::ActivateNba, 1);
-    update(course, &mut seat);
-    change_alone(course, &mut seat, Entry::ActivateMonitor, 3);
-    let mut tickets = change_at(course, &mut seat, Entry::Advance(1), 4);
-    let mut seat = take_at(course, seat, last(rt, &mut tickets), 5);
-    change_alone(course, &mut seat, Entry::ActivateMonitor, 6);
-    seat
-}
+#[derive(Drop)]
+struct Strobes;
 
-// Opens a gate for one worker, which leads the run, and closes it.
-fn run<K: Naming, R: Wait + Abort>(
-    rt: &R,
-    alloc: Global,
-    design: &Design,
-    blank: Blank<'_>,
-) -> Result<Closed, AllocError>
-    requires name { blank ≡ K.named }
-    requires design { design.now ≡ K.named.code }
-    requires workers { K.named.workers ≡ 1 }
-{
-    let (gate, mut seats, mut tickets) = blank.open::<K>(alloc)?;
-    let seat = seats.pop().expect(rt, "a seat");
-    let ticket = last(rt, &mut tickets);
-    let course = Course {
-        rt,
-        alloc,
-        gate: &gate,
-        design,
-    };
-    let seat = lead(&course, seat, ticket);
-    drop(course);
-    Ok(close_one(rt, alloc, gate, seat))
-}
-
-// The same for the gate of the source.
-fn play<R: Wait + Abort>(rt: &R, alloc: Global) -> Result<Closed, AllocError> {
-    let design = design_of(rt, alloc, STROBES);
-    let limits = Limits {
-        until: None,
-        max_entries: 1_000,
-    };
-    let blank = Gate::new(rt, alloc, &design, 1, limits)?;
-    run::<Brand, R>(rt, alloc, &design, blank)
+impl Alone for Strobes {
+    fn lead<K: Naming, R: Wait + Abort>(
+        &mut self,
+        course: &Course<'_, '_, K, R>,
+        seat: Seat<K>,
+        mut tickets: Vec<Ticket<K>>,
+    ) -> Seat<K> {
+        let rt = course.rt;
+        let mut seat = course.serve_at(seat, last(rt, &mut tickets), 0);
+        change_alone(course, &mut seat, Entry::ActivateNba, 1);
+        update(course, &mut seat);
+        change_alone(course, &mut seat, Entry::ActivateMonitor, 3);
+        let mut tickets = change_at(course, &mut seat, Entry::Advance(1), 4);
+        let mut seat = course.serve_at(seat, last(rt, &mut tickets), 5);
+        change_alone(course, &mut seat, Entry::ActivateMonitor, 6);
+        seat
+    }
 }
 
 #[test]
-fn the_monitor_region_is_emptied_before_an_advance(rt: HostRuntime) -> Result<(), Fail> {
-    let closed = play(&rt, rt.alloc())?;
+fn the_monitor_region_is_emptied_before_an_advance(rt: HostRuntime) {
+    let closed = play_alone(&rt, rt.alloc(), STROBES, &mut Strobes);
     let journal = [
         Entry::Turn(0),
         Entry::ActivateNba,
@@ -157,7 +111,6 @@ fn the_monitor_region_is_emptied_before_an_advance(rt: HostRuntime) -> Result<()
         Entry::ActivateMonitor,
     ];
     assert!(rt; closed.entries() == journal.as_slice());
-    assert_eq!(rt; closed.lines(), "d 0\ns 1\nt 1\n");
+    assert!(rt; closed.lines() == "d 0\ns 1\nt 1\n");
     assert!(rt; closed.end() == End::Quiet && closed.committed() == [7].as_slice());
-    Ok(())
 }

@@ -1,16 +1,13 @@
 // A run whose updates are made several in one holding of the lock.
-ghost use Rattle.std.specs.Prelude.{◌≡◌};
 
-use crate::course::{Course, accepted, close_one, design_of, last};
-use commitgate::{Blank, Closed, Gate, Grant, Naming, Rest, Seat, Ticket, UpdatesEnd};
-use design::Design;
-use model::end::{End, Limits};
+use crate::alone::{Alone, play_alone};
+use crate::course::{Course, last};
+use commitgate::{Grant, Naming, Rest, Seat, Ticket, UpdatesEnd};
+use model::end::End;
 use model::entry::Entry;
-use std::alloc::{AllocError, Global};
-use std::marker::Brand;
+use std::alloc::Global;
 use std::process::Abort;
 use std::sync::Wait;
-use std::test::*;
 
 /// Five updates, of which the second wakes a process.
 const UPDATES: &str =
@@ -36,7 +33,7 @@ fn update<K: Naming, R: Wait + Abort>(
 ) -> UpdatesEnd {
     let rt = course.rt;
     let end = course.gate.update_all(rt, course.alloc, seat, grants);
-    assert_eq!(rt; grants.len(), wanted.len());
+    assert!(rt; grants.len() == wanted.len(), "another number of updates");
     for (grant, wanted) in grants.iter().zip(wanted) {
         assert!(rt;
             grant.position == wanted.position
@@ -47,101 +44,72 @@ fn update<K: Naming, R: Wait + Abort>(
     end
 }
 
-// Takes the turn of a ticket, and its entry stands at this position.
-fn take_at<K: Naming, R: Wait + Abort>(
-    course: &Course<'_, '_, K, R>,
-    seat: Seat<K>,
-    ticket: Ticket<K>,
-    at: u64,
-) -> Seat<K> {
-    let (seat, reply) = course.serve(seat, ticket);
-    assert!(course.rt; accepted(course.rt, reply).position == at);
-    seat
-}
-
 // Makes all five updates, up to the one that wakes a process and then as far as there is room, and answers its ticket.
 fn update_all<K: Naming, R: Wait + Abort>(
     course: &Course<'_, '_, K, R>,
     seat: &mut Seat<K>,
-    grants: &mut Vec<Grant<K>>,
 ) -> Ticket<K> {
     let rt = course.rt;
+    let mut grants = room(rt, course.alloc);
     let at = |position, number, tickets| Wanted {
         position,
         entry: Entry::Update(number),
         tickets,
     };
-    let end = update(course, seat, grants, &[at(3, 2, 0), at(4, 3, 1)]);
+    let end = update(course, seat, &mut grants, &[at(3, 2, 0), at(4, 3, 1)]);
     assert!(rt; matches!(end, UpdatesEnd::Woke));
     let mut woken = grants.pop().expect(rt, "a grant").tickets;
-    let end = update(course, seat, grants, &[at(5, 4, 0), at(6, 5, 0)]);
+    let end = update(course, seat, &mut grants, &[at(5, 4, 0), at(6, 5, 0)]);
     assert!(rt; matches!(end, UpdatesEnd::NoRoom));
-    let end = update(course, seat, grants, &[at(7, 6, 0)]);
+    let end = update(course, seat, &mut grants, &[at(7, 6, 0)]);
     assert!(rt; matches!(end, UpdatesEnd::Nothing));
-    let end = update(course, seat, grants, &[]);
+    let end = update(course, seat, &mut grants, &[]);
     assert!(rt; matches!(end, UpdatesEnd::Nothing));
     last(rt, &mut woken)
 }
 
-// The only worker leads the run to its end.
-fn lead<K: Naming, R: Wait + Abort>(
-    course: &Course<'_, '_, K, R>,
-    seat: Seat<K>,
-    mut tickets: Vec<Ticket<K>>,
-    mut grants: Vec<Grant<K>>,
-) -> Seat<K> {
+// The regions change while the run goes on, and nothing is left to change at its end.
+fn rests<K: Naming, R: Wait + Abort>(course: &Course<'_, '_, K, R>, seat: &mut Seat<K>) -> bool {
     let rt = course.rt;
-    let seat = take_at(course, seat, last(rt, &mut tickets), 0);
-    let mut seat = take_at(course, seat, last(rt, &mut tickets), 1);
-    let rest = course.gate.rest(rt, course.alloc, &mut seat);
-    assert!(rt; matches!(rest, Rest::Changed(_)));
-    let woken = update_all(course, &mut seat, &mut grants);
-    let mut seat = take_at(course, seat, woken, 8);
-    let rest = course.gate.rest(rt, course.alloc, &mut seat);
-    assert!(rt; matches!(rest, Rest::Quiet));
-    seat
+    match course.gate.rest(rt, course.alloc, seat) {
+        Rest::Changed(_) => true,
+        Rest::Quiet => false,
+        _ => panic!(rt; "neither a change nor the end"),
+    }
 }
 
-// Opens a gate for one worker, which leads the run, and closes it.
-fn run<K: Naming, R: Wait + Abort>(
-    rt: &R,
-    alloc: Global,
-    design: &Design,
-    blank: Blank<'_>,
-) -> Result<Closed, AllocError>
-    requires name { blank ≡ K.named }
-    requires design { design.now ≡ K.named.code }
-    requires workers { K.named.workers ≡ 1 }
-{
-    let (gate, mut seats, tickets) = blank.open::<K>(alloc)?;
-    let seat = seats.pop().expect(rt, "a seat");
-    let grants = Vec::with_capacity(alloc, ROOM)?;
-    assert_eq!(rt; grants.capacity(), ROOM);
-    let course = Course {
-        rt,
-        alloc,
-        gate: &gate,
-        design,
-    };
-    let seat = lead(&course, seat, tickets, grants);
-    drop(course);
-    Ok(close_one(rt, alloc, gate, seat))
+// Room for the grants.
+fn room<K: Naming>(rt: &impl Abort, alloc: Global) -> Vec<Grant<K>> {
+    let grants = Vec::with_capacity(alloc, ROOM).expect(rt, "memory");
+    assert!(rt; grants.capacity() == ROOM, "another room");
+    grants
 }
 
-// The same for the gate of the source.
-fn play<R: Wait + Abort>(rt: &R, alloc: Global) -> Result<Closed, AllocError> {
-    let design = design_of(rt, alloc, UPDATES);
-    let limits = Limits {
-        until: None,
-        max_entries: 1_000,
-    };
-    let blank = Gate::new(rt, alloc, &design, 1, limits)?;
-    run::<Brand, R>(rt, alloc, &design, blank)
+// The only worker leads the run to its end.
+#[derive(Drop)]
+struct Updates;
+
+impl Alone for Updates {
+    fn lead<K: Naming, R: Wait + Abort>(
+        &mut self,
+        course: &Course<'_, '_, K, R>,
+        seat: Seat<K>,
+        mut tickets: Vec<Ticket<K>>,
+    ) -> Seat<K> {
+        let rt = course.rt;
+        let seat = course.serve_at(seat, last(rt, &mut tickets), 0);
+        let mut seat = course.serve_at(seat, last(rt, &mut tickets), 1);
+        assert!(rt; rests(course, &mut seat), "no change of the regions");
+        let woken = update_all(course, &mut seat);
+        let mut seat = course.serve_at(seat, woken, 8);
+        assert!(rt; !rests(course, &mut seat), "not quiet");
+        seat
+    }
 }
 
 #[test]
-fn updates_are_made_in_order_up_to_one_that_wakes_a_process(rt: HostRuntime) -> Result<(), Fail> {
-    let closed = play(&rt, rt.alloc())?;
+fn updates_are_made_in_order_up_to_one_that_wakes_a_process(rt: HostRuntime) {
+    let closed = play_alone(&rt, rt.alloc(), UPDATES, &mut Updates);
     let journal = [
         Entry::Turn(1),
         Entry::Turn(0),
@@ -154,7 +122,6 @@ fn updates_are_made_in_order_up_to_one_that_wakes_a_process(rt: HostRuntime) -> 
         Entry::Turn(7),
     ];
     assert!(rt; closed.entries() == journal.as_slice());
-    assert_eq!(rt; closed.lines(), "b is 1\n");
+    assert!(rt; closed.lines() == "b is 1\n");
     assert!(rt; closed.end() == End::Quiet && closed.committed() == [9].as_slice());
-    Ok(())
 }

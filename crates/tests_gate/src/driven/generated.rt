@@ -5,12 +5,14 @@ use super::entry_refused;
 use crate::course::design_of;
 use design::Design;
 use model::entry::Entry;
+use regions::State;
 use replay::replay;
 use std::alloc::Global;
 use std::process::Abort;
+use std::sync::Wait;
 
 /// Designs with races, waits of each kind, updates, and strobes.
-const SOURCES: [&str; 6] = [
+const SOURCES: &[&str] = &[
     "module t; reg a; initial a=1'b0; initial a=1'b1; initial #0 $display(\"%b\",a); endmodule",
     "module t; reg a, b; initial begin a=1'b0; b=1'b1; end initial #1 a=b; initial #1 b=a; initial #2 $display(\"%b %b\",a,b); endmodule",
     "module t; reg a; initial #0 a=1'b1; initial @(a) $display(\"p1\"); initial @(posedge a) $display(\"p2\"); endmodule",
@@ -39,45 +41,64 @@ impl Numbers {
     }
 }
 
-// The entries that are permitted after these, of those whose numbers and times are below 24.
-fn permitted(rt: &impl Abort, alloc: Global, design: &Design, entries: &[Entry]) -> Vec<Entry> {
+// Keeps an entry, if it is permitted.
+fn keep_permitted(rt: &impl Abort, state: &State, entry: Entry, found: &mut Vec<Entry>) {
+    if state.legal(&entry) {
+        found.push(entry).expect(rt, "memory");
+    }
+}
+
+// The entries that are permitted now, of those whose numbers and times are below 24.
+fn permitted(rt: &impl Abort, alloc: Global, state: &State) -> Vec<Entry> {
+    let mut found = Vec::new(alloc);
+    keep_permitted(rt, state, Entry::ActivateInactive, &mut found);
+    keep_permitted(rt, state, Entry::ActivateNba, &mut found);
+    keep_permitted(rt, state, Entry::ActivateMonitor, &mut found);
+    for number in 0..24 {
+        keep_permitted(rt, state, Entry::Turn(number), &mut found);
+        keep_permitted(rt, state, Entry::Update(number), &mut found);
+        keep_permitted(rt, state, Entry::Advance(number), &mut found);
+    }
+    found
+}
+
+// The entries that are permitted after these.
+fn permitted_after(
+    rt: &impl Abort,
+    alloc: Global,
+    design: &Design,
+    entries: &[Entry],
+) -> Vec<Entry> {
     let replayed = replay(alloc, design, entries)
         .ok()
         .expect(rt, "a lawful journal");
-    let mut found = Vec::new(alloc);
-    for entry in [
-        Entry::ActivateInactive,
-        Entry::ActivateNba,
-        Entry::ActivateMonitor,
-    ] {
-        if replayed.state.legal(&entry) {
-            found.push(entry).expect(rt, "memory");
-        }
+    permitted(rt, alloc, &replayed.state)
+}
+
+// One of the entries that are permitted after these, if there is one.
+fn next_entry(
+    rt: &impl Abort,
+    alloc: Global,
+    design: &Design,
+    entries: &[Entry],
+    numbers: &mut Numbers,
+) -> Option<Entry> {
+    let found = permitted_after(rt, alloc, design, entries);
+    if found.is_empty() {
+        return None;
     }
-    for number in 0..24 {
-        for entry in [
-            Entry::Turn(number),
-            Entry::Update(number),
-            Entry::Advance(number),
-        ] {
-            if replayed.state.legal(&entry) {
-                found.push(entry).expect(rt, "memory");
-            }
-        }
-    }
-    found
+    let place = numbers.below(found.len() as u64) as usize;
+    Some(found[place])
 }
 
 // A lawful journal of at most 20 entries.
 fn lawful(rt: &impl Abort, alloc: Global, design: &Design, numbers: &mut Numbers) -> Vec<Entry> {
     let mut entries = Vec::new(alloc);
     for _ in 0..20 {
-        let found = permitted(rt, alloc, design, &entries);
-        if found.is_empty() {
-            return entries;
-        }
-        let place = numbers.below(found.len() as u64) as usize;
-        entries.push(found[place]).expect(rt, "memory");
+        let Some(entry) = next_entry(rt, alloc, design, &entries, numbers) else {
+            break;
+        };
+        entries.push(entry).expect(rt, "memory");
     }
     entries
 }
@@ -111,19 +132,32 @@ fn altered(mut entries: Vec<Entry>, numbers: &mut Numbers) -> Vec<Entry> {
     entries
 }
 
+// How many of 60 journals of a source are refused, each answered as its replay.
+fn count_refused<R: Abort + Wait>(
+    rt: &R,
+    alloc: Global,
+    source: &str,
+    numbers: &mut Numbers,
+) -> u32 {
+    let design = design_of(rt, alloc, source);
+    let mut refused = 0u32;
+    for _ in 0..60 {
+        let entries = lawful(rt, alloc, &design, numbers);
+        let entries = altered(entries, numbers);
+        if entry_refused(rt, alloc, &design, &entries) > 0 {
+            refused = refused.saturating_add(1);
+        }
+    }
+    refused
+}
+
 #[test]
 fn a_journal_is_answered_as_its_replay(rt: HostRuntime) {
     let mut numbers = Numbers { state: 2005 };
     let mut refused = 0u32;
-    for source in SOURCES {
-        let design = design_of(&rt, rt.alloc(), source);
-        for _ in 0..60 {
-            let entries = lawful(&rt, rt.alloc(), &design, &mut numbers);
-            let entries = altered(entries, &mut numbers);
-            if entry_refused(&rt, rt.alloc(), &design, &entries) > 0 {
-                refused = refused.saturating_add(1);
-            }
-        }
+    for &source in SOURCES {
+        let count = count_refused(&rt, rt.alloc(), source, &mut numbers);
+        refused = refused.saturating_add(count);
     }
     assert!(rt; refused >= 50, "journals that aren't lawful: {refused}");
     assert!(rt; refused <= 250, "lawful journals: {refused}");

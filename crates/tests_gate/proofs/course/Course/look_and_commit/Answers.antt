@@ -5,6 +5,6 @@ use Rattle.turn.specs.Reads.{GaveAll}
 use Rattle.gateparts.specs.Histories.{IsRead}
 use Rattle.tests_gate.proofs.course.Course.look_and_commit.Goals as goal
 
-pub commit-reply-requires-clause-recorded : goal.commit-reply-requires-clause-recorded
-commit-reply-requires-clause-recorded g c =
+pub commit-seat-requires-clause-gave : goal.commit-seat-requires-clause-gave
+commit-seat-requires-clause-gave g c =
     subst (λ (f : List (List Vector)). GaveAll (IsRead g.K.Naming.named.code f) c.args.log.reads.entries) (sym c.entries-count.ensures.fresh) c.requires.gave

@@ -1,4 +1,4 @@
-use Rattle.tests_gate.proofs.refused.play.Given as goal
+use Rattle.tests_gate.proofs.alone.play_alone.Given as goal
 
 abbrev pub ghosts-run : goal.ghosts-run
 ghosts-run g a = record { named = a.blank }

@@ -1,0 +1,66 @@
+// Gates of two workers, from the opening to the end.
+ghost use Rattle.std.specs.Prelude.{◌≡◌};
+
+use crate::course::{Course, close_two};
+use commitgate::{Blank, Closed, Gate, Naming, Seat, Ticket};
+use design::Design;
+use model::end::Limits;
+use std::alloc::Global;
+use std::marker::Brand;
+use std::process::Abort;
+use std::sync::Wait;
+
+/// What the two workers of a gate do.
+pub trait Pair {
+    /// Leads the run, with a ticket for each process.
+    fn lead<K: Naming, R: Wait + Abort>(
+        &self,
+        course: &Course<'_, '_, K, R>,
+        one: Seat<K>,
+        two: Seat<K>,
+        tickets: Vec<Ticket<K>>,
+    ) -> (Seat<K>, Seat<K>);
+}
+
+// Opens a gate for two workers, which lead the run, and closes it.
+fn run<K: Naming, R: Wait + Abort, W: Pair>(
+    rt: &R,
+    alloc: Global,
+    design: &Design,
+    blank: Blank<'_>,
+    work: &W,
+) -> Closed
+    requires name { blank ≡ K.named }
+    requires design { design.now ≡ K.named.code }
+    requires workers { K.named.workers ≡ 2 }
+{
+    let (gate, mut seats, tickets) = blank.open::<K>(alloc).expect(rt, "memory");
+    let two = seats.pop().expect(rt, "a seat");
+    let one = seats.pop().expect(rt, "a seat");
+    let course = Course {
+        rt,
+        alloc,
+        gate: &gate,
+        design,
+    };
+    let (one, two) = work.lead(&course, one, two, tickets);
+    drop(course);
+    close_two(rt, alloc, gate, one, two)
+}
+
+/// The gate of a design that two workers lead so, with room for so many entries.
+pub fn play_pair<R: Wait + Abort, W: Pair>(
+    rt: &R,
+    alloc: Global,
+    design: &Design,
+    max_entries: u32,
+    work: &W,
+) -> Closed {
+    assert!(rt; max_entries > 0, "room for an entry");
+    let limits = Limits {
+        until: None,
+        max_entries,
+    };
+    let blank = Gate::new(rt, alloc, design, 2, limits).expect(rt, "memory");
+    run::<Brand, R, W>(rt, alloc, design, blank, work)
+}
