@@ -10,7 +10,7 @@ use Rattle.program.specs.declared.fault.Fault.{Fault}
 use Rattle.program.specs.declared.fault.Fault.TheVariants as fault
 use Rattle.program.specs.declared.fault.Stop.{Stop}
 use Rattle.program.specs.declared.fault.Stop.TheVariants as stop
-use Rattle.simulate.specs.declared.run.SimFault.{SimFault}
+use Rattle.workers.specs.declared.fault.SimFault.{SimFault}
 use Rattle.vparse.specs.declared.parse.ParseFault.TheVariants as parsing
 use Rattle.elaborate.specs.declared.fault.ElabFault.TheVariants as elaboration
 use Rattle.frontend.specs.declared.source.SourceFault.{SourceFault}

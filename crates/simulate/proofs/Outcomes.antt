@@ -27,14 +27,14 @@ use Rattle.commitgate.specs.Closing.{ClosedView, EndsOrRuns, IsEndIn, IsClosedWi
 use Rattle.eventpool.specs.Ends.{Owning, Stealing, owner_card}
 use Rattle.eventpool.specs.Pools.{Counts, cards_of, IsPool}
 use Rattle.eventpool.proofs.Cards.{pool_kept}
-use Rattle.simulate.specs.declared.worker.Worker.{Worker}
-use Rattle.simulate.specs.Counting.{turns_in, turns_at}
-use Rattle.simulate.specs.Working.{IsOver, IsCounted, HasPositions, turns_of, AreDone, AreBegun, IsFixed}
+use Rattle.workers.specs.declared.worker.Worker.{Worker}
+use Rattle.workers.specs.Counting.{turns_in, turns_at}
+use Rattle.workers.specs.Working.{IsOver, IsCounted, HasPositions, turns_of, AreDone, AreBegun, IsFixed}
 use Rattle.model.specs.declared.end.Limits.{Limits}
 use Rattle.simulate.specs.Outcomes.{IsOutcome}
-use Rattle.simulate.proofs.Counting.{turns_add_up}
-use Rattle.simulate.proofs.Rows.{sum_cons}
-use Rattle.simulate.proofs.Seats.{turns_begin, entries_begin}
+use Rattle.workers.proofs.Counting.{turns_add_up}
+use Rattle.workers.proofs.Rows.{sum_cons}
+use Rattle.workers.proofs.Seats.{turns_begin, entries_begin}
 
 -- an end is the last
 end_last : (seen more : Log) → IsEndLast (seen ++ more) → IsSome (end_in seen) → more ≡ []

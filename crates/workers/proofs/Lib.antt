@@ -1,0 +1,8 @@
+-- Lemmas of workers: what they hold, and count.
+pub mod Crossing
+pub mod Counting
+pub mod Seats
+pub mod Rows
+pub mod Told
+pub mod Rounds
+pub mod Joining

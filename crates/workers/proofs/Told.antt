@@ -1,0 +1,86 @@
+-- What the gate's answers say of a worker's seat.
+use Rattle.std.proofs.Common.{◌≡◌, ℕ, ◌≤◌, List, [], ◌∷◌, Bool, true, false, Some, None, arith, refl, sym, subst}
+use Rattle.model.specs.declared.entry.Entry.{Entry}
+use Rattle.model.specs.declared.entry.Entry.TheVariants.{Turn, Update, ActivateInactive, ActivateNba, ActivateMonitor, Advance}
+use Rattle.model.specs.declared.end.Why.{Why}
+use Rattle.turn.specs.declared.memory.Seen.{Seen}
+use Rattle.commitgate.specs.declared.reply.Reply.{Reply}
+use Rattle.commitgate.specs.declared.reply.Reply.TheVariants.{Accepted, Stale, Gone, Stopped, NoMemory}
+use Rattle.commitgate.specs.Named.{Named}
+use Rattle.commitgate.specs.Seats.{SeatView}
+use Rattle.commitgate.specs.Tickets.{TicketView}
+use Rattle.commitgate.specs.Answers.{IsRegionChange}
+use Rattle.commitgate.specs.Told.{CommitCauses, AnsweredTo, LongAnsweredTo, HeldAnsweredTo, IsUpdatedTo, IsChangedTo}
+use Rattle.workers.specs.Counting.{turn_count}
+use Rattle.workers.specs.Working.{Goes, IsSettled}
+use Rattle.commitgate.specs.Batches.{AreUpdatedTo, UpdatesEndedTo, UpdatesAnsweredTo}
+use Rattle.commitgate.specs.declared.reply.UpdatesEnd.{UpdatesEnd}
+use Rattle.commitgate.specs.declared.reply.UpdatesEnd.TheVariants as ends
+use Rattle.commitgate.specs.declared.reply.Grant.{Grant}
+use Rattle.workers.proofs.Seats.{goes_appended, goes_refused, goes_stopped, goes_self, over_stopped, goes_first, goes_then}
+
+-- the seat goes on, with one more turn at most
+abbrev pub GoesOn : SeatView → SeatView → Type 0
+GoesOn old new = (turns : ℕ) × (turns ≤ 1) × Goes turns old new
+
+module _ {A : Type 0} where
+  pub answered : (n : Named) (causes : Why → Type 0) (old : SeatView) (ticket : TicketView) (reads : List (ℕ × Seen)) (new : SeatView) (r : Reply A)
+      → AnsweredTo n causes old ticket reads new r → GoesOn old new × IsSettled n new r
+  answered n causes old ticket reads new (Accepted grant) a = ((1, omega arith, goes_appended n old (Turn ticket.event) grant.position grant.entry grant.tickets.items new a.appended), tt)
+  answered n causes old ticket reads new (Stale r back) a = ((0, omega arith, goes_refused n old new a.refused), tt)
+  answered n causes old ticket reads new Gone a = ((0, omega arith, goes_refused n old new a.refused), tt)
+  answered n causes old ticket reads new (Stopped why) a = ((0, omega arith, goes_stopped n causes old why new a), over_stopped n causes old why new a)
+  answered n causes old ticket reads new (NoMemory back) a = ((0, omega arith, goes_refused n old new a.0), tt)
+
+  pub long_answered : (n : Named) (old : SeatView) (ticket : TicketView) (reads : List (ℕ × Seen)) (new : SeatView) (r : Reply A)
+      → LongAnsweredTo n old ticket reads new r → GoesOn old new × IsSettled n new r
+  long_answered n old ticket reads new (Accepted grant) a = absurd a
+  long_answered n old ticket reads new (Stale r back) a = ((0, omega arith, goes_refused n old new a.refused), tt)
+  long_answered n old ticket reads new Gone a = ((0, omega arith, goes_refused n old new a.refused), tt)
+  long_answered n old ticket reads new (Stopped why) a = ((0, omega arith, goes_stopped n _ old why new a), over_stopped n _ old why new a)
+  long_answered n old ticket reads new (NoMemory back) a = absurd a
+
+  pub held_answered : (n : Named) (old : SeatView) (ticket : TicketView) (new : SeatView) (r : Reply A)
+      → HeldAnsweredTo n old ticket new r → GoesOn old new × IsSettled n new r
+  held_answered n old ticket new (Accepted grant) a = ((1, omega arith, goes_appended n old (Turn ticket.event) grant.position grant.entry grant.tickets.items new a.appended), tt)
+  held_answered n old ticket new (Stale r back) a = absurd a
+  held_answered n old ticket new Gone a = ((0, omega arith, goes_refused n old new a.refused), tt)
+  held_answered n old ticket new (Stopped why) a = ((0, omega arith, goes_stopped n _ old why new a), over_stopped n _ old why new a)
+  held_answered n old ticket new (NoMemory back) a = ((0, omega arith, goes_refused n old new a.0), tt)
+
+pub updated : (n : Named) (old : SeatView) (position : ℕ) (named : Entry) (tickets : List TicketView) (new : SeatView) → IsUpdatedTo n old position named tickets new → Goes 0 old new
+updated n old position named tickets new u = goes_appended n old (Update u.number) position named tickets new u.appended
+
+no_turn : (entry : Entry) → IsRegionChange entry → turn_count entry ≡ 0
+no_turn (Turn e) h = absurd h
+no_turn (Update e) h = absurd h
+no_turn ActivateInactive h = refl
+no_turn ActivateNba h = refl
+no_turn ActivateMonitor h = refl
+no_turn (Advance time) h = refl
+
+pub changed : (n : Named) (old : SeatView) (position : ℕ) (named : Entry) (tickets : List TicketView) (new : SeatView) → IsChangedTo n old position named tickets new → Goes 0 old new
+changed n old position named tickets new c = subst (λ (k : ℕ). Goes k old new) (no_turn c.change c.is_change) (goes_appended n old c.change position named tickets new c.appended)
+
+pub first_on : (a b c : SeatView) → Goes 0 a b → GoesOn b c → GoesOn a c
+first_on a b c f g = (g.0, g.1, goes_first g.0 a b c f g.2)
+
+pub on_then : (a b c : SeatView) → GoesOn a b → Goes 0 b c → GoesOn a c
+on_then a b c f g = (f.0, f.1, goes_then f.0 a b c f.2 g)
+
+-- a seat that appended updates
+appended_go : {A : Type 0} → (n : Named) (old : SeatView) (grants : List (Grant A)) (new : SeatView) → AreUpdatedTo n old grants new → Goes 0 old new
+appended_go n old [] new same = subst (λ (s : SeatView). Goes 0 old s) (sym same) (goes_self old)
+appended_go n old (grant ∷ grants) new chain =
+    goes_then 0 old chain.0 new (updated n old grant.position grant.entry grant.tickets.items chain.0 chain.1) (appended_go n chain.0 grants new chain.2)
+
+-- the same behind them, by why there are no more
+ended_go : (n : Named) (old : SeatView) (end : UpdatesEnd) (new : SeatView) → UpdatesEndedTo n old end new → Goes 0 old new
+ended_go n old ends.Woke new same = subst (λ (s : SeatView). Goes 0 old s) (sym same) (goes_self old)
+ended_go n old ends.Nothing new a = goes_refused n old new a.0
+ended_go n old (ends.Stopped why) new a = goes_stopped n CommitCauses old why new a
+ended_go n old ends.NoMemory new a = goes_refused n old new a
+ended_go n old ends.NoRoom new same = subst (λ (s : SeatView). Goes 0 old s) (sym same) (goes_self old)
+
+pub updates_go : {A : Type 0} → (n : Named) (old : SeatView) (grants : List (Grant A)) (end : UpdatesEnd) (new : SeatView) → UpdatesAnsweredTo n old grants end new → Goes 0 old new
+updates_go n old grants end new all = goes_then 0 old all.0 new (appended_go n old grants all.0 all.1) (ended_go n all.0 end new all.2)

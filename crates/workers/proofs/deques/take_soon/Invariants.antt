@@ -1,0 +1,8 @@
+use Rattle.std.proofs.Common.{◌≡◌}
+use Rattle.workers.specs.Working.{SameEnds, got_by_ends}
+use Rattle.workers.proofs.deques.take_soon.Given as goal
+
+abbrev pub invariant-loop : goal.invariant-loop
+invariant-loop g l =
+    SameEnds l.fn.owner l.fn.row.items l.owner l.row.items
+    × (got_by_ends l.owner l.row.items ≡ got_by_ends l.fn.owner l.fn.row.items)

@@ -1,0 +1,5 @@
+use Rattle.workers.proofs.Seats.{told}
+use Rattle.workers.proofs.worker.settle.Goals as goal
+
+pub returns-in-NoMemory-clause-goes : goal.returns-in-NoMemory-clause-goes
+returns-in-NoMemory-clause-goes g c = (told _ _ _ c.stop.ensures).0

@@ -1,0 +1,17 @@
+use Rattle.std.proofs.Common.{refl}
+use Rattle.workers.proofs.Seats.{told}
+use Rattle.workers.proofs.Rounds.{works_more, works_puts}
+use Rattle.workers.proofs.worker.work.Goals as goal
+
+pub returns-then-not-goes_on : goal.returns-then-not-goes_on
+returns-then-not-goes_on g c = record {
+  works = works_more _ _ _ c.loop.invariant c.step-next.ensures.works;
+  over = c.step-next.ensures.over c.if-not-goes_on.true;
+}
+
+pub returns-in_default : goal.returns-in_default
+returns-in_default g c =
+    let over = told g.K.Naming.named _ _ c.stop.ensures in record {
+      works = works_puts _ _ over.0 (refl, refl) refl refl;
+      over = over.1;
+    }

@@ -1,0 +1,105 @@
+-- What a worker has, and what its calls keep.
+use Rattle.std.specs.Prelude.{◌≡◌, ◌⊎◌, ℕ, ◌+◌, ◌-◌, ◌^◌, ◌<◌, ◌≤◌, false, Bool, List, [], ◌∷◌, map, length, IsSome}
+use Rattle.std.specs.List.{sum_by, AllByRecursion, range_with_len}
+use Rattle.model.specs.declared.end.End.TheVariants.{Quiet}
+use Rattle.model.specs.Runs.{Ends}
+use Rattle.design.specs.Compiled.{design_of}
+use Rattle.commitgate.specs.Named.{Named}
+use Rattle.gateparts.specs.Log.{entries_of, end_in}
+use Rattle.commitgate.specs.Seats.{SeatView, new_seat}
+use Rattle.eventpool.specs.Pools.{IsPool}
+use Rattle.commitgate.specs.Journals.{Stays}
+use Rattle.commitgate.specs.declared.reply.Reply.{Reply}
+use Rattle.commitgate.specs.declared.reply.Reply.TheVariants.{Accepted, Stale, Gone, Stopped, NoMemory}
+use Rattle.eventpool.specs.Ends.{Owning, Stealing, owner_card, thief_card}
+use Rattle.workers.specs.Counting.{turns_at}
+use Rattle.workers.specs.declared.worker.Worker.{Worker}
+
+-- what the seat has seen is a journal that stays as it is: the run is stopped, or no event is left
+abbrev pub IsOver : Named → SeatView → Type 0
+IsOver n s = Stays n s.seen × (IsSome (end_in s.seen) ⊎ Ends (design_of n.code) n.limits (entries_of s.seen) Quiet)
+
+-- a worker that doesn't go on has seen that the run is over
+abbrev pub OverUnless : Named → Bool → SeatView → Type 0
+OverUnless n goes_on s = goes_on ≡ false → IsOver n s
+
+-- the positions of the seat's entries are positions of the journal that it has seen
+abbrev pub HasPositions : SeatView → Type 0
+HasPositions s = AllByRecursion (λ p. p < length (entries_of s.seen)) s.mine
+
+-- how many turns the seat appended
+abbrev pub turns_of : SeatView → ℕ
+turns_of s = turns_at (entries_of s.seen) s.mine
+
+-- the seat goes on, and has appended so many more turns
+pub record Goes (turns : ℕ) (old new : SeatView) : Type 0 where
+  pub worker : new.worker ≡ old.worker
+  pub positions : HasPositions old → HasPositions new
+  pub counted : HasPositions old → turns_of new ≡ turns_of old + turns
+
+-- after an answer that stops the worker the run is over
+abbrev pub IsSettled : {A : Type 0} → Named → SeatView → Reply A → Type 0
+IsSettled n s (Accepted grant) = Unit {0}
+IsSettled n s (Stale r back) = Unit {0}
+IsSettled n s Gone = Unit {0}
+IsSettled n s (Stopped why) = IsOver n s
+IsSettled n s (NoMemory back) = Unit {0}
+
+module _ {T : Type 0} where
+  -- how many tickets these ends got
+  abbrev pub got_by_ends : Owning T → List (Stealing T) → ℕ
+  got_by_ends owner row = length owner.taken + sum_by (λ t. length t.stolen) row
+
+  -- only tickets were put
+  abbrev pub OnlyPuts : Owning T → Owning T → Type 0
+  OnlyPuts old new = (owner_card new ≡ owner_card old) × (new.taken ≡ old.taken)
+
+  -- the ends are still these ends
+  abbrev pub SameEnds : Owning T → List (Stealing T) → Owning T → List (Stealing T) → Type 0
+  SameEnds owner row owner' row' = (owner_card owner' ≡ owner_card owner) × (map thief_card row' ≡ map thief_card row)
+
+  -- The seat's positions are positions of the journal that it has seen; each turn that it appended was evaluated, where the
+  -- number isn't the greatest; and each evaluation was of a ticket that these ends got.
+  abbrev pub IsCounted : SeatView → Owning T → List (Stealing T) → ℕ → Type 0
+  IsCounted s owner row evaluations =
+      HasPositions s × (evaluations < 2 ^ 64 - 1 → turns_of s ≤ evaluations) × (evaluations ≤ got_by_ends owner row)
+
+  -- the same, and of one more ticket that these ends got no evaluation was begun
+  abbrev pub IsReady : SeatView → Owning T → List (Stealing T) → ℕ → Type 0
+  IsReady s owner row evaluations =
+      HasPositions s × (evaluations < 2 ^ 64 - 1 → turns_of s ≤ evaluations) × (evaluations + 1 ≤ got_by_ends owner row)
+
+-- a worker with a ticket stays the same worker, and counts its evaluation
+pub record Serves {A : Type 0} (old new : Worker A) : Type 0 where
+  pub worker : new.seat.worker ≡ old.seat.worker
+  pub ends : SameEnds old.owner old.row.items new.owner new.row.items
+  pub counted : IsReady old.seat old.owner old.row.items old.evaluations → IsCounted new.seat new.owner new.row.items new.evaluations
+
+-- a worker stays the same worker, and goes on to count what it does
+pub record Works {A : Type 0} (old new : Worker A) : Type 0 where
+  pub worker : new.seat.worker ≡ old.seat.worker
+  pub ends : SameEnds old.owner old.row.items new.owner new.row.items
+  pub counted : IsCounted old.seat old.owner old.row.items old.evaluations → IsCounted new.seat new.owner new.row.items new.evaluations
+
+-- a worker that came to its end
+pub record IsDone {A : Type 0} (n : Named) (old new : Worker A) : Type 0 where
+  pub works : Works old new
+  pub over : IsOver n new.seat
+
+-- workers, each with what became of it
+abbrev pub AreDone : {A : Type 0} → Named → List (Worker A) → List (Worker A) → Type 0
+AreDone n [] [] = Unit {0}
+AreDone n (w ∷ ws) (v ∷ vs) = IsDone n w v × AreDone n ws vs
+AreDone n _ _ = ⊥
+
+-- the owners are the same ends, and have taken the same
+abbrev pub IsFixed : {T : Type 0} → List (Owning T) → List (Owning T) → Type 0
+IsFixed old new = (map owner_card new ≡ map owner_card old) × (map (λ o. o.taken) new ≡ map (λ o. o.taken) old)
+
+-- The workers of a run that begins: each has its seat, in order, with nothing seen; their ends of the deques are those of
+-- one pool; and nothing was taken, stolen or evaluated.
+pub record AreBegun {A : Type 0} (n : Named) (workers : List (Worker A)) : Type 0 where
+  pub seats : map (λ w. w.seat) workers ≡ map (new_seat n.code) (range_with_len 0 n.workers)
+  pub pool : IsPool (map (λ w. w.owner) workers) (map (λ w. w.row) workers)
+  pub count : length workers ≡ n.workers
+  pub counted : AllByRecursion (λ w. IsCounted w.seat w.owner w.row.items w.evaluations) workers

@@ -1,0 +1,126 @@
+//! Where a worker's tickets come from, and where they go.
+ghost use Rattle.std.specs.Prelude.{◌≡◌, ◌+◌, map, length, IfSome, IfNone};
+ghost use Rattle.std.specs.List.{sum_by};
+ghost use Rattle.eventpool.specs.Ends.{thief_card};
+ghost use Rattle.workers.specs.Working.{Goes, OverUnless, OnlyPuts, SameEnds, got_by_ends};
+
+use commitgate::{Gate, Naming, Seat, Ticket};
+use crossbeam_utils::Backoff;
+use eventpool::{Owner, Stolen, Thief};
+use std::sync::Wait;
+use std::thread;
+
+/// How often a worker looks again for a ticket before it rests: some microseconds, at the end of which it lets others run.
+pub(crate) const LOOKS: u32 = 11;
+
+// Steals the first ticket of a deque. Where another is quicker it tries again.
+fn steal_one<T: Drop, R: Wait>(rt: &R, thief: &mut Thief<T>) -> Option<T>
+    ensures end { thief_card thief.new ≡ thief_card thief.old }
+    ensures some { IfSome result (λ _. length thief.new.stolen ≡ length thief.old.stolen + 1) }
+    ensures none { IfNone result (length thief.new.stolen ≡ length thief.old.stolen) }
+{
+    for _ in rt.forever() {
+        match thief.steal() {
+            Stolen::One(ticket) => return Some(ticket),
+            Stolen::Empty => return None,
+            Stolen::Again => thread::yield_now(),
+        }
+    }
+    unreachable!()
+}
+
+// Steals a ticket from the first deque that has one, in the order of the thieves.
+fn steal<T: Drop, R: Wait>(rt: &R, row: &mut Vec<Thief<T>>) -> Option<T>
+    ensures ends { map thief_card row.new.items ≡ map thief_card row.old.items }
+    ensures some { IfSome result (λ _. sum_by (λ t. length t.stolen) row.new.items ≡ sum_by (λ t. length t.stolen) row.old.items + 1) }
+    ensures none { IfNone result (sum_by (λ t. length t.stolen) row.new.items ≡ sum_by (λ t. length t.stolen) row.old.items) }
+{
+    for i in 0..row.len() {
+        if let Some(ticket) = steal_one(rt, &mut row[i]) {
+            return Some(ticket);
+        }
+    }
+    None
+}
+
+/// The first ticket of a worker's own deque or, where that is empty, the first of another's.
+pub(crate) fn take<T: Drop, R: Wait>(
+    rt: &R,
+    owner: &mut Owner<T>,
+    row: &mut Vec<Thief<T>>,
+) -> Option<T>
+    ensures ends { SameEnds owner.old row.old.items owner.new row.new.items }
+    ensures some { IfSome result (λ _. got_by_ends owner.new row.new.items ≡ got_by_ends owner.old row.old.items + 1) }
+    ensures none { IfNone result (got_by_ends owner.new row.new.items ≡ got_by_ends owner.old row.old.items) }
+{
+    match owner.take() {
+        Some(ticket) => Some(ticket),
+        None => steal(rt, row),
+    }
+}
+
+/// Looks for a ticket again, so often, where there are other workers. The one whose entry made events active may
+/// still be putting their tickets, and a worker that rests isn't woken before the next entry.
+pub(crate) fn take_soon<T: Drop, R: Wait>(
+    rt: &R,
+    owner: &mut Owner<T>,
+    row: &mut Vec<Thief<T>>,
+    looks: u32,
+) -> Option<T>
+    ensures ends { SameEnds owner.old row.old.items owner.new row.new.items }
+    ensures some { IfSome result (λ _. got_by_ends owner.new row.new.items ≡ got_by_ends owner.old row.old.items + 1) }
+    ensures none { IfNone result (got_by_ends owner.new row.new.items ≡ got_by_ends owner.old row.old.items) }
+{
+    if row.is_empty() {
+        return None;
+    }
+    let backoff = Backoff::new();
+    for _ in 0..looks {
+        backoff.snooze();
+        if let Some(ticket) = take(rt, owner, row) {
+            return Some(ticket);
+        }
+    }
+    None
+}
+
+/// Puts a ticket into a worker's own deque. Where that can't grow the run is stopped. Answers whether the worker goes on.
+pub(crate) fn put<K: Naming, R: Wait>(
+    rt: &R,
+    gate: &Gate<'_, K>,
+    seat: &mut Seat<K>,
+    owner: &mut Owner<Ticket<K>>,
+    ticket: Ticket<K>,
+) -> bool
+    ensures goes { Goes 0 seat.old seat.new }
+    ensures puts { OnlyPuts owner.old owner.new }
+    ensures over { OverUnless K.named result seat.new }
+{
+    match owner.put(ticket) {
+        Ok(()) => true,
+        Err(_) => {
+            gate.stop(rt, seat);
+            false
+        }
+    }
+}
+
+/// Puts new tickets into a worker's own deque, in order.
+pub(crate) fn put_all<K: Naming, R: Wait>(
+    rt: &R,
+    gate: &Gate<'_, K>,
+    seat: &mut Seat<K>,
+    owner: &mut Owner<Ticket<K>>,
+    tickets: Vec<Ticket<K>>,
+) -> bool
+    ensures goes { Goes 0 seat.old seat.new }
+    ensures puts { OnlyPuts owner.old owner.new }
+    ensures over { OverUnless K.named result seat.new }
+{
+    for ticket in tickets {
+        if !put(rt, gate, seat, owner, ticket) {
+            return false;
+        }
+    }
+    true
+}

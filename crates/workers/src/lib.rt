@@ -1,0 +1,30 @@
+//! The workers of a run: where their tickets go, how they are started, what each of them does, and when it ends.
+//!
+//! 1. The first ticket of a process goes into the deque of one of the workers, by the process's number; each worker but the
+//!    first is started in a thread of its own (`team`).
+//! 2. A worker takes a ticket from its own deque or steals one from another's, evaluates its turn without the lock, and
+//!    commits it; a turn that was refused three times is evaluated under the lock. New tickets, and one that was refused
+//!    as stale, go into the worker's own deque (`deques`). Where there is no ticket it asks the gate for an update. Where
+//!    none is active it looks for a ticket for some microseconds more, and then asks for a change of the regions, for which
+//!    it may have to wait (`worker`).
+//! 3. Where a worker's turns are short, it takes tickets only while no other such worker does, since they would only meet at
+//!    the lock (`pace`).
+//! 4. A worker ends where no event is left or the run is stopped; want of memory stops it. What the workers had is taken
+//!    apart (`apart`).
+#![tactic(auto)]
+
+mod apart;
+mod deques;
+mod fault;
+mod pace;
+mod probe;
+mod reader;
+mod team;
+mod worker;
+
+pub use apart::Apart;
+pub use fault::SimFault;
+pub use pace::Lane;
+pub use probe::{Probe, ReplyKind, Unobserved};
+pub use team::{gather, place, work_all};
+pub use worker::{Shared, Worker};

@@ -1,0 +1,119 @@
+//! Whose work short turns are. To hand a ticket over and to meet another worker at the lock costs more than a short turn, so
+//! a worker whose turns are short takes tickets only while it is in the lane, where one worker is at a time; the others nap.
+//! That decides who evaluates a turn and when, and never what a run may answer.
+
+use std::sync::atomic::{AtomicBool, AtomicU64, Ordering};
+use std::sync::{Condvar, Wait};
+use std::time::Duration;
+use turn::{TurnFault, TurnLog};
+
+// Turns of fewer counted steps than this, in the mean, are short.
+const SHORT: u64 = 100;
+
+// In the mean the last turn has the weight of one in so many.
+const WEIGHT: u64 = 8;
+
+// How long a nap is, in microseconds. A worker in the lane that makes no round for so long is held up.
+const NAP: u64 = 500;
+
+/// The lane of short turns, in which one worker is at a time.
+#[derive(Drop)]
+pub struct Lane {
+    taken: AtomicBool,
+    // How many rounds the workers in it have begun.
+    rounds: AtomicU64,
+    // Notified where the lane is left for good, or a run is over.
+    left: Condvar,
+}
+
+impl Lane {
+    /// A lane with no worker in it.
+    pub fn new() -> Lane {
+        Lane {
+            taken: AtomicBool::new(false),
+            rounds: AtomicU64::new(0),
+            left: Condvar::new(),
+        }
+    }
+
+    // Whether the lane was empty, and the worker is in it now.
+    fn enter(&self) -> bool {
+        !self.taken.swap(true, Ordering::AcqRel)
+    }
+
+    fn nap<R: Wait>(&self, rt: &R) {
+        let seen = self.left.notifications();
+        self.left.sleep(rt, seen, Duration::from_micros(NAP));
+    }
+}
+
+/// How long a worker's turns were of late, and whether it is in the lane.
+#[derive(Drop)]
+pub(crate) struct Pace {
+    // The mean of the counted steps of its turns, times WEIGHT.
+    steps: u64,
+    in_lane: bool,
+    // The lane's rounds at the beginning of the last nap, where no ticket was looked for since.
+    rounds: Option<u64>,
+}
+
+impl Pace {
+    /// The pace of a worker that has evaluated nothing: its turns count as long until some were short.
+    pub(crate) fn new() -> Pace {
+        Pace {
+            steps: 4 * SHORT * WEIGHT,
+            in_lane: false,
+            rounds: None,
+        }
+    }
+
+    /// Takes a turn into the mean.
+    pub(crate) fn note(&mut self, turn: &Result<TurnLog, TurnFault>) {
+        if let Ok(log) = turn {
+            self.steps = (self.steps - self.steps / WEIGHT).saturating_add(u64::from(log.count));
+        }
+    }
+
+    /// Whether the worker's turns are short.
+    pub(crate) fn is_short(&self) -> bool {
+        self.steps < SHORT * WEIGHT
+    }
+
+    /// Lets another worker into the lane, for as long as this one rests.
+    pub(crate) fn step_out(&mut self, lane: &Lane) {
+        if self.in_lane {
+            self.in_lane = false;
+            lane.taken.store(false, Ordering::Release);
+        }
+    }
+
+    /// The same, and wakes those who nap.
+    pub(crate) fn leave(&mut self, lane: &Lane) {
+        self.step_out(lane);
+        lane.left.notify_all();
+    }
+
+    /// Whether the worker may take a ticket now: it is in the lane, or the one who is there was held up for a whole nap. Else
+    /// it has napped.
+    pub(crate) fn may_go<R: Wait>(&mut self, rt: &R, lane: &Lane) -> bool {
+        if !self.is_short() {
+            if self.in_lane {
+                self.leave(lane);
+            }
+            return true;
+        }
+        self.in_lane = self.in_lane || lane.enter();
+        if self.in_lane {
+            lane.rounds.fetch_add(1, Ordering::Relaxed);
+            return true;
+        }
+        let rounds = lane.rounds.load(Ordering::Relaxed);
+        if self.rounds == Some(rounds) {
+            self.rounds = None;
+            return true;
+        }
+        self.rounds = Some(rounds);
+        lane.nap(rt);
+        false
+    }
+}
