@@ -1,0 +1,10 @@
+-- A look at the journal leaves what the seat has seen of the registers.
+use Rattle.std.proofs.Common.{List, sym, subst}
+use Rattle.logic4.specs.Vector.{Vector}
+use Rattle.turn.specs.Reads.{GaveAll}
+use Rattle.gateparts.specs.Histories.{IsRead}
+use Rattle.tests_concurrent.proofs.course.Course.look_and_commit.Goals as goal
+
+pub commit-seat-requires-clause-gave : goal.commit-seat-requires-clause-gave
+commit-seat-requires-clause-gave g c =
+    subst (λ (f : List (List Vector)). GaveAll (IsRead g.K.Naming.named.code f) c.args.log.reads.entries) (sym c.entries-count.ensures.fresh) c.requires.gave
