@@ -9,7 +9,7 @@ use Rattle.turn.specs.declared.memory.Seen.{Seen}
 use Rattle.turn.specs.Reads.{Agrees, AreDeclared, GaveAll}
 use Rattle.regcells.specs.Values.{last_value}
 use Rattle.regcells.proofs.Lasts.{last_at}
-use Rattle.gateparts.specs.Fresh.{fresh_of}
+use Rattle.regcells.specs.Meetings.{fresh_of}
 use Rattle.gateparts.specs.Histories.{IsEntryOf, IsRead}
 use Rattle.gateparts.proofs.Beginnings.{prefix_get}
 use Rattle.gateparts.proofs.Histories.{value_of_last}

@@ -21,11 +21,10 @@ use Rattle.gateparts.specs.Log.{entries_of}
 use Rattle.gateparts.specs.GateState.{GateState}
 use Rattle.gateparts.specs.Guarded.{Guarded}
 use Rattle.commitgate.specs.Kept.{Kept}
-use Rattle.gateparts.specs.Fresh.{fresh_of, Rises}
+use Rattle.regcells.specs.Meetings.{fresh_of, Rises, AreReadsIn}
 use Rattle.commitgate.specs.Seats.{SeatView}
 use Rattle.commitgate.specs.Tickets.{TicketView, IsCurrent, again}
 use Rattle.gateparts.specs.Histories.{hist, IsRead, IsFirstMovedIn}
-use Rattle.gateparts.specs.Working.{AreReadsIn}
 use Rattle.gateparts.specs.Evaluated.{turn_at}
 use Rattle.commitgate.specs.Answers.{MayCommit, AreCurrent, StopsAt, Full, Long, stopped}
 use Rattle.commitgate.specs.Answers as answers

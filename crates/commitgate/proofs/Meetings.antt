@@ -4,8 +4,7 @@ use mathlib.Core.Logic.{dite}
 use native.Mathlib.Decide.{ℕ_discrete}
 use mathlib.Core.List.{IsPrefix}
 use Rattle.logic4.specs.Vector.{Vector}
-use Rattle.gateparts.specs.Fresh.{fresh_of, Rises}
-use Rattle.gateparts.specs.Working.{Met}
+use Rattle.regcells.specs.Meetings.{fresh_of, Rises, Met}
 use Rattle.gateparts.proofs.Beginnings.{prefix_self, prefix_trans}
 
 -- it has seen all that it had seen

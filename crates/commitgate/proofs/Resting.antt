@@ -16,7 +16,7 @@ use Rattle.gateparts.specs.Log.{Log, entries_of}
 use Rattle.gateparts.specs.GateState.{GateState, state_in}
 use Rattle.gateparts.specs.Guarded.{Guarded}
 use Rattle.commitgate.specs.Kept.{Kept}
-use Rattle.gateparts.specs.Fresh.{Rises}
+use Rattle.regcells.specs.Meetings.{Rises}
 use Rattle.commitgate.specs.Seats.{SeatView}
 use Rattle.commitgate.specs.Journals.{Stays}
 use Rattle.commitgate.specs.Answers.{HasNoUpdate, IsRegionChange, stopped}

@@ -28,7 +28,7 @@ use Rattle.gateparts.specs.Log.{Log, entries_of, end_in, items_of}
 use Rattle.gateparts.specs.GateState.{GateState, state_in}
 use Rattle.gateparts.specs.Guarded.{MayEnd, Guarded}
 use Rattle.commitgate.specs.Kept.{Kept}
-use Rattle.gateparts.specs.Fresh.{Rises}
+use Rattle.regcells.specs.Meetings.{Rises}
 use Rattle.commitgate.specs.Seats.{SeatView, Follows}
 use Rattle.commitgate.specs.Tickets.{TicketView, IsCurrent, process_in, ticket_for}
 use Rattle.commitgate.specs.Journals.{HasNoUpdate, EndHolds, IsLog, IsActiveTicket, made_active, AreTicketsOf}

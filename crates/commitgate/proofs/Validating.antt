@@ -20,15 +20,15 @@ use Rattle.commitgate.specs.Named.{Named}
 use Rattle.gateparts.specs.Log.{Log, entries_of}
 use Rattle.gateparts.specs.GateState.{GateState, state_in}
 use Rattle.commitgate.specs.Kept.{Kept}
-use Rattle.gateparts.specs.Fresh.{fresh_of}
+use Rattle.regcells.specs.Meetings.{fresh_of, IsCurrentOf, IsFirstMovedOf, AreReadsIn, AreWritesIn}
 use Rattle.commitgate.specs.Tickets.{TicketView, IsCurrent}
 use Rattle.gateparts.specs.Histories.{hist, IsRead, IsFirstMovedIn}
-use Rattle.gateparts.specs.Working.{IsCurrentOf, IsFirstMovedOf, AreReadsIn, AreWritesIn, IsLogIn, register_in, updated_register, HasMetLog}
+use Rattle.gateparts.specs.Working.{IsLogIn, register_in, updated_register, HasMetLog}
 use Rattle.gateparts.specs.Evaluated.{IsLogOfEvent}
 use Rattle.commitgate.specs.Answers.{AreCurrent}
 use Rattle.commitgate.specs.Told.{HasMet, HasMetEntry}
 use Rattle.gateparts.proofs.Beginnings.{prefix_get}
-use Rattle.gateparts.proofs.Places.{or_of, within}
+use Rattle.regcells.proofs.Places.{or_of, within}
 use Rattle.commitgate.proofs.Agreeing.{agrees}
 use Rattle.regions.proofs.Evaluated.{turn_of-is}
 use Rattle.commitgate.proofs.AtLock.{at_lock}

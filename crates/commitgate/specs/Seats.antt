@@ -5,7 +5,7 @@ use Rattle.logic4.specs.Vector.{Vector, unknown}
 use Rattle.model.specs.declared.end.Why.{Why}
 use Rattle.design.specs.Compiled.{Compiled}
 use Rattle.gateparts.specs.Log.{Log}
-use Rattle.gateparts.specs.Fresh.{Rises}
+use Rattle.regcells.specs.Meetings.{Rises}
 
 -- What contracts see of a seat: its worker; the beginning of the gate's log that it has seen; the positions in the
 -- journal of the entries that it appended, rising; the end that it stored, if it stored one; and of each register the

@@ -22,7 +22,7 @@ use Rattle.commitgate.specs.declared.reply.Rest.{Rest}
 use Rattle.commitgate.specs.declared.reply.Rest.TheVariants as rests
 use Rattle.commitgate.specs.Named.{Named}
 use Rattle.gateparts.specs.Log.{Log, entries_of, end_in, items_of}
-use Rattle.gateparts.specs.Fresh.{fresh_of}
+use Rattle.regcells.specs.Meetings.{fresh_of}
 use Rattle.commitgate.specs.Seats.{SeatView, Follows, LooksOn}
 use Rattle.commitgate.specs.Tickets.{TicketView, again}
 use Rattle.gateparts.specs.Histories.{hist, IsFirstMovedIn}

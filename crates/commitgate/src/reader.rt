@@ -1,7 +1,7 @@
 //! A seat as the reader of a turn.
 ghost use Rattle.std.specs.Prelude.{◌≡◌, ℕ, ◌+◌, ◌<◌, length};
 ghost use Rattle.turn.specs.declared.memory.Seen as seens;
-ghost use Rattle.gateparts.specs.Fresh.{fresh_of};
+ghost use Rattle.regcells.specs.Meetings.{fresh_of};
 ghost use Rattle.commitgate.specs.Seats.{ReadsOn};
 ghost use Rattle.gateparts.specs.Histories.{IsRead};
 

@@ -4,7 +4,7 @@ ghost use mathlib.Core.List.{IsPrefix};
 ghost use Rattle.crossbeam_utils.specs.Seq.{cell_view};
 ghost use Rattle.gateparts.specs.Log.{entries_of, positions_of, stored_of};
 ghost use Rattle.gateparts.specs.Marked.{seated};
-ghost use Rattle.gateparts.specs.Fresh.{fresh_of};
+ghost use Rattle.regcells.specs.Meetings.{fresh_of};
 ghost use Rattle.commitgate.specs.Seats.{ReadsOn, LooksOn};
 ghost use Rattle.gateparts.specs.Histories.{IsEntryOf};
 

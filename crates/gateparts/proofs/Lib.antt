@@ -4,7 +4,6 @@ pub mod Logs
 mod MarkMoves
 pub mod Histories
 pub mod Given
-pub mod Places
 mod Guards
 mod Appended
 pub mod Items

@@ -1,6 +1,5 @@
 pub mod Log
 pub mod Marked
-pub mod Fresh
 pub mod GateState
 pub mod Guarded
 pub mod Storing

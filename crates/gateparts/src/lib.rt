@@ -7,13 +7,13 @@
 //!
 //! Who has the lock takes these steps, in this order, to append an entry:
 //!
-//! 1. A turn that was evaluated without the lock is compared: `first_moved` (`work`) names the first register that has changed
-//!    since the turn read it. A turn that is evaluated under the lock (`evaluate`) reads the last value of each register.
+//! 1. A turn that was evaluated without the lock is compared: `first_moved` of `regcells` names the first register that has
+//!    changed since the turn read it. A turn that is evaluated under the lock (`evaluate`) reads the last value of each register.
 //! 2. `Parts::updated` (`parts`) names the register that an update gives a value, while the update is still active.
 //! 3. `Parts::append` (`parts`) makes room for one entry, and applies it: `regions` makes its step on the regions and on the
 //!    cells, and appends its lines. Where memory is refused, journal, regions, registers, lines and end are as before.
 //! 4. The entry is pushed onto the journal, and the end Finish is stored where the run is finished.
-//! 5. `Parts::publish` (`parts`) tells the seat: it meets the registers that the entry read or wrote (`work`), and the log has
+//! 5. `Parts::publish` (`parts`) tells the seat: it meets the registers that the entry read or wrote (`meeting` of `regcells`), and the log has
 //!    the entry in its name (`mark`), with that end behind it.
 //!
 //! A seat without an entry to append looks at the mark (`look`), or sees the whole log under the lock (`catch_up`).
@@ -23,7 +23,6 @@ mod evaluate;
 mod log;
 mod mark;
 mod parts;
-mod work;
 
 pub use evaluate::{Holding, held_turn};
 pub use log::Item;
@@ -32,4 +31,3 @@ pub use mark::{
     catch_up, look, new_mark, next_seat,
 };
 pub use parts::Parts;
-pub use work::{first_moved, meet_one, meet_reads, meet_writes};

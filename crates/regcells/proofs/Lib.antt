@@ -4,3 +4,4 @@ pub mod Lasts
 pub mod Moves
 pub mod Tables
 pub mod LastValues
+pub mod Places

@@ -9,6 +9,8 @@
 //! 4. `RegCells` has a cell for each register. Its seats and its holder have a view of each of these cells (`cells`).
 //! 5. `HeldStore` is the cells and their holder as the store that `regions` changes. The values that a register had are the
 //!    holder's list of it (`held`).
+//! 6. `first_moved` names the first register that has changed since a turn read it, and a seat meets the registers that
+//!    a turn read or wrote: it has then seen all of their values (`meeting`).
 //!
 //! What the layer above uses: a read gives the last entry of what the seat has then seen of the register, with its place
 //! as the version. So a recorded version that is still the holder's last is that of a value that is still the last.
@@ -16,9 +18,11 @@
 
 mod cells;
 mod held;
+mod meeting;
 mod register;
 mod rule;
 mod words;
 
 pub use cells::{Holder, RegCells, RegSeat};
 pub use held::HeldStore;
+pub use meeting::{first_moved, meet_one, meet_reads, meet_writes};

@@ -16,7 +16,7 @@ pub climb-loop-turn-preserved : goal.climb-loop-turn-preserved
 unfolding climb
 climb-loop-turn-preserved t c =
     let e = one_more (λ n. climb (spec.expression c.args.fuel) n c.args.level (expression_of c.loop-turn.left) (left_of c.loop-turn.tokens)) c.args.fuel c.loop-turn._turn c.loop-turn-test.true c.loop-turn.invariant in
-    first_of (search rules, grind (arith, common_steps))
+    grind (arith, common_steps)
 
 chosen_at_0 : (inner : ℕ → spec.Parser (Expression Text)) (fuel level : ℕ) (first left : Expression Text) (ts us vs : PlainTokens)
     → spec.operand inner fuel ts ≡ Some (first, us) → climb inner fuel level first us ≡ Some (left, vs) → level ≡ 0 → sees Question vs ≡ true
@@ -34,28 +34,28 @@ pub parts-returns-then-not-sees : goal.parts-returns-then-not-sees
 unfolding parts_from
 parts-returns-then-not-sees t c =
     let e = one_more (λ n. parts_from (spec.expression c.args.fuel) n (expressions_view c.loop-turn.found) (left_of c.loop-turn.tokens)) c.args.fuel c.loop-turn._turn c.loop-turn-test.true c.loop-turn.invariant in
-    first_of (search rules, grind (arith, common_steps))
+    grind (arith, common_steps)
 
 pub parts-loop-turn-preserved : goal.parts-loop-turn-preserved
 unfolding parts_from
 parts-loop-turn-preserved t c =
     let e = one_more (λ n. parts_from (spec.expression c.args.fuel) n (expressions_view c.loop-turn.found) (left_of c.loop-turn.tokens)) c.args.fuel c.loop-turn._turn c.loop-turn-test.true c.loop-turn.invariant in
-    first_of (search rules, grind (arith, common_steps))
+    grind (arith, common_steps)
 
 pub parts-returns-in_err-part : goal.parts-returns-in_err-part
 unfolding parts_from
 parts-returns-in_err-part t c =
     let e = one_more (λ n. parts_from (spec.expression c.args.fuel) n (expressions_view c.loop-turn.found) (left_of c.loop-turn.tokens)) c.args.fuel c.loop-turn._turn c.loop-turn-test.true c.loop-turn.invariant in
-    first_of (search rules, grind (arith, common_steps))
+    grind (arith, common_steps)
 
 pub parts-returns-in_err-expect : goal.parts-returns-in_err-expect
 unfolding parts_from
 parts-returns-in_err-expect t c =
     let e = one_more (λ n. parts_from (spec.expression c.args.fuel) n (expressions_view c.loop-turn.found) (left_of c.loop-turn.tokens)) c.args.fuel c.loop-turn._turn c.loop-turn-test.true c.loop-turn.invariant in
-    first_of (search rules, grind (arith, common_steps))
+    grind (arith, common_steps)
 
 pub parts-returns-in_err-take : goal.parts-returns-in_err-take
 unfolding parts_from
 parts-returns-in_err-take t c =
     let e = one_more (λ n. parts_from (spec.expression c.args.fuel) n (expressions_view c.loop-turn.found) (left_of c.loop-turn.tokens)) c.args.fuel c.loop-turn._turn c.loop-turn-test.true c.loop-turn.invariant in
-    first_of (search rules, grind (arith, common_steps))
+    grind (arith, common_steps)

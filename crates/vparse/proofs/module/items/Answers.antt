@@ -11,4 +11,4 @@ pub loop-turn-preserved : goal.loop-turn-preserved
 unfolding items_from
 loop-turn-preserved c =
     let e = one_more (λ n. items_from c.args.fuel n (module_of c.loop-turn.found) (left_of c.loop-turn.tokens)) c.args.fuel c.loop-turn._turn c.loop-turn-test.true c.loop-turn.invariant in
-    first_of (search rules, grind (arith, common_steps))
+    grind (arith, common_steps)

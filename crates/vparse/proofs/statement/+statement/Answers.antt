@@ -17,7 +17,7 @@ pub block-loop-turn-preserved : goal.block-loop-turn-preserved
 unfolding statements_from
 block-loop-turn-preserved t c =
     let e = one_more (λ n. statements_from (spec.statement c.args.fuel) n (statements_view c.loop-turn.found) (left_of c.loop-turn.tokens)) c.args.fuel c.loop-turn._turn c.loop-turn-test.true c.loop-turn.invariant in
-    first_of (search rules, grind (arith, common_steps))
+    grind (arith, common_steps)
 
 branch_is : (inner : spec.Parser Statement) (fuel : ℕ) (t : PlainToken) (test : Expression Text) (body : List Statement) (ts us vs ws : PlainTokens)
     → take ts ≡ Some (t, us) → spec.condition fuel us ≡ Some (test, vs) → spec.block inner fuel vs ≡ Some (body, ws)

@@ -11,28 +11,28 @@ pub loop-turn-preserved : goal.loop-turn-preserved
 unfolding arguments_from
 loop-turn-preserved c =
     let e = one_more (λ n. arguments_from c.args.fuel n (expressions_view c.loop-turn.found) (left_of c.loop-turn.tokens)) c.args.fuel c.loop-turn._turn c.loop-turn-test.true c.loop-turn.invariant in
-    first_of (search rules, grind (arith, common_steps))
+    grind (arith, common_steps)
 
 pub returns-in_err-expect : goal.returns-in_err-expect
 unfolding arguments_from
 returns-in_err-expect c =
     let e = one_more (λ n. arguments_from c.args.fuel n (expressions_view c.loop-turn.found) (left_of c.loop-turn.tokens)) c.args.fuel c.loop-turn._turn c.loop-turn-test.true c.loop-turn.invariant in
-    first_of (search rules, grind (arith, common_steps))
+    grind (arith, common_steps)
 
 pub returns-then-not-sees : goal.returns-then-not-sees
 unfolding arguments_from
 returns-then-not-sees c =
     let e = one_more (λ n. arguments_from c.args.fuel n (expressions_view c.loop-turn.found) (left_of c.loop-turn.tokens)) c.args.fuel c.loop-turn._turn c.loop-turn-test.true c.loop-turn.invariant in
-    first_of (search rules, grind (arith, common_steps))
+    grind (arith, common_steps)
 
 pub returns-in_err-take : goal.returns-in_err-take
 unfolding arguments_from
 returns-in_err-take c =
     let e = one_more (λ n. arguments_from c.args.fuel n (expressions_view c.loop-turn.found) (left_of c.loop-turn.tokens)) c.args.fuel c.loop-turn._turn c.loop-turn-test.true c.loop-turn.invariant in
-    first_of (search rules, grind (arith, common_steps))
+    grind (arith, common_steps)
 
 pub returns-in_err-argument : goal.returns-in_err-argument
 unfolding arguments_from
 returns-in_err-argument c =
     let e = one_more (λ n. arguments_from c.args.fuel n (expressions_view c.loop-turn.found) (left_of c.loop-turn.tokens)) c.args.fuel c.loop-turn._turn c.loop-turn-test.true c.loop-turn.invariant in
-    first_of (search rules, grind (arith, common_steps))
+    grind (arith, common_steps)

@@ -11,28 +11,28 @@ pub returns-then-not-separates : goal.returns-then-not-separates
 unfolding triggers_from
 returns-then-not-separates c =
     let e = one_more (λ n. triggers_from n (triggers_view c.loop-turn.found) (left_of c.loop-turn.tokens)) c.args.fuel c.loop-turn._turn c.loop-turn-test.true c.loop-turn.invariant in
-    first_of (search rules, grind (arith, common_steps))
+    grind (arith, common_steps)
 
 pub returns-in_err-one : goal.returns-in_err-one
 unfolding triggers_from
 returns-in_err-one c =
     let e = one_more (λ n. triggers_from n (triggers_view c.loop-turn.found) (left_of c.loop-turn.tokens)) c.args.fuel c.loop-turn._turn c.loop-turn-test.true c.loop-turn.invariant in
-    first_of (search rules, grind (arith, common_steps))
+    grind (arith, common_steps)
 
 pub returns-in_err-expect : goal.returns-in_err-expect
 unfolding triggers_from
 returns-in_err-expect c =
     let e = one_more (λ n. triggers_from n (triggers_view c.loop-turn.found) (left_of c.loop-turn.tokens)) c.args.fuel c.loop-turn._turn c.loop-turn-test.true c.loop-turn.invariant in
-    first_of (search rules, grind (arith, common_steps))
+    grind (arith, common_steps)
 
 pub returns-in_err-take : goal.returns-in_err-take
 unfolding triggers_from
 returns-in_err-take c =
     let e = one_more (λ n. triggers_from n (triggers_view c.loop-turn.found) (left_of c.loop-turn.tokens)) c.args.fuel c.loop-turn._turn c.loop-turn-test.true c.loop-turn.invariant in
-    first_of (search rules, grind (arith, common_steps))
+    grind (arith, common_steps)
 
 pub loop-turn-preserved : goal.loop-turn-preserved
 unfolding triggers_from
 loop-turn-preserved c =
     let e = one_more (λ n. triggers_from n (triggers_view c.loop-turn.found) (left_of c.loop-turn.tokens)) c.args.fuel c.loop-turn._turn c.loop-turn-test.true c.loop-turn.invariant in
-    first_of (search rules, grind (arith, common_steps))
+    grind (arith, common_steps)

@@ -2,7 +2,7 @@ use Rattle.std.proofs.Common.{refl, ap, subst}
 use Rattle.crossbeam_utils.specs.Seq.{cell_view}
 use Rattle.gateparts.specs.declared.mark.MarkView.{MarkView}
 use Rattle.regcells.specs.Seats as regs
-use Rattle.gateparts.specs.Fresh.{fresh_of}
+use Rattle.regcells.specs.Meetings.{fresh_of}
 use Rattle.commitgate.specs.Seats.{SeatView, ReadsOn}
 use Rattle.commitgate.proofs.Meetings.{rises_set}
 use Rattle.commitgate.proofs.seat.Seat.read.Goals as goal

@@ -1,6 +1,6 @@
 -- The seat has read on, since it began.
 use Rattle.std.proofs.Common.{◌∙◌}
-use Rattle.gateparts.specs.Fresh.{fresh_of}
+use Rattle.regcells.specs.Meetings.{fresh_of}
 use Rattle.commitgate.specs.Seats.{SeatView, ReadsOn}
 use Rattle.gateparts.proofs.Beginnings.{prefix_trans}
 use Rattle.commitgate.proofs.seated.SeatedReaderRegReader.read.Goals as goal

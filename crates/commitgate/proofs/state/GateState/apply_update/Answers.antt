@@ -7,7 +7,7 @@ use Rattle.design.specs.Compiled.{design_of}
 use Rattle.gateparts.specs.declared.log.Item.TheVariants.{Ended}
 use Rattle.gateparts.specs.Log.{entries_of}
 use Rattle.gateparts.specs.GateState.{GateState, state_in}
-use Rattle.gateparts.specs.Fresh.{Rises}
+use Rattle.regcells.specs.Meetings.{Rises}
 use Rattle.commitgate.specs.Seats.{SeatView}
 use Rattle.commitgate.specs.Answers.{HasNoUpdate, IsGranted}
 use Rattle.gateparts.specs.Working.{updated_register, HasMetLog}

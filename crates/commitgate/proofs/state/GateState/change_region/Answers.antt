@@ -4,7 +4,7 @@ use Rattle.model.specs.declared.end.Limits.{Limits}
 use Rattle.model.specs.declared.end.Why.TheVariants.{Entries, Finish}
 use Rattle.model.specs.Runs.{has_any, is_quiet}
 use Rattle.gateparts.specs.GateState.{GateState, state_in}
-use Rattle.gateparts.specs.Fresh.{Rises}
+use Rattle.regcells.specs.Meetings.{Rises}
 use Rattle.commitgate.specs.Seats.{SeatView}
 use Rattle.commitgate.specs.Answers.{IsResting, FullRest, IsRestStopped, IsGranted, IsTimely}
 use Rattle.commitgate.specs.Regions.{IsPassed}

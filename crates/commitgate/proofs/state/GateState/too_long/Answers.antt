@@ -7,7 +7,7 @@ use Rattle.turn.specs.declared.memory.Seen.{Seen}
 use Rattle.turn.specs.Reads.{GaveAll}
 use Rattle.design.specs.Compiled.{design_of}
 use Rattle.gateparts.specs.GateState.{GateState}
-use Rattle.gateparts.specs.Fresh.{fresh_of, Rises}
+use Rattle.regcells.specs.Meetings.{fresh_of, Rises}
 use Rattle.commitgate.specs.Seats.{SeatView}
 use Rattle.gateparts.specs.Histories.{hist, IsRead, IsFirstMovedIn}
 use Rattle.gateparts.specs.Evaluated.{turn_at}

@@ -1,6 +1,6 @@
 use Rattle.std.proofs.Common.{arith}
-use Rattle.gateparts.proofs.Places.{within}
-use Rattle.gateparts.proofs.work.first_moved.Goals as goal
+use Rattle.regcells.proofs.Places.{within}
+use Rattle.regcells.proofs.meeting.first_moved.Goals as goal
 
 pub get_held-last-requires-clause-register : goal.get_held-last-requires-clause-register
 get_held-last-requires-clause-register g c = c.requires.reads c.loop-place.place (c.read_at-register.result.0, c.read_at-register.result.1) c.read_at-register.ensures

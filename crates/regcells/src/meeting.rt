@@ -1,13 +1,12 @@
-//! What is done under the lock with the registers: what was read is compared with them, and the seat meets them.
+//! What a turn read is compared with the registers as the holder has them, and a seat meets them.
 ghost use Rattle.std.specs.Prelude.{◌≡◌, ℕ, ◌<◌, length, Some, slice_get, IfSome, IfNone};
 ghost use Rattle.turn.specs.declared.memory.Seen as seens;
-ghost use Rattle.gateparts.specs.Fresh.{fresh_of};
-ghost use Rattle.gateparts.specs.Working.{IsCurrentOf, IsFirstMovedOf, Met, HasMetReads, HasMetWrites, AreReadsIn, AreWritesIn};
+ghost use Rattle.regcells.specs.Meetings.{fresh_of, IsCurrentOf, IsFirstMovedOf, Met, HasMetReads, HasMetWrites, AreReadsIn, AreWritesIn};
 
+use crate::cells::{Holder, RegCells, RegSeat};
 use design::RegId;
 use indexmap::IndexMap;
 use logic4::bits::Bits;
-use regcells::{Holder, RegCells, RegSeat};
 use std::sync::Wait;
 use turn::Seen;
 

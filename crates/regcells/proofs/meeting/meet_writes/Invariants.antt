@@ -1,9 +1,8 @@
 use Rattle.std.proofs.Common.{◌≡◌, ◌<◌, ℕ, Some}
 use Rattle.std.specs.Prelude.{slice_get}
 use Rattle.logic4.specs.Vector.{Vector}
-use Rattle.gateparts.specs.Fresh.{fresh_of}
-use Rattle.gateparts.specs.Working.{Met}
-use Rattle.gateparts.proofs.work.meet_writes.Given as goal
+use Rattle.regcells.specs.Meetings.{fresh_of, Met}
+use Rattle.regcells.proofs.meeting.meet_writes.Given as goal
 
 abbrev pub invariant-loop-place : goal.invariant-loop-place
 invariant-loop-place g l =
