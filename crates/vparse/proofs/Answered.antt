@@ -1,16 +1,16 @@
 -- What the parser of modules answers, by the grammar alone.
 use Rattle.std.proofs.Common.{◌≡◌, false, ℕ, ◌≤◌, [], length, Option, Some, None, IsSome, Err, refl, sym, ap, ◌∙◌}
-use Rattle.vparse.specs.declared.fault.Fault.{Fault}
-use Rattle.vparse.specs.declared.fault.Fault.TheVariants.{Syntax, Unsized, Deep, Memory}
+use Rattle.grammar.specs.declared.fault.Fault.{Fault}
+use Rattle.grammar.specs.declared.fault.Fault.TheVariants.{Syntax, Unsized, Deep, Memory}
 use Rattle.vparse.specs.Faults.{is_syntax}
-use Rattle.vparse.specs.Cursor.{Reads}
+use Rattle.grammar.specs.Cursor.{Reads}
 use Rattle.tokens.specs.Tokens.{PlainTokens}
 use Rattle.model.specs.Syntax.{Module}
 use Rattle.model.specs.Trees.{module_of}
-use Rattle.vparse.specs.Grammar.{IsModule}
-use Rattle.vparse.specs.Reading.{source}
-use Rattle.vparse.proofs.Steps.{some-pair}
-use Rattle.vparse.proofs.CompleteStatements.{complete-source}
+use Rattle.grammar.specs.Grammar.{IsModule}
+use Rattle.grammar.specs.Reading.{source}
+use Rattle.grammar.proofs.Steps.{some-pair}
+use Rattle.grammar.proofs.CompleteStatements.{complete-source}
 
 pub only : (fuel : ℕ) (found m : Module) (ts rest : PlainTokens) → length ts ≤ fuel → source fuel ts ≡ Some (found, rest) → IsModule m ts → found ≡ m
 only fuel found m ts rest w read d = (some-pair found m rest [] (sym read ∙ complete-source d fuel w)).0

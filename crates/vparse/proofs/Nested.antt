@@ -1,13 +1,13 @@
 -- The token at which the tokens nest too deep first, by how many are left there.
 use Rattle.std.proofs.Common.{◌≡◌, ℕ, zero, suc, ◌+◌, ◌<◌, ◌≤◌, [], ◌∷◌, length, take, true, false, ◌||◌, nat_lt, inl, inr, Option, Some, Err, sym, refl, ap, ◌∙◌, arith}
 use Rattle.tokens.specs.Tokens.{PlainTokens}
-use Rattle.vparse.specs.declared.fault.Fault.{Fault}
-use Rattle.vparse.specs.declared.fault.Fault.TheVariants.{Syntax, Unsized, Deep, Memory}
-use Rattle.vparse.specs.Cursor.{Reads}
+use Rattle.grammar.specs.declared.fault.Fault.{Fault}
+use Rattle.grammar.specs.declared.fault.Fault.TheVariants.{Syntax, Unsized, Deep, Memory}
+use Rattle.grammar.specs.Cursor.{Reads}
 use Rattle.vparse.specs.Nesting.{limit, open_after, signs_after, passes, deep_left, IsDeepAt}
 use Rattle.model.specs.Trees.{module_of}
-use Rattle.vparse.specs.Reading.{source}
-use Rattle.vparse.proofs.Steps.{if-is}
+use Rattle.grammar.specs.Reading.{source}
+use Rattle.grammar.proofs.Steps.{if-is}
 
 some_is : (a b : ℕ) → ◌≡◌ {A = Option ℕ} (Some a) (Some b) → a ≡ b
 some_is a b h = cc

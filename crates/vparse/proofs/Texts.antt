@@ -2,15 +2,15 @@
 use Rattle.std.proofs.Common.{◌≡◌, ℕ, List, false, ◌⊎◌, inl, inr, refl, ap, subst}
 use Rattle.tokens.specs.Tokens.{PlainTokens}
 use Rattle.model.specs.Syntax.{Module}
-use Rattle.vparse.specs.Grammar.{IsModule}
+use Rattle.grammar.specs.Grammar.{IsModule}
 use Rattle.vparse.specs.Nesting.{IsDeep}
 use Rattle.tokens.specs.Lexing.{Cut, stray, bad_number, Stops}
 use Rattle.vparse.specs.Spells.{Spells, IsDeepText}
 use Rattle.vparse.specs.Faults.{of_cut, of_tokens, is_syntax}
 use Rattle.tokens.specs.declared.cut.CutFault.{CutFault}
 use Rattle.tokens.specs.declared.cut.CutFault.TheVariants as cut_fault
-use Rattle.vparse.specs.declared.fault.Fault.{Fault}
-use Rattle.vparse.specs.declared.fault.Fault.TheVariants as fault
+use Rattle.grammar.specs.declared.fault.Fault.{Fault}
+use Rattle.grammar.specs.declared.fault.Fault.TheVariants as fault
 use Rattle.vparse.specs.declared.parse.ParseFault.TheVariants.{Byte, Literal, Syntax, Unsized, Deep, Memory}
 use Rattle.tokens.proofs.Chain.{cut_once, cut_or_stops, stops_once}
 

@@ -2,8 +2,8 @@
 use Rattle.std.specs.Prelude.{ℕ, Bool, true, false}
 use Rattle.tokens.specs.declared.cut.CutFault.{CutFault}
 use Rattle.tokens.specs.declared.cut.CutFault.TheVariants as cut_fault
-use Rattle.vparse.specs.declared.fault.Fault.{Fault}
-use Rattle.vparse.specs.declared.fault.Fault.TheVariants as fault
+use Rattle.grammar.specs.declared.fault.Fault.{Fault}
+use Rattle.grammar.specs.declared.fault.Fault.TheVariants as fault
 use Rattle.vparse.specs.declared.parse.ParseFault.{ParseFault}
 use Rattle.vparse.specs.declared.parse.ParseFault.TheVariants.{Byte, Literal, Syntax, Unsized, Deep, Memory}
 

@@ -3,7 +3,7 @@ use Rattle.std.specs.Prelude.{ℕ, List}
 use Rattle.tokens.specs.Tokens.{PlainTokens}
 use Rattle.tokens.specs.Lexing.{Cut}
 use Rattle.model.specs.Syntax.{Module}
-use Rattle.vparse.specs.Grammar.{IsModule}
+use Rattle.grammar.specs.Grammar.{IsModule}
 use Rattle.vparse.specs.Nesting.{IsDeep, IsDeepAt}
 
 -- A text spells a module: it is cut into tokens that are a spelling of the module.

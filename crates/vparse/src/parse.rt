@@ -5,16 +5,13 @@ ghost use Rattle.tokens.specs.Tokens.{plain_token};
 ghost use Rattle.tokens.specs.Lexing.{Stops, stray, bad_number};
 ghost use Rattle.model.specs.Trees.{module_of};
 ghost use Rattle.model.specs.Syntax as tree;
-ghost use Rattle.vparse.specs.Grammar.{IsModule};
+ghost use Rattle.grammar.specs.Grammar.{IsModule};
 ghost use Rattle.vparse.specs.Nesting.{IsDeep, IsDeepAt};
 ghost use Rattle.vparse.specs.Spells.{Spells, IsDeepText, IsDeepTextAt};
 ghost use Rattle.vparse.specs.Faults.{of_cut, of_tokens, is_syntax};
 
-use crate::cursor::Cursor;
-use crate::expression::Rules;
-use crate::fault::Fault;
-use crate::module::source;
 use crate::nesting::too_deep;
+use grammar::{Cursor, Fault, Rules, source};
 use model::tree::Module;
 use std::alloc::Global;
 use thiserror::Error;

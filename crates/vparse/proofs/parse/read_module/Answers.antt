@@ -2,7 +2,7 @@
 use Rattle.std.proofs.Common.{map, arith}
 use Rattle.std.proofs.lemmas.List.{length-map}
 use Rattle.tokens.specs.Tokens.{plain_token}
-use Rattle.vparse.proofs.SoundStatements.{sound-source}
+use Rattle.grammar.proofs.SoundStatements.{sound-source}
 use Rattle.vparse.proofs.Answered.{only, memory, syntax}
 use Rattle.vparse.proofs.Nested.{deep_at, refused_at}
 use Rattle.vparse.proofs.parse.read_module.Goals as goal

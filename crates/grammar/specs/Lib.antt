@@ -1,0 +1,4 @@
+pub mod Nodes
+pub mod Cursor
+pub mod Grammar
+pub mod Reading

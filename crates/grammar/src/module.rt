@@ -1,0 +1,168 @@
+//! Modules.
+
+ghost use Rattle.std.specs.Prelude.{◌≡◌, ◌∷◌, ◌++◌, [], map};
+ghost use Rattle.grammar.specs.Cursor.{left_of, Reads};
+ghost use Rattle.model.specs.Trees.{declaration_of, process_of, module_of};
+ghost use Rattle.grammar.specs.Nodes.{names_view};
+ghost use Rattle.grammar.specs.Grammar as grammar;
+ghost use Rattle.grammar.specs.Reading as spec;
+
+use crate::cursor::Cursor;
+use crate::expression::Rules;
+use crate::fault::Fault;
+use crate::statement::statement;
+use model::tree::{Declaration, Module, Process};
+use tokens::token::Kind;
+
+/// Reads `[ decimal : decimal ]`.
+#[tactic(auto, unfolding(crate::specs::Reading::bounds))]
+fn bounds(rules: Rules, tokens: &mut Cursor<'_, '_>) -> Result<(u64, u64), Fault>
+    ensures { Reads (λ r. r) rules.stop (spec.bounds (left_of tokens.old)) result (left_of tokens.new) }
+{
+    tokens.take(rules.stop)?;
+    let first = tokens.expect(rules.stop, Kind::Decimal)?;
+    tokens.expect(rules.stop, Kind::Colon)?;
+    let last = tokens.expect(rules.stop, Kind::Decimal)?;
+    tokens.expect(rules.stop, Kind::CloseSquare)?;
+    Ok((first.value, last.value))
+}
+
+/// Reads a range where it comes next.
+#[tactic(auto, unfolding(crate::specs::Reading::range))]
+fn range(rules: Rules, tokens: &mut Cursor<'_, '_>) -> Result<Option<(u64, u64)>, Fault>
+    ensures { Reads (λ r. r) rules.stop (spec.range (left_of tokens.old)) result (left_of tokens.new) }
+{
+    if !tokens.sees(Kind::OpenSquare) {
+        return Ok(None);
+    }
+    Ok(Some(bounds(rules, tokens)?))
+}
+
+/// Reads names with commas between and `;` at the end, and adds them to those found.
+#[tactic(auto, unfolding(crate::specs::Reading::names_from))]
+fn names(
+    rules: Rules,
+    tokens: &mut Cursor<'_, '_>,
+    fuel: usize,
+    mut found: Vec<String>,
+) -> Result<Vec<String>, Fault>
+    ensures { Reads names_view rules.stop (spec.names_from fuel (names_view found) (left_of tokens.old)) result (left_of tokens.new) }
+{
+    for _turn in 0..fuel {
+        let name = tokens.expect(rules.stop, Kind::Name)?;
+        found.push(String::from_str(rules.alloc, name.text)?)?;
+        if !tokens.sees(Kind::Comma) {
+            tokens.expect(rules.stop, Kind::Semicolon)?;
+            return Ok(found);
+        }
+        tokens.take(rules.stop)?;
+    }
+    Err(Fault::Syntax)
+}
+
+/// Reads a `reg` item.
+#[tactic(auto, unfolding(crate::specs::Reading::declaration))]
+fn declaration(rules: Rules, tokens: &mut Cursor<'_, '_>, fuel: usize) -> Result<Declaration, Fault>
+    ensures { Reads declaration_of rules.stop (spec.declaration fuel (left_of tokens.old)) result (left_of tokens.new) }
+{
+    tokens.take(rules.stop)?;
+    let found = range(rules, tokens)?;
+    let names = names(rules, tokens, fuel, Vec::new(rules.alloc))?;
+    Ok(Declaration {
+        range: found,
+        names,
+    })
+}
+
+/// Reads an `initial` or an `always` construct.
+#[tactic(auto, unfolding(crate::specs::Reading::process))]
+fn process(
+    rules: Rules,
+    tokens: &mut Cursor<'_, '_>,
+    fuel: usize,
+    repeats: bool,
+) -> Result<Process, Fault>
+    ensures { Reads process_of rules.stop (spec.process fuel repeats (left_of tokens.old)) result (left_of tokens.new) }
+{
+    tokens.take(rules.stop)?;
+    let body = statement(rules, tokens, fuel)?;
+    Ok(Process { repeats, body })
+}
+
+fn repeats_of(kind: Kind) -> Option<bool>
+    ensures { result ≡ grammar.repeats_of kind }
+{
+    match kind {
+        Kind::Initial => Some(false),
+        Kind::Always => Some(true),
+        _ => None,
+    }
+}
+
+/// Reads an item, and adds it to those found.
+#[tactic(auto, unfolding(crate::specs::Reading::item))]
+fn item(
+    rules: Rules,
+    tokens: &mut Cursor<'_, '_>,
+    fuel: usize,
+    mut found: Module,
+) -> Result<Module, Fault>
+    ensures { Reads module_of rules.stop (spec.item fuel (module_of found) (left_of tokens.old)) result (left_of tokens.new) }
+{
+    match repeats_of(tokens.kind()) {
+        Some(repeats) => {
+            let one = process(rules, tokens, fuel, repeats)?;
+            found.procs.push(one)?;
+            Ok(found)
+        }
+        None => {
+            if !tokens.sees(Kind::Reg) {
+                return Err(Fault::Syntax);
+            }
+            let one = declaration(rules, tokens, fuel)?;
+            found.regs.push(one)?;
+            Ok(found)
+        }
+    }
+}
+
+/// Reads items up to the end of the module, and adds them to those found.
+#[tactic(auto, unfolding(crate::specs::Reading::items_from))]
+fn items(
+    rules: Rules,
+    tokens: &mut Cursor<'_, '_>,
+    fuel: usize,
+    mut found: Module,
+) -> Result<Module, Fault>
+    ensures { Reads module_of rules.stop (spec.items_from fuel fuel (module_of found) (left_of tokens.old)) result (left_of tokens.new) }
+{
+    for _turn in 0..fuel {
+        if tokens.sees(Kind::EndModule) {
+            tokens.take(rules.stop)?;
+            return Ok(found);
+        }
+        found = item(rules, tokens, fuel, found)?;
+    }
+    Err(Fault::Syntax)
+}
+
+/// Reads a module that is all there is.
+#[tactic(auto, unfolding(crate::specs::Reading::source))]
+pub fn source(rules: Rules, tokens: &mut Cursor<'_, '_>, fuel: usize) -> Result<Module, Fault>
+    ensures { Reads module_of rules.stop (spec.source fuel (left_of tokens.old)) result (left_of tokens.new) }
+{
+    tokens.expect(rules.stop, Kind::Module)?;
+    let name = tokens.expect(rules.stop, Kind::Name)?;
+    tokens.expect(rules.stop, Kind::Semicolon)?;
+    let start = Module {
+        name: String::from_str(rules.alloc, name.text)?,
+        regs: Vec::new(rules.alloc),
+        procs: Vec::new(rules.alloc),
+    };
+    let found = items(rules, tokens, fuel, start)?;
+    if tokens.is_done() {
+        Ok(found)
+    } else {
+        Err(Fault::Syntax)
+    }
+}
