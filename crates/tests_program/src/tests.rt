@@ -227,6 +227,10 @@ fn joined(rt: &impl Abort, alloc: Global, texts: &[&str]) -> String {
     all
 }
 
+fn decimal(rt: &impl Abort, alloc: Global, number: u64) -> String {
+    format!(in alloc; "{number}").expect(rt, "memory")
+}
+
 /// A text, another so many times, and whatever ends it.
 fn repeated(
     rt: &impl Abort,
@@ -342,6 +346,13 @@ fn assert_left(rt: &impl Abort, what: &str, left: &Left, wanted: Wanted<'_>) {
     assert_status(rt, what, left.status, wanted.status);
     assert_bytes(rt, what, left.out.as_slice(), wanted.out.as_bytes());
     assert_bytes(rt, what, left.err.as_slice(), wanted.err.as_bytes());
+}
+
+/// A run printed one of the texts, and told of no fault.
+fn assert_texts(rt: &impl Abort, source: &str, left: &Left, texts: Texts<'_>) {
+    assert_status(rt, source, left.status, 0);
+    assert_bytes(rt, source, left.err.as_slice(), b"");
+    assert!(rt; texts.has(left.out.as_slice()), "{source}");
 }
 
 /// A command line leaves this in a setting.

@@ -1,7 +1,7 @@
 //! The sources of the folder `examples`: on every number of workers they end, and their journals replay to the lines that
 //! they printed.
 
-use super::{Texts, assert_bytes, assert_replayed, assert_status, either, joined, run_line};
+use super::{Texts, assert_replayed, assert_texts, either, joined, run_line};
 use std::alloc::Global;
 use std::process::Abort;
 use std::sync::Wait;
@@ -29,6 +29,14 @@ const EXAMPLES: &[(&str, &str, &str)] = &[
 
 const WORKERS: &[&str] = &["1", "2", "3", "4", "8", "16"];
 
+fn line_on(rt: &impl Abort, alloc: Global, workers: &str) -> String {
+    joined(
+        rt,
+        alloc,
+        &["vsimtx run t.v --workers ", workers, " --journal OUT"],
+    )
+}
+
 fn assert_example<R: Abort + Threads + Wait + Sync>(
     rt: &R,
     alloc: Global,
@@ -36,12 +44,9 @@ fn assert_example<R: Abort + Threads + Wait + Sync>(
     texts: Texts<'_>,
     workers: &str,
 ) {
-    let words = &["vsimtx run t.v --workers ", workers, " --journal OUT"];
-    let line = joined(rt, alloc, words);
+    let line = line_on(rt, alloc, workers);
     let left = run_line(rt, alloc, line.as_str(), source);
-    assert_status(rt, source, left.status, 0);
-    assert_bytes(rt, source, left.err.as_slice(), b"");
-    assert!(rt; texts.has(left.out.as_slice()), "{source}");
+    assert_texts(rt, source, &left, texts);
     assert_replayed(rt, alloc, source, &left);
 }
 

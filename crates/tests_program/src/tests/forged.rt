@@ -1,7 +1,7 @@
 //! Forged journals, and sources at their limits, each with its answer.
 
 use super::replays::{FIRST_LINE, HI, RACE, assert_refused};
-use super::{append, assert_source, joined, prints, repeated, tells};
+use super::{append, assert_source, decimal, joined, prints, repeated, tells};
 use std::alloc::Global;
 use std::process::Abort;
 use std::sync::Wait;
@@ -53,8 +53,13 @@ fn tells_the_entry_that_is_forged(rt: HostRuntime) {
 
 /// The entries of a turn, and of the end of its wait.
 fn turn_after_wait(rt: &impl Abort, alloc: Global, turn: u64) -> String {
-    let time = turn.saturating_mul(4_294_967_295);
-    format!(in alloc; "A {time}\nT {turn}\n").expect(rt, "memory")
+    let time = decimal(rt, alloc, turn.saturating_mul(4_294_967_295));
+    let turn = decimal(rt, alloc, turn);
+    joined(
+        rt,
+        alloc,
+        &["A ", time.as_str(), "\nT ", turn.as_str(), "\n"],
+    )
 }
 
 /// The entries of a process that waits as long as it may, up to its last turn within the time that there is, and those

@@ -73,6 +73,16 @@ pub(super) fn assert_refused<R: Abort + Threads + Wait + Sync>(
     assert_replay(rt, alloc, source, journal, tells(5, err.as_str()));
 }
 
+pub(super) fn assert_all_refused<R: Abort + Threads + Wait + Sync>(
+    rt: &R,
+    alloc: Global,
+    cases: &[(&str, &str, &str)],
+) {
+    for &(source, journal, text) in cases {
+        assert_refused(rt, alloc, source, journal, text);
+    }
+}
+
 /// The journal of these entries, in version 1, replays on its source to these lines.
 fn assert_lawful<R: Abort + Threads + Wait + Sync>(
     rt: &R,
@@ -165,9 +175,7 @@ const FAULTY: &[(&str, &str, &str)] = &[
 
 #[test]
 fn tells_the_fault_of_a_journal(rt: HostRuntime) {
-    for &(source, journal, text) in FAULTY {
-        assert_refused(&rt, rt.alloc(), source, journal, text);
-    }
+    assert_all_refused(&rt, rt.alloc(), FAULTY);
 }
 
 const FILE_FAULTS: &[(&str, u8, &str)] = &[

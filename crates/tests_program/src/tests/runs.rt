@@ -3,7 +3,7 @@
 
 use super::{
     Left, SAVE, Texts, Wanted, assert_bytes, assert_cut, assert_left, assert_line, assert_replayed,
-    assert_status, either, over, prints, repeated, run_line, tells,
+    assert_texts, either, over, prints, repeated, run_line, tells,
 };
 use std::alloc::Global;
 use std::process::Abort;
@@ -25,6 +25,17 @@ fn assert_run<R: Abort + Threads + Wait + Sync>(
     wanted: Wanted<'_>,
 ) {
     assert_left(rt, source, &run_twice(rt, alloc, source), wanted);
+}
+
+/// Each source runs and prints its lines.
+fn assert_all_print<R: Abort + Threads + Wait + Sync>(
+    rt: &R,
+    alloc: Global,
+    cases: &[(&str, &str)],
+) {
+    for &(source, out) in cases {
+        assert_run(rt, alloc, source, prints(out));
+    }
 }
 
 const DISPLAYS: &[(&str, &str)] = &[
@@ -52,9 +63,7 @@ const DISPLAYS: &[(&str, &str)] = &[
 
 #[test]
 fn prints_what_a_design_displays(rt: HostRuntime) {
-    for &(source, out) in DISPLAYS {
-        assert_run(&rt, rt.alloc(), source, prints(out));
-    }
+    assert_all_print(&rt, rt.alloc(), DISPLAYS);
 }
 
 const COMPUTATIONS: &[(&str, &str)] = &[
@@ -94,9 +103,7 @@ const COMPUTATIONS: &[(&str, &str)] = &[
 
 #[test]
 fn computes_with_digits_and_sizes(rt: HostRuntime) {
-    for &(source, out) in COMPUTATIONS {
-        assert_run(&rt, rt.alloc(), source, prints(out));
-    }
+    assert_all_print(&rt, rt.alloc(), COMPUTATIONS);
 }
 
 const WIDE_COMPUTATIONS: &[(&str, &str)] = &[
@@ -124,9 +131,7 @@ const WIDE_COMPUTATIONS: &[(&str, &str)] = &[
 
 #[test]
 fn computes_with_more_than_64_digits(rt: HostRuntime) {
-    for &(source, out) in WIDE_COMPUTATIONS {
-        assert_run(&rt, rt.alloc(), source, prints(out));
-    }
+    assert_all_print(&rt, rt.alloc(), WIDE_COMPUTATIONS);
 }
 
 const REGIONS: &[(&str, &str)] = &[
@@ -159,9 +164,7 @@ const REGIONS: &[(&str, &str)] = &[
 
 #[test]
 fn takes_events_region_by_region(rt: HostRuntime) {
-    for &(source, out) in REGIONS {
-        assert_run(&rt, rt.alloc(), source, prints(out));
-    }
+    assert_all_print(&rt, rt.alloc(), REGIONS);
 }
 
 fn assert_one_of<R: Abort + Threads + Wait + Sync>(
@@ -170,10 +173,7 @@ fn assert_one_of<R: Abort + Threads + Wait + Sync>(
     source: &str,
     texts: Texts<'_>,
 ) {
-    let left = run_twice(rt, alloc, source);
-    assert_status(rt, source, left.status, 0);
-    assert_bytes(rt, source, left.err.as_slice(), b"");
-    assert!(rt; texts.has(left.out.as_slice()), "{source}");
+    assert_texts(rt, source, &run_twice(rt, alloc, source), texts);
 }
 
 /// The source runs and prints one of two texts, each of a hundred times.
@@ -316,9 +316,7 @@ const STROBES: &[(&str, &str)] = &[
 
 #[test]
 fn makes_strobes_at_the_end_of_their_time(rt: HostRuntime) {
-    for &(source, out) in STROBES {
-        assert_run(&rt, rt.alloc(), source, prints(out));
-    }
+    assert_all_print(&rt, rt.alloc(), STROBES);
 }
 
 #[test]

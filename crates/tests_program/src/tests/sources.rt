@@ -1,6 +1,6 @@
 //! Sources that are refused, each with its line, and the bounds that they keep to.
 
-use super::{append, assert_source, design_of, fault_line, joined, repeated, tells};
+use super::{append, assert_source, decimal, design_of, fault_line, joined, repeated, tells};
 use std::alloc::Global;
 use std::process::Abort;
 use std::sync::Wait;
@@ -15,6 +15,16 @@ fn assert_refused<R: Abort + Threads + Wait + Sync>(
 ) {
     let err = fault_line(rt, alloc, text);
     assert_source(rt, alloc, source, tells(3, err.as_str()));
+}
+
+fn assert_all_refused<R: Abort + Threads + Wait + Sync>(
+    rt: &R,
+    alloc: Global,
+    cases: &[(&str, &str)],
+) {
+    for &(source, text) in cases {
+        assert_refused(rt, alloc, source, text);
+    }
 }
 
 const NO_MODULES: &[(&str, &str)] = &[
@@ -56,9 +66,7 @@ const NO_MODULES: &[(&str, &str)] = &[
 
 #[test]
 fn tells_where_a_text_is_no_module(rt: HostRuntime) {
-    for &(source, text) in NO_MODULES {
-        assert_refused(&rt, rt.alloc(), source, text);
-    }
+    assert_all_refused(&rt, rt.alloc(), NO_MODULES);
 }
 
 const FAULTY: &[(&str, &str)] = &[
@@ -102,9 +110,7 @@ const FAULTY: &[(&str, &str)] = &[
 
 #[test]
 fn tells_the_fault_of_a_module(rt: HostRuntime) {
-    for &(source, text) in FAULTY {
-        assert_refused(&rt, rt.alloc(), source, text);
-    }
+    assert_all_refused(&rt, rt.alloc(), FAULTY);
 }
 
 const SEVERAL_FAULTS: &[(&str, &str)] = &[
@@ -153,17 +159,16 @@ const SEVERAL_FAULTS: &[(&str, &str)] = &[
 
 #[test]
 fn tells_the_first_of_several_faults(rt: HostRuntime) {
-    for &(source, text) in SEVERAL_FAULTS {
-        assert_refused(&rt, rt.alloc(), source, text);
-    }
+    assert_all_refused(&rt, rt.alloc(), SEVERAL_FAULTS);
 }
 
-fn declaration(rt: &impl Abort, alloc: Global, number: usize) -> String {
-    format!(in alloc; " reg r{number};").expect(rt, "memory")
+fn declaration(rt: &impl Abort, alloc: Global, number: u64) -> String {
+    let number = decimal(rt, alloc, number);
+    joined(rt, alloc, &[" reg r", number.as_str(), ";"])
 }
 
 /// A module that declares so many registers.
-fn declaring(rt: &impl Abort, alloc: Global, times: usize) -> String {
+fn declaring(rt: &impl Abort, alloc: Global, times: u64) -> String {
     let mut text = joined(rt, alloc, &["module t;"]);
     for number in 0..times {
         let declaration = declaration(rt, alloc, number);

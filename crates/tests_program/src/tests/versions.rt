@@ -1,6 +1,6 @@
 //! Replays of journals of version 2, whose last line counts the entries, beside those of version 1.
 
-use super::replays::{HI, RACE, TWO, assert_refused, assert_replay};
+use super::replays::{HI, RACE, TWO, assert_all_refused, assert_replay};
 use super::{REPLAY, assert_in, over_journal, prints, tells};
 use std::alloc::Global;
 use std::process::Abort;
@@ -89,9 +89,7 @@ const FAULTY: &[(&str, &str, &str)] = &[
 
 #[test]
 fn tells_the_fault_of_a_journal_of_version_2(rt: HostRuntime) {
-    for &(source, journal, text) in FAULTY {
-        assert_refused(&rt, rt.alloc(), source, journal, text);
-    }
+    assert_all_refused(&rt, rt.alloc(), FAULTY);
 }
 
 /// What is told of a journal's first bytes.
