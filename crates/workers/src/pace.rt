@@ -79,17 +79,13 @@ impl Pace {
         self.steps < SHORT * WEIGHT
     }
 
-    /// Lets another worker into the lane, for as long as this one rests.
-    pub(crate) fn step_out(&mut self, lane: &Lane) {
+    /// Lets another worker into the lane, and wakes those who nap. A worker that rests stays in the lane: it comes back with
+    /// tickets, and where it has to wait, those who nap see that it makes no round.
+    pub(crate) fn leave(&mut self, lane: &Lane) {
         if self.in_lane {
             self.in_lane = false;
             lane.taken.store(false, Ordering::Release);
         }
-    }
-
-    /// The same, and wakes those who nap.
-    pub(crate) fn leave(&mut self, lane: &Lane) {
-        self.step_out(lane);
         lane.left.notify_all();
     }
 
