@@ -1,17 +1,22 @@
 //! The steps of an expression, on a stack of vectors.
-ghost use Rattle.std.specs.Prelude.{◌≡◌, ◌∷◌, [], length, reverse, OnOk, IfOk};
+ghost use Rattle.std.specs.Prelude.{◌≡◌, ◌<◌, ◌∷◌, [], length, reverse, OnOk, IfOk};
 ghost use Rattle.logic4.specs.Operators.{select_digit};
 ghost use Rattle.model.specs.Expressions.{Store};
-ghost use Rattle.design.specs.Steps.{topmost, below, run_ops, IsOpOf};
+ghost use Rattle.design.specs.declared.code.Op.TheVariants.{Load, Pick, Unary, Binary, BinaryRegister, Join, Resize, Choose};
+ghost use Rattle.design.specs.Operate.{combined};
+ghost use Rattle.design.specs.Steps.{topmost, below, act, run_ops, IsOpOf};
 ghost use Rattle.turn.specs.Reads.{GaveAll, Keeps};
 ghost use Rattle.turn.specs.Evaluate.{NamesDeclared, Holds, Acts, Evaluates};
 
 use crate::memory::{Memory, RegReader};
 use crate::operate::{binary, choose, join, unary};
-use design::code::Op;
+use design::RegId;
+use design::code::{Op, Size};
 use logic4::bits::Bits;
+use model::tree::{BinaryOperator, UnaryOperator};
 use std::alloc::AllocError;
 
+// Puts a vector on the stack.
 fn put(stack: &mut Vec<Bits>, value: Bits) -> Result<(), AllocError>
     ensures { OnOk result (reverse stack.new.items ≡ value ∷ reverse stack.old.items) }
 {
@@ -19,6 +24,7 @@ fn put(stack: &mut Vec<Bits>, value: Bits) -> Result<(), AllocError>
     Ok(())
 }
 
+// Takes the topmost vector off the stack.
 fn pop(stack: &mut Vec<Bits>) -> Bits
     ensures value { result ≡ topmost (reverse stack.old.items) }
     ensures rest { reverse stack.new.items ≡ below (reverse stack.old.items) }
@@ -27,6 +33,28 @@ fn pop(stack: &mut Vec<Bits>) -> Bits
         Some(value) => value,
         None => Bits::unknown(1),
     }
+}
+
+// The topmost vector.
+fn top(stack: &[Bits]) -> Bits
+    ensures { result ≡ topmost (reverse stack.now) }
+{
+    match stack.last() {
+        Some(value) => *value,
+        None => Bits::unknown(1),
+    }
+}
+
+// Puts a vector in the place of the topmost one.
+#[tactic(auto, using(crate::proofs::Stack::reverse_set_last))]
+fn set_top(stack: &mut Vec<Bits>, value: Bits) -> Result<(), AllocError>
+    ensures { OnOk result (reverse stack.new.items ≡ value ∷ below (reverse stack.old.items)) }
+{
+    match stack.last_mut() {
+        Some(top) => *top = value,
+        None => stack.push(value)?,
+    }
+    Ok(())
 }
 
 // One digit of a vector, x where it has none there (5.2.1).
@@ -39,6 +67,129 @@ fn pick(value: Bits, index: u32) -> Bits
     } else {
         Bits::unknown(1)
     }
+}
+
+// The functions of single steps stand apart, since room for values that may be there or not is cleared when a function is
+// entered: in one function of all steps each would clear the room of all.
+
+// The value of a register, on the stack.
+fn load<R: RegReader>(
+    memory: &mut Memory,
+    reader: &mut R,
+    stack: &mut Vec<Bits>,
+    register: RegId,
+    size: Size,
+) -> Result<(), AllocError>
+    requires { register < R.registers }
+    ensures acts { OnOk result (Acts (Load register size) memory.old.known memory.old.reads.entries (reverse stack.old.items) memory.new.known memory.new.reads.entries (reverse stack.new.items)) }
+    ensures gave { OnOk result (GaveAll (R.gave reader.old) memory.old.reads.entries → GaveAll (R.gave reader.new) memory.new.reads.entries) }
+    ensures keeps { Keeps (R.gave reader.old) (R.gave reader.new) }
+    ensures lasting { R.lasting reader.new ≡ R.lasting reader.old }
+{
+    let value = memory.look(reader, register)?;
+    put(stack, value.resize(size.get()))
+}
+
+// One digit of a register, on the stack.
+fn load_digit<R: RegReader>(
+    memory: &mut Memory,
+    reader: &mut R,
+    stack: &mut Vec<Bits>,
+    register: RegId,
+    index: u32,
+    size: Size,
+) -> Result<(), AllocError>
+    requires { register < R.registers }
+    ensures acts { OnOk result (Acts (Pick register index size) memory.old.known memory.old.reads.entries (reverse stack.old.items) memory.new.known memory.new.reads.entries (reverse stack.new.items)) }
+    ensures gave { OnOk result (GaveAll (R.gave reader.old) memory.old.reads.entries → GaveAll (R.gave reader.new) memory.new.reads.entries) }
+    ensures keeps { Keeps (R.gave reader.old) (R.gave reader.new) }
+    ensures lasting { R.lasting reader.new ≡ R.lasting reader.old }
+{
+    let value = memory.look(reader, register)?;
+    put(stack, pick(value, index).resize(size.get()))
+}
+
+// An operator on the topmost vector.
+fn act_unary(stack: &mut Vec<Bits>, operator: UnaryOperator, asked: Size) -> Result<(), AllocError>
+    ensures { OnOk result (reverse stack.new.items ≡ act [] (Unary operator asked) (reverse stack.old.items)) }
+{
+    let value = unary(operator, asked, top(stack));
+    set_top(stack, value)
+}
+
+// An operator on the topmost vector, as its left operand, and this one.
+fn act_with(
+    stack: &mut Vec<Bits>,
+    operator: BinaryOperator,
+    size: Size,
+    asked: Size,
+    right: Bits,
+) -> Result<(), AllocError>
+    ensures { OnOk result (reverse stack.new.items ≡ combined operator size asked (topmost (reverse stack.old.items)) right ∷ below (reverse stack.old.items)) }
+{
+    let value = binary(operator, size, asked, top(stack), right);
+    set_top(stack, value)
+}
+
+// An operator on the topmost vector, as its left operand, and the value of a register.
+fn act_with_register<R: RegReader>(
+    memory: &mut Memory,
+    reader: &mut R,
+    stack: &mut Vec<Bits>,
+    operator: BinaryOperator,
+    size: Size,
+    asked: Size,
+    register: RegId,
+    other: Size,
+) -> Result<(), AllocError>
+    requires { register < R.registers }
+    ensures acts { OnOk result (Acts (BinaryRegister operator size asked register other) memory.old.known memory.old.reads.entries (reverse stack.old.items) memory.new.known memory.new.reads.entries (reverse stack.new.items)) }
+    ensures gave { OnOk result (GaveAll (R.gave reader.old) memory.old.reads.entries → GaveAll (R.gave reader.new) memory.new.reads.entries) }
+    ensures keeps { Keeps (R.gave reader.old) (R.gave reader.new) }
+    ensures lasting { R.lasting reader.new ≡ R.lasting reader.old }
+{
+    let value = memory.look(reader, register)?;
+    act_with(stack, operator, size, asked, value.resize(other.get()))
+}
+
+// An operator on the two topmost vectors.
+fn act_binary(
+    stack: &mut Vec<Bits>,
+    operator: BinaryOperator,
+    size: Size,
+    asked: Size,
+) -> Result<(), AllocError>
+    ensures { OnOk result (reverse stack.new.items ≡ act [] (Binary operator size asked) (reverse stack.old.items)) }
+{
+    let right = pop(stack);
+    act_with(stack, operator, size, asked, right)
+}
+
+// The two topmost vectors as one.
+fn act_join(stack: &mut Vec<Bits>) -> Result<(), AllocError>
+    ensures { OnOk result (reverse stack.new.items ≡ act [] Join (reverse stack.old.items)) }
+{
+    let low = pop(stack);
+    let value = join(top(stack), low);
+    set_top(stack, value)
+}
+
+// The topmost vector, extended or cut.
+fn act_resize(stack: &mut Vec<Bits>, size: Size) -> Result<(), AllocError>
+    ensures { OnOk result (reverse stack.new.items ≡ act [] (Resize size) (reverse stack.old.items)) }
+{
+    let value = top(stack).resize(size.get());
+    set_top(stack, value)
+}
+
+// One of the two topmost vectors, by the truth of the third.
+fn act_choose(stack: &mut Vec<Bits>, size: Size) -> Result<(), AllocError>
+    ensures { OnOk result (reverse stack.new.items ≡ act [] (Choose size) (reverse stack.old.items)) }
+{
+    let second = pop(stack);
+    let first = pop(stack);
+    let value = choose(size, top(stack), first, second);
+    set_top(stack, value)
 }
 
 // One step.
@@ -55,70 +206,37 @@ fn step<R: RegReader>(
     ensures lasting { R.lasting reader.new ≡ R.lasting reader.old }
 {
     match op {
-        Op::Load { register, size } => {
-            let value = memory.look(reader, *register)?;
-            put(stack, value.resize(size.get()))
-        }
+        Op::Load { register, size } => load(memory, reader, stack, *register, *size),
         Op::Pick {
             register,
             index,
             size,
-        } => {
-            let value = memory.look(reader, *register)?;
-            put(stack, pick(value, *index).resize(size.get()))
-        }
+        } => load_digit(memory, reader, stack, *register, *index, *size),
         Op::Constant { value } => put(stack, *value),
-        Op::Unary { operator, asked } => {
-            let operand = pop(stack);
-            put(stack, unary(*operator, *asked, operand))
-        }
+        Op::Unary { operator, asked } => act_unary(stack, *operator, *asked),
         Op::Binary {
             operator,
             size,
             asked,
-        } => {
-            let right = pop(stack);
-            let left = pop(stack);
-            put(stack, binary(*operator, *size, *asked, left, right))
-        }
+        } => act_binary(stack, *operator, *size, *asked),
         Op::BinaryConstant {
             operator,
             size,
             asked,
             value,
-        } => {
-            let left = pop(stack);
-            put(stack, binary(*operator, *size, *asked, left, *value))
-        }
+        } => act_with(stack, *operator, *size, *asked, *value),
         Op::BinaryRegister {
             operator,
             size,
             asked,
             register,
             other,
-        } => {
-            let value = memory.look(reader, *register)?;
-            let left = pop(stack);
-            put(
-                stack,
-                binary(*operator, *size, *asked, left, value.resize(other.get())),
-            )
-        }
-        Op::Join => {
-            let low = pop(stack);
-            let high = pop(stack);
-            put(stack, join(high, low))
-        }
-        Op::Resize { size } => {
-            let value = pop(stack);
-            put(stack, value.resize(size.get()))
-        }
-        Op::Choose { size } => {
-            let second = pop(stack);
-            let first = pop(stack);
-            let condition = pop(stack);
-            put(stack, choose(*size, condition, first, second))
-        }
+        } => act_with_register(
+            memory, reader, stack, *operator, *size, *asked, *register, *other,
+        ),
+        Op::Join => act_join(stack),
+        Op::Resize { size } => act_resize(stack, *size),
+        Op::Choose { size } => act_choose(stack, *size),
     }
 }
 
