@@ -41,8 +41,8 @@ impl Driven {
     }
 
     /// Applies an entry. False where it isn't permitted.
-    fn apply(&mut self, alloc: Global, entry: Entry) -> bool {
-        match self.run.apply(alloc, entry) {
+    fn apply(&mut self, entry: Entry) -> bool {
+        match self.run.apply(entry) {
             Ok(()) => {
                 for event in self.run.made() {
                     if self.active.push_back(event.number).is_err() {
@@ -64,9 +64,9 @@ impl Driven {
                 break;
             };
             for _ in 0..more {
-                self.run.evaluate(rt.alloc(), Entry::Turn(event));
+                self.run.evaluate(Entry::Turn(event));
             }
-            self.apply(rt.alloc(), Entry::Turn(event));
+            self.apply(Entry::Turn(event));
         }
         let count = self.run.state().entries().saturating_sub(before);
         clock.stop(rt, count)
@@ -80,19 +80,19 @@ impl Driven {
             let Some(number) = self.run.state().first_update() else {
                 break;
             };
-            self.apply(rt.alloc(), Entry::Update(number));
+            self.apply(Entry::Update(number));
         }
         let count = self.run.state().entries().saturating_sub(before);
         clock.stop(rt, count)
     }
 
     /// Makes the change of the regions that is due, where no event is active.
-    fn change_region(&mut self, alloc: Global) {
-        if self.apply(alloc, Entry::ActivateInactive) || self.apply(alloc, Entry::ActivateNba) {
+    fn change_region(&mut self) {
+        if self.apply(Entry::ActivateInactive) || self.apply(Entry::ActivateNba) {
             return;
         }
         if let Some(time) = self.run.state().next_time() {
-            self.apply(alloc, Entry::Advance(time));
+            self.apply(Entry::Advance(time));
         }
     }
 
@@ -109,7 +109,7 @@ impl Driven {
             }
             turns = how.kept(turns, self.turns(rt, 256, more));
             updates = how.kept(updates, self.updates(rt, 256));
-            self.change_region(rt.alloc());
+            self.change_region();
         }
         Steps { turns, updates }
     }

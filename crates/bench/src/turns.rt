@@ -5,31 +5,27 @@ use crate::timing::{How, Measure, Stopwatch, Unit, tell};
 use design::Design;
 use regions::{PlainStore, turn_on};
 use std::io;
-use turn::Workspace;
+use turn::TurnLog;
 
-/// The first turn of a design's first process, in room that earlier turns may have left.
-fn turn(rt: &HostRuntime, workspace: &mut Workspace, design: &Design) -> io::Result<Measure> {
+/// The first turn of a design's first process, in a log that earlier turns may have grown.
+fn turn(rt: &HostRuntime, log: &mut TurnLog, design: &Design) -> io::Result<Measure> {
     let store = PlainStore::new(rt.alloc(), design.widths())?;
     if design.processes() == 0 {
         return Ok(Measure::NONE);
     }
     let clock = Stopwatch::start(rt);
-    match turn_on(rt.alloc(), workspace, design, design.start(0), 0, &store) {
-        Ok(log) => {
-            let measure = clock.stop(rt, u64::from(log.count));
-            workspace.give_back(Some(log));
-            Ok(measure)
-        }
+    match turn_on(log, design, &design.start(0), 0, &store) {
+        Ok(()) => Ok(clock.stop(rt, u64::from(log.count()))),
         Err(_) => Err(io::Error::from(io::ErrorKind::InvalidData)),
     }
 }
 
 /// The fastest of several turns.
 fn least_turn(rt: &HostRuntime, how: How, design: &Design) -> io::Result<Measure> {
-    let mut workspace = Workspace::new(rt.alloc());
+    let mut log = TurnLog::new(rt.alloc());
     let mut least = Measure::SLOWEST;
     for _run in 0..how.runs() {
-        least = least.least(turn(rt, &mut workspace, design)?);
+        least = least.least(turn(rt, &mut log, design)?);
     }
     Ok(least)
 }

@@ -108,24 +108,24 @@ tell_stale n old held g k later ticket back reads r new is rises running returne
     }
 
 -- what was read of a turn that is too long is of declared registers
-pub long_reads_in : (code : Compiled) (m : ℕ) (ticket : TicketView) (reads : _) → m ≡ length code.widths → IsStateOf code ticket.process ticket.state
-    → IsNoTurn code ticket.state ticket.time (fault.TooLong reads) → AreReadsIn m reads.entries
+pub long_reads_in : (code : Compiled) (m : ℕ) (ticket : TicketView) (reads : List (ℕ × Seen)) → m ≡ length code.widths → IsStateOf code ticket.process ticket.state
+    → IsNoTurn code ticket.state ticket.time reads fault.TooLong → AreReadsIn m reads
 long_reads_in code m ticket reads e own turn k d at =
-    subst (λ j. d.0 < j) (sym e) (get_all (λ (r : ℕ × Seen). r.0 < length code.widths) reads.entries (turn ticket.process own).0 k d at)
+    subst (λ j. d.0 < j) (sym e) (get_all (λ (r : ℕ × Seen). r.0 < length code.widths) reads (turn ticket.process own).0 k d at)
 
 -- where what was read is current, the ticket's evaluation has no short turn
-pub long_by : (n : Named) (held : GateState) (ticket : TicketView) (reads : _) (fresh : List (List Vector)) → Kept n held → IsCurrent held.core ticket → IsStateOf n.code ticket.process ticket.state
-    → IsNoTurn n.code ticket.state ticket.time (fault.TooLong reads) → GaveAll (IsRead n.code fresh) reads.entries → AreCurrent n.code held reads.entries
+pub long_by : (n : Named) (held : GateState) (ticket : TicketView) (reads : List (ℕ × Seen)) (fresh : List (List Vector)) → Kept n held → IsCurrent held.core ticket → IsStateOf n.code ticket.process ticket.state
+    → IsNoTurn n.code ticket.state ticket.time reads fault.TooLong → GaveAll (IsRead n.code fresh) reads → AreCurrent n.code held reads
     → length held.values ≡ length n.code.widths
-    → ((k : ℕ) (d : ℕ × Seen) → slice_get reads.entries k ≡ Some d → IsPrefix (fresh_of fresh d.0) (fresh_of held.histories d.0))
+    → ((k : ℕ) (d : ℕ × Seen) → slice_get reads k ≡ Some d → IsPrefix (fresh_of fresh d.0) (fresh_of held.histories d.0))
     → turn_at n.code held ticket.process ticket.state ≡ None
 long_by n held ticket reads fresh kept current own turn gave cur count begins =
     let low = long_reads_in n.code (length n.code.widths) ticket reads refl own turn in
-    let agree : Agrees reads.entries (map last_value held.histories) =
-    agrees n.code fresh held.histories reads.entries gave (turn ticket.process own).0 begins (λ k d at. ap length (kept.histories d.0 (low k d at)) ∙ cur k d at) in
+    let agree : Agrees reads (map last_value held.histories) =
+    agrees n.code fresh held.histories reads gave (turn ticket.process own).0 begins (λ k d at. ap length (kept.histories d.0 (low k d at)) ∙ cur k d at) in
     long_at_lock n.code held ticket.process ticket.state reads own count
-    (subst (λ t. IsNoTurn n.code ticket.state t (fault.TooLong reads)) (sym current.time) turn)
-    (subst (Agrees reads.entries) (sym kept.values) agree)
+    (subst (λ t. IsNoTurn n.code ticket.state t reads fault.TooLong) (sym current.time) turn)
+    (subst (Agrees reads) (sym kept.values) agree)
 
 -- the run is stopped for a turn that is too long
 pub long_stopped : (code : Compiled) (limits : Limits) (worker : ℕ) (old : GateState) (ticket : TicketView) (process : ℕ) (new : GateState) → process ≡ ticket.process → MayCommit limits old ticket

@@ -12,7 +12,7 @@ use Rattle.design.specs.Compiled.{Compiled, design_of}
 use Rattle.design.specs.Standing.{IsStateOf}
 use Rattle.design.specs.Fits.{FitsRegister}
 use Rattle.turn.specs.declared.memory.Seen.{Seen}
-use Rattle.turn.specs.declared.log.TurnLog.{TurnLog}
+use Rattle.turn.specs.Logs.{LogView}
 use Rattle.turn.specs.Answers.{IsTurnLog}
 use Rattle.turn.specs.Reads.{Agrees, GaveAll}
 use Rattle.regcells.specs.Values.{last_value}
@@ -56,14 +56,14 @@ gave_at P (x ∷ xs) gave zero d at = let same : x ≡ d = cc at in subst (λ (y
 gave_at P (x ∷ xs) gave (suc k) d at = gave_at P xs gave.1 k d at
 
 -- what was read is of declared registers
-pub reads_in : (code : Compiled) (m : ℕ) (ticket : TicketView) (log : TurnLog) → m ≡ length code.widths → IsStateOf code ticket.process ticket.state → IsTurnLog code ticket.state ticket.time log → AreReadsIn m log.reads.entries
+pub reads_in : (code : Compiled) (m : ℕ) (ticket : TicketView) (log : LogView) → m ≡ length code.widths → IsStateOf code ticket.process ticket.state → IsTurnLog code ticket.state ticket.time log → AreReadsIn m log.reads
 reads_in code m ticket log e own turn k d at =
-    subst (λ j. d.0 < j) (sym e) (get_all (λ (r : ℕ × Seen). r.0 < length code.widths) log.reads.entries (turn.declared ticket.process own) k d at)
+    subst (λ j. d.0 < j) (sym e) (get_all (λ (r : ℕ × Seen). r.0 < length code.widths) log.reads (turn.declared ticket.process own) k d at)
 
-pub log_in : (code : Compiled) (m : ℕ) (ticket : TicketView) (log : TurnLog) → m ≡ length code.widths → IsStateOf code ticket.process ticket.state → IsTurnLog code ticket.state ticket.time log → IsLogIn m (Some log)
+pub log_in : (code : Compiled) (m : ℕ) (ticket : TicketView) (log : LogView) → m ≡ length code.widths → IsStateOf code ticket.process ticket.state → IsTurnLog code ticket.state ticket.time log → IsLogIn m (Some log)
 log_in code m ticket log e own turn = (
   reads_in code m ticket log e own turn,
-  λ k d at. subst (λ j. d.0 < j) (sym e) (get_all (λ (w : ℕ × Vector). FitsRegister code.widths w.0 w.1) log.writes.items (turn.fits ticket.process own).writes k d at).0,
+  λ k d at. subst (λ j. d.0 < j) (sym e) (get_all (λ (w : ℕ × Vector). FitsRegister code.widths w.0 w.1) log.writes (turn.fits ticket.process own).writes k d at).0,
 )
 
 -- current by the lists is current by the journal
@@ -96,30 +96,30 @@ moved_by n held reads r fresh kept low m gave begins =
     apart len version other lt ne same = omega (arith, lt, ne, same)
 
 -- the log is that of the ticket's turn
-pub given_by : (n : Named) (held : GateState) (ticket : TicketView) (log : TurnLog) (fresh : List (List Vector)) → Kept n held → IsCurrent held.core ticket → IsStateOf n.code ticket.process ticket.state
-    → IsTurnLog n.code ticket.state ticket.time log → GaveAll (IsRead n.code fresh) log.reads.entries → AreCurrent n.code held log.reads.entries
+pub given_by : (n : Named) (held : GateState) (ticket : TicketView) (log : LogView) (fresh : List (List Vector)) → Kept n held → IsCurrent held.core ticket → IsStateOf n.code ticket.process ticket.state
+    → IsTurnLog n.code ticket.state ticket.time log → GaveAll (IsRead n.code fresh) log.reads → AreCurrent n.code held log.reads
     → length held.values ≡ length n.code.widths
-    → ((k : ℕ) (d : ℕ × Seen) → slice_get log.reads.entries k ≡ Some d → IsPrefix (fresh_of fresh d.0) (fresh_of held.histories d.0))
+    → ((k : ℕ) (d : ℕ × Seen) → slice_get log.reads k ≡ Some d → IsPrefix (fresh_of fresh d.0) (fresh_of held.histories d.0))
     → IsLogOfEvent n.code held ticket.event log
 given_by n held ticket log fresh kept current own turn gave cur count begins =
     let low = reads_in n.code (length n.code.widths) ticket log refl own turn in
-    let agree : Agrees log.reads.entries (map last_value held.histories) =
-    agrees n.code fresh held.histories log.reads.entries gave (turn.declared ticket.process own) begins (λ k d at. ap length (kept.histories d.0 (low k d at)) ∙ cur k d at) in
+    let agree : Agrees log.reads (map last_value held.histories) =
+    agrees n.code fresh held.histories log.reads gave (turn.declared ticket.process own) begins (λ k d at. ap length (kept.histories d.0 (low k d at)) ∙ cur k d at) in
     record {
       process = ticket.process;
       state = ticket.state;
       evaluation = current.evaluation;
       turn = at_lock n.code held ticket.process ticket.state log own count
           (subst (λ t. IsTurnLog n.code ticket.state t log) (sym current.time) turn)
-          (subst (Agrees log.reads.entries) (sym kept.values) agree);
+          (subst (Agrees log.reads) (sym kept.values) agree);
     }
 
 same_number : (p q : ℕ) → Some (Evaluate p) ≡ Some (Evaluate q) → p ≡ q
 same_number p q e = cc
 
 -- the seat has met what the turn read and wrote
-pub met_turn : (n : Named) (held held' : GateState) (event : ℕ) (log : TurnLog) (seen : Log) (fresh : List (List Vector)) (m : ℕ) → Kept n held' → seen ≡ held'.log
-    → IsLogOfEvent n.code held event log → AreReadsIn (length n.code.widths) log.reads.entries → AreWritesIn (length n.code.widths) log.writes.items
+pub met_turn : (n : Named) (held held' : GateState) (event : ℕ) (log : LogView) (seen : Log) (fresh : List (List Vector)) (m : ℕ) → Kept n held' → seen ≡ held'.log
+    → IsLogOfEvent n.code held event log → AreReadsIn (length n.code.widths) log.reads → AreWritesIn (length n.code.widths) log.writes
     → HasMetLog held'.histories fresh m None (Some log) → HasMetEntry n (state_in n.code held) (entries.Turn event) seen fresh
 met_turn n held held' event log seen fresh m kept is h reads writes met p turn action found =
     let process : h.process ≡ p = same_number h.process p (sym h.evaluation.0 ∙ action) in
@@ -129,9 +129,9 @@ met_turn n held held' event log seen fresh m kept is h reads writes met p turn a
     λ r low. kept.histories r low ∙ ap (λ j. hist (design_of n.code) j r) (kept.journal_is ∙ ap entries_of (sym is)) in
     record {
       uses = subst (All (HasMet n seen fresh)) (h.turn.is_log.uses ∙ ap (λ t. t.uses) same)
-          (all_map (HasMet n seen fresh) log.reads.entries (λ k d at. met.0 k d at ∙ whole d.0 (reads k d at)));
+          (all_map (HasMet n seen fresh) log.reads (λ k d at. met.0 k d at ∙ whole d.0 (reads k d at)));
       writes = subst (All (λ (w : ℕ × Vector). HasMet n seen fresh w.0)) (h.turn.is_log.writes ∙ ap (λ t. t.writes) same)
-          (all_of (λ (w : ℕ × Vector). HasMet n seen fresh w.0) log.writes.items (λ k d at. met.1 k d at ∙ whole d.0 (writes k d at)));
+          (all_of (λ (w : ℕ × Vector). HasMet n seen fresh w.0) log.writes (λ k d at. met.1 k d at ∙ whole d.0 (writes k d at)));
     }
 
 -- the seat has met the register of an update

@@ -1,7 +1,7 @@
 -- Turns that are evaluated under the lock.
 use Rattle.std.specs.Prelude.{◌≡◌, Bool, true, false, None}
 use Rattle.design.specs.Compiled.{Compiled}
-use Rattle.turn.specs.declared.log.TurnLog.{TurnLog}
+use Rattle.turn.specs.Logs.{LogView}
 use Rattle.turn.specs.declared.log.TurnFault.{TurnFault}
 use Rattle.turn.specs.declared.log.TurnFault.TheVariants.{TooLong, Memory}
 use Rattle.turn.specs.Answers.{IsTurnLog}
@@ -13,17 +13,17 @@ use Rattle.gateparts.specs.Evaluated.{turn_at}
 use Rattle.commitgate.specs.Answers.{AreCurrent}
 
 -- the log is the turn from a ticket's state on, and what was read of it stands in the histories and is current
-pub record IsHeldTurn (code : Compiled) (held : GateState) (ticket : TicketView) (log : TurnLog) : Type 0 where
+pub record IsHeldTurn (code : Compiled) (held : GateState) (ticket : TicketView) (log : LogView) : Type 0 where
   pub turn : IsTurnLog code ticket.state ticket.time log
-  pub recorded : GaveAll (IsRead code held.histories) log.reads.entries
-  pub current : AreCurrent code held log.reads.entries
+  pub recorded : GaveAll (IsRead code held.histories) log.reads
+  pub current : AreCurrent code held log.reads
 
 -- memory was refused
 abbrev pub is_refused : TurnFault → Bool
-is_refused (TooLong reads) = false
+is_refused TooLong = false
 is_refused Memory = true
 
 -- a turn that is too long is no short turn from the ticket's state on
 abbrev pub IsNoHeldTurn : Compiled → GateState → TicketView → TurnFault → Type 0
-IsNoHeldTurn code held ticket (TooLong reads) = turn_at code held ticket.process ticket.state ≡ None
+IsNoHeldTurn code held ticket TooLong = turn_at code held ticket.process ticket.state ≡ None
 IsNoHeldTurn code held ticket Memory = Unit {0}

@@ -32,19 +32,20 @@ pub struct SeatedReader<'g, K: Naming, S: Seating, R: Wait> {
 }
 
 impl<'g, K: Naming, S: Seating, R: Wait> Model for SeatedReader<'g, K, S, R> {
+    ghost use Rattle.std.specs.Prelude.{ℕ};
     ghost use Rattle.commitgate.specs.Seats.{SeatView, ReadsOn};
 
-    ghost Value = { SeatView };
+    ghost Value = { ℕ × SeatView };
 
     ghost view = { λ r. r.reader };
 
-    ghost invariant = { λ r. ReadsOn S.seat r.reader };
+    ghost invariant = { λ r. ReadsOn S.seat r.reader.1 };
 }
 
 impl<'g, K: Naming, S: Seating, R: Wait> SeatedReader<'g, K, S, R> {
     /// The reader of a seat, as it is now.
     pub fn new(reader: SeatReader<'g, K, R>) -> SeatedReader<'g, K, S, R>
-        requires { reader ≡ S.seat }
+        requires { reader.1 ≡ S.seat }
         ensures { result ≡ reader.entry }
     {
         SeatedReader {
@@ -54,9 +55,10 @@ impl<'g, K: Naming, S: Seating, R: Wait> SeatedReader<'g, K, S, R> {
     }
 
     /// Gives the seat back.
-    pub fn into_seat(self) -> Seat<K>
-        ensures seat { result ≡ self.entry }
-        ensures reads_on { ReadsOn S.seat result }
+    pub fn into_seat(self) -> &'g mut Seat<K>
+        ensures name { result.ghost_name ≡ self.entry.0 }
+        ensures now { result.now ≡ self.entry.1 }
+        ensures reads_on { ReadsOn S.seat self.entry.1 }
     {
         let SeatedReader { reader, from: _ } = self;
         reader.into_seat()
@@ -64,16 +66,16 @@ impl<'g, K: Naming, S: Seating, R: Wait> SeatedReader<'g, K, S, R> {
 }
 
 impl<'g, K: Naming, S: Seating, R: Wait> RegReader for SeatedReader<'g, K, S, R> {
-    ghost use Rattle.std.specs.Prelude.{length};
+    ghost use Rattle.std.specs.Prelude.{ℕ, length};
     ghost use Rattle.gateparts.specs.Histories.{IsRead};
 
     ghost registers = { length K.named.code.widths };
 
-    ghost gave = { λ s r seen. IsRead K.named.code s.fresh r seen };
+    ghost gave = { λ s r seen. IsRead K.named.code s.1.fresh r seen };
 
-    ghost Lasting = { Unit {0} };
+    ghost Lasting = { ℕ };
 
-    ghost lasting = { λ r. tt };
+    ghost lasting = { λ r. r.0 };
 
     fn read(&mut self, register: RegId) -> Seen {
         self.reader.read(register)

@@ -7,13 +7,13 @@ use Rattle.model.specs.States as states
 use Rattle.model.specs.States.{Action, Evaluate, Event}
 use Rattle.model.specs.Runs.{action_in, least}
 use Rattle.regions.specs.Find.{update_numbers}
-use Rattle.turn.specs.declared.log.TurnLog.{TurnLog}
+use Rattle.turn.specs.Logs.{LogView}
 use Rattle.regcells.specs.Meetings.{fresh_of, HasMetReads, HasMetWrites, AreReadsIn, AreWritesIn}
 
 -- what a turn read and wrote are registers of so many
-abbrev pub IsLogIn : ℕ → Option TurnLog → Type 0
+abbrev pub IsLogIn : ℕ → Option LogView → Type 0
 IsLogIn n None = Unit {0}
-IsLogIn n (Some log) = AreReadsIn n log.reads.entries × AreWritesIn n log.writes.items
+IsLogIn n (Some log) = AreReadsIn n log.reads × AreWritesIn n log.writes
 
 -- the register that an action gives a value, if it is an update
 abbrev pub register_in : Option Action → Option ℕ
@@ -36,6 +36,6 @@ updated_register active (Advance time) = None
 
 -- the seat has seen all values of the registers that a turn read or wrote or, after another entry, of the one updated, if
 -- it is one of so many
-abbrev pub HasMetLog : List (List Vector) → List (List Vector) → ℕ → Option ℕ → Option TurnLog → Type 0
+abbrev pub HasMetLog : List (List Vector) → List (List Vector) → ℕ → Option ℕ → Option LogView → Type 0
 HasMetLog all new n updated None = (r : ℕ) → updated ≡ Some r → r < n → fresh_of new r ≡ fresh_of all r
-HasMetLog all new n updated (Some log) = HasMetReads all new log.reads.entries × HasMetWrites all new log.writes.items
+HasMetLog all new n updated (Some log) = HasMetReads all new log.reads × HasMetWrites all new log.writes

@@ -1,16 +1,16 @@
 //! A turn that is evaluated under the lock, on the last value of each register.
 ghost use Rattle.std.specs.Prelude.{◌≡◌, ◌≤◌, ◌^◌, length, MatchResult};
 ghost use Rattle.model.specs.Runs.{last_time};
-ghost use Rattle.turn.specs.Answers.{IsTurnLog, IsNoTurn, reads_of_fault};
+ghost use Rattle.turn.specs.Answers.{IsTurnLog, IsNoTurn};
+ghost use Rattle.turn.specs.declared.log.TurnFault.TheVariants as fault_of;
 ghost use Rattle.turn.specs.Reads.{GaveAll};
 ghost use Rattle.gateparts.specs.Holding.{IsLastIn};
 
 use design::{Design, ProcState, RegId};
 use regcells::{Holder, RegCells};
-use std::alloc::Global;
 use std::marker::{Brand, Model, PhantomData};
 use std::sync::Wait;
-use turn::{RegReader, Seen, TurnFault, TurnLog, Workspace, run_turn_in};
+use turn::{RegReader, Seen, TurnFault, TurnLog, run_turn};
 
 /// What the holder has seen, in contracts alone.
 pub trait Holding {
@@ -61,24 +61,23 @@ impl<'g, H: Holding, R: Wait> RegReader for HeldReader<'g, H, R> {
     }
 }
 
-/// The turn from a process state on, on the last value of each register. The holder comes back as it was.
+/// Fills a log with the turn from a process state on, on the last value of each register. The holder comes back as it was.
 pub fn held_turn<H: Holding, R: Wait>(
     rt: &R,
-    alloc: Global,
     cells: &RegCells,
     holder: Holder,
-    workspace: &mut Workspace,
+    log: &mut TurnLog,
     design: &Design,
-    state: ProcState,
+    state: &ProcState,
     now: u64,
-) -> (Holder, Result<TurnLog, TurnFault>)
+) -> (Holder, Result<(), TurnFault>)
     requires cells { cells.now ≡ H.holds.cells }
     requires holder { holder ≡ H.holds }
     requires registers { length design.now.widths ≡ length H.holds.cells }
     requires now { now ≤ last_time }
     ensures same { result.0 ≡ H.holds }
-    ensures turn { MatchResult result.1 (IsTurnLog design.now state now) (IsNoTurn design.now state now) }
-    ensures gave { MatchResult result.1 (λ log. GaveAll (IsLastIn H.holds) log.reads.entries) (λ fault. GaveAll (IsLastIn H.holds) (reads_of_fault fault)) }
+    ensures turn { MatchResult result.1 (λ _. IsTurnLog design.now state.now now log.new) (IsNoTurn design.now state.now now log.new.reads) }
+    ensures gave { MatchResult result.1 (λ _. GaveAll (IsLastIn H.holds) log.new.reads) (λ fault. fault ≡ fault_of.TooLong → GaveAll (IsLastIn H.holds) log.new.reads) }
 {
     let mut reader: HeldReader<'_, H, R> = HeldReader {
         rt,
@@ -86,7 +85,7 @@ pub fn held_turn<H: Holding, R: Wait>(
         holder,
         of: PhantomData,
     };
-    let turn = run_turn_in(alloc, workspace, design, &state, now, &mut reader);
+    let turn = run_turn(log, design, state, now, &mut reader);
     let HeldReader {
         rt: _,
         cells: _,

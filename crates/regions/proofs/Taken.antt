@@ -13,7 +13,7 @@ use Rattle.model.proofs.StepLaws.{step_is_exact}
 use Rattle.design.specs.declared.code.ProcState.{ProcState}
 use Rattle.design.specs.Compiled.{Compiled, design_of}
 use Rattle.design.specs.Standing.{IsStateOf}
-use Rattle.turn.specs.declared.log.TurnLog.{TurnLog}
+use Rattle.turn.specs.Logs.{LogView}
 use Rattle.regions.specs.Queue.{Core}
 use Rattle.regions.specs.Passing.{HasOwnStates, IsKeptState, KeepsStates}
 use Rattle.regions.specs.Logs.{IsLogFor, IsTurnGiven, IsTaken, after_step, strobed, printed, finishes}
@@ -21,12 +21,12 @@ use Rattle.regions.proofs.Applied.{turn_at, no_turn_given}
 use Rattle.regions.proofs.Clock.{time-turned, time-updated, finished-updated}
 
 -- what an entry does besides the step itself
-record Told (code : Compiled) (s : State) (entry : Entry) (log : Option TurnLog) (e : Effect) : Type 0 where
+record Told (code : Compiled) (s : State) (entry : Entry) (log : Option LogView) (e : Effect) : Type 0 where
   lines_are : e.lines ≡ printed entry log (strobed code s entry)
   finished : e.state.finished ≡ finishes entry log
   time : s.time ≤ last_time → e.state.time ≤ last_time
 
-turn_told : (code : Compiled) (s : State) (number : ℕ) (log : Option TurnLog) (e : Effect) → refusal s (entries.Turn number) ≡ None
+turn_told : (code : Compiled) (s : State) (number : ℕ) (log : Option LogView) (e : Effect) → refusal s (entries.Turn number) ≡ None
     → effect (design_of code) s (entries.Turn number) ≡ Some e → IsTurnGiven code s (entries.Turn number) log → Told code s (entries.Turn number) log e
 turn_told code s number None e allowed is given = absurd (no_turn_given code s (entries.Turn number) number None refl refl allowed given)
 turn_told code s number (Some log) e allowed is given =
@@ -41,7 +41,7 @@ turn_told code s number (Some log) e allowed is given =
       time = λ now. rw time now;
     }
 
-silent_told : (code : Compiled) (s t : State) (entry : Entry) (log : Option TurnLog) (e : Effect) → e ≡ silent t → printed entry log (strobed code s entry) ≡ []
+silent_told : (code : Compiled) (s t : State) (entry : Entry) (log : Option LogView) (e : Effect) → e ≡ silent t → printed entry log (strobed code s entry) ≡ []
     → finishes entry log ≡ false → t.finished ≡ false → (s.time ≤ last_time → t.time ≤ last_time) → Told code s entry log e
 silent_told code s t entry log e is none goes unfinished time = record {
   lines_are = ap (λ x. x.lines) is ∙ sym none;
@@ -49,7 +49,7 @@ silent_told code s t entry log e is none goes unfinished time = record {
   time = λ now. let same : e.state.time ≡ t.time = ap (λ x. x.state.time) is in rw same (time now);
 }
 
-other_told : (code : Compiled) (s : State) (entry : Entry) (log : Option TurnLog) (e : Effect) → IsTurnGiven code s entry log → refusal s entry ≡ None
+other_told : (code : Compiled) (s : State) (entry : Entry) (log : Option LogView) (e : Effect) → IsTurnGiven code s entry log → refusal s entry ≡ None
     → effect (design_of code) s entry ≡ Some e → s.finished ≡ false → IsPermitted (design_of code) s entry e → Told code s entry log e
 other_told code s (entries.Turn event) log e given allowed is unfinished permitted = turn_told code s event log e allowed is given
 other_told code s (entries.Update event) log e given allowed is unfinished (r, v, action, first, same) =
@@ -73,7 +73,7 @@ some_effect None s h = cc
 some_effect (Some e) s h = let same : e.state ≡ s = cc in (e, refl, same)
 
 -- an entry that leads to a state
-pub record Comes (code : Compiled) (s : State) (entry : Entry) (log : Option TurnLog) (t : State) : Type 0 where
+pub record Comes (code : Compiled) (s : State) (entry : Entry) (log : Option LogView) (t : State) : Type 0 where
   pub effect : Effect
   pub is_step : step (design_of code) s entry ≡ Some effect
   pub state_is : effect.state ≡ t
@@ -81,7 +81,7 @@ pub record Comes (code : Compiled) (s : State) (entry : Entry) (log : Option Tur
   pub finished : t.finished ≡ finishes entry log
   pub time : s.time ≤ last_time → t.time ≤ last_time
 
-pub comes : (code : Compiled) (s : State) (entry : Entry) (log : Option TurnLog) (t : State) → IsTurnGiven code s entry log
+pub comes : (code : Compiled) (s : State) (entry : Entry) (log : Option LogView) (t : State) → IsTurnGiven code s entry log
     → after_step (design_of code) s entry ≡ Some t → Comes code s entry log t
 comes code s entry log t given after =
     let found = some_effect (step (design_of code) s entry) t after in
@@ -98,7 +98,7 @@ comes code s entry log t given after =
     }
 
 -- its lines stand behind others
-pub taken : (code : Compiled) (s : State) (before : List ℕ) (entry : Entry) (log : Option TurnLog) (t : State) (behind : List ℕ) → Comes code s entry log t
+pub taken : (code : Compiled) (s : State) (before : List ℕ) (entry : Entry) (log : Option LogView) (t : State) (behind : List ℕ) → Comes code s entry log t
     → behind ≡ before ++ printed entry log (strobed code s entry) → IsTaken code s before entry t behind
 taken code s before entry log t behind h lines = record {
   effect = h.effect;
@@ -107,20 +107,20 @@ taken code s before entry log t behind h lines = record {
   lines_are = lines ∙ ap (λ ls. before ++ ls) (sym h.lines_are);
 }
 
-given_own : (code : Compiled) (s : State) (entry : Entry) (log : Option TurnLog) (number p : ℕ) (l : TurnLog) → IsTurnGiven code s entry log
+given_own : (code : Compiled) (s : State) (entry : Entry) (log : Option LogView) (number p : ℕ) (l : LogView) → IsTurnGiven code s entry log
     → entry ≡ entries.Turn number → s.finished ≡ false → action_in s.active number ≡ Some (Evaluate p) → log ≡ Some l → IsStateOf code p l.next
 given_own code s entry log number p l given is running action some =
     let h : IsSomeAnd (Some l) (IsLogFor code s p) = subst (λ o. IsSomeAnd o (IsLogFor code s p)) some (given number p is running action) in
     h.own
 
-own_by : (code : Compiled) (old : Core) (s : State) (entry : Entry) (log : Option TurnLog) (p : ℕ) (before behind : ProcState) → IsTurnGiven code s entry log
+own_by : (code : Compiled) (old : Core) (s : State) (entry : Entry) (log : Option LogView) (p : ℕ) (before behind : ProcState) → IsTurnGiven code s entry log
     → s.active ≡ old.active → s.finished ≡ false → IsKeptState old entry log p before behind → IsStateOf code p before → IsStateOf code p behind
 own_by code old s entry log p before behind given active running (inl same) own = subst (λ x. IsStateOf code p x) (sym same) own
 own_by code old s entry log p before behind given active running (inr (number, (l, (is, action, some, next)))) own =
     subst (λ x. IsStateOf code p x) (sym next) (given_own code s entry log number p l given is running (ap (λ es. action_in es number) active ∙ action) some)
 
 -- each process goes on from a state of its own, where it did before and its log is given
-pub own_kept : (code : Compiled) (old new : Core) (s : State) (entry : Entry) (log : Option TurnLog) → IsTurnGiven code s entry log → s.active ≡ old.active
+pub own_kept : (code : Compiled) (old new : Core) (s : State) (entry : Entry) (log : Option LogView) → IsTurnGiven code s entry log → s.active ≡ old.active
     → s.finished ≡ false → KeepsStates old new entry log → HasOwnStates (IsStateOf code) old → HasOwnStates (IsStateOf code) new
 own_kept code old new s entry log given active running kept own = λ p d lt.
     let count : length new.processes ≡ length old.processes = kept.count in

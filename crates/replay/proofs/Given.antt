@@ -14,8 +14,7 @@ use Rattle.model.proofs.RunLaws.{where_none}
 use Rattle.design.specs.declared.code.ProcState.{ProcState}
 use Rattle.design.specs.Compiled.{Compiled, design_of}
 use Rattle.design.specs.Standing.{remainder_of, controls_of, IsStateOf}
-use Rattle.turn.specs.declared.log.TurnLog.{TurnLog}
-use Rattle.turn.specs.Logs.{IsLogOf}
+use Rattle.turn.specs.Logs.{LogView, IsLogOf}
 use Rattle.regions.specs.Queue.{Core, state_of}
 use Rattle.regions.specs.Reader.{IsTurnOn}
 use Rattle.regions.specs.Evaluations.{IsEvaluation}
@@ -33,7 +32,7 @@ some_turn None P h = absurd h
 some_turn (Some turn) P h = (turn, refl, h)
 
 -- the log is the turn that an active evaluation has
-is_log_for : (code : Compiled) (core : Core) (values : List Vector) (event p : ℕ) (st : ProcState) (log : TurnLog) → IsStateOf code p st
+is_log_for : (code : Compiled) (core : Core) (values : List Vector) (event p : ℕ) (st : ProcState) (log : LogView) → IsStateOf code p st
     → length values ≡ length code.widths → IsEvaluation core event (p, st) → IsTurnOn code st values core.time log
     → IsLogFor code (state_of (remainder_of code) values core) p log
 is_log_for code core values event p st log own count e h =
@@ -62,7 +61,7 @@ process_is core event p st number q e is_entry action =
     same_process p q (sym e.0 ∙ action')
 
 -- the turn of an active evaluation
-pub given_turn : (code : Compiled) (core : Core) (values : List Vector) (event p : ℕ) (st : ProcState) (log : TurnLog) → HasOwnStates (IsStateOf code) core
+pub given_turn : (code : Compiled) (core : Core) (values : List Vector) (event p : ℕ) (st : ProcState) (log : LogView) → HasOwnStates (IsStateOf code) core
     → map length values ≡ code.widths → IsEvaluation core event (p, st) → IsTurnOn code st values core.time log
     → IsTurnGiven code (state_of (remainder_of code) values core) (entries.Turn event) (Some log)
 given_turn code core values event p st log own widths e h = λ number q is_entry running action.

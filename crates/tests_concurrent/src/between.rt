@@ -1,17 +1,16 @@
 // A turn whose reads are of two moments.
-ghost use Rattle.std.specs.Prelude.{◌≡◌, ◌<◌};
+ghost use Rattle.std.specs.Prelude.{◌≡◌, ◌<◌, MatchResult};
 ghost use Rattle.turn.specs.declared.log.TurnFault.TheVariants.{TooLong};
-ghost use Rattle.turn.specs.Answers.{IsNoTurn};
+ghost use Rattle.turn.specs.Answers.{IsTurnLog, IsNoTurn};
 ghost use Rattle.turn.specs.Reads.{GaveAll};
 ghost use Rattle.gateparts.specs.Histories.{IsRead};
 
 use crate::course::Course;
 use commitgate::{Naming, Seat, SeatReader, Ticket};
 use design::RegId;
-use indexmap::IndexMap;
 use std::process::Abort;
 use std::sync::Wait;
-use turn::{RegReader, Seen, TurnFault, run_turn};
+use turn::{RegReader, Seen, TurnFault, TurnLog, run_turn};
 
 // The other seat's turn, if it still waits.
 fn overtake<K: Naming, R: Wait + Abort>(
@@ -26,33 +25,69 @@ fn overtake<K: Naming, R: Wait + Abort>(
 
 /// A seat's reader that, after its first read, lets another seat commit a turn.
 #[derive(Drop)]
-struct Between<'c, 'g, 'd, K: Naming, R: Wait + Abort> {
+struct Between<'s, 'w, 'o, 'c, 'g, 'd, K: Naming, R: Wait + Abort> {
     course: &'c Course<'g, 'd, K, R>,
-    reader: SeatReader<'g, K, R>,
-    waits: Option<(Seat<K>, Ticket<K>)>,
-    other: Option<Seat<K>>,
+    reader: SeatReader<'s, K, R>,
+    waits: &'w mut Option<(Seat<K>, Ticket<K>)>,
+    other: &'o mut Option<Seat<K>>,
 }
 
-impl<'c, 'g, 'd, K: Naming, R: Wait + Abort> RegReader for Between<'c, 'g, 'd, K, R> {
-    ghost use Rattle.std.specs.Prelude.{length};
+impl<'s, 'w, 'o, 'c, 'g, 'd, K: Naming, R: Wait + Abort> RegReader
+    for Between<'s, 'w, 'o, 'c, 'g, 'd, K, R> {
+    ghost use Rattle.std.specs.Prelude.{ℕ, length};
     ghost use Rattle.gateparts.specs.Histories.{IsRead};
 
     ghost registers = { length K.named.code.widths };
 
-    ghost gave = { λ s r seen. IsRead K.named.code s.reader.fresh r seen };
+    ghost gave = { λ s r seen. IsRead K.named.code s.reader.1.fresh r seen };
 
-    ghost Lasting = { Unit {0} };
+    ghost Lasting = { ℕ };
 
-    ghost lasting = { λ r. tt };
+    ghost lasting = { λ r. r.reader.0 };
 
     fn read(&mut self, register: RegId) -> Seen {
         let seen = self.reader.read(register);
-        overtake(self.course, &mut self.waits, &mut self.other);
+        overtake(self.course, self.waits, self.other);
         seen
     }
 }
 
-/// What a turn read that is too long, since another seat committed its turn after the first read. Any other outcome ends
+// Fills a log with the turn of a ticket. After its first read the other seat commits the turn that waits.
+fn fill<K: Naming, R: Wait + Abort>(
+    course: &Course<'_, '_, K, R>,
+    log: &mut TurnLog,
+    seat: &mut Seat<K>,
+    ticket: &Ticket<K>,
+    waits: &mut Option<(Seat<K>, Ticket<K>)>,
+    other: &mut Option<Seat<K>>,
+) -> Result<(), TurnFault>
+    ensures turn { MatchResult result (λ _. IsTurnLog K.named.code ticket.now.state ticket.now.time log.new) (IsNoTurn K.named.code ticket.now.state ticket.now.time log.new.reads) }
+    ensures gave { MatchResult result (λ _. GaveAll (IsRead K.named.code seat.new.fresh) log.new.reads) (λ fault. fault ≡ TooLong → GaveAll (IsRead K.named.code seat.new.fresh) log.new.reads) }
+{
+    let mut reader = Between {
+        course,
+        reader: course.gate.reader(course.rt, seat),
+        waits,
+        other,
+    };
+    let turn = run_turn(
+        log,
+        course.design,
+        ticket.state(),
+        ticket.time(),
+        &mut reader,
+    );
+    let Between {
+        course: _,
+        reader,
+        waits: _,
+        other: _,
+    } = reader;
+    reader.into_seat();
+    turn
+}
+
+/// The log of a turn that is too long, since another seat committed its turn after the first read. Any other outcome ends
 /// the test.
 pub fn mixed<K: Naming, R: Wait + Abort>(
     course: &Course<'_, '_, K, R>,
@@ -60,30 +95,20 @@ pub fn mixed<K: Naming, R: Wait + Abort>(
     early: Ticket<K>,
     two: Seat<K>,
     late: &Ticket<K>,
-) -> (Seat<K>, Seat<K>, IndexMap<RegId, Seen>)
-    ensures turn { IsNoTurn K.named.code late.now.state late.now.time (TooLong result.2) }
-    ensures gave { GaveAll (IsRead K.named.code result.1.fresh) result.2.entries }
+) -> (Seat<K>, Seat<K>, TurnLog)
+    ensures turn { IsNoTurn K.named.code late.now.state late.now.time result.2.reads TooLong }
+    ensures gave { GaveAll (IsRead K.named.code result.1.fresh) result.2.reads }
 {
-    let mut reader = Between {
-        course,
-        reader: course.gate.reader(course.rt, two),
-        waits: Some((one, early)),
-        other: None,
-    };
-    let state = late.state();
-    let now = late.time();
-    let Err(fault) = run_turn(course.alloc, course.design, &state, now, &mut reader) else {
+    let mut two = two;
+    let mut log = TurnLog::new(course.alloc);
+    let mut waits = Some((one, early));
+    let mut other = None;
+    let Err(fault) = fill(course, &mut log, &mut two, late, &mut waits, &mut other) else {
         panic!(course.rt; "a short turn")
     };
-    let TurnFault::TooLong(reads) = fault else {
+    let TurnFault::TooLong = fault else {
         panic!(course.rt; "memory")
     };
-    let Between {
-        course: _,
-        reader,
-        waits: _,
-        other,
-    } = reader;
     let one = other.expect(course.rt, "a seat");
-    (one, reader.into_seat(), reads)
+    (one, two, log)
 }

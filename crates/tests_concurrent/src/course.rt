@@ -1,5 +1,5 @@
 // The steps of a worker at an open gate.
-ghost use Rattle.std.specs.Prelude.{◌≡◌, ◌<◌, ◌∷◌, [], IfSome};
+ghost use Rattle.std.specs.Prelude.{◌≡◌, ◌<◌, ◌∷◌, [], IfSome, MatchResult};
 ghost use Rattle.turn.specs.declared.log.TurnFault.TheVariants.{TooLong};
 ghost use Rattle.turn.specs.Answers.{IsTurnLog, IsNoTurn};
 ghost use Rattle.turn.specs.Reads.{GaveAll};
@@ -8,11 +8,10 @@ ghost use Rattle.gateparts.specs.Histories.{IsRead};
 use commitgate::{Closed, Gate, Grant, Naming, Reply, Seat, Ticket};
 use design::{Design, RegId};
 use frontend::read_design;
-use indexmap::IndexMap;
 use std::alloc::Global;
 use std::process::Abort;
 use std::sync::Wait;
-use turn::{RegReader, Seen, TurnFault, TurnLog, Workspace, run_turn};
+use turn::{RegReader, Seen, TurnFault, TurnLog, run_turn};
 
 /// An open gate, and its design.
 #[derive(Drop)]
@@ -28,7 +27,7 @@ impl<'g, 'd, K: Naming, R: Wait + Abort> Course<'g, 'd, K, R> {
     /// The turn of a ticket, evaluated without the lock.
     pub fn evaluate(&self, seat: Seat<K>, ticket: &Ticket<K>) -> (Seat<K>, TurnLog)
         ensures turn { IsTurnLog K.named.code ticket.now.state ticket.now.time result.1 }
-        ensures gave { GaveAll (IsRead K.named.code result.0.fresh) result.1.reads.entries }
+        ensures gave { GaveAll (IsRead K.named.code result.0.fresh) result.1.reads }
     {
         let (seat, log) = self.try_evaluate(seat, ticket);
         (seat, log.expect(self.rt, "memory"))
@@ -37,28 +36,44 @@ impl<'g, 'd, K: Naming, R: Wait + Abort> Course<'g, 'd, K, R> {
     /// The same turn, or nothing where memory was refused.
     pub fn try_evaluate(&self, seat: Seat<K>, ticket: &Ticket<K>) -> (Seat<K>, Option<TurnLog>)
         ensures turn { IfSome result.1 (λ log. IsTurnLog K.named.code ticket.now.state ticket.now.time log) }
-        ensures gave { IfSome result.1 (λ log. GaveAll (IsRead K.named.code result.0.fresh) log.reads.entries) }
+        ensures gave { IfSome result.1 (λ log. GaveAll (IsRead K.named.code result.0.fresh) log.reads) }
     {
-        let mut reader = self.gate.reader(self.rt, seat);
-        let state = ticket.state();
-        let now = ticket.time();
-        match run_turn(self.alloc, self.design, &state, now, &mut reader) {
-            Ok(log) => (reader.into_seat(), Some(log)),
+        let mut seat = seat;
+        let mut log = TurnLog::new(self.alloc);
+        match self.fill(&mut log, &mut seat, ticket) {
+            Ok(()) => (seat, Some(log)),
             Err(fault) => {
                 assert!(self.rt; matches!(fault, TurnFault::Memory), "no short turn");
-                (reader.into_seat(), None)
+                (seat, None)
             }
         }
+    }
+
+    // The same turn, in a log.
+    fn fill(
+        &self,
+        log: &mut TurnLog,
+        seat: &mut Seat<K>,
+        ticket: &Ticket<K>,
+    ) -> Result<(), TurnFault>
+        ensures turn { MatchResult result (λ _. IsTurnLog K.named.code ticket.now.state ticket.now.time log.new) (IsNoTurn K.named.code ticket.now.state ticket.now.time log.new.reads) }
+        ensures gave { MatchResult result (λ _. GaveAll (IsRead K.named.code seat.new.fresh) log.new.reads) (λ fault. fault ≡ TooLong → GaveAll (IsRead K.named.code seat.new.fresh) log.new.reads) }
+    {
+        let mut reader = self.gate.reader(self.rt, seat);
+        let turn = run_turn(log, self.design, ticket.state(), ticket.time(), &mut reader);
+        reader.into_seat();
+        turn
     }
 
     /// Commits a turn that was evaluated without the lock.
     pub fn commit(&self, mut seat: Seat<K>, ticket: Ticket<K>, log: TurnLog) -> (Seat<K>, Reply<K>)
         requires turn { IsTurnLog K.named.code ticket.state ticket.time log }
-        requires gave { GaveAll (IsRead K.named.code seat.fresh) log.reads.entries }
+        requires gave { GaveAll (IsRead K.named.code seat.fresh) log.reads }
     {
         assert!(self.rt; ticket.tries() < 3, "refused three times");
-        let mut workspace = Workspace::new(self.alloc);
-        let reply = self.gate.commit(self.rt, self.alloc, &mut workspace, &mut seat, ticket, log);
+        let reply = self
+            .gate
+            .commit(self.rt, self.alloc, &mut seat, ticket, &log);
         (seat, reply)
     }
 
@@ -70,7 +85,7 @@ impl<'g, 'd, K: Naming, R: Wait + Abort> Course<'g, 'd, K, R> {
         log: TurnLog,
     ) -> (Seat<K>, u64, Reply<K>)
         requires turn { IsTurnLog K.named.code ticket.state ticket.time log }
-        requires gave { GaveAll (IsRead K.named.code seat.fresh) log.reads.entries }
+        requires gave { GaveAll (IsRead K.named.code seat.fresh) log.reads }
     {
         let count = self.gate.entries(self.rt, &mut seat);
         let (seat, reply) = self.commit(seat, ticket, log);
@@ -91,36 +106,31 @@ impl<'g, 'd, K: Naming, R: Wait + Abort> Course<'g, 'd, K, R> {
     }
 
     /// Gives up a turn that was evaluated without the lock and is too long.
-    pub fn give_up(
-        &self,
-        mut seat: Seat<K>,
-        ticket: Ticket<K>,
-        reads: IndexMap<RegId, Seen>,
-    ) -> (Seat<K>, Reply<K>)
-        requires turn { IsNoTurn K.named.code ticket.state ticket.time (TooLong reads) }
-        requires gave { GaveAll (IsRead K.named.code seat.fresh) reads.entries }
+    pub fn give_up(&self, mut seat: Seat<K>, ticket: Ticket<K>, log: TurnLog) -> (Seat<K>, Reply<K>)
+        requires turn { IsNoTurn K.named.code ticket.state ticket.time log.reads TooLong }
+        requires gave { GaveAll (IsRead K.named.code seat.fresh) log.reads }
     {
         assert!(self.rt; ticket.tries() < 3, "refused three times");
-        let reply = self.gate.too_long(self.rt, &mut seat, ticket, reads);
+        let reply = self.gate.too_long(self.rt, &mut seat, ticket, &log);
         (seat, reply)
     }
 
     /// Evaluates under the lock, and commits, the turn of a ticket that was refused three times.
     pub fn commit_held(&self, mut seat: Seat<K>, ticket: Ticket<K>) -> (Seat<K>, Reply<K>) {
         assert!(self.rt; ticket.tries() == 3, "not refused three times");
-        let mut workspace = Workspace::new(self.alloc);
+        let mut log = TurnLog::new(self.alloc);
         let reply = self
             .gate
-            .commit_held(self.rt, self.alloc, &mut workspace, &mut seat, ticket);
+            .commit_held(self.rt, self.alloc, &mut log, &mut seat, ticket);
         (seat, reply)
     }
 
     /// What a seat reads of a register.
     pub fn read(&self, seat: Seat<K>, register: RegId) -> (Seat<K>, Seen) {
         assert!(self.rt; register < self.design.registers(), "no such register");
-        let mut reader = self.gate.reader(self.rt, seat);
-        let seen = reader.read(register);
-        (reader.into_seat(), seen)
+        let mut seat = seat;
+        let seen = self.gate.reader(self.rt, &mut seat).read(register);
+        (seat, seen)
     }
 
     /// A seat reads this of a register.

@@ -7,7 +7,6 @@ use crate::course::{Course, accepted, design_of, first, last, position_of, stale
 use crate::pair::{Pair, play_pair};
 use commitgate::{Naming, Seat, Ticket};
 use design::RegId;
-use indexmap::IndexMap;
 use logic4::bits::Bits;
 use model::end::End;
 use model::entry::Entry;
@@ -103,7 +102,7 @@ fn seen_of(version: u64, width: u32, value: u64) -> Seen
 
 // Whether a turn read register 0 when it was all x.
 fn read_unknown(log: &TurnLog) -> bool {
-    match log.reads.get(&0) {
+    match log.reads().get(&0) {
         Some(seen) => seen.version == 0 && seen.value == Bits::unknown(1),
         None => false,
     }
@@ -199,8 +198,8 @@ fn three_times<K: Naming, R: Wait + Abort>(
 }
 
 // Whether a turn read that register 1 was given 0.
-fn read_zero(reads: &IndexMap<RegId, Seen>) -> bool {
-    reads.get(&1) == Some(&seen_of(1, 1, 0))
+fn read_zero(log: &TurnLog) -> bool {
+    log.reads().get(&1) == Some(&seen_of(1, 1, 0))
 }
 
 // A turn that never ends, since it saw one register before another turn and the other after it, is refused. Evaluated
@@ -214,9 +213,9 @@ fn two_moments<K: Naming, R: Wait + Abort>(
     let rt = course.rt;
     let late = last(rt, &mut tickets);
     let early = first(rt, &mut tickets);
-    let (one, two, reads) = mixed(course, one, early, two, &late);
-    assert!(rt; read_zero(&reads), "another value");
-    let (two, reply) = course.give_up(two, late, reads);
+    let (one, two, log) = mixed(course, one, early, two, &late);
+    assert!(rt; read_zero(&log), "another value");
+    let (two, reply) = course.give_up(two, late, log);
     let late = stale(rt, reply, 1);
     (one, take_at(course, two, late, 1, (0, seen_of(1, 1, 0))))
 }

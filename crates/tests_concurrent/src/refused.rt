@@ -102,7 +102,7 @@ impl<'c, 'h, 'g, 'd, K: Naming, R: Wait + Abort> Starved<'c, 'h, 'g, 'd, K, R> {
     // The turn of a ticket, evaluated with more and more memory.
     fn evaluate(&mut self, seat: Seat<K>, ticket: &Ticket<K>) -> (Seat<K>, TurnLog)
         ensures turn { IsTurnLog K.named.code ticket.now.state ticket.now.time result.1 }
-        ensures gave { GaveAll (IsRead K.named.code result.0.fresh) result.1.reads.entries }
+        ensures gave { GaveAll (IsRead K.named.code result.0.fresh) result.1.reads }
     {
         let mut seat = seat;
         for count in 0..ROOMS {
@@ -121,7 +121,7 @@ impl<'c, 'h, 'g, 'd, K: Naming, R: Wait + Abort> Starved<'c, 'h, 'g, 'd, K, R> {
     // The same turn, evaluated with memory enough.
     fn evaluate_again(&mut self, seat: Seat<K>, ticket: &Ticket<K>) -> (Seat<K>, TurnLog)
         ensures turn { IsTurnLog K.named.code ticket.now.state ticket.now.time result.1 }
-        ensures gave { GaveAll (IsRead K.named.code result.0.fresh) result.1.reads.entries }
+        ensures gave { GaveAll (IsRead K.named.code result.0.fresh) result.1.reads }
     {
         assert!(self.course.rt; self.hoard.open(), "a piece of memory");
         let (seat, log) = self.course.evaluate(seat, ticket);

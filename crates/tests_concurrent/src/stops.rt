@@ -241,9 +241,9 @@ fn before_long_turn<K: Naming, R: Wait + Abort>(
 ) -> (Seat<K>, Seat<K>) {
     let late = last(course.rt, &mut tickets);
     let early = first(course.rt, &mut tickets);
-    let (mut one, two, reads) = mixed(course, one, early, two, &late);
+    let (mut one, two, log) = mixed(course, one, early, two, &late);
     course.gate.stop(course.rt, &mut one);
-    let (two, reply) = course.give_up(two, late, reads);
+    let (two, reply) = course.give_up(two, late, log);
     assert_reply(course.rt, reply, Why::Memory);
     (one, two)
 }

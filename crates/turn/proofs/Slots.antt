@@ -7,7 +7,7 @@ use Rattle.std.proofs.lemmas.List.Elements.{All-head, All-tail, All-same, All-ap
 use Rattle.std.proofs.lemmas.Option.{slice_get-map, unwrap_or-slice_get}
 use Rattle.std.specs.Option.{unwrap_or, option_map}
 use Rattle.logic4.specs.Vector.{Vector}
-use Rattle.turn.specs.declared.workspace.Slot.{Slot}
+use Rattle.turn.specs.declared.table.Slot.{Slot}
 use Rattle.turn.specs.Slots.{known_in}
 use Rattle.turn.proofs.Known.{same_or_not}
 

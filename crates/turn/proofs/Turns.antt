@@ -26,7 +26,6 @@ use Rattle.design.specs.Meaning.{IsFine, IsCompiled}
 use Rattle.design.specs.Standing.{pending_part, remainder_of, controls_of, IsStateOf}
 use Rattle.turn.specs.declared.log.Suspend.{Suspend}
 use Rattle.turn.specs.declared.log.Suspend.TheVariants as suspends
-use Rattle.turn.specs.declared.log.TurnLog.{TurnLog}
 use Rattle.turn.specs.declared.machine.Step.{Step}
 use Rattle.turn.specs.declared.machine.Step.TheVariants as step
 use Rattle.turn.specs.Reads.{registers, AreDeclared, Agrees}
@@ -34,7 +33,7 @@ use Rattle.turn.specs.Evaluate.{Knows}
 use Rattle.turn.specs.Progress.{Status, fresh}
 use Rattle.turn.specs.Machine.{Takes, TakesSome, TakesPending, IsEndNode, IsAtEnd}
 use Rattle.turn.specs.Nets.{nets_of}
-use Rattle.turn.specs.Logs.{later_of, wait_of, IsLogOf}
+use Rattle.turn.specs.Logs.{LogView, later_of, wait_of, IsLogOf}
 use Rattle.turn.specs.Answers.{IsTurnLog}
 use Rattle.turn.proofs.Steps.{going_of, turn_of, Sound, takes_follows, not_past, place_within}
 
@@ -125,19 +124,19 @@ ends_counted code is p now count s s' suspend finish takes sound =
     record { sound = f.sound; agrees = f.agrees; over = λ store len agree. f.goes store count len agree }
 
 -- the log says what the status does
-pub record Logs (log : TurnLog) (s : Status) (suspend : Suspend) (finish : Bool) (n : ℕ) : Type 0 where
-  pub reads : log.reads.entries ≡ s.reads
-  pub writes : log.writes.items ≡ s.writes
-  pub nets : log.nets.items ≡ nets_of s.writes
-  pub nbas : log.nbas.items ≡ s.nbas
-  pub lines : string_bytes log.lines ≡ s.lines
-  pub strobes : log.strobes.items ≡ s.strobes
+pub record Logs (log : LogView) (s : Status) (suspend : Suspend) (finish : Bool) (n : ℕ) : Type 0 where
+  pub reads : log.reads ≡ s.reads
+  pub writes : log.writes ≡ s.writes
+  pub nets : log.nets ≡ nets_of s.writes
+  pub nbas : log.nbas ≡ s.nbas
+  pub lines : log.lines ≡ s.lines
+  pub strobes : log.strobes ≡ s.strobes
   pub next : log.next ≡ s.state
   pub waits : log.suspend ≡ suspend
   pub finishes : log.finish ≡ finish
   pub count : log.count ≡ n
 
-log_is : (code : Compiled) (log : TurnLog) (s : Status) (suspend : Suspend) (finish : Bool) (n : ℕ) → Logs log s suspend finish n → IsLogOf (remainder_of code) (controls_of code) log (turn_of code s suspend finish n)
+log_is : (code : Compiled) (log : LogView) (s : Status) (suspend : Suspend) (finish : Bool) (n : ℕ) → Logs log s suspend finish n → IsLogOf (remainder_of code) (controls_of code) log (turn_of code s suspend finish n)
 log_is code log s suspend finish n l = record {
   uses = ap registers l.reads;
   writes = l.writes;
@@ -151,7 +150,7 @@ log_is code log s suspend finish n l = record {
 }
 
 -- the log of a turn that is over
-pub is_log : (code : Compiled) (state : ProcState) (now count : ℕ) (s s' : Status) (suspend : Suspend) (finish : Bool) (n : ℕ) (log : TurnLog) → Reached code state now count s → ((p : ℕ) → Sound code p s → Ends code p now count s s' suspend finish n) → n ≤ most_steps → Logs log s' suspend finish n → IsTurnLog code state now log
+pub is_log : (code : Compiled) (state : ProcState) (now count : ℕ) (s s' : Status) (suspend : Suspend) (finish : Bool) (n : ℕ) (log : LogView) → Reached code state now count s → ((p : ℕ) → Sound code p s → Ends code p now count s s' suspend finish n) → n ≤ most_steps → Logs log s' suspend finish n → IsTurnLog code state now log
 is_log code state now count s s' suspend finish n log reached ends short l = record {
   turn = λ p start store len agree.
       let r = reached p start in

@@ -7,31 +7,25 @@ use Rattle.design.specs.declared.code.ProcState.{ProcState}
 use Rattle.design.specs.Compiled.{Compiled, design_of}
 use Rattle.design.specs.Standing.{remainder_of, controls_of, IsStateOf}
 use Rattle.turn.specs.declared.memory.Seen.{Seen}
-use Rattle.turn.specs.declared.log.TurnLog.{TurnLog}
 use Rattle.turn.specs.declared.log.TurnFault.{TurnFault}
 use Rattle.turn.specs.declared.log.TurnFault.TheVariants.{TooLong, Memory}
 use Rattle.turn.specs.Reads.{AreDeclared, Agrees}
-use Rattle.turn.specs.Logs.{IsLogOf, LogFits}
+use Rattle.turn.specs.Logs.{LogView, IsLogOf, LogFits}
 
 -- The log is the short turn of the process, on every store that agrees with the reads, which are of declared registers. What is left is a state of the
 -- process again, and each write and each nonblocking assignment is to a declared register, and of its width.
-pub record IsTurnLog (code : Compiled) (state : ProcState) (now : ℕ) (log : TurnLog) : Type 0 where
-  pub turn : (p : ℕ) → IsStateOf code p state → (store : Store) → length store ≡ length code.widths → Agrees log.reads.entries store
+pub record IsTurnLog (code : Compiled) (state : ProcState) (now : ℕ) (log : LogView) : Type 0 where
+  pub turn : (p : ℕ) → IsStateOf code p state → (store : Store) → length store ≡ length code.widths → Agrees log.reads store
       → IsSomeAnd (short_turn (design_of code) p (remainder_of code state) store now) (IsLogOf (remainder_of code) (controls_of code) log)
-  pub declared : (p : ℕ) → IsStateOf code p state → AreDeclared (length code.widths) log.reads.entries
+  pub declared : (p : ℕ) → IsStateOf code p state → AreDeclared (length code.widths) log.reads
   pub next : (p : ℕ) → IsStateOf code p state → IsStateOf code p log.next
   pub fits : (p : ℕ) → IsStateOf code p state → LogFits code.widths log
 
 -- where a turn is too long, no store that agrees with the reads so far gives the process a short turn
-abbrev pub IsNoTurn : Compiled → ProcState → ℕ → TurnFault → Type 0
-IsNoTurn code state now (TooLong reads) =
+abbrev pub IsNoTurn : Compiled → ProcState → ℕ → List (ℕ × Seen) → TurnFault → Type 0
+IsNoTurn code state now reads TooLong =
     (p : ℕ) → IsStateOf code p state
-    → AreDeclared (length code.widths) reads.entries
-    × ((store : Store) → length store ≡ length code.widths → Agrees reads.entries store
+    → AreDeclared (length code.widths) reads
+    × ((store : Store) → length store ≡ length code.widths → Agrees reads store
     → short_turn (design_of code) p (remainder_of code state) store now ≡ None)
-IsNoTurn code state now Memory = Unit {0}
-
--- the reads that a fault tells of
-abbrev pub reads_of_fault : TurnFault → List (ℕ × Seen)
-reads_of_fault (TooLong reads) = reads.entries
-reads_of_fault Memory = []
+IsNoTurn code state now reads Memory = Unit {0}

@@ -6,8 +6,8 @@
 //!    asked of a `RegReader` at its first use, and recorded.
 //! 3. A `TurnLog` says what was read, written and printed, which `$strobe` statements were met, what is left of the process,
 //!    and what that waits for. It has each write, and for each register the net of its writes, which is kept as the turn runs.
-//! 4. `run_turn_in` works in a `Workspace` that its caller keeps, so that a short turn takes no memory but its log's, and
-//!    none at all where the log of an earlier turn was given back to it.
+//! 4. A turn is filled into a log that its caller keeps, in the room that earlier turns left, so that a short turn takes no
+//!    memory once the log has grown, and no log is moved.
 //! 5. `strobe_lines` makes the lines of `$strobe` statements once their time comes, by the same steps.
 //!
 //! What the layer above uses: on every store that has the values recorded, the log is the turn of the definitions, and a
@@ -24,11 +24,10 @@ mod progress;
 mod run;
 mod statements;
 mod strobes;
-mod workspace;
+mod table;
 mod writes;
 
 pub use log::{Nba, Net, Suspend, TurnFault, TurnLog};
 pub use memory::{RegReader, Seen};
-pub use run::{run_turn, run_turn_in};
+pub use run::run_turn;
 pub use strobes::strobe_lines;
-pub use workspace::Workspace;

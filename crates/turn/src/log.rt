@@ -2,10 +2,12 @@
 ghost use Rattle.std.specs.Prelude.{◌≡◌};
 
 use crate::memory::Seen;
+use crate::progress::Progress;
 use design::{ProcState, RegId};
 use indexmap::IndexMap;
 use logic4::bits::Bits;
-use std::alloc::AllocError;
+use std::alloc::{AllocError, Global};
+use std::marker::Model;
 
 /// A nonblocking assignment that a turn made (9.2.2): its register, its value, and the time at which it is due.
 #[derive(Clone, Copy)]
@@ -38,26 +40,110 @@ pub enum Suspend {
 /// A turn that is over: the registers that it read, in the order of their first use, each with what it saw; its writes,
 /// its nonblocking assignments, its lines and the numbers of the `$strobe` statements that it met, each in order; the nets of
 /// its writes, in the order of the first write of each register; where the process goes on and what it waits for; whether it
-/// met `$finish`; and the number of its counted steps.
+/// met `$finish`; and the number of its counted steps. The next turn is filled into the same log, in the room that it has.
 #[derive(Drop)]
 pub struct TurnLog {
-    pub reads: IndexMap<RegId, Seen>,
-    pub writes: Vec<(RegId, Bits)>,
-    pub nets: Vec<Net>,
-    pub nbas: Vec<Nba>,
-    pub lines: String,
-    pub strobes: Vec<usize>,
-    pub next: ProcState,
-    pub suspend: Suspend,
-    pub finish: bool,
-    pub count: u32,
+    pub(crate) progress: Progress,
+    pub(crate) suspend: Suspend,
+    pub(crate) finish: bool,
+    pub(crate) count: u32,
 }
 
-/// Why there is no log: the turn has more counted steps than a turn may have, and these are its reads so far; or memory
-/// was refused.
-#[derive(Drop)]
+impl Model for TurnLog {
+    ghost use Rattle.turn.specs.Logs.{LogView, log_of};
+
+    ghost Value = { LogView };
+
+    ghost view = { λ t. log_of t.progress t.suspend t.finish t.count };
+}
+
+impl TurnLog {
+    /// The log of no turn, which grows with the first.
+    pub fn new(alloc: Global) -> TurnLog {
+        TurnLog {
+            progress: Progress::new(alloc),
+            suspend: Suspend::Ended,
+            finish: false,
+            count: 0,
+        }
+    }
+
+    /// The registers that were read, each with what was seen.
+    pub fn reads(&self) -> &IndexMap<RegId, Seen>
+        ensures { result.now.entries ≡ self.entry.now.reads }
+    {
+        &self.progress.memory.reads
+    }
+
+    /// The writes, in order.
+    pub fn writes(&self) -> &[(RegId, Bits)]
+        ensures { result.now ≡ self.entry.now.writes }
+    {
+        self.progress.writes.list()
+    }
+
+    /// The net of the writes of each register, in the order of its first write.
+    pub fn nets(&self) -> &[Net]
+        ensures { result.now ≡ self.entry.now.nets }
+    {
+        self.progress.writes.nets()
+    }
+
+    /// The nonblocking assignments, in order.
+    pub fn nbas(&self) -> &[Nba]
+        ensures { result.now ≡ self.entry.now.nbas }
+    {
+        self.progress.nbas.as_slice()
+    }
+
+    /// The lines.
+    pub fn lines(&self) -> &str
+        ensures { result.now ≡ self.entry.now.lines }
+    {
+        self.progress.lines.as_str()
+    }
+
+    /// The places of the `$strobe` statements that were met, in order.
+    pub fn strobes(&self) -> &[usize]
+        ensures { result.now ≡ self.entry.now.strobes }
+    {
+        self.progress.strobes.as_slice()
+    }
+
+    /// Where the process goes on.
+    pub fn next(&self) -> ProcState
+        ensures { result ≡ self.now.next }
+    {
+        self.progress.state
+    }
+
+    /// What the process waits for.
+    pub fn suspend(&self) -> Suspend
+        ensures { result ≡ self.now.suspend }
+    {
+        self.suspend
+    }
+
+    /// Whether `$finish` was met.
+    pub fn is_finish(&self) -> bool
+        ensures { result ≡ self.now.finish }
+    {
+        self.finish
+    }
+
+    /// The number of counted steps.
+    pub fn count(&self) -> u32
+        ensures { result ≡ self.now.count }
+    {
+        self.count
+    }
+}
+
+/// Why a turn isn't over: it has more counted steps than a turn may have, and its log has its reads so far; or memory was
+/// refused.
+#[derive(Clone, Copy, PartialEq, Eq, Debug)]
 pub enum TurnFault {
-    TooLong(IndexMap<RegId, Seen>),
+    TooLong,
     Memory,
 }
 

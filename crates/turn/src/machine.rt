@@ -48,6 +48,7 @@ impl Progress {
         ensures takes { IfOk result (λ r. TakesNode ops.now shown.now now node.now (status_of self.old) r (status_of self.new)) }
         ensures gave { OnOk result (GaveAll (R.gave reader.old) self.old.memory.reads.entries → GaveAll (R.gave reader.new) self.new.memory.reads.entries) }
         ensures keeps { Keeps (R.gave reader.old) (R.gave reader.new) }
+        ensures lasting { R.lasting reader.new ≡ R.lasting reader.old }
     {
         match node {
             Node::Over => return Ok(Step::Over),
@@ -133,6 +134,7 @@ impl Progress {
         ensures takes { IfOk result (λ r. Takes nodes.now ops.now shown.now now (status_of self.old) r (status_of self.new)) }
         ensures gave { OnOk result (GaveAll (R.gave reader.old) self.old.memory.reads.entries → GaveAll (R.gave reader.new) self.new.memory.reads.entries) }
         ensures keeps { Keeps (R.gave reader.old) (R.gave reader.new) }
+        ensures lasting { R.lasting reader.new ≡ R.lasting reader.old }
     {
         let place = self.state.place;
         if let Some((register, value)) = self.state.pending {

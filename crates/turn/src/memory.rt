@@ -4,11 +4,11 @@ ghost use Rattle.indexmap.specs.IndexMap.{insert_entry};
 ghost use Rattle.turn.specs.Reads.{GaveAll, Keeps};
 ghost use Rattle.turn.specs.Memory.{Looks};
 
-use crate::workspace::Known;
+use crate::table::Known;
 use design::RegId;
 use indexmap::IndexMap;
 use logic4::bits::Bits;
-use std::alloc::AllocError;
+use std::alloc::{AllocError, Global};
 
 /// What a read of a register saw: the version that it had, and its value.
 #[derive(Clone, Copy, PartialEq, Eq, Debug)]
@@ -50,19 +50,21 @@ pub(crate) struct Memory {
 }
 
 impl Memory {
-    /// Nothing is known of this many registers, whatever the table held.
-    pub fn new(
-        known: Known,
-        reads: IndexMap<RegId, Seen>,
-        registers: u32,
-    ) -> Result<Self, AllocError>
-        requires { reads.entries ≡ [] }
-        ensures known { IfOk result (λ m. m.known ≡ replicate registers None) }
-        ensures reads { IfOk result (λ m. m.reads.entries ≡ []) }
+    /// Nothing is known, of no registers.
+    pub fn new(alloc: Global) -> Self {
+        Memory {
+            known: Known::new(alloc),
+            reads: IndexMap::new(alloc),
+        }
+    }
+
+    /// Nothing is known of this many registers, whatever was known before.
+    pub fn begin(&mut self, registers: u32) -> Result<(), AllocError>
+        ensures known { OnOk result (self.new.known ≡ replicate registers None) }
+        ensures reads { OnOk result (self.new.reads.entries ≡ []) }
     {
-        let mut known = known;
-        known.begin(registers)?;
-        Ok(Memory { known, reads })
+        self.reads.clear();
+        self.known.begin(registers)
     }
 
     /// Knows this value of a register.

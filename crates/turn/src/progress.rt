@@ -1,14 +1,13 @@
 //! A turn under way.
-ghost use Rattle.std.specs.Prelude.{◌≡◌, ◌++◌, [], string_bytes, OnOk, IfOk};
+ghost use Rattle.std.specs.Prelude.{◌≡◌, OnOk, IfOk};
 ghost use Rattle.design.specs.Steps.{piece};
 ghost use Rattle.turn.specs.Reads.{GaveAll, Keeps};
 ghost use Rattle.turn.specs.Evaluate.{NamesDeclared};
 ghost use Rattle.turn.specs.Progress.{status_of, fresh, at, writing, holding, delaying, printing, Valued};
 
 use crate::evaluate::evaluate;
-use crate::log::{Nba, Suspend, TurnLog};
+use crate::log::Nba;
 use crate::memory::{Memory, RegReader};
-use crate::workspace::Room;
 use crate::writes::Writes;
 use design::code::{Op, Span};
 use design::{ProcState, RegId};
@@ -40,42 +39,35 @@ pub(crate) fn part<T>(list: &[T], span: Span) -> &[T]
 }
 
 impl Progress {
-    /// A turn that begins, over this many registers, in this room.
-    pub fn new(
-        alloc: Global,
-        room: Room,
-        state: ProcState,
-        registers: u32,
-    ) -> Result<Self, AllocError>
-        requires reads { room.reads.entries ≡ [] }
-        requires writes { room.writes.items ≡ [] }
-        requires nets { room.nets.items ≡ [] }
-        requires nbas { room.nbas.items ≡ [] }
-        requires lines { string_bytes room.lines ≡ [] }
-        requires strobes { room.strobes.items ≡ [] }
-        ensures { IfOk result (λ p. status_of p ≡ fresh state registers) }
-    {
-        let Room {
-            known,
-            stack,
-            reads,
-            writes,
-            nets,
-            places,
-            nbas,
-            lines,
-            strobes,
-        } = room;
-        Ok(Progress {
+    /// Room that grows with the first turn.
+    pub fn new(alloc: Global) -> Self {
+        Progress {
             alloc,
-            state,
-            memory: Memory::new(known, reads, registers)?,
-            writes: Writes::new(writes, nets, places),
-            nbas,
-            lines,
-            strobes,
-            stack,
-        })
+            state: ProcState {
+                place: 0,
+                pending: None,
+            },
+            memory: Memory::new(alloc),
+            writes: Writes::new(alloc),
+            nbas: Vec::new(alloc),
+            lines: String::new(alloc),
+            strobes: Vec::new(alloc),
+            stack: Vec::new(alloc),
+        }
+    }
+
+    /// A turn begins, over this many registers. What the room held counts for nothing.
+    pub fn begin(&mut self, state: ProcState, registers: u32) -> Result<(), AllocError>
+        ensures { OnOk result (status_of self.new ≡ fresh state registers) }
+    {
+        self.state = state;
+        self.memory.begin(registers)?;
+        self.writes.clear();
+        self.nbas.clear();
+        self.lines.clear();
+        self.strobes.clear();
+        self.stack.clear();
+        Ok(())
     }
 
     /// The process goes on at this place.

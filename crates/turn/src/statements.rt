@@ -38,6 +38,7 @@ impl Progress {
         ensures takes { OnOk result (Assigns ops.now value register next (status_of self.old) (status_of self.new)) }
         ensures gave { OnOk result (GaveAll (R.gave reader.old) self.old.memory.reads.entries → GaveAll (R.gave reader.new) self.new.memory.reads.entries) }
         ensures keeps { Keeps (R.gave reader.old) (R.gave reader.new) }
+        ensures lasting { R.lasting reader.new ≡ R.lasting reader.old }
     {
         let value = self.value(ops, value, reader)?;
         self.write(register, value, next)?;
@@ -57,6 +58,7 @@ impl Progress {
         ensures takes { OnOk result (AssignsAfter ops.now value register next (status_of self.old) (status_of self.new)) }
         ensures gave { OnOk result (GaveAll (R.gave reader.old) self.old.memory.reads.entries → GaveAll (R.gave reader.new) self.new.memory.reads.entries) }
         ensures keeps { Keeps (R.gave reader.old) (R.gave reader.new) }
+        ensures lasting { R.lasting reader.new ≡ R.lasting reader.old }
     {
         let value = self.value(ops, value, reader)?;
         self.hold(register, value, next);
@@ -77,6 +79,7 @@ impl Progress {
         ensures takes { OnOk result (AssignsLater ops.now value register due next (status_of self.old) (status_of self.new)) }
         ensures gave { OnOk result (GaveAll (R.gave reader.old) self.old.memory.reads.entries → GaveAll (R.gave reader.new) self.new.memory.reads.entries) }
         ensures keeps { Keeps (R.gave reader.old) (R.gave reader.new) }
+        ensures lasting { R.lasting reader.new ≡ R.lasting reader.old }
     {
         let value = self.value(ops, value, reader)?;
         let nba = Nba {
@@ -101,6 +104,7 @@ impl Progress {
         ensures takes { OnOk result (Branches ops.now condition taken missed (status_of self.old) (status_of self.new)) }
         ensures gave { OnOk result (GaveAll (R.gave reader.old) self.old.memory.reads.entries → GaveAll (R.gave reader.new) self.new.memory.reads.entries) }
         ensures keeps { Keeps (R.gave reader.old) (R.gave reader.new) }
+        ensures lasting { R.lasting reader.new ≡ R.lasting reader.old }
     {
         let value = self.value(ops, condition, reader)?;
         self.go(choose_place(value.truth(), taken, missed));
@@ -120,6 +124,7 @@ impl Progress {
         ensures takes { OnOk result (Displays ops.now shown.now pieces next (status_of self.old) (status_of self.new)) }
         ensures gave { OnOk result (GaveAll (R.gave reader.old) self.old.memory.reads.entries → GaveAll (R.gave reader.new) self.new.memory.reads.entries) }
         ensures keeps { Keeps (R.gave reader.old) (R.gave reader.new) }
+        ensures lasting { R.lasting reader.new ≡ R.lasting reader.old }
     {
         self.print_pieces(ops, part(shown, pieces), reader)?;
         self.lines.push('\n')?;

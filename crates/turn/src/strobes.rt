@@ -5,13 +5,14 @@ ghost use Rattle.turn.specs.Evaluate.{NamesDeclared};
 ghost use Rattle.turn.specs.Progress.{status_of};
 ghost use Rattle.turn.specs.Strobes.{PrintsStrobe, AreStrobeLines};
 
-use crate::memory::{Memory, RegReader};
+use crate::log::TurnLog;
+use crate::memory::RegReader;
 use crate::progress::{Progress, part};
-use crate::workspace::{Room, Workspace};
 use design::code::{Node, Op, Shown};
 use design::{Design, ProcState};
 use model::tree::Task;
 use std::alloc::{AllocError, Global};
+use std::mem;
 
 impl Progress {
     // Prints the line of the statement at a place, where it is a `$strobe`.
@@ -43,41 +44,37 @@ impl Progress {
     }
 }
 
-// The lines of what was printed. The rest of its room goes back.
-fn lines_of(alloc: Global, workspace: &mut Workspace, progress: Progress) -> String
-    ensures { string_bytes result ≡ string_bytes progress.lines }
+// Prints the lines of the statements at these places.
+fn print_lines<R: RegReader>(
+    progress: &mut Progress,
+    design: &Design,
+    places: &[usize],
+    reader: &mut R,
+) -> Result<(), AllocError>
+    requires registers { length design.now.widths ≤ R.registers }
+    ensures lines { OnOk result (AreStrobeLines design.now places.now (R.gave reader.new) (string_bytes progress.new.lines)) }
+    ensures lasting { R.lasting reader.new ≡ R.lasting reader.old }
 {
-    let Progress {
-        memory,
-        writes,
-        nbas,
-        lines,
-        strobes,
-        stack,
-        ..
-    } = progress;
-    let Memory { known, reads } = memory;
-    let (writes, nets, places) = writes.into_parts();
-    workspace.put_back_all(Room {
-        known,
-        stack,
-        reads,
-        writes,
-        nets,
-        places,
-        nbas,
-        lines: String::new(alloc),
-        strobes,
-    });
-    lines
+    let nodes = design.nodes();
+    let ops = design.ops();
+    let shown = design.shown();
+    let start = ProcState {
+        place: 0,
+        pending: None,
+    };
+    progress.begin(start, design.registers())?;
+    for place in places {
+        progress.strobe_line(nodes, ops, shown, *place, reader)?;
+    }
+    Ok(())
 }
 
 /// The lines of the `$strobe` statements at these places, one after another (17.1.2): nothing where none stands. Their
 /// arguments have the values that the reader gives, each register's that of its first use. Fails where memory is refused.
-/// It works in the room that its caller keeps.
+/// It works in a log that its caller keeps, which is then that of no turn.
 pub fn strobe_lines<R: RegReader>(
     alloc: Global,
-    workspace: &mut Workspace,
+    log: &mut TurnLog,
     design: &Design,
     places: &[usize],
     reader: &mut R,
@@ -86,17 +83,6 @@ pub fn strobe_lines<R: RegReader>(
     ensures lines { IfOk result (λ text. AreStrobeLines design.now places.now (R.gave reader.new) (string_bytes text)) }
     ensures lasting { R.lasting reader.new ≡ R.lasting reader.old }
 {
-    let nodes = design.nodes();
-    let ops = design.ops();
-    let shown = design.shown();
-    let room = workspace.take(alloc);
-    let start = ProcState {
-        place: 0,
-        pending: None,
-    };
-    let mut progress = Progress::new(alloc, room, start, design.registers())?;
-    for place in places {
-        progress.strobe_line(nodes, ops, shown, *place, reader)?;
-    }
-    Ok(lines_of(alloc, workspace, progress))
+    print_lines(&mut log.progress, design, places, reader)?;
+    Ok(mem::replace(&mut log.progress.lines, String::new(alloc)))
 }

@@ -6,7 +6,7 @@ ghost use Rattle.turn.specs.Nets.{first_net, with_write, noted, nets_of, is_net_
 use crate::log::Net;
 use design::RegId;
 use logic4::bits::Bits;
-use std::alloc::AllocError;
+use std::alloc::{AllocError, Global};
 use std::marker::Model;
 
 /// The writes, in the order of the text, the net of each register that they write, and for each register the place of its
@@ -118,13 +118,23 @@ fn note(
 }
 
 impl Writes {
-    /// No writes, in this room.
-    pub fn new(list: Vec<(RegId, Bits)>, nets: Vec<Net>, places: Vec<usize>) -> Writes
-        requires list { list.items ≡ [] }
-        requires nets { nets.items ≡ [] }
+    /// No writes.
+    pub fn new(alloc: Global) -> Writes
         ensures { result ≡ [] }
     {
-        Writes { list, nets, places }
+        Writes {
+            list: Vec::new(alloc),
+            nets: Vec::new(alloc),
+            places: Vec::new(alloc),
+        }
+    }
+
+    /// Drops all writes, and keeps the room.
+    pub fn clear(&mut self)
+        ensures { self.new ≡ [] }
+    {
+        self.list.clear();
+        self.nets.clear();
     }
 
     /// One more write.
@@ -137,11 +147,17 @@ impl Writes {
         Ok(())
     }
 
-    /// The writes, their nets, and the room of the table.
-    pub fn into_parts(self) -> (Vec<(RegId, Bits)>, Vec<Net>, Vec<usize>)
-        ensures writes { result.0.items ≡ self }
-        ensures nets { result.1.items ≡ nets_of self }
+    /// The writes, in order.
+    pub fn list(&self) -> &[(RegId, Bits)]
+        ensures { result.now ≡ self.entry.now }
     {
-        (self.list, self.nets, self.places)
+        self.list.as_slice()
+    }
+
+    /// The net of the writes of each register.
+    pub fn nets(&self) -> &[Net]
+        ensures { result.now ≡ nets_of self.entry.now }
+    {
+        self.nets.as_slice()
     }
 }

@@ -5,11 +5,12 @@ use Rattle.std.specs.List.{AllByRecursion}
 use mathlib.Core.List.{IsPrefix}
 use Rattle.model.specs.declared.entry.Entry.{Entry}
 use Rattle.model.specs.declared.end.Why.{Why}
+use Rattle.logic4.specs.Vector.{Vector}
 use Rattle.design.specs.Compiled.{Compiled}
-use Rattle.turn.specs.declared.log.TurnLog.{TurnLog}
+use Rattle.turn.specs.Logs.{LogView}
 use Rattle.turn.specs.declared.log.TurnFault.{TurnFault}
 use Rattle.turn.specs.Reads.{GaveAll}
-use Rattle.turn.specs.Answers.{reads_of_fault}
+use Rattle.turn.specs.declared.log.TurnFault.TheVariants as fault
 use Rattle.gateparts.specs.Histories.{IsRead}
 use Rattle.commitgate.specs.Named.{Named}
 use Rattle.gateparts.specs.Log.{Log, entries_of, entry_in, items_of}
@@ -138,11 +139,11 @@ told n old new s =
     s
 
 -- what the reader gave, the seat gave
-pub given_by : (code : Compiled) (s t : SeatView) (r : Result TurnLog TurnFault) → t ≡ s
-    → MatchResult r (λ log. GaveAll (IsRead code s.fresh) log.reads.entries) (λ fault. GaveAll (IsRead code s.fresh) (reads_of_fault fault))
-    → MatchResult r (λ log. GaveAll (IsRead code t.fresh) log.reads.entries) (λ fault. GaveAll (IsRead code t.fresh) (reads_of_fault fault))
-given_by code s t r e m =
-    subst (λ (x : SeatView). MatchResult r (λ log. GaveAll (IsRead code x.fresh) log.reads.entries) (λ fault. GaveAll (IsRead code x.fresh) (reads_of_fault fault))) (sym e) m
+pub given_by : (code : Compiled) (s t : List (List Vector)) (log : LogView) (r : Result (Unit {0}) TurnFault) → t ≡ s
+    → MatchResult r (λ _. GaveAll (IsRead code s) log.reads) (λ f. f ≡ fault.TooLong → GaveAll (IsRead code s) log.reads)
+    → MatchResult r (λ _. GaveAll (IsRead code t) log.reads) (λ f. f ≡ fault.TooLong → GaveAll (IsRead code t) log.reads)
+given_by code s t log r e m =
+    subst (λ fresh. MatchResult r (λ _. GaveAll (IsRead code fresh) log.reads) (λ f. f ≡ fault.TooLong → GaveAll (IsRead code fresh) log.reads)) (sym e) m
 
 pub goes_first : (b : ℕ) (x y z : SeatView) → Goes 0 x y → Goes b y z → Goes b x z
 goes_first b x y z f g = record {

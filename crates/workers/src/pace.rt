@@ -5,7 +5,6 @@
 use std::sync::atomic::{AtomicBool, AtomicU64, Ordering};
 use std::sync::{Condvar, Wait};
 use std::time::Duration;
-use turn::{TurnFault, TurnLog};
 
 // Turns of fewer counted steps than this, in the mean, are short.
 const SHORT: u64 = 100;
@@ -67,11 +66,9 @@ impl Pace {
         }
     }
 
-    /// Takes a turn into the mean.
-    pub(crate) fn note(&mut self, turn: &Result<TurnLog, TurnFault>) {
-        if let Ok(log) = turn {
-            self.steps = (self.steps - self.steps / WEIGHT).saturating_add(u64::from(log.count));
-        }
+    /// Takes a turn of this many counted steps into the mean.
+    pub(crate) fn note(&mut self, count: u32) {
+        self.steps = (self.steps - self.steps / WEIGHT).saturating_add(u64::from(count));
     }
 
     /// Whether the worker's turns are short.

@@ -18,9 +18,10 @@ pub(crate) struct ProbedReader<'g, K: Naming, S: Seating, P: Probe, R: Wait> {
 }
 
 impl<'g, K: Naming, S: Seating, P: Probe, R: Wait> Model for ProbedReader<'g, K, S, P, R> {
+    ghost use Rattle.std.specs.Prelude.{ℕ};
     ghost use Rattle.commitgate.specs.Seats.{SeatView};
 
-    ghost Value = { SeatView };
+    ghost Value = { ℕ × SeatView };
 
     ghost view = { λ r. r.reader };
 }
@@ -42,9 +43,10 @@ impl<'g, K: Naming, S: Seating, P: Probe, R: Wait> ProbedReader<'g, K, S, P, R> 
     }
 
     /// Gives the seat back.
-    pub(crate) fn into_seat(self) -> Seat<K>
-        ensures seat { result ≡ self.entry }
-        ensures reads_on { ReadsOn S.seat result }
+    pub(crate) fn into_seat(self) -> &'g mut Seat<K>
+        ensures name { result.ghost_name ≡ self.entry.0 }
+        ensures now { result.now ≡ self.entry.1 }
+        ensures reads_on { ReadsOn S.seat self.entry.1 }
     {
         let ProbedReader {
             reader,
@@ -56,16 +58,16 @@ impl<'g, K: Naming, S: Seating, P: Probe, R: Wait> ProbedReader<'g, K, S, P, R> 
 }
 
 impl<'g, K: Naming, S: Seating, P: Probe, R: Wait> RegReader for ProbedReader<'g, K, S, P, R> {
-    ghost use Rattle.std.specs.Prelude.{length};
+    ghost use Rattle.std.specs.Prelude.{ℕ, length};
     ghost use Rattle.gateparts.specs.Histories.{IsRead};
 
     ghost registers = { length K.named.code.widths };
 
-    ghost gave = { λ s r seen. IsRead K.named.code s.fresh r seen };
+    ghost gave = { λ s r seen. IsRead K.named.code s.1.fresh r seen };
 
-    ghost Lasting = { Unit {0} };
+    ghost Lasting = { ℕ };
 
-    ghost lasting = { λ r. tt };
+    ghost lasting = { λ r. r.0 };
 
     fn read(&mut self, register: RegId) -> Seen {
         self.probe.read(self.worker, register);

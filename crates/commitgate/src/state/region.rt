@@ -122,7 +122,7 @@ impl<'d, K: Naming> GateState<'d, K> {
             self.known();
             return Rest::Stopped(why);
         }
-        match self.append(rt, cells, mark, alloc, seat, change, &None) {
+        match self.append(rt, cells, mark, alloc, seat, change, None) {
             Ok(grant) => {
                 self.known();
                 Rest::Changed(grant)

@@ -14,38 +14,38 @@ use gateparts::MarkCell;
 use regcells::RegCells;
 use std::alloc::Global;
 use std::sync::Wait;
-use turn::{TurnFault, TurnLog, Workspace};
+use turn::{TurnFault, TurnLog};
 
 // Whether memory was refused, and the turn isn't too long.
 fn is_memory(fault: &TurnFault) -> bool
     ensures { result ≡ is_refused fault.now }
 {
     match fault {
-        TurnFault::TooLong(_) => false,
+        TurnFault::TooLong => false,
         TurnFault::Memory => true,
     }
 }
 
 impl<'d, K: Naming> GateState<'d, K> {
-    /// The turn of a ticket's active evaluation, on the values under the lock.
+    /// Fills a log with the turn of a ticket's active evaluation, on the values under the lock.
     fn evaluate<R: Wait>(
         &mut self,
         rt: &R,
         cells: &RegCells,
         alloc: Global,
-        workspace: &mut Workspace,
+        log: &mut TurnLog,
         ticket: &Ticket<K>,
-    ) -> Result<TurnLog, TurnFault>
+    ) -> Result<(), TurnFault>
         requires cells { cells.now ≡ K.named.cells }
         requires current { IsCurrent self.old.core ticket.now }
         ensures same { self.new ≡ self.old }
-        ensures turn { MatchResult result (IsHeldTurn K.named.code self.old ticket.now) (IsNoHeldTurn K.named.code self.old ticket.now) }
+        ensures turn { MatchResult result (λ _. IsHeldTurn K.named.code self.old ticket.now log.new) (IsNoHeldTurn K.named.code self.old ticket.now) }
     {
         self.known();
         ticket.known();
         let state = ticket.state();
         let now = ticket.time();
-        self.parts.evaluate(rt, cells, alloc, workspace, state, now)
+        self.parts.evaluate(rt, cells, alloc, log, state, now)
     }
 
     /// Evaluates the turn of a ticket that was refused as stale as often as it may be, and appends it. A journal that is full stops
@@ -57,7 +57,7 @@ impl<'d, K: Naming> GateState<'d, K> {
         cells: &RegCells,
         mark: &MarkCell,
         alloc: Global,
-        workspace: &mut Workspace,
+        log: &mut TurnLog,
         seat: &mut Seat<K>,
         ticket: Ticket<K>,
     ) -> Reply<K>
@@ -72,10 +72,10 @@ impl<'d, K: Naming> GateState<'d, K> {
         if let Some(reply) = self.barred(rt, mark, seat, &ticket) {
             return reply;
         }
-        match self.evaluate(rt, cells, alloc, workspace, &ticket) {
-            Ok(log) => {
-                self.show_reads(rt, cells, seat, &log.reads);
-                self.accept(rt, cells, mark, alloc, workspace, seat, ticket, log)
+        match self.evaluate(rt, cells, alloc, log, &ticket) {
+            Ok(()) => {
+                self.show_reads(rt, cells, seat, log);
+                self.accept(rt, cells, mark, alloc, seat, ticket, log)
             }
             Err(fault) => {
                 if is_memory(&fault) {

@@ -46,7 +46,7 @@ impl<'d, K: Naming> GateState<'d, K> {
             self.known();
             return UpdateReply::Stopped(Why::Entries);
         }
-        match self.append(rt, cells, mark, alloc, seat, Entry::Update(number), &None) {
+        match self.append(rt, cells, mark, alloc, seat, Entry::Update(number), None) {
             Ok(grant) => {
                 self.known();
                 UpdateReply::Accepted(grant)

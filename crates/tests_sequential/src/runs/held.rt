@@ -77,19 +77,21 @@ pub fn assert_read_at(
     assert!(rt; reads.get_index_of(&register) == Some(place), "{register}");
 }
 
-/// The first turn of the first process of a source, at a time below 2 to the 32. Else why it has no log.
+/// The log of the first turn of the first process of a source, at a time below 2 to the 32, and whether it is over.
 pub fn try_first_turn(
     rt: &impl Abort,
     alloc: Global,
     source: &str,
     now: u32,
     held: &mut Held,
-) -> Result<TurnLog, TurnFault> {
+) -> (TurnLog, Result<(), TurnFault>) {
     let design = design_of(rt, alloc, source.as_bytes());
     let state = beginning(rt, &design);
     // The answer tells that there are at most 1,024, which is what the reader takes.
     let _registers = design.registers();
-    run_turn(alloc, &design, &state, u64::from(now), held)
+    let mut log = TurnLog::new(alloc);
+    let turn = run_turn(&mut log, &design, &state, u64::from(now), held);
+    (log, turn)
 }
 
 /// The turn of a process in a state, at a time below 2 to the 32.
@@ -102,14 +104,15 @@ pub fn turn_from(
     held: &mut Held,
 ) -> TurnLog {
     let _registers = design.registers();
-    run_turn(alloc, design, &state, u64::from(now), held)
-        .ok()
-        .expect(rt, "a short turn")
+    let mut log = TurnLog::new(alloc);
+    let turn = run_turn(&mut log, design, &state, u64::from(now), held);
+    assert!(rt; turn.is_ok(), "a short turn");
+    log
 }
 
 /// The first turn of the first process of a source, at time 7.
 pub fn first_turn(rt: &impl Abort, alloc: Global, source: &str, held: &mut Held) -> TurnLog {
-    try_first_turn(rt, alloc, source, 7, held)
-        .ok()
-        .expect(rt, "a short turn")
+    let (log, turn) = try_first_turn(rt, alloc, source, 7, held);
+    assert!(rt; turn.is_ok(), "a short turn");
+    log
 }

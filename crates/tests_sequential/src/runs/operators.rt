@@ -24,7 +24,7 @@ fn assert_value(rt: &impl Abort, alloc: Global, target: &str, value: &str, line:
     ).expect(rt, "memory");
     let mut held = Held::all(Bits::unknown(8));
     let log = first_turn(rt, alloc, source.as_str(), &mut held);
-    assert_line(rt, value, log.lines.as_str(), line);
+    assert_line(rt, value, log.lines(), line);
 }
 
 /// A register that takes a value, the value, and the line that shows it.

@@ -11,10 +11,11 @@ ghost use Rattle.design.specs.Steps.{below, piece, run_ops};
 use super::compare::{assert_length, assert_number, assert_text};
 use super::held::{Held, assert_read_at, beginning, design_of, first_turn, turn_from};
 use design::{Design, ProcState, RegId};
+use hoard::Hoard;
 use logic4::bits::Bits;
 use std::alloc::Global;
 use std::process::Abort;
-use turn::{Net, Suspend, TurnLog, Workspace, run_turn_in};
+use turn::{Net, Suspend, TurnLog, run_turn};
 
 fn three() -> Held {
     Held::all(Bits::from_u64(4, 3))
@@ -27,7 +28,7 @@ fn one_value_is_left()
 
 // The writes of a turn.
 fn assert_writes(rt: &impl Abort, log: &TurnLog, wanted: &[(RegId, Bits)]) {
-    assert!(rt; log.writes.as_slice() == wanted);
+    assert!(rt; log.writes() == wanted);
 }
 
 #[test]
@@ -37,25 +38,18 @@ fn reads_a_register_once(rt: HostRuntime) {
     let mut held = three();
     let log = first_turn(&rt, rt.alloc(), source, &mut held);
     assert_number(&rt, held.reads, 2);
-    assert_read_at(&rt, &log.reads, 1, 0);
-    assert_read_at(&rt, &log.reads, 0, 1);
+    assert_read_at(&rt, log.reads(), 1, 0);
+    assert_read_at(&rt, log.reads(), 0, 1);
     assert_writes(&rt, &log, &[(2, Bits::from_u64(8, 9))]);
 }
 
-// The first turn of the first process, in room that is kept.
-fn turn_in(
-    rt: &impl Abort,
-    alloc: Global,
-    workspace: &mut Workspace,
-    source: &str,
-    held: &mut Held,
-) -> TurnLog {
+// The first turn of the first process, in a log that is kept.
+fn turn_in(rt: &impl Abort, alloc: Global, log: &mut TurnLog, source: &str, held: &mut Held) {
     let design = design_of(rt, alloc, source.as_bytes());
     let state = beginning(rt, &design);
     let _registers = design.registers();
-    run_turn_in(alloc, workspace, &design, &state, 7, held)
-        .ok()
-        .expect(rt, "a short turn")
+    let turn = run_turn(log, &design, &state, 7, held);
+    assert!(rt; turn.is_ok(), "a short turn");
 }
 
 /// Writes one of two registers, and shows both.
@@ -66,28 +60,28 @@ const TWO: &str =
 const THREE: &str =
     "module t; reg [3:0] a, b, c; initial begin a = 4'd5; $display(\"%0d %0d\", a, b); end endmodule";
 
-// In room that is kept a turn shows both values. So many reads were made by then.
+// In a log that is kept a turn shows both values. So many reads were made by then.
 fn assert_shows(
     rt: &impl Abort,
     alloc: Global,
-    workspace: &mut Workspace,
+    log: &mut TurnLog,
     source: &str,
     held: &mut Held,
     reads: u64,
 ) {
-    let log = turn_in(rt, alloc, workspace, source, held);
-    assert_text(rt, log.lines.as_str(), "5 3\n");
+    turn_in(rt, alloc, log, source, held);
+    assert_text(rt, log.lines(), "5 3\n");
     assert_number(rt, held.reads, reads);
 }
 
 #[test]
 fn knows_nothing_of_the_turn_before(rt: HostRuntime) {
-    let mut workspace = Workspace::new(rt.alloc());
+    let mut log = TurnLog::new(rt.alloc());
     let mut held = three();
-    assert_shows(&rt, rt.alloc(), &mut workspace, TWO, &mut held, 1);
-    assert_shows(&rt, rt.alloc(), &mut workspace, TWO, &mut held, 2);
-    assert_shows(&rt, rt.alloc(), &mut workspace, THREE, &mut held, 3);
-    assert_shows(&rt, rt.alloc(), &mut workspace, TWO, &mut held, 4);
+    assert_shows(&rt, rt.alloc(), &mut log, TWO, &mut held, 1);
+    assert_shows(&rt, rt.alloc(), &mut log, TWO, &mut held, 2);
+    assert_shows(&rt, rt.alloc(), &mut log, THREE, &mut held, 3);
+    assert_shows(&rt, rt.alloc(), &mut log, TWO, &mut held, 4);
 }
 
 /// One read, one write, one nonblocking assignment and one line.
@@ -100,11 +94,11 @@ const EMPTY: &str = "module t; reg [3:0] q, a; initial ; endmodule";
 // How many reads, writes, nets, nonblocking assignments and bytes a log has.
 fn sizes(log: &TurnLog) -> [usize; 5] {
     [
-        log.reads.len(),
-        log.writes.len(),
-        log.nets.len(),
-        log.nbas.len(),
-        log.lines.len(),
+        log.reads().len(),
+        log.writes().len(),
+        log.nets().len(),
+        log.nbas().len(),
+        log.lines().len(),
     ]
 }
 
@@ -113,45 +107,66 @@ fn assert_sizes(rt: &impl Abort, log: &TurnLog, wanted: [usize; 5]) {
     assert!(rt; sizes(log) == wanted);
 }
 
-// The log of a turn in room that is kept, which has so many of each.
-fn log_of_sizes(
+// A turn in a log that is kept, which then has so many of each.
+fn assert_fills(
     rt: &impl Abort,
     alloc: Global,
-    workspace: &mut Workspace,
+    log: &mut TurnLog,
     source: &str,
     wanted: [usize; 5],
-) -> TurnLog {
-    let log = turn_in(rt, alloc, workspace, source, &mut three());
-    assert_sizes(rt, &log, wanted);
-    log
-}
-
-// How many writes there is room for in the empty log of a turn in room that is kept.
-fn room_of_nothing(rt: &impl Abort, alloc: Global, workspace: &mut Workspace) -> usize {
-    let log = log_of_sizes(rt, alloc, workspace, EMPTY, [0; 5]);
-    log.writes.capacity()
+) {
+    turn_in(rt, alloc, log, source, &mut three());
+    assert_sizes(rt, log, wanted);
 }
 
 #[test]
-fn empties_a_log_that_was_given_back(rt: HostRuntime) {
-    let mut workspace = Workspace::new(rt.alloc());
-    let full = log_of_sizes(&rt, rt.alloc(), &mut workspace, FULL, [1, 1, 1, 1, 2]);
-    workspace.give_back(Some(full));
-    let room = room_of_nothing(&rt, rt.alloc(), &mut workspace);
-    assert!(rt; room >= 1);
-    workspace.give_back(None);
-    let _room = room_of_nothing(&rt, rt.alloc(), &mut workspace);
+fn empties_a_log_that_is_kept(rt: HostRuntime) {
+    let mut log = TurnLog::new(rt.alloc());
+    assert_fills(&rt, rt.alloc(), &mut log, FULL, [1, 1, 1, 1, 2]);
+    assert_fills(&rt, rt.alloc(), &mut log, EMPTY, [0; 5]);
+    assert_fills(&rt, rt.alloc(), &mut log, FULL, [1, 1, 1, 1, 2]);
+}
+
+// Whether the first turn of the first process is over, in a log that is kept, where all other memory is taken.
+fn is_over_without_memory(
+    rt: &impl Abort,
+    alloc: Global,
+    design: &Design,
+    log: &mut TurnLog,
+) -> bool {
+    let state = beginning(rt, design);
+    let _registers = design.registers();
+    let mut held = three();
+    let _hoard = Hoard::new(alloc, 0, 8).expect(rt, "memory");
+    run_turn(log, design, &state, 7, &mut held).is_ok()
+}
+
+// A turn that is refused memory in a new log takes none in one that an earlier turn has grown.
+#[test]
+fn takes_no_memory_in_a_log_that_has_grown(rt: HostRuntime) {
+    let design = design_of(&rt, rt.alloc(), FULL.as_bytes());
+    let mut log = TurnLog::new(rt.alloc());
+    assert!(rt;
+        !is_over_without_memory(&rt, rt.alloc(), &design, &mut log),
+        "a new log"
+    );
+    assert_fills(&rt, rt.alloc(), &mut log, FULL, [1, 1, 1, 1, 2]);
+    assert!(rt;
+        is_over_without_memory(&rt, rt.alloc(), &design, &mut log),
+        "a grown log"
+    );
+    assert_sizes(&rt, &log, [1, 1, 1, 1, 2]);
 }
 
 // After a write of `b` a turn shows values, of which it reads so many, and ends behind its two statements.
 fn assert_known(rt: &impl Abort, alloc: Global, source: &str, line: &str, reads: u64) {
     let mut held = three();
     let log = first_turn(rt, alloc, source, &mut held);
-    assert_text(rt, log.lines.as_str(), line);
+    assert_text(rt, log.lines(), line);
     assert_number(rt, held.reads, reads);
-    assert_length(rt, log.next.place, 2);
-    assert_length(rt, log.writes.len(), 1);
-    assert_length(rt, log.nets.len(), 1);
+    assert_length(rt, log.next().place, 2);
+    assert_length(rt, log.writes().len(), 1);
+    assert_length(rt, log.nets().len(), 1);
 }
 
 #[test]
@@ -184,10 +199,10 @@ fn nets_of_two_registers(rt: HostRuntime) {
     let source =
         "module t; reg [3:0] a, b; initial begin b = 4'd5; a = 4'd1; b = 4'd5; b = 4'd6; a = 4'd1; b = 4'd5; end endmodule";
     let log = first_turn(&rt, rt.alloc(), source, &mut three());
-    assert_length(&rt, log.writes.len(), 6);
-    assert_length(&rt, log.nets.len(), 2);
-    assert_net(&rt, rt.alloc(), log.nets.get(0), (1, "0101", 2, "0101"));
-    assert_net(&rt, rt.alloc(), log.nets.get(1), (0, "0001", 0, "0001"));
+    assert_length(&rt, log.writes().len(), 6);
+    assert_length(&rt, log.nets().len(), 2);
+    assert_net(&rt, rt.alloc(), log.nets().get(0), (1, "0101", 2, "0101"));
+    assert_net(&rt, rt.alloc(), log.nets().get(1), (0, "0001", 0, "0001"));
 }
 
 /// The steps of an expression are a part of all steps: none where its ends are turned, or past the last step. More than 128
@@ -209,13 +224,13 @@ fn prints_a_line(rt: HostRuntime) {
     let source = "module t; reg [5:0] a; initial $display(\"a%b %h%0d\", a, a, a); endmodule";
     let mut held = Held::all(Bits::from_u64(6, 43));
     let log = first_turn(&rt, rt.alloc(), source, &mut held);
-    assert_text(&rt, log.lines.as_str(), "a101011 2b43\n");
-    assert_length(&rt, log.next.place, 1);
+    assert_text(&rt, log.lines(), "a101011 2b43\n");
+    assert_length(&rt, log.next().place, 1);
 }
 
 // A process is over, and the simulation isn't.
 fn assert_ended(rt: &impl Abort, log: &TurnLog) {
-    assert!(rt; matches!(log.suspend, Suspend::Ended) && !log.finish);
+    assert!(rt; matches!(log.suspend(), Suspend::Ended) && !log.is_finish());
 }
 
 #[test]
@@ -224,15 +239,15 @@ fn loops_to_the_end(rt: HostRuntime) {
         "module t; reg [3:0] r; initial while (r < 4'd5) begin r = r + 4'd1; end endmodule";
     let mut held = three();
     let log = first_turn(&rt, rt.alloc(), source, &mut held);
-    assert_number(&rt, u64::from(log.count), 5);
+    assert_number(&rt, u64::from(log.count()), 5);
     assert_ended(&rt, &log);
     assert_number(&rt, held.reads, 1);
-    assert_length(&rt, log.writes.len(), 2);
+    assert_length(&rt, log.writes().len(), 2);
 }
 
 /// When the first nonblocking assignment is due.
 fn first_due(log: &TurnLog) -> u64 {
-    match log.nbas.first() {
+    match log.nbas().first() {
         Some(nba) => nba.due,
         None => 0,
     }
@@ -240,7 +255,7 @@ fn first_due(log: &TurnLog) -> u64 {
 
 // A turn waits until time 10.
 fn assert_waits(rt: &impl Abort, log: &TurnLog) {
-    assert!(rt; matches!(log.suspend, Suspend::Until(10)));
+    assert!(rt; matches!(log.suspend(), Suspend::Until(10)));
 }
 
 // The first turn, at time 7, waits until time 10. This is where the process goes on.
@@ -248,13 +263,13 @@ fn wait(rt: &impl Abort, alloc: Global, design: &Design, held: &mut Held) -> Pro
     let state = beginning(rt, design);
     let log = turn_from(rt, alloc, design, state, 7, held);
     assert_waits(rt, &log);
-    log.next
+    log.next()
 }
 
 // A turn waits for the inactive region, to assign 3 to the second register.
 fn assert_pending(rt: &impl Abort, log: &TurnLog) {
-    assert!(rt; matches!(log.suspend, Suspend::Inactive));
-    assert!(rt; log.next.pending == Some((1, Bits::from_u64(4, 3))));
+    assert!(rt; matches!(log.suspend(), Suspend::Inactive));
+    assert!(rt; log.next().pending == Some((1, Bits::from_u64(4, 3))));
 }
 
 // The turn at time 10 assigns at time 12, and waits for the inactive region to assign the value of the first register.

@@ -21,22 +21,16 @@ fn assert_turn(
 ) {
     let mut held = Held::all(Bits::unknown(1));
     let log = first_turn(rt, alloc, source, &mut held);
-    assert_length(rt, log.reads.len(), reads);
-    assert_text(rt, log.lines.as_str(), lines);
-    assert_number(rt, u64::from(log.count), u64::from(count));
+    assert_length(rt, log.reads().len(), reads);
+    assert_text(rt, log.lines(), lines);
+    assert_number(rt, u64::from(log.count()), u64::from(count));
 }
 
-// The reads of the first turn of a process, which is too long.
-fn too_long(
-    rt: &impl Abort,
-    alloc: Global,
-    source: &str,
-    held: &mut Held,
-) -> IndexMap<RegId, Seen> {
-    match try_first_turn(rt, alloc, source, 3, held) {
-        Err(TurnFault::TooLong(reads)) => reads,
-        _ => panic!(rt; "short"),
-    }
+// The log of the first turn of a process, which is too long.
+fn too_long(rt: &impl Abort, alloc: Global, source: &str, held: &mut Held) -> TurnLog {
+    let (log, turn) = try_first_turn(rt, alloc, source, 3, held);
+    assert!(rt; turn == Err(TurnFault::TooLong), "short");
+    log
 }
 
 // `initial` and a block of this many empty statements.
@@ -51,7 +45,7 @@ fn empty_statements(alloc: Global, count: usize) -> Result<String, AllocError> {
 
 // The strobes of a turn.
 fn assert_strobes(rt: &impl Abort, log: &TurnLog, wanted: &[usize]) {
-    assert!(rt; log.strobes.as_slice() == wanted);
+    assert!(rt; log.strobes() == wanted);
 }
 
 #[test]
@@ -62,7 +56,7 @@ fn reads_and_prints_nothing_for_a_strobe(rt: HostRuntime) {
     let mut held = Held::all(Bits::unknown(1));
     let log = first_turn(&rt, rt.alloc(), source, &mut held);
     assert_strobes(&rt, &log, &[0, 4]);
-    assert_read_at(&rt, &log.reads, 1, 0);
+    assert_read_at(&rt, log.reads(), 1, 0);
 }
 
 #[test]
@@ -158,16 +152,16 @@ fn reads_before_it_is_too_long(rt: HostRuntime) {
     let mut held = Held::all(Bits::unknown(1));
     held.registers[0] = first;
     held.registers[1] = second;
-    let reads = too_long(&rt, rt.alloc(), DIFFER, &mut held);
-    assert_length(&rt, reads.len(), 2);
-    assert_seen(&rt, &reads, 0, 0, &first);
-    assert_seen(&rt, &reads, 1, 1, &second);
+    let log = too_long(&rt, rt.alloc(), DIFFER, &mut held);
+    assert_length(&rt, log.reads().len(), 2);
+    assert_seen(&rt, log.reads(), 0, 0, &first);
+    assert_seen(&rt, log.reads(), 1, 1, &second);
 }
 
 // The first turn of a process is too long, and reads no register.
 fn assert_reads_nothing(rt: &impl Abort, alloc: Global, source: &str) {
-    let reads = too_long(rt, alloc, source, &mut Held::all(Bits::unknown(1)));
-    assert_length(rt, reads.len(), 0);
+    let log = too_long(rt, alloc, source, &mut Held::all(Bits::unknown(1)));
+    assert_length(rt, log.reads().len(), 0);
 }
 
 #[test]

@@ -1,5 +1,6 @@
+use Rattle.std.proofs.Common.{rules}
 use Rattle.workers.proofs.Seats.{given_by}
 use Rattle.workers.proofs.worker.evaluate.Goals as goal
 
 pub returns-clause-gave : goal.returns-clause-gave
-returns-clause-gave g c = given_by g.K.Naming.named.code _ _ _ c.into_seat.ensures.seat c.run_turn_in-turn.ensures.gave
+returns-clause-gave g c = given_by g.K.Naming.named.code c.run_turn-turn.new.reader.1.fresh _ c.run_turn-turn.new.log c.run_turn-turn.result (search rules) c.run_turn-turn.ensures.gave

@@ -1,9 +1,20 @@
-use Rattle.workers.proofs.Seats.{goes_read}
-use Rattle.workers.proofs.Told.{held_answered, first_on}
+use Rattle.std.proofs.Common.{arith}
+use Rattle.workers.proofs.Seats.{goes_read, told}
+use Rattle.workers.proofs.Told.{answered, long_answered, first_on, on_then}
 use Rattle.workers.proofs.worker.offer.Goals as goal
 
-pub returns-then-tries-lt-MAX_TRIES-clause-goes : goal.returns-then-tries-lt-MAX_TRIES-clause-goes
-returns-then-tries-lt-MAX_TRIES-clause-goes g c = first_on _ _ _ (goes_read _ _ c.evaluate-seat.ensures.reads_on) c.give-reply.ensures.goes
+pub returns-in-Ok-clause-goes : goal.returns-in-Ok-clause-goes
+returns-in-Ok-clause-goes g c =
+    on_then _ _ _
+    (first_on _ _ _ (goes_read _ _ c.evaluate.ensures.reads_on) (answered g.K.Naming.named _ c.evaluate.new.seat c.args.ticket _ c.commit-reply.new.seat _ c.commit-reply.ensures).0)
+    c.finish.ensures.goes
 
-pub returns-else-tries-lt-MAX_TRIES-clause-goes : goal.returns-else-tries-lt-MAX_TRIES-clause-goes
-returns-else-tries-lt-MAX_TRIES-clause-goes g c = (held_answered g.K.Naming.named c.args.seat c.args.ticket c.commit_held-reply.new.seat _ c.commit_held-reply.ensures).0
+pub returns-in-Err-TooLong-clause-goes : goal.returns-in-Err-TooLong-clause-goes
+returns-in-Err-TooLong-clause-goes g c =
+    on_then _ _ _
+    (first_on _ _ _ (goes_read _ _ c.evaluate.ensures.reads_on) (long_answered g.K.Naming.named c.evaluate.new.seat c.args.ticket _ c.too_long-reply.new.seat _ c.too_long-reply.ensures).0)
+    c.finish-in-Err-TooLong.ensures.goes
+
+pub returns-in-Err-Memory-clause-goes : goal.returns-in-Err-Memory-clause-goes
+returns-in-Err-Memory-clause-goes g c =
+    first_on _ _ _ (goes_read _ _ c.evaluate.ensures.reads_on) (0, omega arith, (told g.K.Naming.named _ _ c.stop.ensures).0)

@@ -1,6 +1,6 @@
-use Rattle.workers.proofs.Seats.{told}
-use Rattle.workers.proofs.Told.{on_then}
+use Rattle.workers.proofs.Told.{held_answered, on_then}
 use Rattle.workers.proofs.worker.serve.Goals as goal
 
-pub returns-in_default-clause-goes : goal.returns-in_default-clause-goes
-returns-in_default-clause-goes g c = on_then _ _ _ c.offer-seat.ensures.goes (told g.K.Naming.named _ _ c.stop.ensures).0
+pub returns-else-tries-lt-MAX_TRIES-clause-goes : goal.returns-else-tries-lt-MAX_TRIES-clause-goes
+returns-else-tries-lt-MAX_TRIES-clause-goes g c =
+    on_then _ _ _ (held_answered g.K.Naming.named c.args.seat.now c.args.ticket c.commit_held-reply.new.seat _ c.commit_held-reply.ensures).0 c.finish.ensures.goes

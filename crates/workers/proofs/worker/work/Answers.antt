@@ -3,10 +3,10 @@ use Rattle.workers.proofs.Seats.{told}
 use Rattle.workers.proofs.Rounds.{works_more, works_puts}
 use Rattle.workers.proofs.worker.work.Goals as goal
 
-pub returns-then-not-goes_on : goal.returns-then-not-goes_on
-returns-then-not-goes_on g c = record {
-  works = works_more _ _ _ c.loop.invariant c.step-next.ensures.works;
-  over = c.step-next.ensures.over c.if-not-goes_on.true;
+pub returns-then-not-step : goal.returns-then-not-step
+returns-then-not-step g c = record {
+  works = works_more _ _ _ c.loop.invariant c.step.ensures.works;
+  over = c.step.ensures.over c.if-not-step.true;
 }
 
 pub returns-in_default : goal.returns-in_default

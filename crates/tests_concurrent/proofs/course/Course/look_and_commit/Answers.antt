@@ -7,4 +7,4 @@ use Rattle.tests_concurrent.proofs.course.Course.look_and_commit.Goals as goal
 
 pub commit-seat-requires-clause-gave : goal.commit-seat-requires-clause-gave
 commit-seat-requires-clause-gave g c =
-    subst (λ (f : List (List Vector)). GaveAll (IsRead g.K.Naming.named.code f) c.args.log.reads.entries) (sym c.entries-count.ensures.fresh) c.requires.gave
+    subst (λ (f : List (List Vector)). GaveAll (IsRead g.K.Naming.named.code f) c.args.log.reads) (sym c.entries-count.ensures.fresh) c.requires.gave

@@ -3,13 +3,11 @@ use Rattle.turn.specs.Progress.{status_of, fresh}
 use Rattle.turn.specs.Reads.{GaveAll}
 use Rattle.turn.specs.Evaluate.{NamesDeclared}
 use Rattle.turn.specs.Machine.{IsAtEnd}
-use Rattle.turn.specs.Answers.{IsNoTurn}
-use Rattle.turn.specs.declared.log.TurnFault.TheVariants.{TooLong}
 use Rattle.turn.specs.declared.log.Suspend.TheVariants as suspends
 use Rattle.turn.specs.declared.machine.Step.TheVariants as step
 use Rattle.turn.proofs.Values.{code_declared}
 use Rattle.turn.proofs.Turns.{Reached, reached_none, reached_more, ends_over, ends_counted, is_log, end_takes, too_long, reads_declared, taken}
-use Rattle.turn.proofs.run.run_turn_in.Goals as goal
+use Rattle.turn.proofs.run.run.Goals as goal
 
 pub take-requires-clause-declared : goal.take-requires-clause-declared
 take-requires-clause-declared g c =
@@ -20,11 +18,12 @@ pub loop-count-init : goal.loop-count-init
 loop-count-init g c =
     let design = c.args.design.now in
     let state = c.args.state.now in
-    let begins : status_of c.in_ok-progress.progress ≡ fresh state (length design.widths) = c.in_ok-progress.ensures ∙ ap (λ n. fresh state n) c.registers.ensures.value in
+    let begins : status_of c.begin.new.self ≡ fresh state (length design.widths) = c.in_ok-begin.ensures ∙ ap (λ n. fresh state n) c.registers.ensures.value in
     record {
       reached = subst (Reached design state c.args.now 0) (sym begins) (reached_none design state c.args.now);
       gave = subst (GaveAll _) (sym (ap (λ s. s.reads) begins)) tt;
       keeps = search rules;
+      lasting = refl;
     }
 
 pub returns-in-Over-clause-turn : goal.returns-in-Over-clause-turn
@@ -32,44 +31,22 @@ returns-in-Over-clause-turn g c =
     let s = status_of c.loop-count.progress in
     let t = status_of c.take.new.self in
     let takes = taken c.args.design.now c.nodes-nodes.result.now c.ops-ops.result.now c.shown-shown.result.now c.args.now s _ step.Over t c.nodes-nodes.ensures c.ops-ops.ensures c.shown-shown.ensures c.in-Over.is c.in_ok-take.ensures.takes in
-    is_log c.args.design.now c.args.state.now c.args.now c.loop-count.count s t suspends.Ended false c.loop-count.count c.log_of.result
+    is_log c.args.design.now c.args.state.now c.args.now c.loop-count.count s t suspends.Ended false c.loop-count.count _
     c.loop-count.invariant.reached
     (λ p. ends_over c.args.design.now c.registers.ensures.compiled p c.args.now c.loop-count.count s t takes)
     (omega arith)
-    (record {
-      reads = ap (λ m. m.entries) c.log_of.ensures.reads;
-      writes = c.log_of.ensures.writes;
-      nets = c.log_of.ensures.nets;
-      nbas = c.log_of.ensures.nbas;
-      lines = c.log_of.ensures.lines;
-      strobes = c.log_of.ensures.strobes;
-      next = c.log_of.ensures.next;
-      waits = c.log_of.ensures.suspend;
-      finishes = c.log_of.ensures.finish;
-      count = c.log_of.ensures.count;
-    })
+    (record { reads = refl; writes = refl; nets = refl; nbas = refl; lines = refl; strobes = refl; next = refl; waits = refl; finishes = refl; count = refl })
 
 pub returns-in-Ends-clause-turn : goal.returns-in-Ends-clause-turn
 returns-in-Ends-clause-turn g c =
     let s = status_of c.loop-count.progress in
     let t = status_of c.take.new.self in
     let takes = taken c.args.design.now c.nodes-nodes.result.now c.ops-ops.result.now c.shown-shown.result.now c.args.now s _ (step.Ends c.in-Ends.suspend c.in-Ends.finish) t c.nodes-nodes.ensures c.ops-ops.ensures c.shown-shown.ensures c.in-Ends.is c.in_ok-take.ensures.takes in
-    is_log c.args.design.now c.args.state.now c.args.now c.loop-count.count s t c.in-Ends.suspend c.in-Ends.finish (c.loop-count.count + 1) c.log_of-in-Ends.result
+    is_log c.args.design.now c.args.state.now c.args.now c.loop-count.count s t c.in-Ends.suspend c.in-Ends.finish (c.loop-count.count + 1) _
     c.loop-count.invariant.reached
     (λ p. ends_counted c.args.design.now c.registers.ensures.compiled p c.args.now c.loop-count.count s t c.in-Ends.suspend c.in-Ends.finish takes)
     (omega arith)
-    (record {
-      reads = ap (λ m. m.entries) c.log_of-in-Ends.ensures.reads;
-      writes = c.log_of-in-Ends.ensures.writes;
-      nets = c.log_of-in-Ends.ensures.nets;
-      nbas = c.log_of-in-Ends.ensures.nbas;
-      lines = c.log_of-in-Ends.ensures.lines;
-      strobes = c.log_of-in-Ends.ensures.strobes;
-      next = c.log_of-in-Ends.ensures.next;
-      waits = c.log_of-in-Ends.ensures.suspend;
-      finishes = c.log_of-in-Ends.ensures.finish;
-      count = c.log_of-in-Ends.ensures.count;
-    })
+    (record { reads = refl; writes = refl; nets = refl; nbas = refl; lines = refl; strobes = refl; next = refl; waits = refl; finishes = refl; count = refl })
 
 pub loop-count-preserved : goal.loop-count-preserved
 loop-count-preserved g c = record {
@@ -78,37 +55,26 @@ loop-count-preserved g c = record {
       (taken c.args.design.now c.nodes-nodes.result.now c.ops-ops.result.now c.shown-shown.result.now c.args.now (status_of c.loop-count.progress) _ step.Goes (status_of c.take.new.self) c.nodes-nodes.ensures c.ops-ops.ensures c.shown-shown.ensures c.in-Goes.is c.in_ok-take.ensures.takes);
   gave = c.in_ok-take.ensures.gave c.loop-count.invariant.gave;
   keeps = λ r s h. c.in_ok-take.ensures.keeps r s (c.loop-count.invariant.keeps r s h);
+  lasting = c.in_ok-take.ensures.lasting ∙ c.loop-count.invariant.lasting;
 }
 
 pub returns-then-is_over-clause-turn : goal.returns-then-is_over-clause-turn
 returns-then-is_over-clause-turn g c =
     let s = status_of c.loop-count.progress in
     let there : IsAtEnd c.args.design.now.nodes s.state = subst (λ nodes. IsAtEnd nodes s.state) c.nodes-nodes.ensures (c.if-is_over.ensures.0 refl) in
-    is_log c.args.design.now c.args.state.now c.args.now c.loop-count.count s s suspends.Ended false c.loop-count.count c.log_of-then-is_over.result
+    is_log c.args.design.now c.args.state.now c.args.now c.loop-count.count s s suspends.Ended false c.loop-count.count _
     c.loop-count.invariant.reached
     (λ p. ends_over c.args.design.now c.registers.ensures.compiled p c.args.now c.loop-count.count s s (end_takes c.args.design.now c.args.now s there))
     (omega arith)
-    (record {
-      reads = ap (λ m. m.entries) c.log_of-then-is_over.ensures.reads;
-      writes = c.log_of-then-is_over.ensures.writes;
-      nets = c.log_of-then-is_over.ensures.nets;
-      nbas = c.log_of-then-is_over.ensures.nbas;
-      lines = c.log_of-then-is_over.ensures.lines;
-      strobes = c.log_of-then-is_over.ensures.strobes;
-      next = c.log_of-then-is_over.ensures.next;
-      waits = c.log_of-then-is_over.ensures.suspend;
-      finishes = c.log_of-then-is_over.ensures.finish;
-      count = omega (arith, c.log_of-then-is_over.ensures.count);
-    })
+    (record { reads = refl; writes = refl; nets = refl; nbas = refl; lines = refl; strobes = refl; next = refl; waits = refl; finishes = refl; count = omega arith })
 
 pub returns-else-is_over-clause-turn : goal.returns-else-is_over-clause-turn
 returns-else-is_over-clause-turn g c =
     let s = status_of c.loop-count.progress in
-    subst (λ reads. IsNoTurn c.args.design.now c.args.state.now c.args.now (TooLong reads)) (sym c.reads_of.ensures)
-    (λ p start. (
+    λ p start. (
       reads_declared c.args.design.now c.args.state.now c.args.now c.loop-count.count s c.loop-count.invariant.reached p start,
       too_long c.args.design.now c.registers.ensures.compiled c.args.state.now c.args.now c.loop-count.count s
           c.loop-count.invariant.reached (omega arith)
           (λ there. let no : false ≡ true = c.if-is_over.ensures.1 (subst (λ nodes. IsAtEnd nodes s.state) (sym c.nodes-nodes.ensures) there) in cc)
           p start,
-    ))
+    )

@@ -9,7 +9,7 @@ use Rattle.turn.specs.declared.log.TurnFault.{TurnFault}
 use Rattle.replay.specs.Replays.{state_in}
 use Rattle.regions.specs.Reader.{IsTurnOn, IsNoTurnOn}
 use Rattle.replay.proofs.Given.{given_turn, given_none, stop_turn}
-use Rattle.replay.proofs.turn_log.event_log.Goals as goal
+use Rattle.replay.proofs.turn_log.fill_turn.Goals as goal
 
 pub returns-then-not-legal : goal.returns-then-not-legal
 returns-then-not-legal c =
@@ -22,8 +22,8 @@ pub returns-in-Ok : goal.returns-in-Ok
 returns-in-Ok c =
     let code = c.args.design.now in
     let r = c.args.replayed.now in
-    given_turn code r.state r.store c.args.number c.in-Some.field-0-0 c.in-Some.state c.in-Ok.log c.requires.stands.states c.requires.stands.store c.in-Some.ensures
-    (subst (λ (now : ℕ). IsTurnOn code c.in-Some.state r.store now c.in-Ok.log) c.time-now.ensures c.in-Ok.ensures)
+    given_turn code r.state r.store c.args.number c.in-Some.field-0-0 c.in-Some.state c.turn_on.new.log c.requires.stands.states c.requires.stands.store c.in-Some.ensures
+    (subst (λ (now : ℕ). IsTurnOn code c.in-Some.state r.store now c.turn_on.new.log) c.time-now.ensures c.in-Ok.ensures)
 
 pub returns-in-Err-TooLong : goal.returns-in-Err-TooLong
 returns-in-Err-TooLong c =

@@ -2,7 +2,7 @@ use Rattle.std.proofs.Common.{◌≡◌, take}
 use Rattle.turn.specs.Progress.{status_of}
 use Rattle.turn.specs.Reads.{GaveAll}
 use Rattle.turn.proofs.Strobed.{Strobed}
-use Rattle.turn.proofs.strobes.strobe_lines.Given as goal
+use Rattle.turn.proofs.strobes.print_lines.Given as goal
 
 abbrev pub invariant-loop-place : goal.invariant-loop-place
 invariant-loop-place g l = record {

@@ -5,7 +5,7 @@ use Rattle.turn.specs.Reads.{GaveAll}
 use Rattle.turn.specs.Evaluate.{NamesDeclared}
 use Rattle.turn.proofs.Values.{code_declared}
 use Rattle.turn.proofs.Strobed.{Strobed, strobed_none, strobed_next, strobed_all, printed}
-use Rattle.turn.proofs.strobes.strobe_lines.Goals as goal
+use Rattle.turn.proofs.strobes.print_lines.Goals as goal
 
 pub strobe_line-requires : goal.strobe_line-requires
 strobe_line-requires g c =
@@ -15,7 +15,7 @@ strobe_line-requires g c =
 pub loop-place-init : goal.loop-place-init
 loop-place-init g c =
     let design = c.args.design.now in
-    let begins : status_of c.in_ok-progress.progress ≡ fresh _ (length design.widths) = c.in_ok-progress.ensures ∙ ap (λ n. fresh _ n) c.registers.ensures.value in
+    let begins : status_of c.begin.new.self ≡ fresh _ (length design.widths) = c.in_ok-begin.ensures ∙ ap (λ n. fresh _ n) c.registers.ensures.value in
     record {
       strobed = subst (Strobed design []) (sym begins) (strobed_none design _);
       gave = subst (GaveAll _) (sym (ap (λ s. s.reads) begins)) tt;
@@ -42,4 +42,4 @@ returns-clause-lines g c =
     let i = c.loop-place.place-index in
     let all : take i places ≡ places = take_all i places c.loop-place-test.false in
     strobed_all c.args.design.now places (status_of c.loop-place.progress) (g.R.RegReader.gave c.loop-place.reader) _
-    (subst (λ ps. Strobed c.args.design.now ps (status_of c.loop-place.progress)) all c.loop-place.invariant.strobed) c.loop-place.invariant.gave c.lines_of.ensures
+    (subst (λ ps. Strobed c.args.design.now ps (status_of c.loop-place.progress)) all c.loop-place.invariant.strobed) c.loop-place.invariant.gave refl

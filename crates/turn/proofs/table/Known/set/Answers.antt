@@ -1,7 +1,7 @@
 use Rattle.std.proofs.Common.{rules, length, ◌≤◌}
 use Rattle.turn.proofs.Slots.{known_set, known_past}
-use Rattle.turn.proofs.workspace.Known.set.Goals as goal
-use Rattle.turn.proofs.workspace.Known.set.Goals.{in-Some, in_default}
+use Rattle.turn.proofs.table.Known.set.Goals as goal
+use Rattle.turn.proofs.table.Known.set.Goals.{in-Some, in_default}
 
 pub returns : goal.returns
 returns c = elim c.match-get_mut.branch [

@@ -1,6 +1,6 @@
 use Rattle.std.proofs.Common.{rules, ◌≡◌, length}
 use Rattle.turn.proofs.Slots.{begun}
-use Rattle.turn.proofs.workspace.Known.begin.Goals as goal
+use Rattle.turn.proofs.table.Known.begin.Goals as goal
 
 pub returns : goal.returns
 returns c =
