@@ -16,9 +16,9 @@ pub trait Alone {
     fn lead<K: Naming, R: Wait + Abort>(
         &mut self,
         course: &Course<'_, '_, K, R>,
-        seat: Seat<K>,
+        seat: &mut Seat<K>,
         tickets: Vec<Ticket<K>>,
-    ) -> Seat<K>;
+    );
 }
 
 // Opens a gate for one worker, which leads the run, and closes it.
@@ -34,14 +34,14 @@ fn run<K: Naming, R: Wait + Abort, W: Alone>(
     requires workers { K.named.workers ≡ 1 }
 {
     let (gate, mut seats, tickets) = blank.open::<K>(alloc).expect(rt, "memory");
-    let seat = seats.pop().expect(rt, "a seat");
+    let mut seat = seats.pop().expect(rt, "a seat");
     let course = Course {
         rt,
         alloc,
         gate: &gate,
         design,
     };
-    let seat = work.lead(&course, seat, tickets);
+    work.lead(&course, &mut seat, tickets);
     drop(course);
     close_one(rt, alloc, gate, seat)
 }

@@ -15,25 +15,25 @@ use turn::{RegReader, Seen, TurnFault, TurnLog, run_turn};
 // The other seat's turn, if it still waits.
 fn overtake<K: Naming, R: Wait + Abort>(
     course: &Course<'_, '_, K, R>,
-    waits: &mut Option<(Seat<K>, Ticket<K>)>,
-    other: &mut Option<Seat<K>>,
+    other: &mut Seat<K>,
+    waits: &mut Option<Ticket<K>>,
 ) {
-    if let Some((seat, ticket)) = waits.take() {
-        *other = Some(course.serve_at(seat, ticket, 0));
+    if let Some(ticket) = waits.take() {
+        course.serve_at(other, ticket, 0);
     }
 }
 
 /// A seat's reader that, after its first read, lets another seat commit a turn.
 #[derive(Drop)]
-struct Between<'s, 'w, 'o, 'c, 'g, 'd, K: Naming, R: Wait + Abort> {
+struct Between<'s, 'o, 'w, 'c, 'g, 'd, K: Naming, R: Wait + Abort> {
     course: &'c Course<'g, 'd, K, R>,
     reader: SeatReader<'s, K, R>,
-    waits: &'w mut Option<(Seat<K>, Ticket<K>)>,
-    other: &'o mut Option<Seat<K>>,
+    other: &'o mut Seat<K>,
+    waits: &'w mut Option<Ticket<K>>,
 }
 
-impl<'s, 'w, 'o, 'c, 'g, 'd, K: Naming, R: Wait + Abort> RegReader
-    for Between<'s, 'w, 'o, 'c, 'g, 'd, K, R> {
+impl<'s, 'o, 'w, 'c, 'g, 'd, K: Naming, R: Wait + Abort> RegReader
+    for Between<'s, 'o, 'w, 'c, 'g, 'd, K, R> {
     ghost use Rattle.std.specs.Prelude.{ℕ, length};
     ghost use Rattle.gateparts.specs.Histories.{IsRead};
 
@@ -47,7 +47,7 @@ impl<'s, 'w, 'o, 'c, 'g, 'd, K: Naming, R: Wait + Abort> RegReader
 
     fn read(&mut self, register: RegId) -> Seen {
         let seen = self.reader.read(register);
-        overtake(self.course, self.waits, self.other);
+        overtake(self.course, self.other, self.waits);
         seen
     }
 }
@@ -58,8 +58,8 @@ fn fill<K: Naming, R: Wait + Abort>(
     log: &mut TurnLog,
     seat: &mut Seat<K>,
     ticket: &Ticket<K>,
-    waits: &mut Option<(Seat<K>, Ticket<K>)>,
-    other: &mut Option<Seat<K>>,
+    other: &mut Seat<K>,
+    waits: &mut Option<Ticket<K>>,
 ) -> Result<(), TurnFault>
     ensures turn { MatchResult result (λ _. IsTurnLog K.named.code ticket.now.state ticket.now.time log.new) (IsNoTurn K.named.code ticket.now.state ticket.now.time log.new.reads) }
     ensures gave { MatchResult result (λ _. GaveAll (IsRead K.named.code seat.new.fresh) log.new.reads) (λ fault. fault ≡ TooLong → GaveAll (IsRead K.named.code seat.new.fresh) log.new.reads) }
@@ -67,8 +67,8 @@ fn fill<K: Naming, R: Wait + Abort>(
     let mut reader = Between {
         course,
         reader: course.gate.reader(course.rt, seat),
-        waits,
         other,
+        waits,
     };
     let turn = run_turn(
         log,
@@ -80,8 +80,8 @@ fn fill<K: Naming, R: Wait + Abort>(
     let Between {
         course: _,
         reader,
-        waits: _,
         other: _,
+        waits: _,
     } = reader;
     reader.into_seat();
     turn
@@ -91,24 +91,22 @@ fn fill<K: Naming, R: Wait + Abort>(
 /// the test.
 pub fn mixed<K: Naming, R: Wait + Abort>(
     course: &Course<'_, '_, K, R>,
-    one: Seat<K>,
+    one: &mut Seat<K>,
     early: Ticket<K>,
-    two: Seat<K>,
+    two: &mut Seat<K>,
     late: &Ticket<K>,
-) -> (Seat<K>, Seat<K>, TurnLog)
-    ensures turn { IsNoTurn K.named.code late.now.state late.now.time result.2.reads TooLong }
-    ensures gave { GaveAll (IsRead K.named.code result.1.fresh) result.2.reads }
+) -> TurnLog
+    ensures turn { IsNoTurn K.named.code late.now.state late.now.time result.reads TooLong }
+    ensures gave { GaveAll (IsRead K.named.code two.new.fresh) result.reads }
 {
-    let mut two = two;
     let mut log = TurnLog::new(course.alloc);
-    let mut waits = Some((one, early));
-    let mut other = None;
-    let Err(fault) = fill(course, &mut log, &mut two, late, &mut waits, &mut other) else {
+    let mut waits = Some(early);
+    let Err(fault) = fill(course, &mut log, two, late, one, &mut waits) else {
         panic!(course.rt; "a short turn")
     };
     let TurnFault::TooLong = fault else {
         panic!(course.rt; "memory")
     };
-    let one = other.expect(course.rt, "a seat");
-    (one, two, log)
+    assert!(course.rt; waits.is_none(), "a turn that still waits");
+    log
 }

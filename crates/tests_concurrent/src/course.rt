@@ -25,26 +25,24 @@ pub struct Course<'g, 'd, K: Naming, R: Wait + Abort> {
 
 impl<'g, 'd, K: Naming, R: Wait + Abort> Course<'g, 'd, K, R> {
     /// The turn of a ticket, evaluated without the lock.
-    pub fn evaluate(&self, seat: Seat<K>, ticket: &Ticket<K>) -> (Seat<K>, TurnLog)
-        ensures turn { IsTurnLog K.named.code ticket.now.state ticket.now.time result.1 }
-        ensures gave { GaveAll (IsRead K.named.code result.0.fresh) result.1.reads }
+    pub fn evaluate(&self, seat: &mut Seat<K>, ticket: &Ticket<K>) -> TurnLog
+        ensures turn { IsTurnLog K.named.code ticket.now.state ticket.now.time result }
+        ensures gave { GaveAll (IsRead K.named.code seat.new.fresh) result.reads }
     {
-        let (seat, log) = self.try_evaluate(seat, ticket);
-        (seat, log.expect(self.rt, "memory"))
+        self.try_evaluate(seat, ticket).expect(self.rt, "memory")
     }
 
     /// The same turn, or nothing where memory was refused.
-    pub fn try_evaluate(&self, seat: Seat<K>, ticket: &Ticket<K>) -> (Seat<K>, Option<TurnLog>)
-        ensures turn { IfSome result.1 (λ log. IsTurnLog K.named.code ticket.now.state ticket.now.time log) }
-        ensures gave { IfSome result.1 (λ log. GaveAll (IsRead K.named.code result.0.fresh) log.reads) }
+    pub fn try_evaluate(&self, seat: &mut Seat<K>, ticket: &Ticket<K>) -> Option<TurnLog>
+        ensures turn { IfSome result (λ log. IsTurnLog K.named.code ticket.now.state ticket.now.time log) }
+        ensures gave { IfSome result (λ log. GaveAll (IsRead K.named.code seat.new.fresh) log.reads) }
     {
-        let mut seat = seat;
         let mut log = TurnLog::new(self.alloc);
-        match self.fill(&mut log, &mut seat, ticket) {
-            Ok(()) => (seat, Some(log)),
+        match self.fill(&mut log, seat, ticket) {
+            Ok(()) => Some(log),
             Err(fault) => {
                 assert!(self.rt; matches!(fault, TurnFault::Memory), "no short turn");
-                (seat, None)
+                None
             }
         }
     }
@@ -66,78 +64,66 @@ impl<'g, 'd, K: Naming, R: Wait + Abort> Course<'g, 'd, K, R> {
     }
 
     /// Commits a turn that was evaluated without the lock.
-    pub fn commit(&self, mut seat: Seat<K>, ticket: Ticket<K>, log: TurnLog) -> (Seat<K>, Reply<K>)
-        requires turn { IsTurnLog K.named.code ticket.state ticket.time log }
-        requires gave { GaveAll (IsRead K.named.code seat.fresh) log.reads }
+    pub fn commit(&self, seat: &mut Seat<K>, ticket: Ticket<K>, log: &TurnLog) -> Reply<K>
+        requires turn { IsTurnLog K.named.code ticket.state ticket.time log.now }
+        requires gave { GaveAll (IsRead K.named.code seat.old.fresh) log.now.reads }
     {
         assert!(self.rt; ticket.tries() < 3, "refused three times");
-        let reply = self
-            .gate
-            .commit(self.rt, self.alloc, &mut seat, ticket, &log);
-        (seat, reply)
+        self.gate.commit(self.rt, self.alloc, seat, ticket, log)
     }
 
     /// The same, after a look at the number of entries, which is answered too.
     pub fn look_and_commit(
         &self,
-        mut seat: Seat<K>,
+        seat: &mut Seat<K>,
         ticket: Ticket<K>,
-        log: TurnLog,
-    ) -> (Seat<K>, u64, Reply<K>)
-        requires turn { IsTurnLog K.named.code ticket.state ticket.time log }
-        requires gave { GaveAll (IsRead K.named.code seat.fresh) log.reads }
+        log: &TurnLog,
+    ) -> (u64, Reply<K>)
+        requires turn { IsTurnLog K.named.code ticket.state ticket.time log.now }
+        requires gave { GaveAll (IsRead K.named.code seat.old.fresh) log.now.reads }
     {
-        let count = self.gate.entries(self.rt, &mut seat);
-        let (seat, reply) = self.commit(seat, ticket, log);
-        (seat, count, reply)
+        let count = self.gate.entries(self.rt, seat);
+        (count, self.commit(seat, ticket, log))
     }
 
     /// Evaluates the turn of a ticket without the lock, and commits it at once.
-    pub fn serve(&self, seat: Seat<K>, ticket: Ticket<K>) -> (Seat<K>, Reply<K>) {
-        let (seat, log) = self.evaluate(seat, &ticket);
-        self.commit(seat, ticket, log)
+    pub fn serve(&self, seat: &mut Seat<K>, ticket: Ticket<K>) -> Reply<K> {
+        let log = self.evaluate(seat, &ticket);
+        self.commit(seat, ticket, &log)
     }
 
     /// The same, and the entry stands at this position.
-    pub fn serve_at(&self, seat: Seat<K>, ticket: Ticket<K>, position: u64) -> Seat<K> {
-        let (seat, reply) = self.serve(seat, ticket);
+    pub fn serve_at(&self, seat: &mut Seat<K>, ticket: Ticket<K>, position: u64) {
+        let reply = self.serve(seat, ticket);
         assert!(self.rt; position_of(self.rt, reply) == position, "another position");
-        seat
     }
 
     /// Gives up a turn that was evaluated without the lock and is too long.
-    pub fn give_up(&self, mut seat: Seat<K>, ticket: Ticket<K>, log: TurnLog) -> (Seat<K>, Reply<K>)
-        requires turn { IsNoTurn K.named.code ticket.state ticket.time log.reads TooLong }
-        requires gave { GaveAll (IsRead K.named.code seat.fresh) log.reads }
+    pub fn give_up(&self, seat: &mut Seat<K>, ticket: Ticket<K>, log: &TurnLog) -> Reply<K>
+        requires turn { IsNoTurn K.named.code ticket.state ticket.time log.now.reads TooLong }
+        requires gave { GaveAll (IsRead K.named.code seat.old.fresh) log.now.reads }
     {
         assert!(self.rt; ticket.tries() < 3, "refused three times");
-        let reply = self.gate.too_long(self.rt, &mut seat, ticket, &log);
-        (seat, reply)
+        self.gate.too_long(self.rt, seat, ticket, log)
     }
 
     /// Evaluates under the lock, and commits, the turn of a ticket that was refused three times.
-    pub fn commit_held(&self, mut seat: Seat<K>, ticket: Ticket<K>) -> (Seat<K>, Reply<K>) {
+    pub fn commit_held(&self, seat: &mut Seat<K>, ticket: Ticket<K>) -> Reply<K> {
         assert!(self.rt; ticket.tries() == 3, "not refused three times");
         let mut log = TurnLog::new(self.alloc);
-        let reply = self
-            .gate
-            .commit_held(self.rt, self.alloc, &mut log, &mut seat, ticket);
-        (seat, reply)
+        self.gate
+            .commit_held(self.rt, self.alloc, &mut log, seat, ticket)
     }
 
     /// What a seat reads of a register.
-    pub fn read(&self, seat: Seat<K>, register: RegId) -> (Seat<K>, Seen) {
+    pub fn read(&self, seat: &mut Seat<K>, register: RegId) -> Seen {
         assert!(self.rt; register < self.design.registers(), "no such register");
-        let mut seat = seat;
-        let seen = self.gate.reader(self.rt, &mut seat).read(register);
-        (seat, seen)
+        self.gate.reader(self.rt, seat).read(register)
     }
 
     /// A seat reads this of a register.
-    pub fn read_as(&self, seat: Seat<K>, register: RegId, wanted: &Seen) -> Seat<K> {
-        let (seat, seen) = self.read(seat, register);
-        assert!(self.rt; seen == *wanted, "another value");
-        seat
+    pub fn read_as(&self, seat: &mut Seat<K>, register: RegId, wanted: &Seen) {
+        assert!(self.rt; self.read(seat, register) == *wanted, "another value");
     }
 }
 

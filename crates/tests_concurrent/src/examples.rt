@@ -29,26 +29,23 @@ enum Example {
 // The only worker takes the only turn.
 fn take_one<K: Naming, R: Wait + Abort>(
     course: &Course<'_, '_, K, R>,
-    seat: Seat<K>,
+    seat: &mut Seat<K>,
     ticket: Ticket<K>,
-) -> Seat<K> {
+) {
     let rt = course.rt;
-    let (seat, reply) = course.serve(seat, ticket);
-    let grant = accepted(rt, reply);
+    let grant = accepted(rt, course.serve(seat, ticket));
     assert!(rt; grant.position == 0 && grant.entry == Entry::Turn(0) && grant.tickets.is_empty());
-    seat
 }
 
 // It has then seen the turn's entry, and the value that the turn gave its register.
-fn look_back<K: Naming, R: Wait + Abort>(course: &Course<'_, '_, K, R>, seat: Seat<K>) -> Seat<K> {
+fn look_back<K: Naming, R: Wait + Abort>(course: &Course<'_, '_, K, R>, seat: &mut Seat<K>) {
     let rt = course.rt;
-    let mut seat = course.read_as(seat, 0, &seen_of(1, 4, 9));
+    course.read_as(seat, 0, &seen_of(1, 4, 9));
     assert!(rt;
-        course.gate.entries(rt, &mut seat) == 1,
+        course.gate.entries(rt, seat) == 1,
         "another number of entries"
     );
-    assert_journal(course, &mut seat);
-    seat
+    assert_journal(course, seat);
 }
 
 // The journal is that turn's entry.
@@ -69,24 +66,24 @@ impl Alone for TakeOne {
     fn lead<K: Naming, R: Wait + Abort>(
         &mut self,
         course: &Course<'_, '_, K, R>,
-        seat: Seat<K>,
+        seat: &mut Seat<K>,
         mut tickets: Vec<Ticket<K>>,
-    ) -> Seat<K> {
-        let seat = take_one(course, seat, last(course.rt, &mut tickets));
-        look_back(course, seat)
+    ) {
+        take_one(course, seat, last(course.rt, &mut tickets));
+        look_back(course, seat);
     }
 }
 
 // The second seat takes a turn, and its entry stands at this position. It then reads this of a register.
 fn take_at<K: Naming, R: Wait + Abort>(
     course: &Course<'_, '_, K, R>,
-    two: Seat<K>,
+    two: &mut Seat<K>,
     ticket: Ticket<K>,
     position: u64,
     wanted: (RegId, Seen),
-) -> Seat<K> {
-    let two = course.serve_at(two, ticket, position);
-    course.read_as(two, wanted.0, &wanted.1)
+) {
+    course.serve_at(two, ticket, position);
+    course.read_as(two, wanted.0, &wanted.1);
 }
 
 // A register's value and version.
@@ -112,89 +109,85 @@ fn read_unknown(log: &TurnLog) -> bool {
 // stands.
 fn too_early<K: Naming, R: Wait + Abort>(
     course: &Course<'_, '_, K, R>,
-    one: Seat<K>,
-    two: Seat<K>,
+    one: &mut Seat<K>,
+    two: &mut Seat<K>,
     mut tickets: Vec<Ticket<K>>,
-) -> (Seat<K>, Seat<K>) {
+) {
     let rt = course.rt;
     let late = last(rt, &mut tickets);
-    let (two, log) = course.evaluate(two, &late);
+    let log = course.evaluate(two, &late);
     assert!(rt; read_unknown(&log), "a value that isn't x");
-    let one = course.serve_at(one, first(rt, &mut tickets), 0);
-    let (two, count, reply) = course.look_and_commit(two, late, log);
+    course.serve_at(one, first(rt, &mut tickets), 0);
+    let (count, reply) = course.look_and_commit(two, late, &log);
     assert!(rt; count == 1, "another number of entries");
-    let late = stale(rt, reply, 1);
-    (one, take_at(course, two, late, 1, (1, seen_of(1, 1, 1))))
+    take_at(course, two, stale(rt, reply, 1), 1, (1, seen_of(1, 1, 1)));
 }
 
 // The same turn is committed before the other. It gives x to a register that is x, which is no change.
 fn first_instead<K: Naming, R: Wait + Abort>(
     course: &Course<'_, '_, K, R>,
-    one: Seat<K>,
-    two: Seat<K>,
+    one: &mut Seat<K>,
+    two: &mut Seat<K>,
     mut tickets: Vec<Ticket<K>>,
-) -> (Seat<K>, Seat<K>) {
+) {
     let unknown = Seen {
         version: 0,
         value: Bits::unknown(1),
     };
     let late = last(course.rt, &mut tickets);
-    let two = take_at(course, two, late, 0, (1, unknown));
-    let early = first(course.rt, &mut tickets);
-    (course.serve_at(one, early, 1), two)
+    take_at(course, two, late, 0, (1, unknown));
+    course.serve_at(one, first(course.rt, &mut tickets), 1);
 }
 
 // The first seat commits a turn between the second seat's evaluation and its commit, which is refused for register 0. The
 // ticket comes back with so many tries.
 fn overtake<K: Naming, R: Wait + Abort>(
     course: &Course<'_, '_, K, R>,
-    one: Seat<K>,
-    two: Seat<K>,
+    one: &mut Seat<K>,
+    two: &mut Seat<K>,
     tickets: &mut Vec<Ticket<K>>,
     late: Ticket<K>,
     tries: u8,
-) -> (Seat<K>, Seat<K>, Ticket<K>) {
+) -> Ticket<K> {
     let rt = course.rt;
-    let (two, log) = course.evaluate(two, &late);
-    let (one, reply) = course.serve(one, first(rt, tickets));
-    accepted(rt, reply);
-    let (two, reply) = course.commit(two, late, log);
-    (one, two, stale(rt, reply, tries))
+    let log = course.evaluate(two, &late);
+    accepted(rt, course.serve(one, first(rt, tickets)));
+    stale(rt, course.commit(two, late, &log), tries)
 }
 
 // The second seat's turn under the lock, after three refusals.
 fn take_held<K: Naming, R: Wait + Abort>(
     course: &Course<'_, '_, K, R>,
-    two: Seat<K>,
+    two: &mut Seat<K>,
     late: Ticket<K>,
-) -> Seat<K> {
-    let (two, reply) = course.commit_held(two, late);
+) {
+    let reply = course.commit_held(two, late);
     assert!(course.rt; position_of(course.rt, reply) == 3, "another position");
-    course.read_as(two, 1, &seen_of(1, 2, 3))
+    course.read_as(two, 1, &seen_of(1, 2, 3));
 }
 
 /// Three turns overtake a fourth, one after each of its evaluations.
 pub fn overtake_thrice<K: Naming, R: Wait + Abort>(
     course: &Course<'_, '_, K, R>,
-    one: Seat<K>,
-    two: Seat<K>,
+    one: &mut Seat<K>,
+    two: &mut Seat<K>,
     mut tickets: Vec<Ticket<K>>,
-) -> (Seat<K>, Seat<K>, Ticket<K>) {
+) -> Ticket<K> {
     let late = last(course.rt, &mut tickets);
-    let (one, two, late) = overtake(course, one, two, &mut tickets, late, 1);
-    let (one, two, late) = overtake(course, one, two, &mut tickets, late, 2);
+    let late = overtake(course, one, two, &mut tickets, late, 1);
+    let late = overtake(course, one, two, &mut tickets, late, 2);
     overtake(course, one, two, &mut tickets, late, 3)
 }
 
 // The fourth turn is then evaluated under the lock.
 fn three_times<K: Naming, R: Wait + Abort>(
     course: &Course<'_, '_, K, R>,
-    one: Seat<K>,
-    two: Seat<K>,
+    one: &mut Seat<K>,
+    two: &mut Seat<K>,
     tickets: Vec<Ticket<K>>,
-) -> (Seat<K>, Seat<K>) {
-    let (one, two, late) = overtake_thrice(course, one, two, tickets);
-    (one, take_held(course, two, late))
+) {
+    let late = overtake_thrice(course, one, two, tickets);
+    take_held(course, two, late);
 }
 
 // Whether a turn read that register 1 was given 0.
@@ -206,64 +199,61 @@ fn read_zero(log: &TurnLog) -> bool {
 // again it ends.
 fn two_moments<K: Naming, R: Wait + Abort>(
     course: &Course<'_, '_, K, R>,
-    one: Seat<K>,
-    two: Seat<K>,
+    one: &mut Seat<K>,
+    two: &mut Seat<K>,
     mut tickets: Vec<Ticket<K>>,
-) -> (Seat<K>, Seat<K>) {
+) {
     let rt = course.rt;
     let late = last(rt, &mut tickets);
     let early = first(rt, &mut tickets);
-    let (one, two, log) = mixed(course, one, early, two, &late);
+    let log = mixed(course, one, early, two, &late);
     assert!(rt; read_zero(&log), "another value");
-    let (two, reply) = course.give_up(two, late, log);
-    let late = stale(rt, reply, 1);
-    (one, take_at(course, two, late, 1, (0, seen_of(1, 1, 0))))
+    let late = stale(rt, course.give_up(two, late, &log), 1);
+    take_at(course, two, late, 1, (0, seen_of(1, 1, 0)));
 }
 
 // Two turns change a register and change it back after the second seat's turn read it, which is then refused.
 fn there_and_back<K: Naming, R: Wait + Abort>(
     course: &Course<'_, '_, K, R>,
-    one: Seat<K>,
-    two: Seat<K>,
+    one: &mut Seat<K>,
+    two: &mut Seat<K>,
     mut tickets: Vec<Ticket<K>>,
-) -> (Seat<K>, Seat<K>) {
+) {
     let rt = course.rt;
     let late = last(rt, &mut tickets);
-    let one = course.serve_at(one, first(rt, &mut tickets), 0);
-    let (two, log) = course.evaluate(two, &late);
-    let one = course.serve_at(one, first(rt, &mut tickets), 1);
-    let one = course.serve_at(one, first(rt, &mut tickets), 2);
-    let (two, reply) = course.commit(two, late, log);
-    let late = stale(rt, reply, 1);
-    (one, take_at(course, two, late, 3, (1, seen_of(1, 1, 0))))
+    course.serve_at(one, first(rt, &mut tickets), 0);
+    let log = course.evaluate(two, &late);
+    course.serve_at(one, first(rt, &mut tickets), 1);
+    course.serve_at(one, first(rt, &mut tickets), 2);
+    let late = stale(rt, course.commit(two, late, &log), 1);
+    take_at(course, two, late, 3, (1, seen_of(1, 1, 0)));
 }
 
 // A turn gives a register the value that it has, which is no change, after the second seat's turn read it.
 fn equal_value<K: Naming, R: Wait + Abort>(
     course: &Course<'_, '_, K, R>,
-    one: Seat<K>,
-    two: Seat<K>,
+    one: &mut Seat<K>,
+    two: &mut Seat<K>,
     mut tickets: Vec<Ticket<K>>,
-) -> (Seat<K>, Seat<K>) {
+) {
     let rt = course.rt;
     let late = last(rt, &mut tickets);
     let same = last(rt, &mut tickets);
-    let one = course.serve_at(one, first(rt, &mut tickets), 0);
-    let (two, log) = course.evaluate(two, &late);
-    let one = course.serve_at(one, same, 1);
-    let (two, reply) = course.commit(two, late, log);
+    course.serve_at(one, first(rt, &mut tickets), 0);
+    let log = course.evaluate(two, &late);
+    course.serve_at(one, same, 1);
+    let reply = course.commit(two, late, &log);
     assert!(rt; position_of(rt, reply) == 2, "another position");
-    (one, two)
 }
 
 impl Pair for Example {
     fn lead<K: Naming, R: Wait + Abort>(
         &self,
         course: &Course<'_, '_, K, R>,
-        one: Seat<K>,
-        two: Seat<K>,
+        one: &mut Seat<K>,
+        two: &mut Seat<K>,
         tickets: Vec<Ticket<K>>,
-    ) -> (Seat<K>, Seat<K>) {
+    ) {
         match self {
             Example::TooEarly => too_early(course, one, two, tickets),
             Example::FirstInstead => first_instead(course, one, two, tickets),

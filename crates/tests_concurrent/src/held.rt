@@ -22,40 +22,38 @@ const LOOKS: u32 = 1_000_000;
 // Evaluates a ticket's turn under the lock, and tells when that begins and when it is over.
 fn hold<K: Naming, R: Wait + Abort>(
     course: &Course<'_, '_, K, R>,
-    two: Seat<K>,
+    mut two: Seat<K>,
     late: Ticket<K>,
     began: &AtomicBool,
     over: &AtomicBool,
 ) -> Seat<K> {
     began.store(true, Ordering::SeqCst);
-    let (two, reply) = course.commit_held(two, late);
+    let reply = course.commit_held(&mut two, late);
     over.store(true, Ordering::SeqCst);
     position_of(course.rt, reply);
     two
 }
 
 // Reads both registers.
-fn read_both<K: Naming, R: Wait + Abort>(course: &Course<'_, '_, K, R>, one: Seat<K>) -> Seat<K> {
-    let (one, _) = course.read(one, 0);
-    let (one, _) = course.read(one, 1);
-    one
+fn read_both<K: Naming, R: Wait + Abort>(course: &Course<'_, '_, K, R>, one: &mut Seat<K>) {
+    course.read(one, 0);
+    course.read(one, 1);
 }
 
 // How often both registers were read between, until many times.
 fn read_between<K: Naming, R: Wait + Abort>(
     course: &Course<'_, '_, K, R>,
-    one: Seat<K>,
+    mut one: Seat<K>,
     began: &AtomicBool,
     over: &AtomicBool,
 ) -> (Seat<K>, u32) {
-    let mut one = one;
     let mut times = 0u32;
     for _ in 0..LOOKS {
         if over.load(Ordering::SeqCst) {
             break;
         }
         if began.load(Ordering::SeqCst) {
-            one = read_both(course, one);
+            read_both(course, &mut one);
             times = times.saturating_add(1);
         } else {
             yield_now();
@@ -106,15 +104,15 @@ fn run<K: Naming + Send + Sync, R: Threads + Wait + Abort + Sync>(
     requires design { design.now ≡ K.named.code }
 {
     let (gate, mut seats, tickets) = blank.open::<K>(alloc).expect(rt, "memory");
-    let two = seats.pop().expect(rt, "a seat");
-    let one = seats.pop().expect(rt, "a seat");
+    let mut two = seats.pop().expect(rt, "a seat");
+    let mut one = seats.pop().expect(rt, "a seat");
     let course = Course {
         rt,
         alloc,
         gate: &gate,
         design,
     };
-    let (one, two, late) = overtake_thrice(&course, one, two, tickets);
+    let late = overtake_thrice(&course, &mut one, &mut two, tickets);
     design_is_shared();
     let (_one, _two, times) = race(&course, one, two, late);
     times

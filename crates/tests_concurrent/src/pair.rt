@@ -16,10 +16,10 @@ pub trait Pair {
     fn lead<K: Naming, R: Wait + Abort>(
         &self,
         course: &Course<'_, '_, K, R>,
-        one: Seat<K>,
-        two: Seat<K>,
+        one: &mut Seat<K>,
+        two: &mut Seat<K>,
         tickets: Vec<Ticket<K>>,
-    ) -> (Seat<K>, Seat<K>);
+    );
 }
 
 // Opens a gate for two workers, which lead the run, and closes it.
@@ -35,15 +35,15 @@ fn run<K: Naming, R: Wait + Abort, W: Pair>(
     requires workers { K.named.workers ≡ 2 }
 {
     let (gate, mut seats, tickets) = blank.open::<K>(alloc).expect(rt, "memory");
-    let two = seats.pop().expect(rt, "a seat");
-    let one = seats.pop().expect(rt, "a seat");
+    let mut two = seats.pop().expect(rt, "a seat");
+    let mut one = seats.pop().expect(rt, "a seat");
     let course = Course {
         rt,
         alloc,
         gate: &gate,
         design,
     };
-    let (one, two) = work.lead(&course, one, two, tickets);
+    work.lead(&course, &mut one, &mut two, tickets);
     drop(course);
     close_two(rt, alloc, gate, one, two)
 }

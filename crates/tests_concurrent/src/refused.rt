@@ -100,59 +100,52 @@ impl<'c, 'h, 'g, 'd, K: Naming, R: Wait + Abort> Starved<'c, 'h, 'g, 'd, K, R> {
     }
 
     // The turn of a ticket, evaluated with more and more memory.
-    fn evaluate(&mut self, seat: Seat<K>, ticket: &Ticket<K>) -> (Seat<K>, TurnLog)
-        ensures turn { IsTurnLog K.named.code ticket.now.state ticket.now.time result.1 }
-        ensures gave { GaveAll (IsRead K.named.code result.0.fresh) result.1.reads }
-    {
-        let mut seat = seat;
+    fn evaluate(&mut self, seat: &mut Seat<K>, ticket: &Ticket<K>) {
         for count in 0..ROOMS {
             self.leave(count);
-            let (served, log) = self.course.try_evaluate(seat, ticket);
+            let log = self.course.try_evaluate(seat, ticket);
             self.hoard.shut();
-            if let Some(log) = log {
-                return (served, log);
+            if log.is_some() {
+                return;
             }
-            seat = served;
             self.refused.evaluations = self.refused.evaluations.saturating_add(1);
         }
         panic!(self.course.rt; "no turn")
     }
 
     // The same turn, evaluated with memory enough.
-    fn evaluate_again(&mut self, seat: Seat<K>, ticket: &Ticket<K>) -> (Seat<K>, TurnLog)
-        ensures turn { IsTurnLog K.named.code ticket.now.state ticket.now.time result.1 }
-        ensures gave { GaveAll (IsRead K.named.code result.0.fresh) result.1.reads }
+    fn evaluate_again(&mut self, seat: &mut Seat<K>, ticket: &Ticket<K>) -> TurnLog
+        ensures turn { IsTurnLog K.named.code ticket.now.state ticket.now.time result }
+        ensures gave { GaveAll (IsRead K.named.code seat.new.fresh) result.reads }
     {
         assert!(self.course.rt; self.hoard.open(), "a piece of memory");
-        let (seat, log) = self.course.evaluate(seat, ticket);
+        let log = self.course.evaluate(seat, ticket);
         self.hoard.shut();
-        (seat, log)
+        log
     }
 
     // Commits the turn of a ticket in so little memory. A ticket that comes back has as many tries as before.
     fn try_commit(
         &mut self,
-        seat: Seat<K>,
+        seat: &mut Seat<K>,
         ticket: Ticket<K>,
         count: usize,
-    ) -> (Seat<K>, Result<Grant<K>, Ticket<K>>) {
+    ) -> Result<Grant<K>, Ticket<K>> {
         let event = ticket.event();
-        let (seat, log) = self.evaluate_again(seat, &ticket);
+        let log = self.evaluate_again(seat, &ticket);
         self.leave(count);
-        let (seat, reply) = self.course.commit(seat, ticket, log);
+        let reply = self.course.commit(seat, ticket, &log);
         self.hoard.shut();
-        (seat, granted(self.course.rt, reply, event))
+        granted(self.course.rt, reply, event)
     }
 
     // Commits the turn of a ticket with more and more memory. A ticket that comes back is evaluated again.
-    fn commit(&mut self, seat: Seat<K>, ticket: Ticket<K>) -> (Seat<K>, Grant<K>) {
-        let (mut seat, _log) = self.evaluate(seat, &ticket);
+    fn commit(&mut self, seat: &mut Seat<K>, ticket: Ticket<K>) -> Grant<K> {
+        self.evaluate(seat, &ticket);
         let mut ticket = ticket;
         for count in 0..ROOMS {
-            let (served, answer) = self.try_commit(seat, ticket, count);
-            seat = served;
-            match answer {
-                Ok(grant) => return (seat, grant),
+            match self.try_commit(seat, ticket, count) {
+                Ok(grant) => return grant,
                 Err(back) => ticket = back,
             }
             self.refused.commits = self.refused.commits.saturating_add(1);
@@ -209,24 +202,21 @@ impl<'c, 'h, 'g, 'd, K: Naming, R: Wait + Abort> Starved<'c, 'h, 'g, 'd, K, R> {
     }
 
     // One entry more, where the run isn't quiet.
-    fn step(&mut self, seat: Seat<K>, tickets: &mut Vec<Ticket<K>>) -> (Seat<K>, Option<Grant<K>>) {
+    fn step(&mut self, seat: &mut Seat<K>, tickets: &mut Vec<Ticket<K>>) -> Option<Grant<K>> {
         if tickets.is_empty() {
-            let mut seat = seat;
-            let grant = self.step_alone(&mut seat);
-            return (seat, grant);
+            self.step_alone(seat)
+        } else {
+            Some(self.commit(seat, first(self.course.rt, tickets)))
         }
-        let (seat, grant) = self.commit(seat, first(self.course.rt, tickets));
-        (seat, Some(grant))
     }
 
     // Leads a run to its end. Refusals append nothing.
-    fn lead(&mut self, seat: Seat<K>, mut tickets: Vec<Ticket<K>>) -> Seat<K> {
+    fn lead(&mut self, seat: &mut Seat<K>, mut tickets: Vec<Ticket<K>>) {
         let rt = self.course.rt;
-        let mut seat = seat;
         for position in 0..ENTRIES {
-            let (served, grant) = self.step(seat, &mut tickets);
-            seat = served;
-            let Some(grant) = grant else { return seat };
+            let Some(grant) = self.step(seat, &mut tickets) else {
+                return;
+            };
             assert!(rt;
                 grant.position == position as u64,
                 "entries before this one"
@@ -267,9 +257,9 @@ impl Alone for Starving {
     fn lead<K: Naming, R: Wait + Abort>(
         &mut self,
         course: &Course<'_, '_, K, R>,
-        seat: Seat<K>,
+        seat: &mut Seat<K>,
         tickets: Vec<Ticket<K>>,
-    ) -> Seat<K> {
+    ) {
         let held = roomy(course.rt, course.alloc, tickets);
         let mut hoard = take_all(course.rt, course.alloc);
         let mut starved = Starved {
@@ -277,9 +267,8 @@ impl Alone for Starving {
             hoard: &mut hoard,
             refused: self.refused,
         };
-        let seat = starved.lead(seat, held);
+        starved.lead(seat, held);
         self.refused = starved.refused;
-        seat
     }
 }
 

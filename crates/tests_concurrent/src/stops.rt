@@ -52,38 +52,34 @@ fn changed<K: Naming>(rt: &impl Abort, rest: Rest<K>) -> Grant<K> {
 // Appends one entry: the turn of the first ticket, or else the change of the regions that is due.
 fn step<K: Naming, R: Wait + Abort>(
     course: &Course<'_, '_, K, R>,
-    seat: Seat<K>,
+    seat: &mut Seat<K>,
     tickets: &mut Vec<Ticket<K>>,
-) -> Seat<K> {
-    let mut seat = seat;
+) {
+    let rt = course.rt;
     if tickets.is_empty() {
-        let rest = course.gate.rest(course.rt, course.alloc, &mut seat);
-        *tickets = changed(course.rt, rest).tickets;
-        return seat;
+        let rest = course.gate.rest(rt, course.alloc, seat);
+        *tickets = changed(rt, rest).tickets;
+    } else {
+        let reply = course.serve(seat, first(rt, tickets));
+        keep(rt, tickets, accepted(rt, reply).tickets);
     }
-    let (seat, reply) = course.serve(seat, first(course.rt, tickets));
-    keep(course.rt, tickets, accepted(course.rt, reply).tickets);
-    seat
 }
 
 // Appends so many entries, of which seat 0 appends the first, and the seats take turns.
 fn lead<K: Naming, R: Wait + Abort>(
     course: &Course<'_, '_, K, R>,
-    one: Seat<K>,
-    two: Seat<K>,
+    one: &mut Seat<K>,
+    two: &mut Seat<K>,
     tickets: &mut Vec<Ticket<K>>,
     entries: usize,
-) -> (Seat<K>, Seat<K>) {
-    let mut one = one;
-    let mut two = two;
+) {
     for place in 0..entries {
         if place % 2 == 0 {
-            one = step(course, one, tickets);
+            step(course, one, tickets);
         } else {
-            two = step(course, two, tickets);
+            step(course, two, tickets);
         }
     }
-    (one, two)
 }
 
 // A reply tells of this stop.
@@ -132,45 +128,41 @@ fn assert_over<K: Naming, R: Wait + Abort>(
 // Each ticket is refused for this stop.
 fn assert_refused<K: Naming, R: Wait + Abort>(
     course: &Course<'_, '_, K, R>,
-    seat: Seat<K>,
+    seat: &mut Seat<K>,
     tickets: Vec<Ticket<K>>,
     why: Why,
-) -> Seat<K> {
-    let mut seat = seat;
+) {
     for ticket in tickets {
-        let (served, reply) = course.serve(seat, ticket);
+        let reply = course.serve(seat, ticket);
         assert_reply(course.rt, reply, why);
-        seat = served;
     }
-    seat
 }
 
 // Seat 1 stops the run after seat 0 has evaluated a ticket's turn.
 fn stop_before_commit<K: Naming, R: Wait + Abort>(
     course: &Course<'_, '_, K, R>,
-    one: Seat<K>,
+    one: &mut Seat<K>,
     two: &mut Seat<K>,
     ticket: Ticket<K>,
-) -> Seat<K> {
-    let (one, log) = course.evaluate(one, &ticket);
+) {
+    let log = course.evaluate(one, &ticket);
     course.gate.stop(course.rt, two);
-    let (one, reply) = course.commit(one, ticket, log);
+    let reply = course.commit(one, ticket, &log);
     assert_reply(course.rt, reply, Why::Memory);
-    one
 }
 
 // Seat 1 stops the run. Seat 0 has evaluated the first ticket's turn before.
 fn stop_between<K: Naming, R: Wait + Abort>(
     course: &Course<'_, '_, K, R>,
-    one: Seat<K>,
+    one: &mut Seat<K>,
     two: &mut Seat<K>,
     tickets: &mut Vec<Ticket<K>>,
-) -> Seat<K> {
+) {
     if tickets.is_empty() {
         course.gate.stop(course.rt, two);
-        return one;
+    } else {
+        stop_before_commit(course, one, two, first(course.rt, tickets));
     }
-    stop_before_commit(course, one, two, first(course.rt, tickets))
 }
 
 // How the run of the glitch ends that is stopped after so many entries: it is quiet after its last one.
@@ -185,77 +177,73 @@ fn end_after(entries: usize) -> End {
 // Seat 1 stops the run of the glitch, and then seat 0 does so too.
 fn stopped_after<K: Naming, R: Wait + Abort>(
     course: &Course<'_, '_, K, R>,
-    one: Seat<K>,
-    two: Seat<K>,
+    one: &mut Seat<K>,
+    two: &mut Seat<K>,
     mut tickets: Vec<Ticket<K>>,
     entries: usize,
-) -> (Seat<K>, Seat<K>) {
-    let (one, mut two) = lead(course, one, two, &mut tickets, entries);
-    let mut one = stop_between(course, one, &mut two, &mut tickets);
-    course.gate.stop(course.rt, &mut one);
-    let mut one = assert_refused(course, one, tickets, Why::Memory);
+) {
+    lead(course, one, two, &mut tickets, entries);
+    stop_between(course, one, two, &mut tickets);
+    course.gate.stop(course.rt, one);
+    assert_refused(course, one, tickets, Why::Memory);
     let end = end_after(entries);
-    assert_over(course, &mut one, end, entries as u64);
-    assert_over(course, &mut two, end, entries as u64);
-    (one, two)
+    assert_over(course, one, end, entries as u64);
+    assert_over(course, two, end, entries as u64);
 }
 
 // A journal that is full stops the run. A stop for memory after that changes nothing.
 fn full<K: Naming, R: Wait + Abort>(
     course: &Course<'_, '_, K, R>,
-    one: Seat<K>,
-    two: Seat<K>,
+    one: &mut Seat<K>,
+    two: &mut Seat<K>,
     mut tickets: Vec<Ticket<K>>,
     entries: usize,
-) -> (Seat<K>, Seat<K>) {
+) {
     let end = End::Stopped(Why::Entries);
-    let (one, mut two) = lead(course, one, two, &mut tickets, entries);
-    let mut one = assert_refused(course, one, tickets, Why::Entries);
-    assert_over(course, &mut one, end, entries as u64);
-    course.gate.stop(course.rt, &mut two);
-    course.gate.stop(course.rt, &mut one);
-    assert_over(course, &mut two, end, entries as u64);
-    (one, two)
+    lead(course, one, two, &mut tickets, entries);
+    assert_refused(course, one, tickets, Why::Entries);
+    assert_over(course, one, end, entries as u64);
+    course.gate.stop(course.rt, two);
+    course.gate.stop(course.rt, one);
+    assert_over(course, two, end, entries as u64);
 }
 
 // A turn that was refused three times isn't evaluated any more.
 fn before_held_turn<K: Naming, R: Wait + Abort>(
     course: &Course<'_, '_, K, R>,
-    one: Seat<K>,
-    two: Seat<K>,
+    one: &mut Seat<K>,
+    two: &mut Seat<K>,
     tickets: Vec<Ticket<K>>,
-) -> (Seat<K>, Seat<K>) {
-    let (mut one, two, late) = overtake_thrice(course, one, two, tickets);
-    course.gate.stop(course.rt, &mut one);
-    let (two, reply) = course.commit_held(two, late);
+) {
+    let late = overtake_thrice(course, one, two, tickets);
+    course.gate.stop(course.rt, one);
+    let reply = course.commit_held(two, late);
     assert_reply(course.rt, reply, Why::Memory);
-    (one, two)
 }
 
 // A turn that is too long for the reads that it had tells of the stop.
 fn before_long_turn<K: Naming, R: Wait + Abort>(
     course: &Course<'_, '_, K, R>,
-    one: Seat<K>,
-    two: Seat<K>,
+    one: &mut Seat<K>,
+    two: &mut Seat<K>,
     mut tickets: Vec<Ticket<K>>,
-) -> (Seat<K>, Seat<K>) {
+) {
     let late = last(course.rt, &mut tickets);
     let early = first(course.rt, &mut tickets);
-    let (mut one, two, log) = mixed(course, one, early, two, &late);
-    course.gate.stop(course.rt, &mut one);
-    let (two, reply) = course.give_up(two, late, log);
+    let log = mixed(course, one, early, two, &late);
+    course.gate.stop(course.rt, one);
+    let reply = course.give_up(two, late, &log);
     assert_reply(course.rt, reply, Why::Memory);
-    (one, two)
 }
 
 impl Pair for Example {
     fn lead<K: Naming, R: Wait + Abort>(
         &self,
         course: &Course<'_, '_, K, R>,
-        one: Seat<K>,
-        two: Seat<K>,
+        one: &mut Seat<K>,
+        two: &mut Seat<K>,
         tickets: Vec<Ticket<K>>,
-    ) -> (Seat<K>, Seat<K>) {
+    ) {
         match self {
             Example::StoppedAfter(entries) => stopped_after(course, one, two, tickets, *entries),
             Example::Full(entries) => full(course, one, two, tickets, *entries),

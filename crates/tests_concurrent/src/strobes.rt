@@ -83,18 +83,17 @@ impl Alone for Strobes {
     fn lead<K: Naming, R: Wait + Abort>(
         &mut self,
         course: &Course<'_, '_, K, R>,
-        seat: Seat<K>,
+        seat: &mut Seat<K>,
         mut tickets: Vec<Ticket<K>>,
-    ) -> Seat<K> {
+    ) {
         let rt = course.rt;
-        let mut seat = course.serve_at(seat, last(rt, &mut tickets), 0);
-        change_alone(course, &mut seat, Entry::ActivateNba, 1);
-        update(course, &mut seat);
-        change_alone(course, &mut seat, Entry::ActivateMonitor, 3);
-        let mut tickets = change_at(course, &mut seat, Entry::Advance(1), 4);
-        let mut seat = course.serve_at(seat, last(rt, &mut tickets), 5);
-        change_alone(course, &mut seat, Entry::ActivateMonitor, 6);
-        seat
+        course.serve_at(seat, last(rt, &mut tickets), 0);
+        change_alone(course, seat, Entry::ActivateNba, 1);
+        update(course, seat);
+        change_alone(course, seat, Entry::ActivateMonitor, 3);
+        let mut tickets = change_at(course, seat, Entry::Advance(1), 4);
+        course.serve_at(seat, last(rt, &mut tickets), 5);
+        change_alone(course, seat, Entry::ActivateMonitor, 6);
     }
 }
 

@@ -93,17 +93,16 @@ impl Alone for Updates {
     fn lead<K: Naming, R: Wait + Abort>(
         &mut self,
         course: &Course<'_, '_, K, R>,
-        seat: Seat<K>,
+        seat: &mut Seat<K>,
         mut tickets: Vec<Ticket<K>>,
-    ) -> Seat<K> {
+    ) {
         let rt = course.rt;
-        let seat = course.serve_at(seat, last(rt, &mut tickets), 0);
-        let mut seat = course.serve_at(seat, last(rt, &mut tickets), 1);
-        assert!(rt; rests(course, &mut seat), "no change of the regions");
-        let woken = update_all(course, &mut seat);
-        let mut seat = course.serve_at(seat, woken, 8);
-        assert!(rt; !rests(course, &mut seat), "not quiet");
-        seat
+        course.serve_at(seat, last(rt, &mut tickets), 0);
+        course.serve_at(seat, last(rt, &mut tickets), 1);
+        assert!(rt; rests(course, seat), "no change of the regions");
+        let woken = update_all(course, seat);
+        course.serve_at(seat, woken, 8);
+        assert!(rt; !rests(course, seat), "not quiet");
     }
 }
 
