@@ -5,12 +5,11 @@
 
 mod cells;
 mod deques;
-mod journal_text;
 mod run;
 mod sources;
-mod steps;
 mod timing;
 mod turns;
+mod updates;
 mod vectors;
 
 use std::sync::Wait;
@@ -22,9 +21,7 @@ use timing::{How, must};
 enum What {
     Vectors,
     Turn,
-    Apply,
     Update,
-    JournalText,
     Cells,
     Deques,
 }
@@ -32,9 +29,7 @@ enum What {
 const MEASURES: &[(&str, What)] = &[
     ("vectors", What::Vectors),
     ("turn", What::Turn),
-    ("apply", What::Apply),
     ("update", What::Update),
-    ("journal-text", What::JournalText),
     ("cells", What::Cells),
     ("deques", What::Deques),
 ];
@@ -43,9 +38,7 @@ fn make<R: Wait>(rt: &HostRuntime, threads: &R, what: What, how: How) -> io::Res
     match what {
         What::Vectors => vectors::measure(rt, how),
         What::Turn => turns::measure(rt, how),
-        What::Apply => steps::measure(rt, how),
-        What::Update => steps::measure_updates(rt, how),
-        What::JournalText => journal_text::measure(rt, how),
+        What::Update => updates::measure(rt, how),
         What::Cells => cells::measure(rt, threads, how),
         What::Deques => deques::measure(rt, how),
     }

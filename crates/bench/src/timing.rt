@@ -42,7 +42,6 @@ impl Stopwatch {
 pub enum Unit {
     NanosEach,
     MillionASecond,
-    Millis,
 }
 
 /// How work is measured: timed, with as much work as was asked for, or once on a little of it and not timed.
@@ -118,16 +117,6 @@ impl Measure {
     fn each(self) -> u128 {
         u128::from(self.nanos) * 1000 / u128::from(self.amount).max(1)
     }
-
-    /// What is left of such work where that of another measure is a part of it.
-    pub fn without(self, part: Measure) -> Measure {
-        let left = self.each().saturating_sub(part.each());
-        let nanos = left.saturating_mul(u128::from(self.amount)) / 1000;
-        Measure {
-            nanos: nanos.min(u128::from(u64::MAX)) as u64,
-            amount: self.amount,
-        }
-    }
 }
 
 /// Prints a measure, or alone how much work there was where it isn't timed.
@@ -147,7 +136,6 @@ pub fn tell(
     let (thousandths, unit) = match unit {
         Unit::NanosEach => (measure.each(), "ns each"),
         Unit::MillionASecond => (amount * 1_000_000 / nanos.max(1), "million a second"),
-        Unit::Millis => (nanos / 1000, "ms"),
     };
     println!(rt;
         "  {name}: {}.{:03} {unit}",
