@@ -1,6 +1,6 @@
 //! A turn of 60,003 counted steps, evaluated and not applied.
 
-ghost use Rattle.std.specs.Prelude.{◌≡◌, length, map};
+ghost use Rattle.std.specs.Prelude.{◌≡◌, length};
 
 use crate::sources::{design_of, push_adds};
 use crate::timing::{How, Measure, Stopwatch, Unit, tell};
@@ -16,7 +16,7 @@ fn turn(
     design: &Design,
     store: &PlainStore,
 ) -> io::Result<Measure>
-    requires { map length store.now ≡ design.now.widths }
+    requires { length store.now ≡ length design.now.widths }
 {
     if design.processes() == 0 {
         return Ok(Measure::NONE);

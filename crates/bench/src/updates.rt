@@ -16,14 +16,13 @@ struct Driven<'d> {
     active: VecDeque<u64>,
 }
 
-// Puts the evaluations that are active at the start of a run.
-fn put_first(active: &mut VecDeque<u64>, run: &Run<'_>) -> Result<(), AllocError> {
-    for event in 0..256 {
-        if run.state().evaluation(event).is_some() {
-            active.push_back(event)?;
-        }
+// The evaluations that are active at the start of a run: the first of each process.
+fn first_events(alloc: Global, design: &Design) -> Result<VecDeque<u64>, AllocError> {
+    let mut events = VecDeque::new(alloc);
+    for event in 0..design.processes() {
+        events.push_back(event as u64)?;
     }
-    Ok(())
+    Ok(events)
 }
 
 impl Driven<'_> {
@@ -92,11 +91,11 @@ impl Driven<'_> {
 
 // The updates of a run of a design, up to so many entries.
 fn drive(rt: &HostRuntime, how: How, design: &Design, most: u32) -> Result<Measure, AllocError> {
+    let active = first_events(rt.alloc(), design)?;
     let mut driven = Driven {
         run: Run::new(rt.alloc(), design)?,
-        active: VecDeque::new(rt.alloc()),
+        active,
     };
-    put_first(&mut driven.active, &driven.run)?;
     Ok(driven.measure(rt, how, most))
 }
 

@@ -1,14 +1,22 @@
 //! Modules that have a design, and modules that are refused. The program's tests have the tables of faults.
 
 use super::{assert_refused, design};
+use design::Design;
 use std::alloc::Global;
 use std::process::Abort;
 
+// A design has registers of these widths.
+fn assert_widths(rt: &impl Abort, design: &Design, widths: &[u32]) {
+    assert!(rt;
+        design.registers() as usize == widths.len(),
+        "the registers"
+    );
+    assert!(rt; design.widths() == widths, "their widths");
+}
+
 /// The registers of a module that has a design, by the width of each.
 fn assert_registers(rt: &impl Abort, alloc: Global, source: &str, widths: &[u32]) {
-    let found = design(rt, alloc, source);
-    assert!(rt; found.registers() as usize == widths.len(), "{source}");
-    assert!(rt; found.widths() == widths, "{source}");
+    assert_widths(rt, &design(rt, alloc, source), widths);
 }
 
 #[test]

@@ -17,14 +17,19 @@ fn assert_line(rt: &impl Abort, value: &str, found: &str, wanted: &str) {
     assert!(rt; found == wanted, "{value}: {found}");
 }
 
+// The line of a source that shows a value.
+fn assert_shown(rt: &impl Abort, alloc: Global, source: &str, value: &str, line: &str) {
+    let mut held = Held::all(Bits::unknown(8));
+    let log = first_turn(rt, alloc, source, &mut held);
+    assert_line(rt, value, log.lines(), line);
+}
+
 // The value of an expression that a register takes, digit by digit, and a newline.
 fn assert_value(rt: &impl Abort, alloc: Global, target: &str, value: &str, line: &str) {
     let source = format!(in alloc;
         "{HEAD} {target} = {value}; $display(\"%b\", {target}); end endmodule"
     ).expect(rt, "memory");
-    let mut held = Held::all(Bits::unknown(8));
-    let log = first_turn(rt, alloc, source.as_str(), &mut held);
-    assert_line(rt, value, log.lines(), line);
+    assert_shown(rt, alloc, source.as_str(), value, line);
 }
 
 /// A register that takes a value, the value, and the line that shows it.

@@ -5,7 +5,7 @@ use super::replayed::{assert_prints, assert_refuses};
 use super::streams::{ByteReader, ByteWriter};
 use journal::Counted;
 use model::entry::{Entry, Refusal};
-use replay::{Cause, ReplayFault, replay_bytes};
+use replay::{BytesFault, Cause, ReplayFault, replay_bytes};
 use std::alloc::Global;
 use std::io::ErrorKind;
 use std::process::Abort;
@@ -47,7 +47,12 @@ fn left_of(
     });
     let told = replay_bytes(alloc, source, &mut journal, &mut out);
     let taken = out.into_inner().taken;
-    let written = str::from_utf8(&taken).ok().expect(rt, "text");
+    text_of(rt, alloc, &taken, &told)
+}
+
+// What was written, and then the line of the fault.
+fn text_of(rt: &impl Abort, alloc: Global, taken: &[u8], told: &Result<(), BytesFault>) -> String {
+    let written = str::from_utf8(taken).ok().expect(rt, "text");
     match told {
         Ok(()) => String::from_str(alloc, written).expect(rt, "memory"),
         Err(fault) => format!(in alloc; "{written}{fault}").expect(rt, "memory"),
@@ -152,81 +157,85 @@ fn assert_left(rt: &impl Abort, alloc: Global, rows: &[(&[u8], &[u8], &str)]) {
     }
 }
 
+/// Sources and texts of version 1, and what each leaves.
+const ROWS: &[(&[u8], &[u8], &str)] = &[
+    (RACE, b"vsimtx-journal 1\nT 0\nT 1\nT 2\nI\nT 3\n", "1\n"),
+    (RACE, b"vsimtx-journal 1\nT 1\nT 0\nT 2\nI\nT 3\n", "0\n"),
+    (
+        RACE,
+        b"vsimtx-journal 1\nT 0\nT 2\nI\n",
+        "entry 3: J3 region change not due",
+    ),
+    (HI, b"vsimtx-journal 1\nT 0\n", "hi\n"),
+    (
+        HI,
+        b"vsimtx-journal 1\nT 0\nT 0\n",
+        "entry 2: J1 event not active",
+    ),
+    (HI, b"vsimtx-journal 1\nT 00\n", "Q2 journal line 2"),
+    (
+        HI,
+        b"vsimtx-journal 1\nT 0",
+        "Q3 journal ends without newline",
+    ),
+    (HI, b"T 0\n", "Q1 journal header"),
+    (HI, b"vsimtx-journal 1\n", ""),
+    (FINISH, b"vsimtx-journal 1\nT 1\nT 0\n", "c\na\n"),
+    (
+        FINISH,
+        b"vsimtx-journal 1\nT 0\nT 1\n",
+        "entry 2: J6 finished",
+    ),
+    (b"", b"T 0\n", "P2 syntax at token 1"),
+    (
+        b"module t; initial #0 a=1'b0; endmodule",
+        b"",
+        "E1 undeclared a",
+    ),
+    (HI, b"", "Q1 journal header"),
+];
+
 #[test]
 fn replays_bytes(rt: HostRuntime) {
-    let rows: [(&[u8], &[u8], &str); 14] = [
-        (RACE, b"vsimtx-journal 1\nT 0\nT 1\nT 2\nI\nT 3\n", "1\n"),
-        (RACE, b"vsimtx-journal 1\nT 1\nT 0\nT 2\nI\nT 3\n", "0\n"),
-        (
-            RACE,
-            b"vsimtx-journal 1\nT 0\nT 2\nI\n",
-            "entry 3: J3 region change not due",
-        ),
-        (HI, b"vsimtx-journal 1\nT 0\n", "hi\n"),
-        (
-            HI,
-            b"vsimtx-journal 1\nT 0\nT 0\n",
-            "entry 2: J1 event not active",
-        ),
-        (HI, b"vsimtx-journal 1\nT 00\n", "Q2 journal line 2"),
-        (
-            HI,
-            b"vsimtx-journal 1\nT 0",
-            "Q3 journal ends without newline",
-        ),
-        (HI, b"T 0\n", "Q1 journal header"),
-        (HI, b"vsimtx-journal 1\n", ""),
-        (FINISH, b"vsimtx-journal 1\nT 1\nT 0\n", "c\na\n"),
-        (
-            FINISH,
-            b"vsimtx-journal 1\nT 0\nT 1\n",
-            "entry 2: J6 finished",
-        ),
-        (b"", b"T 0\n", "P2 syntax at token 1"),
-        (
-            b"module t; initial #0 a=1'b0; endmodule",
-            b"",
-            "E1 undeclared a",
-        ),
-        (HI, b"", "Q1 journal header"),
-    ];
-    assert_left(&rt, rt.alloc(), &rows);
+    assert_left(&rt, rt.alloc(), ROWS);
 }
+
+/// The same of version 2, and of a version that there isn't.
+const ROWS_OF_VERSION_2: &[(&[u8], &[u8], &str)] = &[
+    (
+        RACE,
+        b"vsimtx-journal 2\nT 1\nT 0\nT 2\nI\nT 3\nE 5\n",
+        "0\n",
+    ),
+    (HI, b"vsimtx-journal 2\nT 0\nE 1\n", "hi\n"),
+    (HI, b"vsimtx-journal 2\nE 0\n", ""),
+    (
+        STROBE,
+        b"vsimtx-journal 2\nT 0\nN\nU 1\nM\nE 4\n",
+        "d 0\ns 1\n",
+    ),
+    (
+        STROBE,
+        b"vsimtx-journal 2\nT 0\nM\nE 2\n",
+        "entry 2: J3 region change not due",
+    ),
+    (
+        STROBE,
+        b"vsimtx-journal 1\nT 0\nN\nU 1\nM\n",
+        "Q2 journal line 5",
+    ),
+    (HI, b"vsimtx-journal 2\nT 0\n", "Q7 journal cut"),
+    (
+        HI,
+        b"vsimtx-journal 2\nT 0\nE 2\n",
+        "Q6 journal count at line 3",
+    ),
+    (HI, b"vsimtx-journal 3\nT 0\nE 1\n", "Q1 journal header"),
+];
 
 #[test]
 fn replays_bytes_of_version_2(rt: HostRuntime) {
-    let rows: [(&[u8], &[u8], &str); 9] = [
-        (
-            RACE,
-            b"vsimtx-journal 2\nT 1\nT 0\nT 2\nI\nT 3\nE 5\n",
-            "0\n",
-        ),
-        (HI, b"vsimtx-journal 2\nT 0\nE 1\n", "hi\n"),
-        (HI, b"vsimtx-journal 2\nE 0\n", ""),
-        (
-            STROBE,
-            b"vsimtx-journal 2\nT 0\nN\nU 1\nM\nE 4\n",
-            "d 0\ns 1\n",
-        ),
-        (
-            STROBE,
-            b"vsimtx-journal 2\nT 0\nM\nE 2\n",
-            "entry 2: J3 region change not due",
-        ),
-        (
-            STROBE,
-            b"vsimtx-journal 1\nT 0\nN\nU 1\nM\n",
-            "Q2 journal line 5",
-        ),
-        (HI, b"vsimtx-journal 2\nT 0\n", "Q7 journal cut"),
-        (
-            HI,
-            b"vsimtx-journal 2\nT 0\nE 2\n",
-            "Q6 journal count at line 3",
-        ),
-        (HI, b"vsimtx-journal 3\nT 0\nE 1\n", "Q1 journal header"),
-    ];
-    assert_left(&rt, rt.alloc(), &rows);
+    assert_left(&rt, rt.alloc(), ROWS_OF_VERSION_2);
 }
 
 #[test]

@@ -31,6 +31,13 @@ fn assert_writes(rt: &impl Abort, log: &TurnLog, wanted: &[(RegId, Bits)]) {
     assert!(rt; log.writes() == wanted);
 }
 
+// A turn read register 1 and then register 0, and wrote their sum.
+fn assert_reads_two(rt: &impl Abort, log: &TurnLog) {
+    assert_read_at(rt, log.reads(), 1, 0);
+    assert_read_at(rt, log.reads(), 0, 1);
+    assert_writes(rt, log, &[(2, Bits::from_u64(8, 9))]);
+}
+
 #[test]
 fn reads_a_register_once(rt: HostRuntime) {
     one_value_is_left();
@@ -38,9 +45,7 @@ fn reads_a_register_once(rt: HostRuntime) {
     let mut held = three();
     let log = first_turn(&rt, rt.alloc(), source, &mut held);
     assert_number(&rt, held.reads, 2);
-    assert_read_at(&rt, log.reads(), 1, 0);
-    assert_read_at(&rt, log.reads(), 0, 1);
-    assert_writes(&rt, &log, &[(2, Bits::from_u64(8, 9))]);
+    assert_reads_two(&rt, &log);
 }
 
 // The first turn of the first process, in a log that is kept.
@@ -74,14 +79,18 @@ fn assert_shows(
     assert_number(rt, held.reads, reads);
 }
 
+// In a log that is kept each turn reads the other register anew.
+fn assert_reads_anew(rt: &impl Abort, alloc: Global, log: &mut TurnLog, held: &mut Held) {
+    assert_shows(rt, alloc, log, TWO, held, 1);
+    assert_shows(rt, alloc, log, TWO, held, 2);
+    assert_shows(rt, alloc, log, THREE, held, 3);
+    assert_shows(rt, alloc, log, TWO, held, 4);
+}
+
 #[test]
 fn knows_nothing_of_the_turn_before(rt: HostRuntime) {
     let mut log = TurnLog::new(rt.alloc());
-    let mut held = three();
-    assert_shows(&rt, rt.alloc(), &mut log, TWO, &mut held, 1);
-    assert_shows(&rt, rt.alloc(), &mut log, TWO, &mut held, 2);
-    assert_shows(&rt, rt.alloc(), &mut log, THREE, &mut held, 3);
-    assert_shows(&rt, rt.alloc(), &mut log, TWO, &mut held, 4);
+    assert_reads_anew(&rt, rt.alloc(), &mut log, &mut three());
 }
 
 /// One read, one write, one nonblocking assignment and one line.
@@ -119,12 +128,17 @@ fn assert_fills(
     assert_sizes(rt, log, wanted);
 }
 
+// A log that is kept is empty after a turn that does nothing.
+fn assert_empties(rt: &impl Abort, alloc: Global, log: &mut TurnLog) {
+    assert_fills(rt, alloc, log, FULL, [1, 1, 1, 1, 2]);
+    assert_fills(rt, alloc, log, EMPTY, [0; 5]);
+    assert_fills(rt, alloc, log, FULL, [1, 1, 1, 1, 2]);
+}
+
 #[test]
 fn empties_a_log_that_is_kept(rt: HostRuntime) {
     let mut log = TurnLog::new(rt.alloc());
-    assert_fills(&rt, rt.alloc(), &mut log, FULL, [1, 1, 1, 1, 2]);
-    assert_fills(&rt, rt.alloc(), &mut log, EMPTY, [0; 5]);
-    assert_fills(&rt, rt.alloc(), &mut log, FULL, [1, 1, 1, 1, 2]);
+    assert_empties(&rt, rt.alloc(), &mut log);
 }
 
 // Whether the first turn of the first process is over, in a log that is kept, where all other memory is taken.
@@ -142,28 +156,37 @@ fn is_over_without_memory(
 }
 
 // A turn that is refused memory in a new log takes none in one that an earlier turn has grown.
+fn assert_grows(rt: &impl Abort, alloc: Global, design: &Design, log: &mut TurnLog) {
+    assert!(rt;
+        !is_over_without_memory(rt, alloc, design, log),
+        "a new log"
+    );
+    assert_fills(rt, alloc, log, FULL, [1, 1, 1, 1, 2]);
+    assert!(rt;
+        is_over_without_memory(rt, alloc, design, log),
+        "a grown log"
+    );
+    assert_sizes(rt, log, [1, 1, 1, 1, 2]);
+}
+
 #[test]
 fn takes_no_memory_in_a_log_that_has_grown(rt: HostRuntime) {
     let design = design_of(&rt, rt.alloc(), FULL.as_bytes());
     let mut log = TurnLog::new(rt.alloc());
-    assert!(rt;
-        !is_over_without_memory(&rt, rt.alloc(), &design, &mut log),
-        "a new log"
-    );
-    assert_fills(&rt, rt.alloc(), &mut log, FULL, [1, 1, 1, 1, 2]);
-    assert!(rt;
-        is_over_without_memory(&rt, rt.alloc(), &design, &mut log),
-        "a grown log"
-    );
-    assert_sizes(&rt, &log, [1, 1, 1, 1, 2]);
+    assert_grows(&rt, rt.alloc(), &design, &mut log);
 }
 
 // After a write of `b` a turn shows values, of which it reads so many, and ends behind its two statements.
 fn assert_known(rt: &impl Abort, alloc: Global, source: &str, line: &str, reads: u64) {
     let mut held = three();
     let log = first_turn(rt, alloc, source, &mut held);
-    assert_text(rt, log.lines(), line);
     assert_number(rt, held.reads, reads);
+    assert_wrote_one(rt, &log, line);
+}
+
+// A turn of two statements wrote one register and shows this line.
+fn assert_wrote_one(rt: &impl Abort, log: &TurnLog, line: &str) {
+    assert_text(rt, log.lines(), line);
     assert_length(rt, log.next().place, 2);
     assert_length(rt, log.writes().len(), 1);
     assert_length(rt, log.nets().len(), 1);
@@ -194,15 +217,20 @@ fn assert_net(rt: &impl Abort, alloc: Global, net: Option<&Net>, wanted: (RegId,
     assert_digits(rt, alloc, &net.last, wanted.3);
 }
 
+// Six writes are the nets of two registers, in the order of their first writes.
+fn assert_two_nets(rt: &impl Abort, alloc: Global, log: &TurnLog) {
+    assert_length(rt, log.writes().len(), 6);
+    assert_length(rt, log.nets().len(), 2);
+    assert_net(rt, alloc, log.nets().get(0), (1, "0101", 2, "0101"));
+    assert_net(rt, alloc, log.nets().get(1), (0, "0001", 0, "0001"));
+}
+
 #[test]
 fn nets_of_two_registers(rt: HostRuntime) {
     let source =
         "module t; reg [3:0] a, b; initial begin b = 4'd5; a = 4'd1; b = 4'd5; b = 4'd6; a = 4'd1; b = 4'd5; end endmodule";
     let log = first_turn(&rt, rt.alloc(), source, &mut three());
-    assert_length(&rt, log.writes().len(), 6);
-    assert_length(&rt, log.nets().len(), 2);
-    assert_net(&rt, rt.alloc(), log.nets().get(0), (1, "0101", 2, "0101"));
-    assert_net(&rt, rt.alloc(), log.nets().get(1), (0, "0001", 0, "0001"));
+    assert_two_nets(&rt, rt.alloc(), &log);
 }
 
 /// The steps of an expression are a part of all steps: none where its ends are turned, or past the last step. More than 128
@@ -224,13 +252,25 @@ fn prints_a_line(rt: HostRuntime) {
     let source = "module t; reg [5:0] a; initial $display(\"a%b %h%0d\", a, a, a); endmodule";
     let mut held = Held::all(Bits::from_u64(6, 43));
     let log = first_turn(&rt, rt.alloc(), source, &mut held);
-    assert_text(&rt, log.lines(), "a101011 2b43\n");
-    assert_length(&rt, log.next().place, 1);
+    assert_prints(&rt, &log, "a101011 2b43\n");
+}
+
+// A turn of one statement prints this.
+fn assert_prints(rt: &impl Abort, log: &TurnLog, lines: &str) {
+    assert_text(rt, log.lines(), lines);
+    assert_length(rt, log.next().place, 1);
 }
 
 // A process is over, and the simulation isn't.
 fn assert_ended(rt: &impl Abort, log: &TurnLog) {
     assert!(rt; matches!(log.suspend(), Suspend::Ended) && !log.is_finish());
+}
+
+// A loop of two turns is over.
+fn assert_two_turns(rt: &impl Abort, log: &TurnLog) {
+    assert_number(rt, u64::from(log.count()), 5);
+    assert_length(rt, log.writes().len(), 2);
+    assert_ended(rt, log);
 }
 
 #[test]
@@ -239,10 +279,8 @@ fn loops_to_the_end(rt: HostRuntime) {
         "module t; reg [3:0] r; initial while (r < 4'd5) begin r = r + 4'd1; end endmodule";
     let mut held = three();
     let log = first_turn(&rt, rt.alloc(), source, &mut held);
-    assert_number(&rt, u64::from(log.count()), 5);
-    assert_ended(&rt, &log);
     assert_number(&rt, held.reads, 1);
-    assert_length(&rt, log.writes().len(), 2);
+    assert_two_turns(&rt, &log);
 }
 
 /// When the first nonblocking assignment is due.

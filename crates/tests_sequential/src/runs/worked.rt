@@ -21,6 +21,11 @@ fn assert_turn(
 ) {
     let mut held = Held::all(Bits::unknown(1));
     let log = first_turn(rt, alloc, source, &mut held);
+    assert_log(rt, &log, reads, lines, count);
+}
+
+// A turn read so many registers, prints this, and has so many counted steps.
+fn assert_log(rt: &impl Abort, log: &TurnLog, reads: usize, lines: &str, count: u32) {
     assert_length(rt, log.reads().len(), reads);
     assert_text(rt, log.lines(), lines);
     assert_number(rt, u64::from(log.count()), u64::from(count));
@@ -48,6 +53,12 @@ fn assert_strobes(rt: &impl Abort, log: &TurnLog, wanted: &[usize]) {
     assert!(rt; log.strobes() == wanted);
 }
 
+// A turn has two strobes, and read register 1 alone.
+fn assert_two_strobes(rt: &impl Abort, log: &TurnLog) {
+    assert_strobes(rt, log, &[0, 4]);
+    assert_read_at(rt, log.reads(), 1, 0);
+}
+
 #[test]
 fn reads_and_prints_nothing_for_a_strobe(rt: HostRuntime) {
     let source =
@@ -55,8 +66,7 @@ fn reads_and_prints_nothing_for_a_strobe(rt: HostRuntime) {
     assert_turn(&rt, rt.alloc(), source, 1, "x\n", 4);
     let mut held = Held::all(Bits::unknown(1));
     let log = first_turn(&rt, rt.alloc(), source, &mut held);
-    assert_strobes(&rt, &log, &[0, 4]);
-    assert_read_at(&rt, log.reads(), 1, 0);
+    assert_two_strobes(&rt, &log);
 }
 
 #[test]
@@ -139,6 +149,13 @@ fn unknown_digits_are_the_same(rt: HostRuntime) {
     assert_turn(&rt, rt.alloc(), DIFFER, 2, "", 1);
 }
 
+// A turn read two registers in their order, and this of each.
+fn assert_both_seen(rt: &impl Abort, log: &TurnLog, first: &Seen, second: &Seen) {
+    assert_length(rt, log.reads().len(), 2);
+    assert_seen(rt, log.reads(), 0, 0, first);
+    assert_seen(rt, log.reads(), 1, 1, second);
+}
+
 #[test]
 fn reads_before_it_is_too_long(rt: HostRuntime) {
     let first = Seen {
@@ -153,9 +170,7 @@ fn reads_before_it_is_too_long(rt: HostRuntime) {
     held.registers[0] = first;
     held.registers[1] = second;
     let log = too_long(&rt, rt.alloc(), DIFFER, &mut held);
-    assert_length(&rt, log.reads().len(), 2);
-    assert_seen(&rt, log.reads(), 0, 0, &first);
-    assert_seen(&rt, log.reads(), 1, 1, &second);
+    assert_both_seen(&rt, &log, &first, &second);
 }
 
 // The first turn of a process is too long, and reads no register.
