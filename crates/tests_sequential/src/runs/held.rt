@@ -110,9 +110,17 @@ pub fn turn_from(
     log
 }
 
-/// The first turn of the first process of a source, at time 7.
-pub fn first_turn(rt: &impl Abort, alloc: Global, source: &str, held: &mut Held) -> TurnLog {
-    let (log, turn) = try_first_turn(rt, alloc, source, 7, held);
+/// A turn, and the registers that it read.
+#[derive(Drop)]
+pub struct Taken {
+    pub held: Held,
+    pub log: TurnLog,
+}
+
+/// The first turn of the first process of a source, at time 7, where every register has the same value.
+pub fn first_turn(rt: &impl Abort, alloc: Global, source: &str, value: Bits) -> Taken {
+    let mut held = Held::all(value);
+    let (log, turn) = try_first_turn(rt, alloc, source, 7, &mut held);
     assert!(rt; turn.is_ok(), "a short turn");
-    log
+    Taken { held, log }
 }

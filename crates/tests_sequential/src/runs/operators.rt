@@ -1,7 +1,7 @@
 //! The values of operators (5.1), as a turn computes and prints them.
 
 use super::compare::assert_text;
-use super::held::{Held, first_turn, text_of_fault};
+use super::held::{first_turn, text_of_fault};
 use frontend::read_design;
 use logic4::bits::Bits;
 use std::alloc::Global;
@@ -19,9 +19,8 @@ fn assert_line(rt: &impl Abort, value: &str, found: &str, wanted: &str) {
 
 // The line of a source that shows a value.
 fn assert_shown(rt: &impl Abort, alloc: Global, source: &str, value: &str, line: &str) {
-    let mut held = Held::all(Bits::unknown(8));
-    let log = first_turn(rt, alloc, source, &mut held);
-    assert_line(rt, value, log.lines(), line);
+    let taken = first_turn(rt, alloc, source, Bits::unknown(8));
+    assert_line(rt, value, taken.log.lines(), line);
 }
 
 // The value of an expression that a register takes, digit by digit, and a newline.

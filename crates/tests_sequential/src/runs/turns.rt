@@ -9,7 +9,7 @@ ghost use Rattle.design.specs.declared.code.Op.TheVariants.{Load, BinaryRegister
 ghost use Rattle.design.specs.Steps.{below, piece, run_ops};
 
 use super::compare::{assert_length, assert_number, assert_text};
-use super::held::{Held, assert_read_at, beginning, design_of, first_turn, turn_from};
+use super::held::{Held, Taken, assert_read_at, beginning, design_of, first_turn, turn_from};
 use design::{Design, ProcState, RegId};
 use hoard::Hoard;
 use logic4::bits::Bits;
@@ -19,6 +19,11 @@ use turn::{Net, Suspend, TurnLog, run_turn};
 
 fn three() -> Held {
     Held::all(Bits::from_u64(4, 3))
+}
+
+// The first turn of a source, where every register is 3.
+fn turn_on_three(rt: &impl Abort, alloc: Global, source: &str) -> Taken {
+    first_turn(rt, alloc, source, Bits::from_u64(4, 3))
 }
 
 /// The steps of `b + a + b` leave one vector on an empty stack, and so nothing below it.
@@ -31,21 +36,19 @@ fn assert_writes(rt: &impl Abort, log: &TurnLog, wanted: &[(RegId, Bits)]) {
     assert!(rt; log.writes() == wanted);
 }
 
-// A turn read register 1 and then register 0, and wrote their sum.
-fn assert_reads_two(rt: &impl Abort, log: &TurnLog) {
-    assert_read_at(rt, log.reads(), 1, 0);
-    assert_read_at(rt, log.reads(), 0, 1);
-    assert_writes(rt, log, &[(2, Bits::from_u64(8, 9))]);
+// A turn read register 1 and then register 0, each once, and wrote their sum.
+fn assert_reads_two(rt: &impl Abort, taken: &Taken) {
+    assert_number(rt, taken.held.reads, 2);
+    assert_read_at(rt, taken.log.reads(), 1, 0);
+    assert_read_at(rt, taken.log.reads(), 0, 1);
+    assert_writes(rt, &taken.log, &[(2, Bits::from_u64(8, 9))]);
 }
 
 #[test]
 fn reads_a_register_once(rt: HostRuntime) {
     one_value_is_left();
     let source = "module t; reg [7:0] a, b, q; initial q = b + a + b; endmodule";
-    let mut held = three();
-    let log = first_turn(&rt, rt.alloc(), source, &mut held);
-    assert_number(&rt, held.reads, 2);
-    assert_reads_two(&rt, &log);
+    assert_reads_two(&rt, &turn_on_three(&rt, rt.alloc(), source));
 }
 
 // The first turn of the first process, in a log that is kept.
@@ -155,6 +158,12 @@ fn is_over_without_memory(
     run_turn(log, design, &state, 7, &mut held).is_ok()
 }
 
+// The same of a log of its own.
+fn assert_grown(rt: &impl Abort, alloc: Global, design: &Design) {
+    let mut log = TurnLog::new(alloc);
+    assert_grows(rt, alloc, design, &mut log);
+}
+
 // A turn that is refused memory in a new log takes none in one that an earlier turn has grown.
 fn assert_grows(rt: &impl Abort, alloc: Global, design: &Design, log: &mut TurnLog) {
     assert!(rt;
@@ -172,20 +181,18 @@ fn assert_grows(rt: &impl Abort, alloc: Global, design: &Design, log: &mut TurnL
 #[test]
 fn takes_no_memory_in_a_log_that_has_grown(rt: HostRuntime) {
     let design = design_of(&rt, rt.alloc(), FULL.as_bytes());
-    let mut log = TurnLog::new(rt.alloc());
-    assert_grows(&rt, rt.alloc(), &design, &mut log);
+    assert_grown(&rt, rt.alloc(), &design);
 }
 
 // After a write of `b` a turn shows values, of which it reads so many, and ends behind its two statements.
 fn assert_known(rt: &impl Abort, alloc: Global, source: &str, line: &str, reads: u64) {
-    let mut held = three();
-    let log = first_turn(rt, alloc, source, &mut held);
-    assert_number(rt, held.reads, reads);
-    assert_wrote_one(rt, &log, line);
+    assert_wrote_one(rt, &turn_on_three(rt, alloc, source), line, reads);
 }
 
-// A turn of two statements wrote one register and shows this line.
-fn assert_wrote_one(rt: &impl Abort, log: &TurnLog, line: &str) {
+// A turn of two statements wrote one register, shows this line, and read so many.
+fn assert_wrote_one(rt: &impl Abort, taken: &Taken, line: &str, reads: u64) {
+    let log = &taken.log;
+    assert_number(rt, taken.held.reads, reads);
     assert_text(rt, log.lines(), line);
     assert_length(rt, log.next().place, 2);
     assert_length(rt, log.writes().len(), 1);
@@ -229,8 +236,8 @@ fn assert_two_nets(rt: &impl Abort, alloc: Global, log: &TurnLog) {
 fn nets_of_two_registers(rt: HostRuntime) {
     let source =
         "module t; reg [3:0] a, b; initial begin b = 4'd5; a = 4'd1; b = 4'd5; b = 4'd6; a = 4'd1; b = 4'd5; end endmodule";
-    let log = first_turn(&rt, rt.alloc(), source, &mut three());
-    assert_two_nets(&rt, rt.alloc(), &log);
+    let taken = turn_on_three(&rt, rt.alloc(), source);
+    assert_two_nets(&rt, rt.alloc(), &taken.log);
 }
 
 /// The steps of an expression are a part of all steps: none where its ends are turned, or past the last step. More than 128
@@ -250,9 +257,8 @@ fn takes_a_part_or_none(_rt: HostRuntime) {
 #[test]
 fn prints_a_line(rt: HostRuntime) {
     let source = "module t; reg [5:0] a; initial $display(\"a%b %h%0d\", a, a, a); endmodule";
-    let mut held = Held::all(Bits::from_u64(6, 43));
-    let log = first_turn(&rt, rt.alloc(), source, &mut held);
-    assert_prints(&rt, &log, "a101011 2b43\n");
+    let taken = first_turn(&rt, rt.alloc(), source, Bits::from_u64(6, 43));
+    assert_prints(&rt, &taken.log, "a101011 2b43\n");
 }
 
 // A turn of one statement prints this.
@@ -267,7 +273,9 @@ fn assert_ended(rt: &impl Abort, log: &TurnLog) {
 }
 
 // A loop of two turns is over.
-fn assert_two_turns(rt: &impl Abort, log: &TurnLog) {
+fn assert_two_turns(rt: &impl Abort, taken: &Taken) {
+    let log = &taken.log;
+    assert_number(rt, taken.held.reads, 1);
     assert_number(rt, u64::from(log.count()), 5);
     assert_length(rt, log.writes().len(), 2);
     assert_ended(rt, log);
@@ -277,10 +285,7 @@ fn assert_two_turns(rt: &impl Abort, log: &TurnLog) {
 fn loops_to_the_end(rt: HostRuntime) {
     let source =
         "module t; reg [3:0] r; initial while (r < 4'd5) begin r = r + 4'd1; end endmodule";
-    let mut held = three();
-    let log = first_turn(&rt, rt.alloc(), source, &mut held);
-    assert_number(&rt, held.reads, 1);
-    assert_two_turns(&rt, &log);
+    assert_two_turns(&rt, &turn_on_three(&rt, rt.alloc(), source));
 }
 
 /// When the first nonblocking assignment is due.

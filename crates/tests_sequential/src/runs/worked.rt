@@ -19,9 +19,8 @@ fn assert_turn(
     lines: &str,
     count: u32,
 ) {
-    let mut held = Held::all(Bits::unknown(1));
-    let log = first_turn(rt, alloc, source, &mut held);
-    assert_log(rt, &log, reads, lines, count);
+    let taken = first_turn(rt, alloc, source, Bits::unknown(1));
+    assert_log(rt, &taken.log, reads, lines, count);
 }
 
 // A turn read so many registers, prints this, and has so many counted steps.
@@ -64,9 +63,8 @@ fn reads_and_prints_nothing_for_a_strobe(rt: HostRuntime) {
     let source =
         "module t; reg a, b; initial begin $strobe(\"%b\", a); $display(\"%b\", b); if (b) begin $strobe(\"no\"); end $strobe(\"s\"); end endmodule";
     assert_turn(&rt, rt.alloc(), source, 1, "x\n", 4);
-    let mut held = Held::all(Bits::unknown(1));
-    let log = first_turn(&rt, rt.alloc(), source, &mut held);
-    assert_two_strobes(&rt, &log);
+    let taken = first_turn(&rt, rt.alloc(), source, Bits::unknown(1));
+    assert_two_strobes(&rt, &taken.log);
 }
 
 #[test]
@@ -156,6 +154,13 @@ fn assert_both_seen(rt: &impl Abort, log: &TurnLog, first: &Seen, second: &Seen)
     assert_seen(rt, log.reads(), 1, 1, second);
 }
 
+// A turn that loops until two registers are the same, which they aren't, read both.
+fn assert_differ(rt: &impl Abort, alloc: Global, held: &mut Held) {
+    let [first, second, _, _] = held.registers;
+    let log = too_long(rt, alloc, DIFFER, held);
+    assert_both_seen(rt, &log, &first, &second);
+}
+
 #[test]
 fn reads_before_it_is_too_long(rt: HostRuntime) {
     let first = Seen {
@@ -169,8 +174,7 @@ fn reads_before_it_is_too_long(rt: HostRuntime) {
     let mut held = Held::all(Bits::unknown(1));
     held.registers[0] = first;
     held.registers[1] = second;
-    let log = too_long(&rt, rt.alloc(), DIFFER, &mut held);
-    assert_both_seen(&rt, &log, &first, &second);
+    assert_differ(&rt, rt.alloc(), &mut held);
 }
 
 // The first turn of a process is too long, and reads no register.
