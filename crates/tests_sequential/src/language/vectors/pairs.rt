@@ -154,6 +154,11 @@ fn group_letter(group: &Plain) -> u8 {
 
 fn check_binary(rt: &impl Abort, alloc: Global, a: Bits, left: &Plain) {
     let binary = a.show_b(alloc).expect(rt, "memory");
+    check_letters(rt, binary.as_str(), left);
+}
+
+// a letter for each digit
+fn check_letters(rt: &impl Abort, binary: &str, left: &Plain) {
     assert!(rt; binary.len() == left.width);
     for (index, byte) in binary.bytes().rev().enumerate() {
         assert!(rt; byte == letter(left.at(index)));
@@ -167,6 +172,11 @@ fn letter_from(left: &Plain, from: usize) -> u8 {
 
 fn check_hex(rt: &impl Abort, alloc: Global, a: Bits, left: &Plain) {
     let hex = a.show_h(alloc).expect(rt, "memory");
+    check_groups(rt, hex.as_str(), left);
+}
+
+// a letter for each four digits
+fn check_groups(rt: &impl Abort, hex: &str, left: &Plain) {
     assert!(rt; hex.len() == left.width.div_ceil(4));
     for (index, byte) in hex.bytes().rev().enumerate() {
         assert!(rt; byte == letter_from(left, index.saturating_mul(4)));
