@@ -5,6 +5,6 @@ use Rattle.turn.specs.Reads.{GaveAll}
 use Rattle.gateparts.specs.Histories.{IsRead}
 use Rattle.tests_concurrent.proofs.course.Course.look_and_commit.Goals as goal
 
-pub commit-seat-requires-clause-gave : goal.commit-seat-requires-clause-gave
-commit-seat-requires-clause-gave g c =
-    subst (λ (f : List (List Vector)). GaveAll (IsRead g.K.Naming.named.code f) c.args.log.reads) (sym c.entries-count.ensures.fresh) c.requires.gave
+pub commit-requires-clause-gave : goal.commit-requires-clause-gave
+commit-requires-clause-gave g c =
+    subst (λ (f : List (List Vector)). GaveAll (IsRead g.K.Naming.named.code f) c.args.log.now.reads) (sym c.entries-count.ensures.fresh) c.requires.gave
