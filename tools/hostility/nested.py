@@ -48,6 +48,8 @@ FORMS = [
     Form("choices", b"initial a = ", b"1'b1 ? ", b"1'b1 ", b": 1'b0 ", b"; "),
     Form("delays", b"initial ", b"# 0 ", b"; ", b"", b""),
     Form("waits", b"initial ", b"@ ( a ) ", b"; ", b"", b""),
+    Form("blocks of delays", b"initial ", b"# 0 " * 64 + b"begin ", b"# 0 " * 64 + b"; ", b"end ", b""),
+    Form("blocks of waits", b"initial ", b"@ ( a ) " * 64 + b"begin ", b"@ ( a ) " * 64 + b"; ", b"end ", b"", within=63),
     Form("assigned", b"initial a <= 1'b0 ", b"+ 1'b0 ", b"", b"", b"; ", within=63),
     Form("shifts", b"initial a = 1'b1 ", b"<< 1'b0 ", b"", b"", b"; "),
     Form("equalities", b"initial a = 1'b1 ", b"=== 1'b1 ", b"", b"", b"; "),

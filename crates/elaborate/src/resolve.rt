@@ -1,16 +1,18 @@
 //! A tree over the numbers of registers, from one over their names. Blocks become the lists of their statements.
-ghost use Rattle.std.specs.Prelude.{◌≡◌, map, IfOk, OnOk};
+ghost use Rattle.std.specs.Prelude.{◌≡◌, [], map, unwrap_or, IfOk, OnOk};
 ghost use Rattle.design.specs.Trees as tree;
 ghost use Rattle.model.specs.Elaboration as model;
-ghost use Rattle.model.specs.Elaboration.{all_resolved, block_of, followed_by, resolved};
+ghost use Rattle.model.specs.Design as designs;
+ghost use Rattle.model.specs.Elaboration.{all_resolved, assignment, block_of, followed_by, number_of, pieces_of, resolved};
 ghost use Rattle.model.specs.Trees.{expression_of, expressions, process_of, statement_of, statements, trigger_of};
-ghost use Rattle.elaborate.specs.Small.{IsSmall, AreSmall, IsSmallStatement, AreSmallStatements, AreSmallProcesses};
+ghost use Rattle.elaborate.specs.Small.{IsSmall, AreSmall, IsShort, IsSmallStatement, AreSmallStatements, AreSmallProcesses};
 
 use crate::names::Names;
 use crate::{build, format};
 use design::Trigger;
 use design::tree::{Expression, Process, Statement};
 use model::tree as source;
+use model::tree::Task;
 use std::alloc::{AllocError, Global};
 
 /// The processes of a design, from those of a module.
@@ -77,8 +79,10 @@ fn all(
     Ok(())
 }
 
-// The statements of one statement, behind others.
+// The statements of one statement, behind others. Each kind has a function of its own, since some four thousand statements
+// may stand one within another, and what this function holds is held as often.
 #[cycle(resolved_in)]
+#[inline(never)]
 fn statement(
     alloc: Global,
     names: &Names,
@@ -90,54 +94,179 @@ fn statement(
         ≡ followed_by (tree.statements_of into.old.items) (model.statements_of names.now (statement_of s.now))) }
 {
     match s {
-        source::Statement::Empty => build::push(into, Statement::Empty),
+        source::Statement::Empty => empty(into),
         source::Statement::Block(body) => all(alloc, names, body.as_slice(), into),
         source::Statement::Assign(name, wait, e) => {
-            let value = expression(alloc, names, e)?;
-            build::push(
-                into,
-                build::assign_of(names.number(name.as_str()), *wait, value),
-            )
+            assign(alloc, names, name.as_str(), *wait, e, into)
         }
         source::Statement::AssignLater(name, wait, e) => {
-            let value = expression(alloc, names, e)?;
-            build::push(
-                into,
-                build::assign_later_of(names.number(name.as_str()), *wait, value),
-            )
+            assign_later(alloc, names, name.as_str(), *wait, e, into)
         }
         source::Statement::Delay(wait, s) => {
             let body = alone(alloc, names, s)?;
-            build::push(into, build::delay_of(*wait as u32, body))
+            delay(into, *wait as u32, body)
         }
         source::Statement::Await(events, s) => {
             let triggers = triggers(alloc, names, events.as_slice())?;
             let body = alone(alloc, names, s)?;
-            build::push(into, build::await_of(triggers, body))
+            await_one(into, triggers, body)
         }
         source::Statement::If(c, body) => {
-            let test = expression(alloc, names, c)?;
             let body = block(alloc, names, body.as_slice())?;
-            build::push(into, build::if_of(test, body, Vec::new(alloc)))
+            choice(alloc, names, c, body, Vec::new(alloc), into)
         }
         source::Statement::IfElse(c, body, otherwise) => {
-            let test = expression(alloc, names, c)?;
             let body = block(alloc, names, body.as_slice())?;
             let otherwise = block(alloc, names, otherwise.as_slice())?;
-            build::push(into, build::if_of(test, body, otherwise))
+            choice(alloc, names, c, body, otherwise, into)
         }
         source::Statement::While(c, body) => {
-            let test = expression(alloc, names, c)?;
             let body = block(alloc, names, body.as_slice())?;
-            build::push(into, build::while_of(test, body))
+            repetition(alloc, names, c, body, into)
         }
-        source::Statement::Print(task, format, arguments) => {
-            let pieces = format::pieces(alloc, format.as_slice())?;
-            let arguments = expressions(alloc, names, arguments.as_slice())?;
-            build::push(into, build::print_of(*task, pieces, arguments))
-        }
-        source::Statement::Finish => build::push(into, Statement::Finish),
+        source::Statement::Print(task, format, arguments) => print(
+            alloc,
+            names,
+            *task,
+            format.as_slice(),
+            arguments.as_slice(),
+            into,
+        ),
+        source::Statement::Finish => finish(into),
     }
+}
+
+// The empty statement, behind others.
+#[inline(never)]
+fn empty(into: &mut Vec<Statement>) -> Result<(), AllocError>
+    ensures { OnOk result (tree.statements_of into.new.items ≡ followed_by (tree.statements_of into.old.items) (model.alone designs.Empty)) }
+{
+    build::push(into, Statement::Empty)
+}
+
+// `$finish`, behind others.
+#[inline(never)]
+fn finish(into: &mut Vec<Statement>) -> Result<(), AllocError>
+    ensures { OnOk result (tree.statements_of into.new.items ≡ followed_by (tree.statements_of into.old.items) (model.alone designs.Finish)) }
+{
+    build::push(into, Statement::Finish)
+}
+
+// A blocking assignment, behind others.
+#[inline(never)]
+fn assign(
+    alloc: Global,
+    names: &Names,
+    name: &str,
+    wait: Option<u64>,
+    e: &source::Expression,
+    into: &mut Vec<Statement>,
+) -> Result<(), AllocError>
+    requires short { IsShort wait }
+    requires small { IsSmall (expression_of e.now) }
+    ensures { OnOk result (tree.statements_of into.new.items
+        ≡ followed_by (tree.statements_of into.old.items) (model.alone (assignment (number_of names.now name.now) wait (resolved names.now (expression_of e.now))))) }
+{
+    let value = expression(alloc, names, e)?;
+    build::push(into, build::assign_of(names.number(name), wait, value))
+}
+
+// A nonblocking assignment, behind others.
+#[inline(never)]
+fn assign_later(
+    alloc: Global,
+    names: &Names,
+    name: &str,
+    wait: Option<u64>,
+    e: &source::Expression,
+    into: &mut Vec<Statement>,
+) -> Result<(), AllocError>
+    requires short { IsShort wait }
+    requires small { IsSmall (expression_of e.now) }
+    ensures { OnOk result (tree.statements_of into.new.items
+        ≡ followed_by (tree.statements_of into.old.items) (model.alone (designs.AssignLater (number_of names.now name.now) (unwrap_or wait 0) (resolved names.now (expression_of e.now))))) }
+{
+    let value = expression(alloc, names, e)?;
+    build::push(
+        into,
+        build::assign_later_of(names.number(name), wait, value),
+    )
+}
+
+// A delay before statements, behind others.
+#[inline(never)]
+fn delay(into: &mut Vec<Statement>, wait: u32, body: Vec<Statement>) -> Result<(), AllocError>
+    ensures { OnOk result (tree.statements_of into.new.items
+        ≡ followed_by (tree.statements_of into.old.items) (model.alone (designs.Delay wait (tree.statements_of body.items)))) }
+{
+    build::push(into, build::delay_of(wait, body))
+}
+
+// An event control before statements, behind others.
+#[inline(never)]
+fn await_one(
+    into: &mut Vec<Statement>,
+    triggers: Vec<Trigger>,
+    body: Vec<Statement>,
+) -> Result<(), AllocError>
+    ensures { OnOk result (tree.statements_of into.new.items
+        ≡ followed_by (tree.statements_of into.old.items) (model.alone (designs.Await triggers.items (tree.statements_of body.items)))) }
+{
+    build::push(into, build::await_of(triggers, body))
+}
+
+// A choice, behind others.
+#[inline(never)]
+fn choice(
+    alloc: Global,
+    names: &Names,
+    c: &source::Expression,
+    body: Vec<Statement>,
+    otherwise: Vec<Statement>,
+    into: &mut Vec<Statement>,
+) -> Result<(), AllocError>
+    requires { IsSmall (expression_of c.now) }
+    ensures { OnOk result (tree.statements_of into.new.items
+        ≡ followed_by (tree.statements_of into.old.items) (model.alone (designs.If (resolved names.now (expression_of c.now)) (tree.statements_of body.items) (tree.statements_of otherwise.items)))) }
+{
+    let test = expression(alloc, names, c)?;
+    build::push(into, build::if_of(test, body, otherwise))
+}
+
+// A loop, behind others.
+#[inline(never)]
+fn repetition(
+    alloc: Global,
+    names: &Names,
+    c: &source::Expression,
+    body: Vec<Statement>,
+    into: &mut Vec<Statement>,
+) -> Result<(), AllocError>
+    requires { IsSmall (expression_of c.now) }
+    ensures { OnOk result (tree.statements_of into.new.items
+        ≡ followed_by (tree.statements_of into.old.items) (model.alone (designs.While (resolved names.now (expression_of c.now)) (tree.statements_of body.items)))) }
+{
+    let test = expression(alloc, names, c)?;
+    build::push(into, build::while_of(test, body))
+}
+
+// `$display` or `$strobe`, behind others.
+#[inline(never)]
+fn print(
+    alloc: Global,
+    names: &Names,
+    task: Task,
+    format: &[u8],
+    arguments: &[source::Expression],
+    into: &mut Vec<Statement>,
+) -> Result<(), AllocError>
+    requires { AreSmall (expressions (map expression_of arguments.now)) }
+    ensures { OnOk result (tree.statements_of into.new.items
+        ≡ followed_by (tree.statements_of into.old.items) (model.alone (designs.Print task (unwrap_or (pieces_of format.now) []) (all_resolved names.now (expressions (map expression_of arguments.now)))))) }
+{
+    let pieces = format::pieces(alloc, format)?;
+    let arguments = expressions(alloc, names, arguments)?;
+    build::push(into, build::print_of(task, pieces, arguments))
 }
 
 fn triggers(

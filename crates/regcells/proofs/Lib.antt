@@ -5,3 +5,4 @@ pub mod Moves
 pub mod Tables
 pub mod LastValues
 pub mod Places
+pub mod NetRegisters

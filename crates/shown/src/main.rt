@@ -1,5 +1,6 @@
 //! Runs each command line of standard input as `vsimtx` would, and prints behind each what it leaves: its output, its line on
-//! standard error, and its status.
+//! standard error, and its status. The lines are the commands of docs/tutorial.md, and then worked rows, whose sources and
+//! journals stand in data/rows: each tells by its name what it shows.
 #![tactic(auto)]
 
 use journal::Counted;

@@ -16,9 +16,8 @@ use std::rc::Rc;
 use std::sync::Wait;
 use std::thread::Threads;
 
+mod bounds;
 mod counts;
-mod examples;
-mod forged;
 mod journals;
 mod limits;
 mod placing;
@@ -26,9 +25,7 @@ mod probes;
 mod refused;
 mod replays;
 mod runs;
-mod sources;
 mod threads;
-mod versions;
 mod words;
 
 /// A run of the source, with no journal.
@@ -248,11 +245,6 @@ fn repeated(
     text
 }
 
-/// The line of a fault.
-fn fault_line(rt: &impl Abort, alloc: Global, text: &str) -> String {
-    joined(rt, alloc, &["vsimtx: ", text, "\n"])
-}
-
 fn design_of(rt: &impl Abort, alloc: Global, source: &str) -> Design {
     read_design(alloc, source.as_bytes()).expect(rt, "a design")
 }
@@ -376,16 +368,6 @@ fn assert_line<R: Abort + Threads + Wait + Sync>(
     wanted: Wanted<'_>,
 ) {
     assert_in(rt, alloc, line, line, &over(source), wanted);
-}
-
-/// A run of a source, with no journal, leaves this.
-fn assert_source<R: Abort + Threads + Wait + Sync>(
-    rt: &R,
-    alloc: Global,
-    source: &str,
-    wanted: Wanted<'_>,
-) {
-    assert_in(rt, alloc, source, RUN, &over(source), wanted);
 }
 
 /// Where there is only room for this much of the lines, just that is printed.

@@ -1,7 +1,7 @@
 //! Vectors, sources and modules.
 
+mod concatenations;
 mod elaboration;
-mod literals;
 mod parsing;
 mod tasks;
 mod vectors;
@@ -11,7 +11,7 @@ use elaborate::elaborate;
 use model::tree::{Module, Statement};
 use std::alloc::Global;
 use std::process::Abort;
-use vparse::parse::{ParseFault, parse};
+use vparse::parse::parse;
 
 /// Texts, one behind the other.
 fn joined(rt: &impl Abort, alloc: Global, texts: &[&str]) -> String {
@@ -22,29 +22,12 @@ fn joined(rt: &impl Abort, alloc: Global, texts: &[&str]) -> String {
     all
 }
 
-/// The fault of a text, or nothing where it is accepted.
-fn fault(alloc: Global, text: &[u8]) -> Option<ParseFault> {
-    parse(alloc, text).err()
-}
-
 fn module(rt: &impl Abort, alloc: Global, source: &str) -> Module {
     parse(alloc, source.as_bytes()).expect(rt, source)
 }
 
 fn design(rt: &impl Abort, alloc: Global, source: &str) -> Design {
     elaborate(alloc, &module(rt, alloc, source)).expect(rt, source)
-}
-
-/// What the fault of a module that has no design prints.
-fn refusal(rt: &impl Abort, alloc: Global, source: &str) -> String {
-    let refused = elaborate(alloc, &module(rt, alloc, source));
-    let fault = refused.err().expect(rt, source);
-    format!(in alloc; "{fault}").expect(rt, "memory")
-}
-
-fn assert_refused(rt: &impl Abort, alloc: Global, source: &str, want: &str) {
-    let line = refusal(rt, alloc, source);
-    assert!(rt; line.as_str() == want, "{line}: {source}");
 }
 
 /// The body of a module's first process.

@@ -1,5 +1,6 @@
 //! The steps of an expression, on a stack of vectors.
 ghost use Rattle.std.specs.Prelude.{◌≡◌, ◌<◌, ◌∷◌, [], length, reverse, OnOk, IfOk};
+ghost use Rattle.logic4.specs.Vector.{resize};
 ghost use Rattle.logic4.specs.Operators.{select_digit};
 ghost use Rattle.model.specs.Expressions.{Store};
 ghost use Rattle.design.specs.declared.code.Op.TheVariants.{Load, Pick, Unary, Binary, BinaryRegister, Join, Resize, Choose};
@@ -9,7 +10,7 @@ ghost use Rattle.turn.specs.Reads.{GaveAll, Keeps};
 ghost use Rattle.turn.specs.Evaluate.{NamesDeclared, Holds, Acts, Evaluates};
 
 use crate::memory::{Memory, RegReader};
-use crate::operate::{binary, choose, join, unary};
+use crate::operate::{choose, combine, combine_alike, join, unary};
 use design::RegId;
 use design::code::{Op, Size};
 use logic4::bits::Bits;
@@ -17,6 +18,7 @@ use model::tree::{BinaryOperator, UnaryOperator};
 use std::alloc::AllocError;
 
 // Puts a vector on the stack.
+#[inline(always)]
 fn put(stack: &mut Vec<Bits>, value: Bits) -> Result<(), AllocError>
     ensures { OnOk result (reverse stack.new.items ≡ value ∷ reverse stack.old.items) }
 {
@@ -57,6 +59,19 @@ fn set_top(stack: &mut Vec<Bits>, value: Bits) -> Result<(), AllocError>
     Ok(())
 }
 
+// A vector at a size, on the stack. One that has it is copied as it stands.
+#[inline(always)]
+#[tactic(auto, using(crate::proofs::Stack::resize_same))]
+fn put_sized(stack: &mut Vec<Bits>, value: &Bits, size: Size) -> Result<(), AllocError>
+    ensures { OnOk result (reverse stack.new.items ≡ resize size value.now ∷ reverse stack.old.items) }
+{
+    if value.width() == size.get() {
+        put(stack, *value)
+    } else {
+        put(stack, value.resize(size.get()))
+    }
+}
+
 // One digit of a vector, x where it has none there (5.2.1).
 fn pick(value: Bits, index: u32) -> Bits
     ensures value { result ≡ select_digit value index ∷ [] }
@@ -86,8 +101,13 @@ fn load<R: RegReader>(
     ensures keeps { Keeps (R.gave reader.old) (R.gave reader.new) }
     ensures lasting { R.lasting reader.new ≡ R.lasting reader.old }
 {
-    let value = memory.look(reader, register)?;
-    put(stack, value.resize(size.get()))
+    match memory.known.peek(register) {
+        Some(value) => put_sized(stack, value, size),
+        None => {
+            let value = memory.read(reader, register)?;
+            put_sized(stack, &value, size)
+        }
+    }
 }
 
 // One digit of a register, on the stack.
@@ -117,18 +137,47 @@ fn act_unary(stack: &mut Vec<Bits>, operator: UnaryOperator, asked: Size) -> Res
     set_top(stack, value)
 }
 
-// An operator on the topmost vector, as its left operand, and this one.
+// An operator on the topmost vector, as its left operand, and this one. The value is put together where the left operand
+// stands: a vector that is written by words and then copied as a whole costs as much as the operator.
+#[tactic(auto, using(crate::proofs::Stack::reverse_set_last))]
 fn act_with(
     stack: &mut Vec<Bits>,
     operator: BinaryOperator,
     size: Size,
     asked: Size,
-    right: Bits,
+    right: &Bits,
 ) -> Result<(), AllocError>
-    ensures { OnOk result (reverse stack.new.items ≡ combined operator size asked (topmost (reverse stack.old.items)) right ∷ below (reverse stack.old.items)) }
+    ensures { OnOk result (reverse stack.new.items ≡ combined operator size asked (topmost (reverse stack.old.items)) right.now ∷ below (reverse stack.old.items)) }
 {
-    let value = binary(operator, size, asked, top(stack), right);
-    set_top(stack, value)
+    match stack.last_mut() {
+        Some(top) => combine_alike(operator, size, asked, top, right),
+        None => {
+            let mut value = Bits::unknown(1);
+            combine(operator, size, asked, &mut value, right);
+            stack.push(value)?;
+        }
+    }
+    Ok(())
+}
+
+// The same with a right operand at a size.
+#[inline(always)]
+#[tactic(auto, using(crate::proofs::Stack::resize_same))]
+fn act_with_sized(
+    stack: &mut Vec<Bits>,
+    operator: BinaryOperator,
+    size: Size,
+    asked: Size,
+    right: &Bits,
+    other: Size,
+) -> Result<(), AllocError>
+    ensures { OnOk result (reverse stack.new.items ≡ combined operator size asked (topmost (reverse stack.old.items)) (resize other right.now) ∷ below (reverse stack.old.items)) }
+{
+    if right.width() == other.get() {
+        act_with(stack, operator, size, asked, right)
+    } else {
+        act_with(stack, operator, size, asked, &right.resize(other.get()))
+    }
 }
 
 // An operator on the topmost vector, as its left operand, and the value of a register.
@@ -148,8 +197,13 @@ fn act_with_register<R: RegReader>(
     ensures keeps { Keeps (R.gave reader.old) (R.gave reader.new) }
     ensures lasting { R.lasting reader.new ≡ R.lasting reader.old }
 {
-    let value = memory.look(reader, register)?;
-    act_with(stack, operator, size, asked, value.resize(other.get()))
+    match memory.known.peek(register) {
+        Some(value) => act_with_sized(stack, operator, size, asked, value, other),
+        None => {
+            let value = memory.read(reader, register)?;
+            act_with_sized(stack, operator, size, asked, &value, other)
+        }
+    }
 }
 
 // An operator on the two topmost vectors.
@@ -162,7 +216,7 @@ fn act_binary(
     ensures { OnOk result (reverse stack.new.items ≡ act [] (Binary operator size asked) (reverse stack.old.items)) }
 {
     let right = pop(stack);
-    act_with(stack, operator, size, asked, right)
+    act_with(stack, operator, size, asked, &right)
 }
 
 // The two topmost vectors as one.
@@ -224,7 +278,7 @@ fn step<R: RegReader>(
             size,
             asked,
             value,
-        } => act_with(stack, *operator, *size, *asked, *value),
+        } => act_with(stack, *operator, *size, *asked, value),
         Op::BinaryRegister {
             operator,
             size,
@@ -238,6 +292,26 @@ fn step<R: RegReader>(
         Op::Resize { size } => act_resize(stack, *size),
         Op::Choose { size } => act_choose(stack, *size),
     }
+}
+
+/// The steps of an expression, which leave its value on the stack, above what stands below it.
+pub(crate) fn compute<R: RegReader>(
+    ops: &[Op],
+    memory: &mut Memory,
+    reader: &mut R,
+    stack: &mut Vec<Bits>,
+) -> Result<(), AllocError>
+    requires { NamesDeclared R.registers ops.now }
+    ensures value { OnOk result (Evaluates ops.now memory.old.known memory.old.reads.entries (topmost (reverse stack.new.items)) memory.new.known memory.new.reads.entries) }
+    ensures rest { OnOk result ((values : Store) → NamesDeclared (length memory.old.known) ops.now → Holds memory.new.known values → below (reverse stack.new.items) ≡ below (run_ops values ops.now (reverse stack.old.items))) }
+    ensures gave { OnOk result (GaveAll (R.gave reader.old) memory.old.reads.entries → GaveAll (R.gave reader.new) memory.new.reads.entries) }
+    ensures keeps { Keeps (R.gave reader.old) (R.gave reader.new) }
+    ensures lasting { R.lasting reader.new ≡ R.lasting reader.old }
+{
+    for op in ops {
+        step(op, memory, reader, stack)?;
+    }
+    Ok(())
 }
 
 /// The value of an expression, whose steps are these. The stack keeps what stands below it.
@@ -254,8 +328,6 @@ pub(crate) fn evaluate<R: RegReader>(
     ensures keeps { Keeps (R.gave reader.old) (R.gave reader.new) }
     ensures lasting { R.lasting reader.new ≡ R.lasting reader.old }
 {
-    for op in ops {
-        step(op, memory, reader, stack)?;
-    }
+    compute(ops, memory, reader, stack)?;
     Ok(pop(stack))
 }

@@ -1,5 +1,6 @@
 //! What a turn did.
 ghost use Rattle.std.specs.Prelude.{◌≡◌};
+ghost use Rattle.turn.specs.Nets.{nets_of};
 
 use crate::memory::Seen;
 use crate::progress::Progress;
@@ -84,7 +85,8 @@ impl TurnLog {
 
     /// The net of the writes of each register, in the order of its first write.
     pub fn nets(&self) -> &[Net]
-        ensures { result.now ≡ self.entry.now.nets }
+        ensures value { result.now ≡ self.entry.now.nets }
+        ensures of { result.now ≡ nets_of self.entry.now.writes }
     {
         self.progress.writes.nets()
     }

@@ -1,5 +1,5 @@
 //! What a turn knows of the registers: what it wrote, and what it read.
-ghost use Rattle.std.specs.Prelude.{◌≡◌, ◌<◌, ℕ, None, Some, [], replicate, nat_eq, slice_set, OnOk, IfOk};
+ghost use Rattle.std.specs.Prelude.{◌≡◌, ◌<◌, ℕ, None, Some, [], replicate, nat_eq, slice_index_or, slice_set, OnOk, IfOk};
 ghost use Rattle.indexmap.specs.IndexMap.{insert_entry};
 ghost use Rattle.turn.specs.Reads.{GaveAll, Keeps};
 ghost use Rattle.turn.specs.Memory.{Looks};
@@ -68,8 +68,8 @@ impl Memory {
     }
 
     /// Knows this value of a register.
-    pub fn set(&mut self, register: RegId, value: Bits)
-        ensures known { self.new.known ≡ slice_set self.old.known register (Some value) }
+    pub fn set(&mut self, register: RegId, value: &Bits)
+        ensures known { self.new.known ≡ slice_set self.old.known register (Some value.now) }
         ensures reads { self.new.reads ≡ self.old.reads }
     {
         self.known.set(register, value);
@@ -80,14 +80,31 @@ impl Memory {
         ensures known { OnOk result (self.new.known ≡ slice_set self.old.known register (Some seen.value)) }
         ensures reads { OnOk result (self.new.reads.entries ≡ insert_entry nat_eq self.old.reads.entries register seen) }
     {
-        self.set(register, seen.value);
+        self.set(register, &seen.value);
         self.reads.insert(register, seen)?;
         Ok(())
     }
 
+    /// The value of a register of which none is known: it is read now, and recorded.
+    pub fn read<R: RegReader>(
+        &mut self,
+        reader: &mut R,
+        register: RegId,
+    ) -> Result<Bits, AllocError>
+        requires declared { register < R.registers }
+        requires unknown { slice_index_or self.old.known register None ≡ None }
+        ensures value { IfOk result (λ v. Looks self.old.known self.old.reads.entries register v self.new.known self.new.reads.entries) }
+        ensures gave { OnOk result (GaveAll (R.gave reader.old) self.old.reads.entries → GaveAll (R.gave reader.new) self.new.reads.entries) }
+        ensures keeps { Keeps (R.gave reader.old) (R.gave reader.new) }
+        ensures lasting { R.lasting reader.new ≡ R.lasting reader.old }
+    {
+        let seen = reader.read(register);
+        let value = seen.value;
+        self.record(register, seen)?;
+        Ok(value)
+    }
+
     /// The value of a register: the one that is known, or else the one that is read now, and recorded.
-    // A call would hand the value back through memory, which costs a third of the time of an expression.
-    #[inline(always)]
     pub fn look<R: RegReader>(
         &mut self,
         reader: &mut R,
@@ -99,12 +116,9 @@ impl Memory {
         ensures keeps { Keeps (R.gave reader.old) (R.gave reader.new) }
         ensures lasting { R.lasting reader.new ≡ R.lasting reader.old }
     {
-        if let Some(value) = self.known.get(register) {
-            return Ok(value);
+        match self.known.peek(register) {
+            Some(value) => Ok(*value),
+            None => self.read(reader, register),
         }
-        let seen = reader.read(register);
-        let value = seen.value;
-        self.record(register, seen)?;
-        Ok(value)
     }
 }

@@ -1,5 +1,6 @@
 //! The operators of flat code (5.1), on vectors of any widths.
 ghost use Rattle.std.specs.Prelude.{◌≡◌, ◌∷◌, [], length};
+ghost use Rattle.logic4.specs.Vector.{resize};
 ghost use Rattle.logic4.specs.Operators.{truth, truth_digit, case_ne_vector};
 ghost use Rattle.model.specs.Expressions.{unary_value};
 ghost use Rattle.design.specs.Operate.{combined, joined_two, chosen};
@@ -50,18 +51,22 @@ pub(crate) fn unary(operator: UnaryOperator, asked: Size, operand: Bits) -> Bits
     }
 }
 
-/// A binary operator's value.
-pub(crate) fn binary(
+// A binary operator's value, of operands that are given as they are and at the operator's size.
+#[inline(always)]
+fn value_of(
     operator: BinaryOperator,
     size: Size,
     asked: Size,
     left: Bits,
     right: Bits,
+    first: Bits,
+    second: Bits,
 ) -> Bits
+    requires first { first ≡ resize size left }
+    requires second { second ≡ resize size right }
+    requires alike { length first ≡ length second }
     ensures { result ≡ combined operator size asked left right }
 {
-    let first = left.resize(size.get());
-    let second = right.resize(size.get());
     match operator {
         BinaryOperator::LogicalOr => truth_bit(left).or(truth_bit(right)).resize(asked.get()),
         BinaryOperator::LogicalAnd => truth_bit(left).and(truth_bit(right)).resize(asked.get()),
@@ -80,6 +85,45 @@ pub(crate) fn binary(
         BinaryOperator::ShiftRight => left.shr(right),
         BinaryOperator::Add => first.add(second),
         BinaryOperator::Subtract => first.sub(second),
+    }
+}
+
+/// A binary operator's value, in the place of its left operand.
+pub(crate) fn combine(
+    operator: BinaryOperator,
+    size: Size,
+    asked: Size,
+    place: &mut Bits,
+    right: &Bits,
+)
+    ensures { place.new ≡ combined operator size asked place.old right.now }
+{
+    let left = *place;
+    let right = *right;
+    let first = left.resize(size.get());
+    let second = right.resize(size.get());
+    *place = value_of(operator, size, asked, left, right, first, second);
+}
+
+/// The same, fast where both operands have the operator's size, as most have.
+#[inline(always)]
+#[tactic(auto, using(crate::proofs::Stack::resize_same))]
+pub(crate) fn combine_alike(
+    operator: BinaryOperator,
+    size: Size,
+    asked: Size,
+    place: &mut Bits,
+    right: &Bits,
+)
+    ensures { place.new ≡ combined operator size asked place.old right.now }
+{
+    let digits = size.get();
+    if (place.width() == digits) & (right.width() == digits) {
+        let left = *place;
+        let right = *right;
+        *place = value_of(operator, size, asked, left, right, left, right);
+    } else {
+        combine(operator, size, asked, place, right);
     }
 }
 

@@ -1,17 +1,19 @@
 //! A turn under way.
-ghost use Rattle.std.specs.Prelude.{◌≡◌, OnOk, IfOk};
-ghost use Rattle.design.specs.Steps.{piece};
+ghost use Rattle.std.specs.Prelude.{◌≡◌, ◌++◌, ◌∷◌, [], Some, reverse, slice_set, OnOk, IfOk};
+ghost use Rattle.logic4.specs.Operators.{truth};
+ghost use Rattle.design.specs.Steps.{piece, topmost};
 ghost use Rattle.turn.specs.Reads.{GaveAll, Keeps};
 ghost use Rattle.turn.specs.Evaluate.{NamesDeclared};
 ghost use Rattle.turn.specs.Progress.{status_of, fresh, at, writing, holding, delaying, printing, Valued};
 
-use crate::evaluate::evaluate;
+use crate::evaluate::{compute, evaluate};
 use crate::log::Nba;
 use crate::memory::{Memory, RegReader};
 use crate::writes::Writes;
 use design::code::{Op, Span};
 use design::{ProcState, RegId};
 use logic4::bits::Bits;
+use logic4::digit::Truth;
 use std::alloc::{AllocError, Global};
 
 /// What a turn knows and has done so far, and the stack of its expressions, which is kept between them.
@@ -36,6 +38,22 @@ pub(crate) fn part<T>(list: &[T], span: Span) -> &[T]
     } else {
         &list[0..0]
     }
+}
+
+// Knows the value that is written to a register, and lists the write.
+#[inline(always)]
+fn note_write(
+    memory: &mut Memory,
+    writes: &mut Writes,
+    register: RegId,
+    value: &Bits,
+) -> Result<(), AllocError>
+    ensures known { OnOk result (memory.new.known ≡ slice_set memory.old.known register (Some value.now)) }
+    ensures reads { memory.new.reads ≡ memory.old.reads }
+    ensures writes { OnOk result (writes.new ≡ writes.old ++ (register, value.now) ∷ []) }
+{
+    memory.set(register, value);
+    writes.push(register, value)
 }
 
 impl Progress {
@@ -84,10 +102,40 @@ impl Progress {
     pub fn write(&mut self, register: RegId, value: Bits, next: usize) -> Result<(), AllocError>
         ensures { OnOk result (status_of self.new ≡ writing (status_of self.old) register value next) }
     {
-        self.memory.set(register, value);
-        self.writes.push(register, value)?;
+        note_write(&mut self.memory, &mut self.writes, register, &value)?;
         self.go(next);
         Ok(())
+    }
+
+    /// Writes the topmost vector of the stack to a register, and takes it off.
+    pub fn write_top(&mut self, register: RegId, next: usize) -> Result<(), AllocError>
+        ensures { OnOk result (status_of self.new ≡ writing (status_of self.old) register (topmost (reverse self.old.stack.items)) next) }
+    {
+        match self.stack.last() {
+            Some(value) => note_write(&mut self.memory, &mut self.writes, register, value)?,
+            None => note_write(
+                &mut self.memory,
+                &mut self.writes,
+                register,
+                &Bits::unknown(1),
+            )?,
+        }
+        self.stack.pop();
+        self.go(next);
+        Ok(())
+    }
+
+    /// The truth of the topmost vector of the stack (9.4), which is taken off.
+    pub fn take_truth(&mut self) -> Truth
+        ensures value { result ≡ truth (topmost (reverse self.old.stack.items)) }
+        ensures same { status_of self.new ≡ status_of self.old }
+    {
+        let truth = match self.stack.last() {
+            Some(value) => value.truth(),
+            None => Truth::Unknown,
+        };
+        self.stack.pop();
+        truth
     }
 
     /// Leaves an assignment over for after the wait (9.7.7).
@@ -107,6 +155,22 @@ impl Progress {
         self.nbas.push(nba)?;
         self.go(next);
         Ok(())
+    }
+
+    /// The steps of an expression, which are this part. They leave its value on the stack.
+    pub fn compute<R: RegReader>(
+        &mut self,
+        ops: &[Op],
+        span: Span,
+        reader: &mut R,
+    ) -> Result<(), AllocError>
+        requires { NamesDeclared R.registers ops.now }
+        ensures value { OnOk result (Valued (piece ops.now span) (status_of self.old) (topmost (reverse self.new.stack.items)) (status_of self.new)) }
+        ensures gave { OnOk result (GaveAll (R.gave reader.old) self.old.memory.reads.entries → GaveAll (R.gave reader.new) self.new.memory.reads.entries) }
+        ensures keeps { Keeps (R.gave reader.old) (R.gave reader.new) }
+        ensures lasting { R.lasting reader.new ≡ R.lasting reader.old }
+    {
+        compute(part(ops, span), &mut self.memory, reader, &mut self.stack)
     }
 
     /// The value of the expression whose steps are this part.

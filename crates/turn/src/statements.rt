@@ -40,8 +40,8 @@ impl Progress {
         ensures keeps { Keeps (R.gave reader.old) (R.gave reader.new) }
         ensures lasting { R.lasting reader.new ≡ R.lasting reader.old }
     {
-        let value = self.value(ops, value, reader)?;
-        self.write(register, value, next)?;
+        self.compute(ops, value, reader)?;
+        self.write_top(register, next)?;
         Ok(())
     }
 
@@ -106,8 +106,9 @@ impl Progress {
         ensures keeps { Keeps (R.gave reader.old) (R.gave reader.new) }
         ensures lasting { R.lasting reader.new ≡ R.lasting reader.old }
     {
-        let value = self.value(ops, condition, reader)?;
-        self.go(choose_place(value.truth(), taken, missed));
+        self.compute(ops, condition, reader)?;
+        let truth = self.take_truth();
+        self.go(choose_place(truth, taken, missed));
         Ok(())
     }
 

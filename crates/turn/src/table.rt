@@ -1,5 +1,5 @@
 //! What a turn knows of the registers, in room that is kept between turns.
-ghost use Rattle.std.specs.Prelude.{◌≡◌, ◌<◌, ◌≤◌, [], None, Some, replicate, slice_index_or, slice_set, OnOk};
+ghost use Rattle.std.specs.Prelude.{◌≡◌, ◌<◌, ◌≤◌, [], None, Some, replicate, slice_index_or, slice_set, OnOk, MatchOption};
 ghost use Rattle.std.specs.List.{All};
 ghost use Rattle.turn.specs.Slots.{known_in};
 
@@ -50,17 +50,6 @@ fn next_stamp(stamp: u64, slots: &mut Vec<Slot>) -> u64
     }
 }
 
-// The value of a slot, where it counts.
-fn value_at(stamp: u64, slot: Slot) -> Option<Bits>
-    ensures { result ≡ known_in stamp slot }
-{
-    if slot.stamp == stamp {
-        Some(slot.value)
-    } else {
-        None
-    }
-}
-
 impl Known {
     // A table of no registers.
     pub fn new(alloc: Global) -> Known
@@ -85,23 +74,29 @@ impl Known {
         Ok(())
     }
 
-    /// The value that is known of a register.
-    pub fn get(&self, register: RegId) -> Option<Bits>
-        ensures { result ≡ slice_index_or self.now register None }
+    /// The value that is known of a register. It is lent, since its five words are dear to copy.
+    #[inline(always)]
+    pub fn peek(&self, register: RegId) -> Option<&Bits>
+        ensures { MatchOption result (slice_index_or self.entry.now register None ≡ None) (λ value. slice_index_or self.entry.now register None ≡ Some value.now) }
     {
         match self.slots.get(register as usize) {
-            Some(slot) => value_at(self.stamp, *slot),
+            Some(slot) => if slot.stamp == self.stamp {
+                Some(&slot.value)
+            } else {
+                None
+            },
             None => None,
         }
     }
 
     /// Knows this value of a register.
-    pub fn set(&mut self, register: RegId, value: Bits)
-        ensures { self.new ≡ slice_set self.old register (Some value) }
+    pub fn set(&mut self, register: RegId, value: &Bits)
+        ensures { self.new ≡ slice_set self.old register (Some value.now) }
     {
         let stamp = self.stamp;
         if let Some(slot) = self.slots.get_mut(register as usize) {
-            *slot = Slot { stamp, value };
+            slot.stamp = stamp;
+            slot.value = *value;
         }
     }
 }

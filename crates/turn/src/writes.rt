@@ -64,14 +64,14 @@ fn place_of(nets: &[Net], places: &[usize], register: RegId) -> Option<usize>
 
 impl Net {
     // One more write of the register.
-    fn write(&mut self, value: Bits)
+    fn write(&mut self, value: &Bits)
         requires { self.old.changes + 1 < 2 ^ 64 }
-        ensures { self.new ≡ with_write self.old value }
+        ensures { self.new ≡ with_write self.old value.now }
     {
-        if self.last != value {
+        if self.last != *value {
             self.changes += 1;
         }
-        self.last = value;
+        self.last = *value;
     }
 }
 
@@ -92,11 +92,11 @@ fn note(
     nets: &mut Vec<Net>,
     places: &mut Vec<usize>,
     register: RegId,
-    value: Bits,
+    value: &Bits,
 ) -> Result<(), AllocError>
     requires placed { IsPlaced nets.old.items places.old.items }
     requires counts { (place : ℕ) (n : Net) → slice_get nets.old.items place ≡ Some n → n.changes + 1 < 2 ^ 64 }
-    ensures noted { OnOk result (nets.new.items ≡ noted nets.old.items (register, value)) }
+    ensures noted { OnOk result (nets.new.items ≡ noted nets.old.items (register, value.now)) }
     ensures err { OnErr result (nets.new.items ≡ nets.old.items) }
     ensures placed { IsPlaced nets.new.items places.new.items }
 {
@@ -107,9 +107,9 @@ fn note(
             let at = nets.len();
             nets.push(Net {
                 register,
-                first: value,
+                first: *value,
                 changes: 0,
-                last: value,
+                last: *value,
             })?;
             places[register as usize] = at;
         }
@@ -138,12 +138,12 @@ impl Writes {
     }
 
     /// One more write.
-    pub fn push(&mut self, register: RegId, value: Bits) -> Result<(), AllocError>
-        ensures { OnOk result (self.new ≡ self.old ++ (register, value) ∷ []) }
+    pub fn push(&mut self, register: RegId, value: &Bits) -> Result<(), AllocError>
+        ensures { OnOk result (self.new ≡ self.old ++ (register, value.now) ∷ []) }
     {
         self.list.reserve(1)?;
         note(&mut self.nets, &mut self.places, register, value)?;
-        self.list.push_reserved((register, value));
+        self.list.push_reserved((register, *value));
         Ok(())
     }
 

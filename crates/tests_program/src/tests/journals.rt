@@ -2,7 +2,7 @@
 
 use super::replays::CUTS;
 use super::{
-    CANNOT_WRITE, RUN, SAVE, Setting, Wanted, assert_bytes, assert_cut, assert_left, assert_line,
+    CANNOT_WRITE, RUN, SAVE, Setting, Wanted, assert_bytes, assert_cut, assert_left,
     assert_replayed, over, prints, run_in, run_line, tells,
 };
 use std::alloc::Global;
@@ -64,8 +64,6 @@ fn writes_no_line_after_a_cut_journal(rt: HostRuntime) {
     for room in 0..JOURNAL.len() {
         assert_cut_journal(&rt, rt.alloc(), &JOURNAL[..room]);
     }
-    let line = "vsimtx run t.v --journal folder/OUT";
-    assert_line(&rt, rt.alloc(), line, SOURCE, tells(1, CANNOT_WRITE));
 }
 
 /// A run of the source has this journal, and a replay of it prints the same lines.
@@ -132,12 +130,6 @@ fn writes_the_journal_first(rt: HostRuntime) {
     for &out in CUTS {
         assert_journal_first(&rt, rt.alloc(), out);
     }
-}
-
-#[test]
-fn a_fault_of_the_source_leaves_no_journal(rt: HostRuntime) {
-    let wanted = tells(3, "vsimtx: P2 syntax at token 1\n");
-    assert_saved(&rt, rt.alloc(), SAVE, &over("always"), wanted, b"");
 }
 
 #[test]

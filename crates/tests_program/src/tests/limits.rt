@@ -1,6 +1,6 @@
 //! Runs that a limit stops, with their journals.
 
-use super::{Wanted, assert_bytes, assert_left, assert_line, joined, prints, run_line, tells};
+use super::{Wanted, assert_bytes, assert_left, joined, prints, run_line};
 use std::alloc::Global;
 use std::process::Abort;
 use std::sync::Wait;
@@ -62,13 +62,6 @@ fn stops_at_its_limits(rt: HostRuntime) {
     }
 }
 
-#[test]
-fn takes_the_greatest_limits(rt: HostRuntime) {
-    let line = "vsimtx run t.v --workers 16 --until 281474976710656 --max-entries 4294967295";
-    let source = "module t; initial $display(\"hi\"); endmodule";
-    assert_line(&rt, rt.alloc(), line, source, prints("hi\n"));
-}
-
 const STOPPED: &str = "vsimtx: stopped: entries\n";
 
 const ONE_ENTRY: &str = "vsimtx run t.v --max-entries 1";
@@ -92,12 +85,5 @@ fn assert_first_process<R: Abort + Threads + Wait + Sync>(rt: &R, alloc: Global)
 
 #[test]
 fn the_most_entries_stop_a_run_with_events_left(rt: HostRuntime) {
-    let source = "module t; initial $display(\"hi\"); endmodule";
-    assert_line(&rt, rt.alloc(), ONE_ENTRY, source, prints("hi\n"));
     assert_first_process(&rt, rt.alloc());
-    // The next entry is an update.
-    let line = "vsimtx run t.v --max-entries 3";
-    let source =
-        "module t; reg a; initial begin a<=1'b0; a<=1'b1; end initial @(posedge a) $display(\"up %b\",a); endmodule";
-    assert_line(&rt, rt.alloc(), line, source, tells(4, STOPPED));
 }

@@ -39,14 +39,6 @@ fn refuses_wrong_words(rt: HostRuntime) {
     for &line in WRONG {
         assert_refused(&rt, rt.alloc(), line);
     }
-    let line = "vsimtx run t.v u.v";
-    let text =
-        "error: unexpected argument 'u.v' found\n\nUsage: vsimtx run [OPTIONS] <FILE>\n\nFor more information, try '--help'.\n";
-    assert_line(&rt, rt.alloc(), line, EMPTY, tells(2, text));
-    let line = "vsimtx run t.v --workers 17";
-    let text =
-        "error: invalid value '17' for '--workers <N>': 17 is not in 1..=16\n\nFor more information, try '--help'.\n";
-    assert_line(&rt, rt.alloc(), line, EMPTY, tells(2, text));
 }
 
 /// A line prints a text, and tells of no fault.
@@ -72,7 +64,6 @@ fn shows_help(rt: HostRuntime) {
 }
 
 const FILE_FAULTS: &[(&str, u8, &str)] = &[
-    ("vsimtx run missing.v", 1, "vsimtx: cannot read missing.v\n"),
     ("vsimtx run broken.v", 1, "vsimtx: cannot read broken.v\n"),
     ("vsimtx run large.v", 6, "vsimtx: memory\n"),
     ("vsimtx run interrupted.v", 3, "vsimtx: E1 undeclared a\n"),

@@ -1,16 +1,15 @@
-//! The tasks that print a line: what a call of each is in a tree and in a design. The faults of one are those of the other.
+//! The tasks that print a line: what a call of each is in a tree and in a design.
 
-use super::{assert_refused, body, design, fault, joined, module};
+use super::{body, design, joined, module};
 use design::Design;
 use design::code::Node;
 use model::tree::{Statement, Task};
 use std::alloc::Global;
 use std::process::Abort;
-use vparse::parse::ParseFault;
 
 const TASKS: &[(&str, Task)] = &[("$display", Task::Display), ("$strobe", Task::Strobe)];
 
-/// A module whose process calls a task. The task's name is token 5, at byte 18.
+/// A module whose process calls a task.
 fn source(rt: &impl Abort, alloc: Global, name: &str, call: &str) -> String {
     joined(
         rt,
@@ -22,11 +21,6 @@ fn source(rt: &impl Abort, alloc: Global, name: &str, call: &str) -> String {
             " reg [127:0] a; reg b; endmodule",
         ],
     )
-}
-
-fn assert_fault(rt: &impl Abort, alloc: Global, name: &str, call: &str, want: ParseFault) {
-    let found = fault(alloc, source(rt, alloc, name, call).as_bytes());
-    assert!(rt; found == Some(want), "{name}{call}");
 }
 
 /// Whether a statement calls a task with a format and so many arguments.
@@ -56,67 +50,6 @@ fn reads_calls(rt: HostRuntime) {
     for &(name, task) in TASKS {
         for &(call, format, arguments) in CALLS {
             assert_call(&rt, rt.alloc(), name, call, (task, format, arguments));
-        }
-    }
-}
-
-const FAULTY_CALLS: &[(&str, ParseFault)] = &[
-    (";", ParseFault::Syntax(6)),
-    (" \"x\";", ParseFault::Syntax(6)),
-    ("();", ParseFault::Syntax(7)),
-    ("(a);", ParseFault::Syntax(7)),
-    ("(\"x\" a);", ParseFault::Syntax(8)),
-    ("(\"x\";", ParseFault::Syntax(8)),
-    ("(\"x\",);", ParseFault::Syntax(9)),
-    ("(\"x\")", ParseFault::Syntax(9)),
-    ("(\"%b\", 1);", ParseFault::Unsized(9)),
-];
-
-#[test]
-fn refuses_calls(rt: HostRuntime) {
-    for &(name, _) in TASKS {
-        for &(call, want) in FAULTY_CALLS {
-            assert_fault(&rt, rt.alloc(), name, call, want);
-        }
-    }
-}
-
-/// A system name is one token, and counts as a whole.
-const OTHER_NAMES: &[(&str, ParseFault)] = &[
-    ("$ display", ParseFault::Byte(18)),
-    ("$ strobe", ParseFault::Byte(18)),
-    ("strobe", ParseFault::Syntax(6)),
-    ("$Strobe", ParseFault::Syntax(5)),
-    ("$strobeb", ParseFault::Syntax(5)),
-    ("$monitor", ParseFault::Syntax(5)),
-];
-
-#[test]
-fn refuses_other_names(rt: HostRuntime) {
-    for &(name, want) in OTHER_NAMES {
-        assert_fault(&rt, rt.alloc(), name, "(\"x\");", want);
-    }
-}
-
-fn assert_no_design(rt: &impl Abort, alloc: Global, name: &str, call: &str, want: &str) {
-    assert_refused(rt, alloc, source(rt, alloc, name, call).as_str(), want);
-}
-
-const FAULTY_FORMATS_AND_ARGUMENTS: &[(&str, &str)] = &[
-    ("(\"%b\");", "E6 format and arguments"),
-    ("(\"x\", b);", "E6 format and arguments"),
-    ("(\"%b\", a, b);", "E6 format and arguments"),
-    ("(\"%d\", a);", "E6 format and arguments"),
-    ("(\"%b\", c);", "E1 undeclared c"),
-    ("(\"%b\", {a, b});", "E7 concatenation over 128 bits"),
-    ("(\"%b\", a[128]);", "E8 bit index of a"),
-];
-
-#[test]
-fn refuses_formats_and_arguments(rt: HostRuntime) {
-    for &(name, _) in TASKS {
-        for &(call, want) in FAULTY_FORMATS_AND_ARGUMENTS {
-            assert_no_design(&rt, rt.alloc(), name, call, want);
         }
     }
 }

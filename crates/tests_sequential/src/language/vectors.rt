@@ -1,13 +1,12 @@
-//! Tests against a plain digit-list program, and worked values.
+//! Tests against a plain digit-list program, and edges between worked values.
 
+mod edges;
 mod pairs;
 mod plain;
 mod random;
-mod rows;
 
 use logic4::bits::Bits;
 use logic4::digit::Digit;
-use std::alloc::AllocError;
 use std::process::Abort;
 
 // the vector of the letters 0, 1, x and z, the most significant first
@@ -32,10 +31,4 @@ fn digit(letter: u8) -> Digit {
 fn joined(rt: &impl Abort, high: Bits, low: Bits) -> Bits {
     assert!(rt; high.width() + low.width() <= Bits::MAX_WIDTH, "too wide");
     Bits::concat(high, low)
-}
-
-// memory is there, and the text is the one that is wanted
-fn assert_text(rt: &impl Abort, found: Result<String, AllocError>, wanted: &str) {
-    let text = found.expect(rt, "memory");
-    assert!(rt; text.as_str() == wanted, "{text}");
 }

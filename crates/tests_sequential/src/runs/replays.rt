@@ -17,14 +17,6 @@ const RACE: &[u8] =
 /// One process, which prints a line.
 const HI: &[u8] = b"module t; initial $display(\"hi\"); endmodule";
 
-/// A process that finishes the simulation, and another.
-const FINISH: &[u8] =
-    b"module t; initial begin $display(\"a\"); $finish; $display(\"b\"); end initial $display(\"c\"); endmodule";
-
-/// A strobe before an update of its register.
-const STROBE: &[u8] =
-    b"module t; reg a; initial begin a=1'b0; $strobe(\"s %b\",a); a<=1'b1; $display(\"d %b\",a); end endmodule";
-
 /// What is left of a replay by a reader and a writer that fail after so many bytes: what was written, and then the line
 /// that tells of the fault, if there is one.
 fn left_of(
@@ -148,94 +140,6 @@ fn assert_failed_writes(rt: &impl Abort, alloc: Global, both: (&[u8], &[u8]), wa
     for (writes, want) in wants.iter().enumerate() {
         assert_left_of(rt, alloc, both, (100, writes), want, writes);
     }
-}
-
-// Each source and text of a journal leaves its lines, or the line that tells of the fault.
-fn assert_left(rt: &impl Abort, alloc: Global, rows: &[(&[u8], &[u8], &str)]) {
-    for (place, (source, text, want)) in rows.iter().enumerate() {
-        assert_left_of(rt, alloc, (source, text), (100, 100), want, place);
-    }
-}
-
-/// Sources and texts of version 1, and what each leaves.
-const ROWS: &[(&[u8], &[u8], &str)] = &[
-    (RACE, b"vsimtx-journal 1\nT 0\nT 1\nT 2\nI\nT 3\n", "1\n"),
-    (RACE, b"vsimtx-journal 1\nT 1\nT 0\nT 2\nI\nT 3\n", "0\n"),
-    (
-        RACE,
-        b"vsimtx-journal 1\nT 0\nT 2\nI\n",
-        "entry 3: J3 region change not due",
-    ),
-    (HI, b"vsimtx-journal 1\nT 0\n", "hi\n"),
-    (
-        HI,
-        b"vsimtx-journal 1\nT 0\nT 0\n",
-        "entry 2: J1 event not active",
-    ),
-    (HI, b"vsimtx-journal 1\nT 00\n", "Q2 journal line 2"),
-    (
-        HI,
-        b"vsimtx-journal 1\nT 0",
-        "Q3 journal ends without newline",
-    ),
-    (HI, b"T 0\n", "Q1 journal header"),
-    (HI, b"vsimtx-journal 1\n", ""),
-    (FINISH, b"vsimtx-journal 1\nT 1\nT 0\n", "c\na\n"),
-    (
-        FINISH,
-        b"vsimtx-journal 1\nT 0\nT 1\n",
-        "entry 2: J6 finished",
-    ),
-    (b"", b"T 0\n", "P2 syntax at token 1"),
-    (
-        b"module t; initial #0 a=1'b0; endmodule",
-        b"",
-        "E1 undeclared a",
-    ),
-    (HI, b"", "Q1 journal header"),
-];
-
-#[test]
-fn replays_bytes(rt: HostRuntime) {
-    assert_left(&rt, rt.alloc(), ROWS);
-}
-
-/// The same of version 2, and of a version that there isn't.
-const ROWS_OF_VERSION_2: &[(&[u8], &[u8], &str)] = &[
-    (
-        RACE,
-        b"vsimtx-journal 2\nT 1\nT 0\nT 2\nI\nT 3\nE 5\n",
-        "0\n",
-    ),
-    (HI, b"vsimtx-journal 2\nT 0\nE 1\n", "hi\n"),
-    (HI, b"vsimtx-journal 2\nE 0\n", ""),
-    (
-        STROBE,
-        b"vsimtx-journal 2\nT 0\nN\nU 1\nM\nE 4\n",
-        "d 0\ns 1\n",
-    ),
-    (
-        STROBE,
-        b"vsimtx-journal 2\nT 0\nM\nE 2\n",
-        "entry 2: J3 region change not due",
-    ),
-    (
-        STROBE,
-        b"vsimtx-journal 1\nT 0\nN\nU 1\nM\n",
-        "Q2 journal line 5",
-    ),
-    (HI, b"vsimtx-journal 2\nT 0\n", "Q7 journal cut"),
-    (
-        HI,
-        b"vsimtx-journal 2\nT 0\nE 2\n",
-        "Q6 journal count at line 3",
-    ),
-    (HI, b"vsimtx-journal 3\nT 0\nE 1\n", "Q1 journal header"),
-];
-
-#[test]
-fn replays_bytes_of_version_2(rt: HostRuntime) {
-    assert_left(&rt, rt.alloc(), ROWS_OF_VERSION_2);
 }
 
 #[test]

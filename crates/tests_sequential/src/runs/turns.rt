@@ -158,12 +158,6 @@ fn is_over_without_memory(
     run_turn(log, design, &state, 7, &mut held).is_ok()
 }
 
-// The same of a log of its own.
-fn assert_grown(rt: &impl Abort, alloc: Global, design: &Design) {
-    let mut log = TurnLog::new(alloc);
-    assert_grows(rt, alloc, design, &mut log);
-}
-
 // A turn that is refused memory in a new log takes none in one that an earlier turn has grown.
 fn assert_grows(rt: &impl Abort, alloc: Global, design: &Design, log: &mut TurnLog) {
     assert!(rt;
@@ -176,6 +170,12 @@ fn assert_grows(rt: &impl Abort, alloc: Global, design: &Design, log: &mut TurnL
         "a grown log"
     );
     assert_sizes(rt, log, [1, 1, 1, 1, 2]);
+}
+
+// The same of a log of its own.
+fn assert_grown(rt: &impl Abort, alloc: Global, design: &Design) {
+    let mut log = TurnLog::new(alloc);
+    assert_grows(rt, alloc, design, &mut log);
 }
 
 #[test]

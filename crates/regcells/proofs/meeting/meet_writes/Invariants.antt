@@ -1,6 +1,6 @@
 use Rattle.std.proofs.Common.{◌≡◌, ◌<◌, ℕ, Some}
 use Rattle.std.specs.Prelude.{slice_get}
-use Rattle.logic4.specs.Vector.{Vector}
+use Rattle.turn.specs.declared.log.Net.{Net}
 use Rattle.regcells.specs.Meetings.{fresh_of, Met}
 use Rattle.regcells.proofs.meeting.meet_writes.Given as goal
 
@@ -9,4 +9,4 @@ invariant-loop-place g l =
     (l.holder ≡ l.initial.holder)
     × (l.seat.cells ≡ l.initial.seat.cells)
     × Met l.initial.seat.seen l.initial.holder.seen l.seat.seen
-    × ((k : ℕ) (d : ℕ × Vector) → k < l.place → slice_get l.writes k ≡ Some d → fresh_of l.seat.seen d.0 ≡ fresh_of l.initial.holder.seen d.0)
+    × ((k : ℕ) (n : Net) → k < l.place → slice_get l.nets k ≡ Some n → fresh_of l.seat.seen n.register ≡ fresh_of l.initial.holder.seen n.register)

@@ -25,20 +25,20 @@ returns-in-Some-clause-noted c =
     let nets = c.args.nets.now.items in
     let t = the_net c in
     ap (slice_set nets c.in-Some.place) c.write.ensures
-    ∙ sym (noted_at nets c.args.places.now.items c.in-Some.place c.index_mut.result.now (c.args.register, c.args.value) c.requires.placed t.is t.here)
+    ∙ sym (noted_at nets c.args.places.now.items c.in-Some.place c.index_mut.result.now (c.args.register, c.args.value.now) c.requires.placed t.is t.here)
 
 pub returns-in-Some-clause-placed : goal.returns-in-Some-clause-placed
 returns-in-Some-clause-placed c =
     let nets = c.args.nets.now.items in
     let t = the_net c in
     subst (λ n. IsPlaced (slice_set nets c.in-Some.place n) c.args.places.now.items) (sym c.write.ensures)
-    (placed_set nets c.args.places.now.items c.in-Some.place c.index_mut.result.now c.args.value c.requires.placed t.is)
+    (placed_set nets c.args.places.now.items c.in-Some.place c.index_mut.result.now c.args.value.now c.requires.placed t.is)
 
 pub returns-in_ok-push-in-None-clause-noted : goal.returns-in_ok-push-in-None-clause-noted
 returns-in_ok-push-in-None-clause-noted c =
-    let pushed : c.push.new.self.items ≡ c.args.nets.now.items ++ first_net (c.args.register, c.args.value) ∷ [] = search rules in
+    let pushed : c.push.new.self.items ≡ c.args.nets.now.items ++ first_net (c.args.register, c.args.value.now) ∷ [] = search rules in
     let none = subst (λ l. HasNoNet l c.args.register) c.deref.ensures.value c.in-None.ensures in
-    pushed ∙ sym (noted_new c.args.nets.now.items (c.args.register, c.args.value) none)
+    pushed ∙ sym (noted_new c.args.nets.now.items (c.args.register, c.args.value.now) none)
 
 pub returns-in_ok-push-in-None-clause-placed : goal.returns-in_ok-push-in-None-clause-placed
 returns-in_ok-push-in-None-clause-placed c =
@@ -46,9 +46,9 @@ returns-in_ok-push-in-None-clause-placed c =
     let places = c.make_place.new.places.items in
     let none = subst (λ l. HasNoNet l c.args.register) c.deref.ensures.value c.in-None.ensures in
     let kept : IsPlaced nets places = placed_more nets c.args.places.now.items places c.requires.placed c.make_place.ensures.kept in
-    let pushed : c.push.new.self.items ≡ nets ++ first_net (c.args.register, c.args.value) ∷ [] = search rules in
+    let pushed : c.push.new.self.items ≡ nets ++ first_net (c.args.register, c.args.value.now) ∷ [] = search rules in
     let at : c.len-at.result ≡ length nets = search rules in
     let within : c.args.register < length places = c.in_ok-make_place-in-None.ensures.within in
     subst (λ l. IsPlaced l (slice_set places c.args.register c.len-at.result)) (sym pushed)
-    (subst (λ k. IsPlaced (nets ++ first_net (c.args.register, c.args.value) ∷ []) (slice_set places c.args.register k)) (sym at)
-    (placed_push nets places (c.args.register, c.args.value) kept none within))
+    (subst (λ k. IsPlaced (nets ++ first_net (c.args.register, c.args.value.now) ∷ []) (slice_set places c.args.register k)) (sym at)
+    (placed_push nets places (c.args.register, c.args.value.now) kept none within))

@@ -1,9 +1,0 @@
-use Rattle.std.proofs.Common.{sym, subst}
-use Rattle.turn.specs.Reads.{GaveAll}
-use Rattle.turn.proofs.Known.{gave_more}
-use Rattle.turn.proofs.memory.Memory.look.Goals as goal
-
-pub returns-clause-gave : goal.returns-clause-gave
-returns-clause-gave g c = λ h.
-    subst (GaveAll (g.R.RegReader.gave c.read-seen.new.self)) (sym c.in_ok-record.ensures.reads)
-    (gave_more (g.R.RegReader.gave c.args.reader.now) (g.R.RegReader.gave c.read-seen.new.self) c.args.self.now.reads.entries c.args.register c.read-seen.result c.read-seen.ensures.keeps c.read-seen.ensures.adds h)
