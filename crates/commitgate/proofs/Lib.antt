@@ -17,4 +17,4 @@ mod Counting
 mod Openings
 mod Barring
 mod Evaluating
-mod Batches
+pub mod Batches

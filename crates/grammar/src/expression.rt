@@ -82,7 +82,7 @@ fn select(rules: Rules, tokens: &mut Cursor<'_, '_>, name: &str) -> Result<Expre
     tokens.take(rules.stop)?;
     let index = tokens.expect(rules.stop, Kind::Decimal)?;
     tokens.expect(rules.stop, Kind::CloseSquare)?;
-    Ok(selected(rules.alloc, name, index.value)?)
+    Ok(selected(rules.alloc, name, index.value())?)
 }
 
 /// Reads a name, and `[ decimal ]` where it follows.
@@ -102,7 +102,7 @@ fn sized(rules: Rules, tokens: &mut Cursor<'_, '_>) -> Result<Expression, Fault>
     ensures { Reads expression_of rules.stop (spec.sized (left_of tokens.old)) result (left_of tokens.new) }
 {
     let token = tokens.take(rules.stop)?;
-    match token.bits {
+    match token.bits(rules.alloc)? {
         None => Err(Fault::Syntax),
         Some(bits) => Ok(literal_of(bits)),
     }

@@ -24,7 +24,7 @@ fn bounds(rules: Rules, tokens: &mut Cursor<'_, '_>) -> Result<(u64, u64), Fault
     tokens.expect(rules.stop, Kind::Colon)?;
     let last = tokens.expect(rules.stop, Kind::Decimal)?;
     tokens.expect(rules.stop, Kind::CloseSquare)?;
-    Ok((first.value, last.value))
+    Ok((first.value(), last.value()))
 }
 
 /// Reads a range where it comes next.

@@ -29,7 +29,7 @@ fn delay(rules: Rules, tokens: &mut Cursor<'_, '_>) -> Result<Option<u64>, Fault
     }
     tokens.take(rules.stop)?;
     let found = tokens.expect(rules.stop, Kind::Decimal)?;
-    Ok(Some(found.value))
+    Ok(Some(found.value()))
 }
 
 /// Reads what stands right of the sign of an assignment, and `;`.
@@ -215,7 +215,7 @@ fn delayed(rules: Rules, tokens: &mut Cursor<'_, '_>, fuel: usize) -> Result<Sta
     tokens.take(rules.stop)?;
     let found = tokens.expect(rules.stop, Kind::Decimal)?;
     let body = statement(rules, tokens, fuel)?;
-    Ok(delay_of(rules.alloc, found.value, body)?)
+    Ok(delay_of(rules.alloc, found.value(), body)?)
 }
 
 /// Reads `@ ( events )` and a statement.

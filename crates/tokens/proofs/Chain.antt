@@ -1,17 +1,25 @@
 -- A cut, piece by piece; and no text has two cuts, or a cut and a place where the cut stops.
-use Rattle.std.proofs.Common.{◌≡◌, ◌==◌, ℕ, ◌+◌, ◌-◌, ◌<◌, ◌≤◌, List, [], ◌∷◌, ◌++◌, length, take, drop, Bool, true, false, Some, None, refl, sym, ap, subst, ◌∙◌, append_assoc, append-nil, length-append, take-append-drop, arith}
+use Rattle.std.proofs.Common.{◌≡◌, ◌==◌, ℕ, ◌+◌, ◌-◌, ◌<◌, ◌≤◌, List, [], ◌∷◌, ◌++◌, length, take, drop, Bool, true, false, not, Option, Some, None, option_map, refl, sym, ap, subst, ◌∙◌, append_assoc, append-nil, length-append, take-append-drop, arith}
+use Rattle.std.specs.Option.{is_some}
 use Rattle.std.proofs.Math.Seq.{take-append_seam, drop-append_seam}
 use Rattle.std.proofs.lemmas.Bool.Decides.{nat_tests}
 use Rattle.tokens.specs.Tokens.{PlainTokens}
-use Rattle.tokens.specs.Literals.{Worth}
-use Rattle.tokens.specs.Lexing.{IsNext, is_skipped, kind_of, worth_of, reading, Cut, ended, next, Cause, stray, bad_number, Stops, no_piece, no_value, later}
+use Rattle.tokens.specs.Literals.{Worth, worth_of, worth_or_none, token_value, token_digits}
+use Rattle.tokens.specs.Lexing.{IsNext, is_skipped, kind_of, reading, Cut, ended, next, Cause, stray, bad_number, Stops, no_piece, no_value, later}
 use Rattle.tokens.specs.Lengths.{Adds, piece_len}
 use Rattle.tokens.proofs.Longest.{long, next_is, no_next}
 
-pub reading_one : (piece : List ℕ) (w : Worth) → is_skipped piece ≡ false → worth_of piece ≡ Some w
-    → reading piece ≡ Some (record { kind = kind_of piece; text = piece; value = w.0; bits = w.1 } ∷ [])
-unfolding reading
-reading_one piece w h is = rw (h, is)
+some_worth : (o : Option Worth) (none : Bool) → is_some o ≡ not none → none ≡ false → o ≡ Some (worth_or_none o)
+some_worth None none test some = absurd (let e : false ≡ true = test ∙ ap not some in cc)
+some_worth (Some w) none test some = refl
+
+pub reading_one : (piece : List ℕ) (o : Option Worth) (none : Bool) → is_skipped piece ≡ false → o ≡ worth_of piece → is_some o ≡ not none → none ≡ false
+    → reading piece ≡ Some (record { kind = kind_of piece; text = piece; value = token_value piece; bits = token_digits piece } ∷ [])
+unfolding reading token_value token_digits
+reading_one piece o none shown is test some =
+    let one = λ (w : Worth). record { kind = kind_of piece; text = piece; value = w.0; bits = w.1 } ∷ [] in
+    let h : worth_of piece ≡ Some (worth_or_none (worth_of piece)) = some_worth (worth_of piece) none (ap is_some (sym is) ∙ test) some in
+    rw shown (ap (option_map one) h)
 
 pub added : (piece : List ℕ) (old : PlainTokens) (read : Bool) (new : PlainTokens) → read ≡ true → Adds piece old read new → (us : PlainTokens) × (reading piece ≡ Some us) × (new ≡ old ++ us)
 added piece old true new is h = h

@@ -3,6 +3,8 @@ pub mod Ascii
 pub mod Steps
 pub mod Numbers
 pub mod Decimals
+pub mod Worths
+pub mod Firsts
 pub mod Longest
 pub mod Chain
 mod Rows

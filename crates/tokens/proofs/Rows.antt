@@ -5,7 +5,7 @@ use Rattle.logic4.specs.Vector.{vector, unknown}
 use Rattle.tokens.specs.declared.token.Kind.{Kind}
 use Rattle.tokens.specs.declared.token.Kind.TheVariants as k
 use Rattle.tokens.specs.Tokens.{PlainTokens}
-use Rattle.tokens.specs.Literals.{decimal_of, binary_digits, hex_digits, fitted, decimal_vector, based, literal_of, number_of}
+use Rattle.tokens.specs.Literals.{decimal_of, binary_digits, hex_digits, fitted, decimal_vector, based, literal_of, number_of, token_value, token_digits}
 use Rattle.tokens.specs.Lexing.{item_word, statement_word, bit_sign, test_sign, mark_sign, bracket_sign, kind_by_first, reading, string_text, is_string_rest, is_comment_rest}
 
 abbrev one : Kind → List ℕ → ℕ → Option PlainTokens
@@ -62,6 +62,23 @@ nineteen_digits = refl
 sized_literal : reading (codes "4'b00001") ≡ Some (record { kind = k.Sized; text = codes "4'b00001"; value = 0; bits = Some (vector 4 1) } ∷ [])
 unfolding reading item_word statement_word bit_sign test_sign mark_sign bracket_sign kind_by_first number_of literal_of decimal_of based binary_digits fitted
 sized_literal = refl
+
+-- a plain decimal has a value, and a sized literal digits alone
+value_of_a_decimal : token_value (codes "18") ≡ 18
+unfolding token_value number_of decimal_of
+value_of_a_decimal = refl
+
+value_of_a_literal : token_value (codes "4'b00001") ≡ 0
+unfolding token_value number_of literal_of decimal_of based binary_digits fitted
+value_of_a_literal = refl
+
+digits_of_a_literal : token_digits (codes "4'b00001") ≡ Some (vector 4 1)
+unfolding token_digits number_of literal_of decimal_of based binary_digits fitted
+digits_of_a_literal = refl
+
+digits_of_a_decimal : token_digits (codes "18") ≡ None
+unfolding token_digits number_of decimal_of
+digits_of_a_decimal = refl
 
 a_space : reading (codes " ") ≡ Some []
 unfolding reading

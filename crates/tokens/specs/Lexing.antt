@@ -5,7 +5,7 @@ use Rattle.tokens.specs.declared.token.Kind.{Kind}
 use Rattle.tokens.specs.declared.token.Kind.TheVariants as k
 use Rattle.tokens.specs.Tokens.{PlainTokens}
 use Rattle.tokens.specs.Bytes.{is_letter, is_digit, in_word, in_literal, is_space, in_line, in_string, is_escape, all}
-use Rattle.tokens.specs.Literals.{Worth, is_empty, number_of}
+use Rattle.tokens.specs.Literals.{is_empty, worth_of}
 
 -- ---- operators and marks (3.4, A.8.6)
 
@@ -162,12 +162,6 @@ kind_of t = or_else (item_word t) (or_else (statement_word t) (sign_kind t))
 abbrev pub is_skipped : List ℕ → Bool
 is_skipped [] = false
 is_skipped (b ∷ bs) = is_space b || b == 47
-
--- The number and the digits of a token: 0 and none where it is neither a plain decimal nor a sized literal. None where one
--- of these is malformed or too wide.
-abbrev pub worth_of : List ℕ → Option Worth
-worth_of [] = Some (0, None)
-worth_of (b ∷ bs) = if is_digit b then number_of (b ∷ bs) else Some (0, None)
 
 -- The tokens that a piece gives, one or none, if it isn't a number that is malformed or too wide.
 unfoldable pub reading : List ℕ → Option PlainTokens

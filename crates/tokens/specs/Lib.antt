@@ -1,5 +1,5 @@
-pub mod Tokens
 pub mod Bytes
 pub mod Literals
+pub mod Tokens
 pub mod Lexing
 pub mod Lengths

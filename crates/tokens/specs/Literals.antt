@@ -112,6 +112,25 @@ plain_worth n = (n, None)
 unfoldable pub number_of : List ℕ → Option Worth
 number_of text = if all is_digit text then option_map plain_worth (decimal_of text) else option_map (λ v. (0, Some v)) (literal_of text)
 
+-- The number and the digits of a token: 0 and none where it is neither a plain decimal nor a sized literal. None where one
+-- of these is malformed or too wide.
+abbrev pub worth_of : List ℕ → Option Worth
+worth_of [] = Some (0, None)
+worth_of (b ∷ bs) = if is_digit b then number_of (b ∷ bs) else Some (0, None)
+
+-- A number and digits where they were found, else 0 and none.
+abbrev pub worth_or_none : Option Worth → Worth
+worth_or_none None = (0, None)
+worth_or_none (Some w) = w
+
+-- The number of a token: that of a plain decimal, and 0 for every other.
+unfoldable pub token_value : List ℕ → ℕ
+token_value text = (worth_or_none (worth_of text)).0
+
+-- The digits of a token: those of a sized literal, which no other has.
+unfoldable pub token_digits : List ℕ → Option Vector
+token_digits text = (worth_or_none (worth_of text)).1
+
 -- What adding the digits of a byte does to those found.
 abbrev pub AddsDigits : Option Vector → Vector → Bool → Vector → Type 0
 AddsDigits (Some v) old true new = new ≡ old ++ v

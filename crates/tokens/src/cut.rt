@@ -8,22 +8,12 @@ ghost use Rattle.tokens.specs.Lexing.{Cut, Stops};
 ghost use Rattle.tokens.specs.Tokens.{plain_token};
 
 use crate::kinds::kind_of;
-use crate::literal::{Worth, number_of};
+use crate::literal::worth_of;
 use crate::pieces::piece_len;
-use crate::spans::{is_digit, is_space};
+use crate::spans::is_space;
 use crate::token::Token;
 use std::alloc::{AllocError, Global};
 use std::str;
-
-/// The number and the digits of a token; `None` for a number that is malformed or too wide.
-fn worth_of(alloc: Global, text: &[u8]) -> Result<Option<Worth>, AllocError>
-    ensures { IfOk result (λ found. found ≡ spec.worth_of text.now) }
-{
-    match text {
-        [b, ..] if is_digit(*b) => number_of(alloc, text),
-        _ => Ok(Some((0, None))),
-    }
-}
 
 fn is_skipped(text: &[u8]) -> bool
     ensures { result ≡ spec.is_skipped text.now }
@@ -54,18 +44,12 @@ fn add<'a>(alloc: Global, found: &mut Vec<Token<'a>>, piece: &'a [u8]) -> Result
     if is_skipped(piece) {
         return Ok(true);
     }
-    let Some(worth) = worth_of(alloc, piece)? else {
+    if worth_of(alloc, piece)?.is_none() {
         return Ok(false);
-    };
+    }
     let kind = kind_of(piece);
     let text = text_of(piece);
-    let token = Token {
-        kind,
-        text,
-        value: worth.0,
-        bits: worth.1,
-    };
-    found.extend_from_slice(&[token])?;
+    found.push(Token { kind, text })?;
     Ok(true)
 }
 

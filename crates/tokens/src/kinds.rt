@@ -1,10 +1,11 @@
 //! The kind of a token, by how it is spelled.
 
-ghost use Rattle.std.specs.Prelude.{◌≡◌};
+ghost use Rattle.std.specs.Prelude.{◌≡◌, true, slice_index};
 ghost use Rattle.std.specs.Str.{bytes_eq};
+ghost use Rattle.tokens.specs.Bytes.{is_letter};
 ghost use Rattle.tokens.specs.Lexing as spec;
 
-use crate::spans::{all_digits, is_digit};
+use crate::spans::{all_digits, is_digit, is_letter};
 use crate::token::Kind;
 
 fn is_same(text: &[u8], word: &[u8]) -> bool
@@ -41,8 +42,10 @@ fn item_word(text: &[u8]) -> Option<Kind>
     None
 }
 
+/// The reserved words of statements and events. What begins with a letter is no system name.
 #[tactic(auto, unfolding(crate::specs::Lexing::statement_word))]
 fn statement_word(text: &[u8]) -> Option<Kind>
+    requires { is_letter (slice_index text.now 0) ≡ true }
     ensures { result ≡ spec.statement_word text.now }
 {
     if is_same(text, b"if") {
@@ -63,16 +66,38 @@ fn statement_word(text: &[u8]) -> Option<Kind>
     if is_same(text, b"or") {
         return Some(Kind::Or);
     }
+    None
+}
+
+/// The kind of a reserved word, or of a name.
+fn word_kind(text: &[u8]) -> Kind
+    requires { is_letter (slice_index text.now 0) ≡ true }
+    ensures { result ≡ spec.kind_of text.now }
+{
+    if let Some(kind) = item_word(text) {
+        return kind;
+    }
+    if let Some(kind) = statement_word(text) {
+        return kind;
+    }
+    Kind::Name
+}
+
+/// The kind of a system name.
+fn system_kind(text: &[u8]) -> Kind
+    requires { slice_index text.now 0 ≡ 36 }
+    ensures { result ≡ spec.kind_of text.now }
+{
     if is_same(text, b"$display") {
-        return Some(Kind::Display);
+        return Kind::Display;
     }
     if is_same(text, b"$strobe") {
-        return Some(Kind::Strobe);
+        return Kind::Strobe;
     }
     if is_same(text, b"$finish") {
-        return Some(Kind::Finish);
+        return Kind::Finish;
     }
-    None
+    Kind::System
 }
 
 #[tactic(auto, unfolding(crate::specs::Lexing::bit_sign))]
@@ -226,6 +251,10 @@ fn kind_by_first(text: &[u8]) -> Kind
 fn sign_kind(text: &[u8]) -> Kind
     ensures { result ≡ spec.sign_kind text.now }
 {
+    // Brackets, commas and semicolons stand most often, and what they begin with begins no other sign.
+    if let Some(kind) = bracket_sign(text) {
+        return kind;
+    }
     if let Some(kind) = bit_sign(text) {
         return kind;
     }
@@ -235,21 +264,24 @@ fn sign_kind(text: &[u8]) -> Kind
     if let Some(kind) = mark_sign(text) {
         return kind;
     }
-    if let Some(kind) = bracket_sign(text) {
-        return kind;
-    }
     kind_by_first(text)
 }
 
-/// The kind of a token, by how it is spelled.
+/// The kind of a token, by how it is spelled. Its first byte says which words it may be.
 pub fn kind_of(text: &[u8]) -> Kind
     ensures { result ≡ spec.kind_of text.now }
 {
-    if let Some(kind) = item_word(text) {
-        return kind;
+    let [first, ..] = text else {
+        return Kind::End;
+    };
+    if is_letter(*first) {
+        return word_kind(text);
     }
-    if let Some(kind) = statement_word(text) {
-        return kind;
+    if *first == b'$' {
+        return system_kind(text);
+    }
+    if is_digit(*first) || *first == b'"' {
+        return kind_by_first(text);
     }
     sign_kind(text)
 }

@@ -276,7 +276,7 @@ fn plain(text: &[u8]) -> Option<Worth>
 
 /// The number of a plain decimal, or the digits of a sized literal; `None` where it is malformed or too wide.
 #[tactic(auto, unfolding(crate::specs::Literals::number_of))]
-pub fn number_of(alloc: Global, text: &[u8]) -> Result<Option<Worth>, AllocError>
+fn number_of(alloc: Global, text: &[u8]) -> Result<Option<Worth>, AllocError>
     ensures { IfOk result (λ found. found ≡ spec.number_of text.now) }
 {
     if all_digits(text) {
@@ -285,5 +285,40 @@ pub fn number_of(alloc: Global, text: &[u8]) -> Result<Option<Worth>, AllocError
     match literal_of(alloc, text)? {
         None => Ok(None),
         Some(bits) => Ok(Some((0, Some(bits)))),
+    }
+}
+
+/// The number and the digits of a token; `None` for a number that is malformed or too wide.
+pub fn worth_of(alloc: Global, text: &[u8]) -> Result<Option<Worth>, AllocError>
+    ensures { IfOk result (λ found. found ≡ spec.worth_of text.now) }
+{
+    match text {
+        [b, ..] if is_digit(*b) => number_of(alloc, text),
+        _ => Ok(Some((0, None))),
+    }
+}
+
+/// The number of a plain decimal, and 0 for every other token.
+#[tactic(auto, using(crate::proofs::Worths::value_is))]
+pub fn token_value(text: &[u8]) -> u64
+    ensures { result ≡ spec.token_value text.now }
+{
+    if !all_digits(text) {
+        return 0;
+    }
+    match plain(text) {
+        None => 0,
+        Some((n, _)) => n,
+    }
+}
+
+/// The digits of a sized literal, which no other token has.
+#[tactic(auto, unfolding(crate::specs::Literals::token_digits))]
+pub fn token_digits(alloc: Global, text: &[u8]) -> Result<Option<Bits>, AllocError>
+    ensures { IfOk result (λ found. found ≡ spec.token_digits text.now) }
+{
+    match worth_of(alloc, text)? {
+        None => Ok(None),
+        Some((_, bits)) => Ok(bits),
     }
 }

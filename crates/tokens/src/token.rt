@@ -1,9 +1,11 @@
 //! Tokens.
 
-ghost use Rattle.std.specs.Prelude.{◌≡◌, ◌≢◌, true, false};
-ghost use Rattle.tokens.specs.Tokens.{same_kind};
+ghost use Rattle.std.specs.Prelude.{◌≡◌, ◌≢◌, true, false, IfOk};
+ghost use Rattle.tokens.specs.Tokens.{plain_token, same_kind};
 
+use crate::literal::{token_digits, token_value};
 use logic4::bits::Bits;
+use std::alloc::{AllocError, Global};
 
 /// What a token is.
 #[derive(Clone, Copy, Debug, PartialEq, Eq)]
@@ -67,15 +69,32 @@ pub enum Kind {
     Semicolon,
 }
 
-/// A token, with the bytes that it is spelled with.
+/// A token, with the bytes that it is spelled with. All tokens of a text stand in memory at once, and few are numbers: so
+/// what a number stands for is read from its bytes where it is asked for.
 #[derive(Clone, Copy, Debug)]
 pub struct Token<'a> {
     pub kind: Kind,
     pub text: &'a str,
+}
+
+const _: () = prove!(size_of::<Token<'static>>() == 24);
+
+impl<'a> Token<'a> {
     /// The value of a plain decimal, and 0 for every other token.
-    pub value: u64,
+    pub fn value(&self) -> u64
+        ensures { result ≡ (plain_token self.now).value }
+    {
+        token_value(self.text.as_bytes())
+    }
+
     /// The digits of a sized literal, which no other token has.
-    pub bits: Option<Bits>,
+    // The functions of a parser call themselves as deep as a text nests: what reading a literal needs is to lie in no frame of theirs.
+    #[inline(never)]
+    pub fn bits(&self, alloc: Global) -> Result<Option<Bits>, AllocError>
+        ensures { IfOk result (λ found. found ≡ (plain_token self.now).bits) }
+    {
+        token_digits(alloc, self.text.as_bytes())
+    }
 }
 
 pub fn is_kind(a: Kind, b: Kind) -> bool

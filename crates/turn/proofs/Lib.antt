@@ -1,7 +1,7 @@
 -- Lemmas of a turn: what is read and known, values of expressions, texts, steps, and the whole turn.
 pub mod Operators
 pub mod Known
-mod Stack
+mod Sizes
 pub mod Slots
 mod Nets
 pub mod Runs

@@ -1,5 +1,5 @@
 -- The steps of an expression, one after another.
-use Rattle.std.proofs.Common.{◌≡◌, ℕ, ◌+◌, ◌<◌, ◌||◌, if◌then◌else◌, List, [], ◌∷◌, ◌++◌, length, take, Option, get_or, refl, sym, ap, subst, ◌∙◌, append_assoc, take-suc, add-one}
+use Rattle.std.proofs.Common.{◌≡◌, ℕ, ◌+◌, ◌<◌, ◌||◌, if◌then◌else◌, List, [], ◌∷◌, ◌++◌, length, take, Option, get_or, refl, sym, ap, subst, suc, arith, ◌∙◌, append_assoc, take-suc, add-one}
 use Rattle.std.specs.List.{All}
 use Rattle.logic4.specs.Vector.{Vector, resize}
 use Rattle.logic4.specs.Operators.{select_digit}
@@ -47,6 +47,10 @@ ran_none k s st = record {
   stack = λ values h. refl;
   continues = λ writes h. continues_none writes s k h;
 }
+
+pub ran_empty : (ops : List Op) (k : List (Option Vector)) (s : List (ℕ × Seen)) (st : List Vector) → length ops ≡ 0 → Ran ops k s st k s st
+ran_empty [] k s st e = ran_none k s st
+ran_empty (op ∷ ops) k s st e = absurd (omega (arith, e))
 
 -- one step as a run
 ran_look : (op : Op) (r : ℕ) (v : Vector) (k : List (Option Vector)) (s : List (ℕ × Seen)) (st : List Vector) (k' : List (Option Vector)) (s' : List (ℕ × Seen)) (st' : List Vector) → reads_of op ≡ r ∷ [] → ((values : Store) → value_of values r ≡ v → act values op st ≡ st') → Looked r v k s k' s' → Ran (op ∷ []) k s st k' s' st'
@@ -100,3 +104,11 @@ ran_more ops i op k s st k1 s1 st1 k2 s2 st2 lt is all a acts =
     let both : Ran (take i ops ++ op ∷ []) k s st k2 s2 st2 = ran_both (take i ops) (op ∷ []) k s st k1 s1 st1 k2 s2 st2 a (ran_one op k1 s1 st1 k2 s2 st2 fits' acts) in
     let more : take (i + 1) ops ≡ take i ops ++ op ∷ [] = ap (λ n. take n ops) (add-one i) ∙ take-suc ops i op lt ∙ ap (λ o. take i ops ++ o ∷ []) (sym is) in
     rw more both
+
+-- a first step, and others
+pub ran_first : (ops : List Op) (op : Op) (others : List Op) (k : List (Option Vector)) (s : List (ℕ × Seen)) (st : List Vector) (k1 : List (Option Vector)) (s1 : List (ℕ × Seen)) (st1 : List Vector) (k2 : List (Option Vector)) (s2 : List (ℕ × Seen)) (st2 : List Vector) → ops ≡ op ∷ others → All (IsOpOf (length k)) ops → Acts op k s st k1 s1 st1 → (All (IsOpOf (length k1)) others → Ran others k1 s1 st1 k2 s2 st2) → Ran ops k s st k2 s2 st2
+ran_first ops op others k s st k1 s1 st1 k2 s2 st2 is all acts ran =
+    let all' : All (IsOpOf (length k)) (op ∷ others) = subst (All (IsOpOf (length k))) is all in
+    let one : Ran (op ∷ []) k s st k1 s1 st1 = ran_one op k s st k1 s1 st1 (all' 0 op (omega arith)) acts in
+    let left : All (IsOpOf (length k1)) others = subst (λ n. All (IsOpOf n) others) (sym one.size) (λ i o lt. all' (suc i) o (omega (arith, lt))) in
+    rw is (ran_both (op ∷ []) others k s st k1 s1 st1 k2 s2 st2 one (ran left))

@@ -1,5 +1,5 @@
 -- The steps of an expression on a stack, and what they read on the way.
-use Rattle.std.specs.Prelude.{◌≡◌, ℕ, ◌<◌, ◌||◌, List, [], ◌∷◌, map, length, Option, Some, None, is_some, slice_index_or, slice_set}
+use Rattle.std.specs.Prelude.{◌≡◌, ℕ, ◌<◌, ◌||◌, List, [], ◌∷◌, map, length, reverse, Option, Some, None, is_some, slice_index_or, slice_set}
 use Rattle.std.specs.List.{All}
 use Rattle.logic4.specs.Vector.{Vector, resize}
 use Rattle.logic4.specs.Operators.{select_digit}
@@ -10,8 +10,13 @@ use Rattle.design.specs.declared.code.Op.TheVariants.{Load, Pick, BinaryRegister
 use Rattle.design.specs.Operate.{combined}
 use Rattle.design.specs.Steps.{topmost, below, act, run_ops, all_reads, IsOpOf}
 use Rattle.turn.specs.declared.memory.Seen.{Seen}
+use Rattle.turn.specs.declared.stack.Stack.{Stack}
 use Rattle.turn.specs.Reads.{registers, AreDeclared, Agrees}
 use Rattle.turn.specs.Memory.{Looks}
+
+-- the vectors of a stack, the topmost one first
+abbrev pub vectors : Stack → List Vector
+vectors s = s.top ∷ reverse s.rest.items
 
 -- each register that these steps read is declared, where there are this many
 abbrev pub NamesDeclared : ℕ → List Op → Type 0

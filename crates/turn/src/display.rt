@@ -60,8 +60,8 @@ impl Progress {
         match piece {
             Shown::Byte(byte) => self.print_byte(*byte),
             Shown::Value { conversion, value } => {
-                let value = self.value(ops, *value, reader)?;
-                self.print_value(*conversion, value)?;
+                self.compute(ops, *value, reader)?;
+                self.print_value(*conversion, self.stack.top)?;
                 Ok(())
             }
         }

@@ -1,5 +1,5 @@
 //! The steps of an expression, on a stack of vectors.
-ghost use Rattle.std.specs.Prelude.{◌≡◌, ◌<◌, ◌∷◌, [], length, reverse, OnOk, IfOk};
+ghost use Rattle.std.specs.Prelude.{◌≡◌, ◌<◌, ◌∷◌, [], None, length, reverse, slice_index_or, OnOk};
 ghost use Rattle.logic4.specs.Vector.{resize};
 ghost use Rattle.logic4.specs.Operators.{select_digit};
 ghost use Rattle.model.specs.Expressions.{Store};
@@ -7,68 +7,27 @@ ghost use Rattle.design.specs.declared.code.Op.TheVariants.{Load, Pick, Unary, B
 ghost use Rattle.design.specs.Operate.{combined};
 ghost use Rattle.design.specs.Steps.{topmost, below, act, run_ops, IsOpOf};
 ghost use Rattle.turn.specs.Reads.{GaveAll, Keeps};
-ghost use Rattle.turn.specs.Evaluate.{NamesDeclared, Holds, Acts, Evaluates};
+ghost use Rattle.turn.specs.Evaluate.{vectors, NamesDeclared, Holds, Acts, Ran, Evaluates};
 
 use crate::memory::{Memory, RegReader};
-use crate::operate::{choose, combine, combine_alike, join, unary};
+use crate::operate::{choose, combine_alike, join, unary};
+use crate::stack::{Stack, pop};
 use design::RegId;
 use design::code::{Op, Size};
 use logic4::bits::Bits;
 use model::tree::{BinaryOperator, UnaryOperator};
 use std::alloc::AllocError;
 
-// Puts a vector on the stack.
+// Puts a vector at a size in the place of another. One that has it is copied as it stands.
 #[inline(always)]
-fn put(stack: &mut Vec<Bits>, value: Bits) -> Result<(), AllocError>
-    ensures { OnOk result (reverse stack.new.items ≡ value ∷ reverse stack.old.items) }
-{
-    stack.push(value)?;
-    Ok(())
-}
-
-// Takes the topmost vector off the stack.
-fn pop(stack: &mut Vec<Bits>) -> Bits
-    ensures value { result ≡ topmost (reverse stack.old.items) }
-    ensures rest { reverse stack.new.items ≡ below (reverse stack.old.items) }
-{
-    match stack.pop() {
-        Some(value) => value,
-        None => Bits::unknown(1),
-    }
-}
-
-// The topmost vector.
-fn top(stack: &[Bits]) -> Bits
-    ensures { result ≡ topmost (reverse stack.now) }
-{
-    match stack.last() {
-        Some(value) => *value,
-        None => Bits::unknown(1),
-    }
-}
-
-// Puts a vector in the place of the topmost one.
-#[tactic(auto, using(crate::proofs::Stack::reverse_set_last))]
-fn set_top(stack: &mut Vec<Bits>, value: Bits) -> Result<(), AllocError>
-    ensures { OnOk result (reverse stack.new.items ≡ value ∷ below (reverse stack.old.items)) }
-{
-    match stack.last_mut() {
-        Some(top) => *top = value,
-        None => stack.push(value)?,
-    }
-    Ok(())
-}
-
-// A vector at a size, on the stack. One that has it is copied as it stands.
-#[inline(always)]
-#[tactic(auto, using(crate::proofs::Stack::resize_same))]
-fn put_sized(stack: &mut Vec<Bits>, value: &Bits, size: Size) -> Result<(), AllocError>
-    ensures { OnOk result (reverse stack.new.items ≡ resize size value.now ∷ reverse stack.old.items) }
+#[tactic(auto, using(crate::proofs::Sizes::resize_same))]
+fn set_sized(place: &mut Bits, value: &Bits, size: Size)
+    ensures { place.new ≡ resize size value.now }
 {
     if value.width() == size.get() {
-        put(stack, *value)
+        *place = *value;
     } else {
-        put(stack, value.resize(size.get()))
+        *place = value.resize(size.get());
     }
 }
 
@@ -84,107 +43,144 @@ fn pick(value: Bits, index: u32) -> Bits
     }
 }
 
-// The functions of single steps stand apart, since room for values that may be there or not is cleared when a function is
-// entered: in one function of all steps each would clear the room of all.
+// The functions of single steps that make a vector elsewhere stand apart, since its room is cleared when a function is entered:
+// in one function of all steps each would clear the room of all.
 
-// The value of a register, on the stack.
+// The value of a register of which none is known, above the rest of the stack. It stands apart from the common case, whose
+// frame needs no room for what a read may answer.
+#[inline(never)]
+fn load_unknown<R: RegReader>(
+    memory: &mut Memory,
+    reader: &mut R,
+    stack: &mut Stack,
+    register: RegId,
+    size: Size,
+) -> Result<(), AllocError>
+    requires declared { register < R.registers }
+    requires unknown { slice_index_or memory.old.known register None ≡ None }
+    ensures acts { OnOk result (Acts (Load register size) memory.old.known memory.old.reads.entries (reverse stack.old.rest.items) memory.new.known memory.new.reads.entries (vectors stack.new)) }
+    ensures gave { OnOk result (GaveAll (R.gave reader.old) memory.old.reads.entries → GaveAll (R.gave reader.new) memory.new.reads.entries) }
+    ensures keeps { Keeps (R.gave reader.old) (R.gave reader.new) }
+    ensures lasting { R.lasting reader.new ≡ R.lasting reader.old }
+{
+    let value = memory.read(reader, register)?;
+    set_sized(&mut stack.top, &value, size);
+    Ok(())
+}
+
+// The value of a register, above the rest of the stack.
+#[inline(always)]
 fn load<R: RegReader>(
     memory: &mut Memory,
     reader: &mut R,
-    stack: &mut Vec<Bits>,
+    stack: &mut Stack,
     register: RegId,
     size: Size,
 ) -> Result<(), AllocError>
     requires { register < R.registers }
-    ensures acts { OnOk result (Acts (Load register size) memory.old.known memory.old.reads.entries (reverse stack.old.items) memory.new.known memory.new.reads.entries (reverse stack.new.items)) }
+    ensures acts { OnOk result (Acts (Load register size) memory.old.known memory.old.reads.entries (reverse stack.old.rest.items) memory.new.known memory.new.reads.entries (vectors stack.new)) }
     ensures gave { OnOk result (GaveAll (R.gave reader.old) memory.old.reads.entries → GaveAll (R.gave reader.new) memory.new.reads.entries) }
     ensures keeps { Keeps (R.gave reader.old) (R.gave reader.new) }
     ensures lasting { R.lasting reader.new ≡ R.lasting reader.old }
 {
     match memory.known.peek(register) {
-        Some(value) => put_sized(stack, value, size),
-        None => {
-            let value = memory.read(reader, register)?;
-            put_sized(stack, &value, size)
+        Some(value) => {
+            set_sized(&mut stack.top, value, size);
+            Ok(())
         }
+        None => load_unknown(memory, reader, stack, register, size),
     }
 }
 
-// One digit of a register, on the stack.
+// The value of a register, above the topmost vector.
+fn load_above<R: RegReader>(
+    memory: &mut Memory,
+    reader: &mut R,
+    stack: &mut Stack,
+    register: RegId,
+    size: Size,
+) -> Result<(), AllocError>
+    requires { register < R.registers }
+    ensures acts { OnOk result (Acts (Load register size) memory.old.known memory.old.reads.entries (vectors stack.old) memory.new.known memory.new.reads.entries (vectors stack.new)) }
+    ensures gave { OnOk result (GaveAll (R.gave reader.old) memory.old.reads.entries → GaveAll (R.gave reader.new) memory.new.reads.entries) }
+    ensures keeps { Keeps (R.gave reader.old) (R.gave reader.new) }
+    ensures lasting { R.lasting reader.new ≡ R.lasting reader.old }
+{
+    stack.keep_top()?;
+    load(memory, reader, stack, register, size)
+}
+
+// One digit of a register, above the rest of the stack.
+#[inline(never)]
 fn load_digit<R: RegReader>(
     memory: &mut Memory,
     reader: &mut R,
-    stack: &mut Vec<Bits>,
+    stack: &mut Stack,
     register: RegId,
     index: u32,
     size: Size,
 ) -> Result<(), AllocError>
     requires { register < R.registers }
-    ensures acts { OnOk result (Acts (Pick register index size) memory.old.known memory.old.reads.entries (reverse stack.old.items) memory.new.known memory.new.reads.entries (reverse stack.new.items)) }
+    ensures acts { OnOk result (Acts (Pick register index size) memory.old.known memory.old.reads.entries (reverse stack.old.rest.items) memory.new.known memory.new.reads.entries (vectors stack.new)) }
     ensures gave { OnOk result (GaveAll (R.gave reader.old) memory.old.reads.entries → GaveAll (R.gave reader.new) memory.new.reads.entries) }
     ensures keeps { Keeps (R.gave reader.old) (R.gave reader.new) }
     ensures lasting { R.lasting reader.new ≡ R.lasting reader.old }
 {
     let value = memory.look(reader, register)?;
-    put(stack, pick(value, index).resize(size.get()))
-}
-
-// An operator on the topmost vector.
-fn act_unary(stack: &mut Vec<Bits>, operator: UnaryOperator, asked: Size) -> Result<(), AllocError>
-    ensures { OnOk result (reverse stack.new.items ≡ act [] (Unary operator asked) (reverse stack.old.items)) }
-{
-    let value = unary(operator, asked, top(stack));
-    set_top(stack, value)
-}
-
-// An operator on the topmost vector, as its left operand, and this one. The value is put together where the left operand
-// stands: a vector that is written by words and then copied as a whole costs as much as the operator.
-#[tactic(auto, using(crate::proofs::Stack::reverse_set_last))]
-fn act_with(
-    stack: &mut Vec<Bits>,
-    operator: BinaryOperator,
-    size: Size,
-    asked: Size,
-    right: &Bits,
-) -> Result<(), AllocError>
-    ensures { OnOk result (reverse stack.new.items ≡ combined operator size asked (topmost (reverse stack.old.items)) right.now ∷ below (reverse stack.old.items)) }
-{
-    match stack.last_mut() {
-        Some(top) => combine_alike(operator, size, asked, top, right),
-        None => {
-            let mut value = Bits::unknown(1);
-            combine(operator, size, asked, &mut value, right);
-            stack.push(value)?;
-        }
-    }
+    stack.top = pick(value, index).resize(size.get());
     Ok(())
 }
 
-// The same with a right operand at a size.
+// An operator on the topmost vector, as its left operand, and this one at a size.
 #[inline(always)]
-#[tactic(auto, using(crate::proofs::Stack::resize_same))]
+#[tactic(auto, using(crate::proofs::Sizes::resize_same))]
 fn act_with_sized(
-    stack: &mut Vec<Bits>,
+    place: &mut Bits,
     operator: BinaryOperator,
     size: Size,
     asked: Size,
     right: &Bits,
     other: Size,
-) -> Result<(), AllocError>
-    ensures { OnOk result (reverse stack.new.items ≡ combined operator size asked (topmost (reverse stack.old.items)) (resize other right.now) ∷ below (reverse stack.old.items)) }
+)
+    ensures { place.new ≡ combined operator size asked place.old (resize other right.now) }
 {
     if right.width() == other.get() {
-        act_with(stack, operator, size, asked, right)
+        combine_alike(operator, size, asked, place, right);
     } else {
-        act_with(stack, operator, size, asked, &right.resize(other.get()))
+        combine_alike(operator, size, asked, place, &right.resize(other.get()));
     }
 }
 
+// An operator on the topmost vector, as its left operand, and the value of a register of which none is known.
+#[inline(never)]
+fn act_with_unknown<R: RegReader>(
+    memory: &mut Memory,
+    reader: &mut R,
+    stack: &mut Stack,
+    operator: BinaryOperator,
+    size: Size,
+    asked: Size,
+    register: RegId,
+    other: Size,
+) -> Result<(), AllocError>
+    requires declared { register < R.registers }
+    requires unknown { slice_index_or memory.old.known register None ≡ None }
+    ensures acts { OnOk result (Acts (BinaryRegister operator size asked register other) memory.old.known memory.old.reads.entries (vectors stack.old) memory.new.known memory.new.reads.entries (vectors stack.new)) }
+    ensures gave { OnOk result (GaveAll (R.gave reader.old) memory.old.reads.entries → GaveAll (R.gave reader.new) memory.new.reads.entries) }
+    ensures keeps { Keeps (R.gave reader.old) (R.gave reader.new) }
+    ensures lasting { R.lasting reader.new ≡ R.lasting reader.old }
+{
+    let value = memory.read(reader, register)?;
+    act_with_sized(&mut stack.top, operator, size, asked, &value, other);
+    Ok(())
+}
+
 // An operator on the topmost vector, as its left operand, and the value of a register.
+#[inline(always)]
 fn act_with_register<R: RegReader>(
     memory: &mut Memory,
     reader: &mut R,
-    stack: &mut Vec<Bits>,
+    stack: &mut Stack,
     operator: BinaryOperator,
     size: Size,
     asked: Size,
@@ -192,81 +188,91 @@ fn act_with_register<R: RegReader>(
     other: Size,
 ) -> Result<(), AllocError>
     requires { register < R.registers }
-    ensures acts { OnOk result (Acts (BinaryRegister operator size asked register other) memory.old.known memory.old.reads.entries (reverse stack.old.items) memory.new.known memory.new.reads.entries (reverse stack.new.items)) }
+    ensures acts { OnOk result (Acts (BinaryRegister operator size asked register other) memory.old.known memory.old.reads.entries (vectors stack.old) memory.new.known memory.new.reads.entries (vectors stack.new)) }
     ensures gave { OnOk result (GaveAll (R.gave reader.old) memory.old.reads.entries → GaveAll (R.gave reader.new) memory.new.reads.entries) }
     ensures keeps { Keeps (R.gave reader.old) (R.gave reader.new) }
     ensures lasting { R.lasting reader.new ≡ R.lasting reader.old }
 {
     match memory.known.peek(register) {
-        Some(value) => act_with_sized(stack, operator, size, asked, value, other),
-        None => {
-            let value = memory.read(reader, register)?;
-            act_with_sized(stack, operator, size, asked, &value, other)
+        Some(value) => {
+            act_with_sized(&mut stack.top, operator, size, asked, value, other);
+            Ok(())
         }
+        None => act_with_unknown(
+            memory, reader, stack, operator, size, asked, register, other,
+        ),
     }
 }
 
-// An operator on the two topmost vectors.
-fn act_binary(
-    stack: &mut Vec<Bits>,
-    operator: BinaryOperator,
-    size: Size,
-    asked: Size,
-) -> Result<(), AllocError>
-    ensures { OnOk result (reverse stack.new.items ≡ act [] (Binary operator size asked) (reverse stack.old.items)) }
+// An operator on the topmost vector.
+#[inline(never)]
+fn act_unary(stack: &mut Stack, operator: UnaryOperator, asked: Size)
+    ensures { vectors stack.new ≡ act [] (Unary operator asked) (vectors stack.old) }
 {
-    let right = pop(stack);
-    act_with(stack, operator, size, asked, &right)
+    stack.top = unary(operator, asked, stack.top);
+}
+
+// An operator on the two topmost vectors.
+#[inline(never)]
+fn act_binary(stack: &mut Stack, operator: BinaryOperator, size: Size, asked: Size)
+    ensures { vectors stack.new ≡ act [] (Binary operator size asked) (vectors stack.old) }
+{
+    let right = stack.top;
+    stack.top = pop(&mut stack.rest);
+    combine_alike(operator, size, asked, &mut stack.top, &right);
 }
 
 // The two topmost vectors as one.
-fn act_join(stack: &mut Vec<Bits>) -> Result<(), AllocError>
-    ensures { OnOk result (reverse stack.new.items ≡ act [] Join (reverse stack.old.items)) }
+#[inline(never)]
+fn act_join(stack: &mut Stack)
+    ensures { vectors stack.new ≡ act [] Join (vectors stack.old) }
 {
-    let low = pop(stack);
-    let value = join(top(stack), low);
-    set_top(stack, value)
+    stack.top = join(pop(&mut stack.rest), stack.top);
 }
 
 // The topmost vector, extended or cut.
-fn act_resize(stack: &mut Vec<Bits>, size: Size) -> Result<(), AllocError>
-    ensures { OnOk result (reverse stack.new.items ≡ act [] (Resize size) (reverse stack.old.items)) }
+#[inline(never)]
+fn act_resize(stack: &mut Stack, size: Size)
+    ensures { vectors stack.new ≡ act [] (Resize size) (vectors stack.old) }
 {
-    let value = top(stack).resize(size.get());
-    set_top(stack, value)
+    stack.top = stack.top.resize(size.get());
 }
 
 // One of the two topmost vectors, by the truth of the third.
-fn act_choose(stack: &mut Vec<Bits>, size: Size) -> Result<(), AllocError>
-    ensures { OnOk result (reverse stack.new.items ≡ act [] (Choose size) (reverse stack.old.items)) }
+#[inline(never)]
+fn act_choose(stack: &mut Stack, size: Size)
+    ensures { vectors stack.new ≡ act [] (Choose size) (vectors stack.old) }
 {
-    let second = pop(stack);
-    let first = pop(stack);
-    let value = choose(size, top(stack), first, second);
-    set_top(stack, value)
+    let first = pop(&mut stack.rest);
+    let condition = pop(&mut stack.rest);
+    stack.top = choose(size, condition, first, stack.top);
 }
 
 // One step.
+#[inline(always)]
 fn step<R: RegReader>(
     op: &Op,
     memory: &mut Memory,
     reader: &mut R,
-    stack: &mut Vec<Bits>,
+    stack: &mut Stack,
 ) -> Result<(), AllocError>
     requires { IsOpOf R.registers op.now }
-    ensures acts { OnOk result (Acts op.now memory.old.known memory.old.reads.entries (reverse stack.old.items) memory.new.known memory.new.reads.entries (reverse stack.new.items)) }
+    ensures acts { OnOk result (Acts op.now memory.old.known memory.old.reads.entries (vectors stack.old) memory.new.known memory.new.reads.entries (vectors stack.new)) }
     ensures gave { OnOk result (GaveAll (R.gave reader.old) memory.old.reads.entries → GaveAll (R.gave reader.new) memory.new.reads.entries) }
     ensures keeps { Keeps (R.gave reader.old) (R.gave reader.new) }
     ensures lasting { R.lasting reader.new ≡ R.lasting reader.old }
 {
     match op {
-        Op::Load { register, size } => load(memory, reader, stack, *register, *size),
+        Op::Load { register, size } => return load_above(memory, reader, stack, *register, *size),
         Op::Pick {
             register,
             index,
             size,
-        } => load_digit(memory, reader, stack, *register, *index, *size),
-        Op::Constant { value } => put(stack, *value),
+        } => {
+            stack.keep_top()?;
+            return load_digit(memory, reader, stack, *register, *index, *size);
+        }
+        Op::Constant { value } => stack.put(value)?,
         Op::Unary { operator, asked } => act_unary(stack, *operator, *asked),
         Op::Binary {
             operator,
@@ -278,32 +284,101 @@ fn step<R: RegReader>(
             size,
             asked,
             value,
-        } => act_with(stack, *operator, *size, *asked, value),
+        } => combine_alike(*operator, *size, *asked, &mut stack.top, value),
         Op::BinaryRegister {
             operator,
             size,
             asked,
             register,
             other,
-        } => act_with_register(
+        } => return act_with_register(
             memory, reader, stack, *operator, *size, *asked, *register, *other,
         ),
         Op::Join => act_join(stack),
         Op::Resize { size } => act_resize(stack, *size),
         Op::Choose { size } => act_choose(stack, *size),
     }
+    Ok(())
 }
 
-/// The steps of an expression, which leave its value on the stack, above what stands below it.
-pub(crate) fn compute<R: RegReader>(
+// An expression's first step that takes vectors, off the rest of the stack.
+#[inline(never)]
+fn start_below<R: RegReader>(
+    op: &Op,
+    memory: &mut Memory,
+    reader: &mut R,
+    stack: &mut Stack,
+) -> Result<(), AllocError>
+    requires { IsOpOf R.registers op.now }
+    ensures acts { OnOk result (Acts op.now memory.old.known memory.old.reads.entries (topmost (reverse stack.old.rest.items) ∷ below (reverse stack.old.rest.items)) memory.new.known memory.new.reads.entries (vectors stack.new)) }
+    ensures gave { OnOk result (GaveAll (R.gave reader.old) memory.old.reads.entries → GaveAll (R.gave reader.new) memory.new.reads.entries) }
+    ensures keeps { Keeps (R.gave reader.old) (R.gave reader.new) }
+    ensures lasting { R.lasting reader.new ≡ R.lasting reader.old }
+{
+    stack.top = pop(&mut stack.rest);
+    step(op, memory, reader, stack)
+}
+
+// The first step of an expression, over the rest of the stack alone. One that makes a vector has none to keep.
+#[inline(never)]
+fn start_any<R: RegReader>(
+    op: &Op,
+    memory: &mut Memory,
+    reader: &mut R,
+    stack: &mut Stack,
+) -> Result<(), AllocError>
+    requires { IsOpOf R.registers op.now }
+    ensures acts { OnOk result (Acts op.now memory.old.known memory.old.reads.entries (reverse stack.old.rest.items) memory.new.known memory.new.reads.entries (vectors stack.new)) }
+    ensures gave { OnOk result (GaveAll (R.gave reader.old) memory.old.reads.entries → GaveAll (R.gave reader.new) memory.new.reads.entries) }
+    ensures keeps { Keeps (R.gave reader.old) (R.gave reader.new) }
+    ensures lasting { R.lasting reader.new ≡ R.lasting reader.old }
+{
+    match op {
+        Op::Load { register, size } => load(memory, reader, stack, *register, *size),
+        Op::Pick {
+            register,
+            index,
+            size,
+        } => load_digit(memory, reader, stack, *register, *index, *size),
+        Op::Constant { value } => {
+            stack.top = *value;
+            Ok(())
+        }
+        _ => start_below(op, memory, reader, stack),
+    }
+}
+
+// The same. Most expressions begin with a register, so one test tells.
+#[inline(always)]
+fn start<R: RegReader>(
+    op: &Op,
+    memory: &mut Memory,
+    reader: &mut R,
+    stack: &mut Stack,
+) -> Result<(), AllocError>
+    requires { IsOpOf R.registers op.now }
+    ensures acts { OnOk result (Acts op.now memory.old.known memory.old.reads.entries (reverse stack.old.rest.items) memory.new.known memory.new.reads.entries (vectors stack.new)) }
+    ensures gave { OnOk result (GaveAll (R.gave reader.old) memory.old.reads.entries → GaveAll (R.gave reader.new) memory.new.reads.entries) }
+    ensures keeps { Keeps (R.gave reader.old) (R.gave reader.new) }
+    ensures lasting { R.lasting reader.new ≡ R.lasting reader.old }
+{
+    if let Op::Load { register, size } = op {
+        load(memory, reader, stack, *register, *size)
+    } else {
+        start_any(op, memory, reader, stack)
+    }
+}
+
+// The steps of an expression after the first one.
+#[inline(always)]
+fn go_on<R: RegReader>(
     ops: &[Op],
     memory: &mut Memory,
     reader: &mut R,
-    stack: &mut Vec<Bits>,
+    stack: &mut Stack,
 ) -> Result<(), AllocError>
     requires { NamesDeclared R.registers ops.now }
-    ensures value { OnOk result (Evaluates ops.now memory.old.known memory.old.reads.entries (topmost (reverse stack.new.items)) memory.new.known memory.new.reads.entries) }
-    ensures rest { OnOk result ((values : Store) → NamesDeclared (length memory.old.known) ops.now → Holds memory.new.known values → below (reverse stack.new.items) ≡ below (run_ops values ops.now (reverse stack.old.items))) }
+    ensures ran { OnOk result (NamesDeclared (length memory.old.known) ops.now → Ran ops.now memory.old.known memory.old.reads.entries (vectors stack.old) memory.new.known memory.new.reads.entries (vectors stack.new)) }
     ensures gave { OnOk result (GaveAll (R.gave reader.old) memory.old.reads.entries → GaveAll (R.gave reader.new) memory.new.reads.entries) }
     ensures keeps { Keeps (R.gave reader.old) (R.gave reader.new) }
     ensures lasting { R.lasting reader.new ≡ R.lasting reader.old }
@@ -314,20 +389,26 @@ pub(crate) fn compute<R: RegReader>(
     Ok(())
 }
 
-/// The value of an expression, whose steps are these. The stack keeps what stands below it.
-pub(crate) fn evaluate<R: RegReader>(
+/// The steps of an expression, whose value is then the topmost vector, above what the steps left of the rest.
+pub(crate) fn compute<R: RegReader>(
     ops: &[Op],
     memory: &mut Memory,
     reader: &mut R,
-    stack: &mut Vec<Bits>,
-) -> Result<Bits, AllocError>
+    stack: &mut Stack,
+) -> Result<(), AllocError>
     requires { NamesDeclared R.registers ops.now }
-    ensures value { IfOk result (λ v. Evaluates ops.now memory.old.known memory.old.reads.entries v memory.new.known memory.new.reads.entries) }
-    ensures rest { OnOk result ((values : Store) → NamesDeclared (length memory.old.known) ops.now → Holds memory.new.known values → reverse stack.new.items ≡ below (run_ops values ops.now (reverse stack.old.items))) }
+    ensures value { OnOk result (Evaluates ops.now memory.old.known memory.old.reads.entries stack.new.top memory.new.known memory.new.reads.entries) }
+    ensures rest { OnOk result ((values : Store) → NamesDeclared (length memory.old.known) ops.now → Holds memory.new.known values → reverse stack.new.rest.items ≡ below (run_ops values ops.now (reverse stack.old.rest.items))) }
     ensures gave { OnOk result (GaveAll (R.gave reader.old) memory.old.reads.entries → GaveAll (R.gave reader.new) memory.new.reads.entries) }
     ensures keeps { Keeps (R.gave reader.old) (R.gave reader.new) }
     ensures lasting { R.lasting reader.new ≡ R.lasting reader.old }
 {
-    compute(ops, memory, reader, stack)?;
-    Ok(pop(stack))
+    match ops.split_first() {
+        Some((first, others)) => {
+            start(first, memory, reader, stack)?;
+            go_on(others, memory, reader, stack)?;
+        }
+        None => stack.top = pop(&mut stack.rest),
+    }
+    Ok(())
 }

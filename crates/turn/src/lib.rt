@@ -22,6 +22,7 @@ mod memory;
 mod operate;
 mod progress;
 mod run;
+mod stack;
 mod statements;
 mod strobes;
 mod table;

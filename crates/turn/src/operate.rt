@@ -51,40 +51,46 @@ pub(crate) fn unary(operator: UnaryOperator, asked: Size, operand: Bits) -> Bits
     }
 }
 
-// A binary operator's value, of operands that are given as they are and at the operator's size.
+// Puts a binary operator's value in a place, of operands that are given as they are and at the operator's size. Each operator
+// writes its own, since one value of all of them would be put together elsewhere and copied.
 #[inline(always)]
-fn value_of(
+fn put_value(
     operator: BinaryOperator,
     size: Size,
     asked: Size,
+    place: &mut Bits,
     left: Bits,
     right: Bits,
     first: Bits,
     second: Bits,
-) -> Bits
+)
     requires first { first ≡ resize size left }
     requires second { second ≡ resize size right }
     requires alike { length first ≡ length second }
-    ensures { result ≡ combined operator size asked left right }
+    ensures { place.new ≡ combined operator size asked left right }
 {
     match operator {
-        BinaryOperator::LogicalOr => truth_bit(left).or(truth_bit(right)).resize(asked.get()),
-        BinaryOperator::LogicalAnd => truth_bit(left).and(truth_bit(right)).resize(asked.get()),
-        BinaryOperator::Or => first.or(second),
-        BinaryOperator::Xor => first.xor(second),
-        BinaryOperator::And => first.and(second),
-        BinaryOperator::Equal => first.eq(second).resize(asked.get()),
-        BinaryOperator::NotEqual => first.eq(second).not().resize(asked.get()),
-        BinaryOperator::CaseEqual => first.case_eq(second).resize(asked.get()),
-        BinaryOperator::CaseNotEqual => differ(first, second).resize(asked.get()),
-        BinaryOperator::Less => first.lt(second).resize(asked.get()),
-        BinaryOperator::LessEqual => first.le(second).resize(asked.get()),
-        BinaryOperator::Greater => second.lt(first).resize(asked.get()),
-        BinaryOperator::GreaterEqual => second.le(first).resize(asked.get()),
-        BinaryOperator::ShiftLeft => left.shl(right),
-        BinaryOperator::ShiftRight => left.shr(right),
-        BinaryOperator::Add => first.add(second),
-        BinaryOperator::Subtract => first.sub(second),
+        BinaryOperator::LogicalOr => *place = truth_bit(left)
+            .or(truth_bit(right))
+            .resize(asked.get()),
+        BinaryOperator::LogicalAnd => *place = truth_bit(left)
+            .and(truth_bit(right))
+            .resize(asked.get()),
+        BinaryOperator::Or => *place = first.or(second),
+        BinaryOperator::Xor => *place = first.xor(second),
+        BinaryOperator::And => *place = first.and(second),
+        BinaryOperator::Equal => *place = first.eq(second).resize(asked.get()),
+        BinaryOperator::NotEqual => *place = first.eq(second).not().resize(asked.get()),
+        BinaryOperator::CaseEqual => *place = first.case_eq(second).resize(asked.get()),
+        BinaryOperator::CaseNotEqual => *place = differ(first, second).resize(asked.get()),
+        BinaryOperator::Less => *place = first.lt(second).resize(asked.get()),
+        BinaryOperator::LessEqual => *place = first.le(second).resize(asked.get()),
+        BinaryOperator::Greater => *place = second.lt(first).resize(asked.get()),
+        BinaryOperator::GreaterEqual => *place = second.le(first).resize(asked.get()),
+        BinaryOperator::ShiftLeft => *place = left.shl(right),
+        BinaryOperator::ShiftRight => *place = left.shr(right),
+        BinaryOperator::Add => *place = first.add(second),
+        BinaryOperator::Subtract => *place = first.sub(second),
     }
 }
 
@@ -102,12 +108,12 @@ pub(crate) fn combine(
     let right = *right;
     let first = left.resize(size.get());
     let second = right.resize(size.get());
-    *place = value_of(operator, size, asked, left, right, first, second);
+    put_value(operator, size, asked, place, left, right, first, second);
 }
 
 /// The same, fast where both operands have the operator's size, as most have.
 #[inline(always)]
-#[tactic(auto, using(crate::proofs::Stack::resize_same))]
+#[tactic(auto, using(crate::proofs::Sizes::resize_same))]
 pub(crate) fn combine_alike(
     operator: BinaryOperator,
     size: Size,
@@ -121,7 +127,7 @@ pub(crate) fn combine_alike(
     if (place.width() == digits) & (right.width() == digits) {
         let left = *place;
         let right = *right;
-        *place = value_of(operator, size, asked, left, right, left, right);
+        put_value(operator, size, asked, place, left, right, left, right);
     } else {
         combine(operator, size, asked, place, right);
     }

@@ -1,19 +1,18 @@
 //! A turn under way.
-ghost use Rattle.std.specs.Prelude.{◌≡◌, ◌++◌, ◌∷◌, [], Some, reverse, slice_set, OnOk, IfOk};
-ghost use Rattle.logic4.specs.Operators.{truth};
-ghost use Rattle.design.specs.Steps.{piece, topmost};
+ghost use Rattle.std.specs.Prelude.{◌≡◌, ◌++◌, ◌∷◌, [], Some, None, slice_set, OnOk};
+ghost use Rattle.design.specs.Steps.{piece};
 ghost use Rattle.turn.specs.Reads.{GaveAll, Keeps};
 ghost use Rattle.turn.specs.Evaluate.{NamesDeclared};
 ghost use Rattle.turn.specs.Progress.{status_of, fresh, at, writing, holding, delaying, printing, Valued};
 
-use crate::evaluate::{compute, evaluate};
+use crate::evaluate::compute;
 use crate::log::Nba;
 use crate::memory::{Memory, RegReader};
+use crate::stack::Stack;
 use crate::writes::Writes;
 use design::code::{Op, Span};
 use design::{ProcState, RegId};
 use logic4::bits::Bits;
-use logic4::digit::Truth;
 use std::alloc::{AllocError, Global};
 
 /// What a turn knows and has done so far, and the stack of its expressions, which is kept between them.
@@ -26,7 +25,15 @@ pub(crate) struct Progress {
     pub nbas: Vec<Nba>,
     pub lines: String,
     pub strobes: Vec<usize>,
-    pub stack: Vec<Bits>,
+    pub stack: Stack,
+}
+
+// The part of a list where it isn't there. It stands apart so that the part is found by tests, and not put together by them.
+#[inline(never)]
+fn no_part<T>(list: &[T]) -> &[T]
+    ensures { result.now ≡ [] }
+{
+    &list[0..0]
 }
 
 /// The part of a list, or none where it isn't there.
@@ -36,7 +43,7 @@ pub(crate) fn part<T>(list: &[T], span: Span) -> &[T]
     if span.from <= span.to && span.to <= list.len() {
         &list[span.from..span.to]
     } else {
-        &list[0..0]
+        no_part(list)
     }
 }
 
@@ -56,6 +63,16 @@ fn note_write(
     writes.push(register, value)
 }
 
+// Nothing is left over. Mostly nothing was, and then nothing is written.
+#[inline(always)]
+fn forget(pending: &mut Option<(RegId, Bits)>)
+    ensures { pending.new ≡ None }
+{
+    if pending.is_some() {
+        *pending = None;
+    }
+}
+
 impl Progress {
     /// Room that grows with the first turn.
     pub fn new(alloc: Global) -> Self {
@@ -70,7 +87,7 @@ impl Progress {
             nbas: Vec::new(alloc),
             lines: String::new(alloc),
             strobes: Vec::new(alloc),
-            stack: Vec::new(alloc),
+            stack: Stack::new(alloc),
         }
     }
 
@@ -84,7 +101,7 @@ impl Progress {
         self.nbas.clear();
         self.lines.clear();
         self.strobes.clear();
-        self.stack.clear();
+        self.stack.rest.clear();
         Ok(())
     }
 
@@ -92,13 +109,12 @@ impl Progress {
     pub fn go(&mut self, next: usize)
         ensures { status_of self.new ≡ at (status_of self.old) next }
     {
-        self.state = ProcState {
-            place: next,
-            pending: None,
-        };
+        self.state.place = next;
+        forget(&mut self.state.pending);
     }
 
-    /// Writes a register, which the rest of the turn sees.
+    /// Writes a register, which the rest of the turn sees. It stands apart, since few writes are left over by an earlier turn.
+    #[inline(never)]
     pub fn write(&mut self, register: RegId, value: Bits, next: usize) -> Result<(), AllocError>
         ensures { OnOk result (status_of self.new ≡ writing (status_of self.old) register value next) }
     {
@@ -107,35 +123,19 @@ impl Progress {
         Ok(())
     }
 
-    /// Writes the topmost vector of the stack to a register, and takes it off.
+    /// Writes the topmost vector of the stack to a register.
+    #[inline(always)]
     pub fn write_top(&mut self, register: RegId, next: usize) -> Result<(), AllocError>
-        ensures { OnOk result (status_of self.new ≡ writing (status_of self.old) register (topmost (reverse self.old.stack.items)) next) }
+        ensures { OnOk result (status_of self.new ≡ writing (status_of self.old) register self.old.stack.top next) }
     {
-        match self.stack.last() {
-            Some(value) => note_write(&mut self.memory, &mut self.writes, register, value)?,
-            None => note_write(
-                &mut self.memory,
-                &mut self.writes,
-                register,
-                &Bits::unknown(1),
-            )?,
-        }
-        self.stack.pop();
+        note_write(
+            &mut self.memory,
+            &mut self.writes,
+            register,
+            &self.stack.top,
+        )?;
         self.go(next);
         Ok(())
-    }
-
-    /// The truth of the topmost vector of the stack (9.4), which is taken off.
-    pub fn take_truth(&mut self) -> Truth
-        ensures value { result ≡ truth (topmost (reverse self.old.stack.items)) }
-        ensures same { status_of self.new ≡ status_of self.old }
-    {
-        let truth = match self.stack.last() {
-            Some(value) => value.truth(),
-            None => Truth::Unknown,
-        };
-        self.stack.pop();
-        truth
     }
 
     /// Leaves an assignment over for after the wait (9.7.7).
@@ -157,7 +157,7 @@ impl Progress {
         Ok(())
     }
 
-    /// The steps of an expression, which are this part. They leave its value on the stack.
+    /// The steps of an expression, which are this part. Its value is then the topmost vector of the stack.
     pub fn compute<R: RegReader>(
         &mut self,
         ops: &[Op],
@@ -165,27 +165,11 @@ impl Progress {
         reader: &mut R,
     ) -> Result<(), AllocError>
         requires { NamesDeclared R.registers ops.now }
-        ensures value { OnOk result (Valued (piece ops.now span) (status_of self.old) (topmost (reverse self.new.stack.items)) (status_of self.new)) }
+        ensures value { OnOk result (Valued (piece ops.now span) (status_of self.old) self.new.stack.top (status_of self.new)) }
         ensures gave { OnOk result (GaveAll (R.gave reader.old) self.old.memory.reads.entries → GaveAll (R.gave reader.new) self.new.memory.reads.entries) }
         ensures keeps { Keeps (R.gave reader.old) (R.gave reader.new) }
         ensures lasting { R.lasting reader.new ≡ R.lasting reader.old }
     {
         compute(part(ops, span), &mut self.memory, reader, &mut self.stack)
-    }
-
-    /// The value of the expression whose steps are this part.
-    pub fn value<R: RegReader>(
-        &mut self,
-        ops: &[Op],
-        span: Span,
-        reader: &mut R,
-    ) -> Result<Bits, AllocError>
-        requires { NamesDeclared R.registers ops.now }
-        ensures value { IfOk result (λ v. Valued (piece ops.now span) (status_of self.old) v (status_of self.new)) }
-        ensures gave { OnOk result (GaveAll (R.gave reader.old) self.old.memory.reads.entries → GaveAll (R.gave reader.new) self.new.memory.reads.entries) }
-        ensures keeps { Keeps (R.gave reader.old) (R.gave reader.new) }
-        ensures lasting { R.lasting reader.new ≡ R.lasting reader.old }
-    {
-        evaluate(part(ops, span), &mut self.memory, reader, &mut self.stack)
     }
 }

@@ -60,8 +60,8 @@ impl Progress {
         ensures keeps { Keeps (R.gave reader.old) (R.gave reader.new) }
         ensures lasting { R.lasting reader.new ≡ R.lasting reader.old }
     {
-        let value = self.value(ops, value, reader)?;
-        self.hold(register, value, next);
+        self.compute(ops, value, reader)?;
+        self.hold(register, self.stack.top, next);
         Ok(())
     }
 
@@ -81,10 +81,10 @@ impl Progress {
         ensures keeps { Keeps (R.gave reader.old) (R.gave reader.new) }
         ensures lasting { R.lasting reader.new ≡ R.lasting reader.old }
     {
-        let value = self.value(ops, value, reader)?;
+        self.compute(ops, value, reader)?;
         let nba = Nba {
             register,
-            value,
+            value: self.stack.top,
             due,
         };
         self.assign_later(nba, next)?;
@@ -107,7 +107,7 @@ impl Progress {
         ensures lasting { R.lasting reader.new ≡ R.lasting reader.old }
     {
         self.compute(ops, condition, reader)?;
-        let truth = self.take_truth();
+        let truth = self.stack.top.truth();
         self.go(choose_place(truth, taken, missed));
         Ok(())
     }

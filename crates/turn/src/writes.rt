@@ -30,6 +30,15 @@ impl Model for Writes {
     ghost invariant = { λ w. AreNets w.list.items w.nets.items w.places.items };
 }
 
+// A vector as it is, word by word. Beside a number it would be copied into the frame and out of it as a whole.
+#[inline(always)]
+#[tactic(auto, using(crate::proofs::Sizes::resize_same))]
+fn by_words(value: &Bits) -> Bits
+    ensures { result ≡ value.now }
+{
+    value.resize(value.width())
+}
+
 // Whether the net at a place is that of a register.
 fn is_net_at(nets: &[Net], place: usize, register: RegId) -> bool
     ensures { result ≡ is_net_at nets.now place register }
@@ -64,6 +73,7 @@ fn place_of(nets: &[Net], places: &[usize], register: RegId) -> Option<usize>
 
 impl Net {
     // One more write of the register.
+    #[inline(always)]
     fn write(&mut self, value: &Bits)
         requires { self.old.changes + 1 < 2 ^ 64 }
         ensures { self.new ≡ with_write self.old value.now }
@@ -87,6 +97,33 @@ fn make_place(places: &mut Vec<usize>, register: RegId) -> Result<(), AllocError
     Ok(())
 }
 
+// Notes the first write of a register, which has no net yet. It stands apart from the common case, whose frame needs no room for
+// a net.
+#[inline(never)]
+fn note_first(
+    nets: &mut Vec<Net>,
+    places: &mut Vec<usize>,
+    register: RegId,
+    value: &Bits,
+) -> Result<(), AllocError>
+    requires placed { IsPlaced nets.old.items places.old.items }
+    requires none { HasNoNet nets.old.items register }
+    ensures noted { OnOk result (nets.new.items ≡ noted nets.old.items (register, value.now)) }
+    ensures err { OnErr result (nets.new.items ≡ nets.old.items) }
+    ensures placed { IsPlaced nets.new.items places.new.items }
+{
+    make_place(places, register)?;
+    let at = nets.len();
+    nets.push(Net {
+        register,
+        first: *value,
+        changes: 0,
+        last: *value,
+    })?;
+    places[register as usize] = at;
+    Ok(())
+}
+
 // Notes one more write. After a refusal of memory the nets are as before.
 fn note(
     nets: &mut Vec<Net>,
@@ -101,20 +138,12 @@ fn note(
     ensures placed { IsPlaced nets.new.items places.new.items }
 {
     match place_of(nets, places, register) {
-        Some(place) => nets[place].write(value),
-        None => {
-            make_place(places, register)?;
-            let at = nets.len();
-            nets.push(Net {
-                register,
-                first: *value,
-                changes: 0,
-                last: *value,
-            })?;
-            places[register as usize] = at;
+        Some(place) => {
+            nets[place].write(value);
+            Ok(())
         }
+        None => note_first(nets, places, register, value),
     }
-    Ok(())
 }
 
 impl Writes {
@@ -138,12 +167,13 @@ impl Writes {
     }
 
     /// One more write.
+    #[inline(always)]
     pub fn push(&mut self, register: RegId, value: &Bits) -> Result<(), AllocError>
         ensures { OnOk result (self.new ≡ self.old ++ (register, value.now) ∷ []) }
     {
         self.list.reserve(1)?;
         note(&mut self.nets, &mut self.places, register, value)?;
-        self.list.push_reserved((register, *value));
+        self.list.push_reserved((register, by_words(value)));
         Ok(())
     }
 

@@ -6,3 +6,4 @@ pub mod Rows
 pub mod Told
 pub mod Rounds
 pub mod Joining
+pub mod Batching

@@ -1,5 +1,5 @@
 -- What the gate's answers say of a worker's seat.
-use Rattle.std.proofs.Common.{◌≡◌, ℕ, ◌≤◌, List, [], ◌∷◌, Bool, true, false, Some, None, arith, refl, sym, subst}
+use Rattle.std.proofs.Common.{◌≡◌, ℕ, ◌+◌, ◌≤◌, List, [], ◌∷◌, length, arith, refl, sym, subst}
 use Rattle.model.specs.declared.entry.Entry.{Entry}
 use Rattle.model.specs.declared.entry.Entry.TheVariants.{Turn, Update, ActivateInactive, ActivateNba, ActivateMonitor, Advance}
 use Rattle.model.specs.declared.end.Why.{Why}
@@ -12,12 +12,13 @@ use Rattle.commitgate.specs.Tickets.{TicketView}
 use Rattle.commitgate.specs.Answers.{IsRegionChange}
 use Rattle.commitgate.specs.Told.{CommitCauses, AnsweredTo, LongAnsweredTo, HeldAnsweredTo, IsUpdatedTo, IsChangedTo}
 use Rattle.workers.specs.Counting.{turn_count}
-use Rattle.workers.specs.Working.{Goes, IsSettled}
-use Rattle.commitgate.specs.Batches.{AreUpdatedTo, UpdatesEndedTo, UpdatesAnsweredTo}
+use Rattle.workers.specs.Working.{Goes}
+use Rattle.turn.specs.Logs.{LogView}
+use Rattle.commitgate.specs.Batches.{AreUpdatedTo, UpdatesEndedTo, UpdatesAnsweredTo, AreAnsweredTo}
 use Rattle.commitgate.specs.declared.reply.UpdatesEnd.{UpdatesEnd}
 use Rattle.commitgate.specs.declared.reply.UpdatesEnd.TheVariants as ends
 use Rattle.commitgate.specs.declared.reply.Grant.{Grant}
-use Rattle.workers.proofs.Seats.{goes_appended, goes_refused, goes_stopped, goes_self, over_stopped, goes_first, goes_then}
+use Rattle.workers.proofs.Seats.{goes_appended, goes_refused, goes_stopped, goes_self, goes_first, goes_then, goes_more}
 
 -- the seat goes on, with one more turn at most
 abbrev pub GoesOn : SeatView → SeatView → Type 0
@@ -25,28 +26,28 @@ GoesOn old new = (turns : ℕ) × (turns ≤ 1) × Goes turns old new
 
 module _ {A : Type 0} where
   pub answered : (n : Named) (causes : Why → Type 0) (old : SeatView) (ticket : TicketView) (reads : List (ℕ × Seen)) (new : SeatView) (r : Reply A)
-      → AnsweredTo n causes old ticket reads new r → GoesOn old new × IsSettled n new r
-  answered n causes old ticket reads new (Accepted grant) a = ((1, omega arith, goes_appended n old (Turn ticket.event) grant.position grant.entry grant.tickets.items new a.appended), tt)
-  answered n causes old ticket reads new (Stale r back) a = ((0, omega arith, goes_refused n old new a.refused), tt)
-  answered n causes old ticket reads new Gone a = ((0, omega arith, goes_refused n old new a.refused), tt)
-  answered n causes old ticket reads new (Stopped why) a = ((0, omega arith, goes_stopped n causes old why new a), over_stopped n causes old why new a)
-  answered n causes old ticket reads new (NoMemory back) a = ((0, omega arith, goes_refused n old new a.0), tt)
+      → AnsweredTo n causes old ticket reads new r → GoesOn old new
+  answered n causes old ticket reads new (Accepted grant) a = (1, omega arith, goes_appended n old (Turn ticket.event) grant.position grant.entry grant.tickets.items new a.appended)
+  answered n causes old ticket reads new (Stale r back) a = (0, omega arith, goes_refused n old new a.refused)
+  answered n causes old ticket reads new Gone a = (0, omega arith, goes_refused n old new a.refused)
+  answered n causes old ticket reads new (Stopped why) a = (0, omega arith, goes_stopped n causes old why new a)
+  answered n causes old ticket reads new (NoMemory back) a = (0, omega arith, goes_refused n old new a.0)
 
   pub long_answered : (n : Named) (old : SeatView) (ticket : TicketView) (reads : List (ℕ × Seen)) (new : SeatView) (r : Reply A)
-      → LongAnsweredTo n old ticket reads new r → GoesOn old new × IsSettled n new r
+      → LongAnsweredTo n old ticket reads new r → GoesOn old new
   long_answered n old ticket reads new (Accepted grant) a = absurd a
-  long_answered n old ticket reads new (Stale r back) a = ((0, omega arith, goes_refused n old new a.refused), tt)
-  long_answered n old ticket reads new Gone a = ((0, omega arith, goes_refused n old new a.refused), tt)
-  long_answered n old ticket reads new (Stopped why) a = ((0, omega arith, goes_stopped n _ old why new a), over_stopped n _ old why new a)
+  long_answered n old ticket reads new (Stale r back) a = (0, omega arith, goes_refused n old new a.refused)
+  long_answered n old ticket reads new Gone a = (0, omega arith, goes_refused n old new a.refused)
+  long_answered n old ticket reads new (Stopped why) a = (0, omega arith, goes_stopped n _ old why new a)
   long_answered n old ticket reads new (NoMemory back) a = absurd a
 
   pub held_answered : (n : Named) (old : SeatView) (ticket : TicketView) (new : SeatView) (r : Reply A)
-      → HeldAnsweredTo n old ticket new r → GoesOn old new × IsSettled n new r
-  held_answered n old ticket new (Accepted grant) a = ((1, omega arith, goes_appended n old (Turn ticket.event) grant.position grant.entry grant.tickets.items new a.appended), tt)
+      → HeldAnsweredTo n old ticket new r → GoesOn old new
+  held_answered n old ticket new (Accepted grant) a = (1, omega arith, goes_appended n old (Turn ticket.event) grant.position grant.entry grant.tickets.items new a.appended)
   held_answered n old ticket new (Stale r back) a = absurd a
-  held_answered n old ticket new Gone a = ((0, omega arith, goes_refused n old new a.refused), tt)
-  held_answered n old ticket new (Stopped why) a = ((0, omega arith, goes_stopped n _ old why new a), over_stopped n _ old why new a)
-  held_answered n old ticket new (NoMemory back) a = ((0, omega arith, goes_refused n old new a.0), tt)
+  held_answered n old ticket new Gone a = (0, omega arith, goes_refused n old new a.refused)
+  held_answered n old ticket new (Stopped why) a = (0, omega arith, goes_stopped n _ old why new a)
+  held_answered n old ticket new (NoMemory back) a = (0, omega arith, goes_refused n old new a.0)
 
 pub updated : (n : Named) (old : SeatView) (position : ℕ) (named : Entry) (tickets : List TicketView) (new : SeatView) → IsUpdatedTo n old position named tickets new → Goes 0 old new
 updated n old position named tickets new u = goes_appended n old (Update u.number) position named tickets new u.appended
@@ -84,3 +85,17 @@ ended_go n old ends.NoRoom new same = subst (λ (s : SeatView). Goes 0 old s) (s
 
 pub updates_go : {A : Type 0} → (n : Named) (old : SeatView) (grants : List (Grant A)) (end : UpdatesEnd) (new : SeatView) → UpdatesAnsweredTo n old grants end new → Goes 0 old new
 updates_go n old grants end new all = goes_then 0 old all.0 new (appended_go n old grants all.0 all.1) (ended_go n all.0 end new all.2)
+
+-- a seat that was answered several tickets: it appended at most as many turns
+pub answers_go : {A : Type 0} → (n : Named) (old : SeatView) (tickets : List TicketView) (logs : List LogView) (replies : List (Reply A)) (new : SeatView)
+    → AreAnsweredTo n old tickets logs replies new → (turns : ℕ) × (turns ≤ length tickets) × Goes turns old new
+answers_go n old [] logs [] new same = (0, omega arith, subst (λ (s : SeatView). Goes 0 old s) (sym same) (goes_self old))
+answers_go n old [] logs (r ∷ rs) new a = absurd a
+answers_go n old (t ∷ ts) [] rs new a = absurd a
+answers_go n old (t ∷ ts) (l ∷ ls) [] new a = absurd a
+answers_go n old (t ∷ ts) (l ∷ ls) (r ∷ rs) new a =
+    let one = answered n CommitCauses old t l.reads a.0 r a.1 in
+    let more = answers_go n a.0 ts ls rs new a.2 in
+    let few = one.1 in
+    let most = more.1 in
+    (one.0 + more.0, omega (arith, few, most), goes_more one.0 more.0 old a.0 new one.2 more.2)

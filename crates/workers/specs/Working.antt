@@ -9,8 +9,6 @@ use Rattle.gateparts.specs.Log.{entries_of, end_in}
 use Rattle.commitgate.specs.Seats.{SeatView, new_seat}
 use Rattle.eventpool.specs.Pools.{IsPool}
 use Rattle.commitgate.specs.Journals.{Stays}
-use Rattle.commitgate.specs.declared.reply.Reply.{Reply}
-use Rattle.commitgate.specs.declared.reply.Reply.TheVariants.{Accepted, Stale, Gone, Stopped, NoMemory}
 use Rattle.eventpool.specs.Ends.{Owning, Stealing, owner_card, thief_card}
 use Rattle.workers.specs.Counting.{turns_at}
 use Rattle.workers.specs.declared.worker.Worker.{Worker}
@@ -36,14 +34,6 @@ pub record Goes (turns : ℕ) (old new : SeatView) : Type 0 where
   pub worker : new.worker ≡ old.worker
   pub positions : HasPositions old → HasPositions new
   pub counted : HasPositions old → turns_of new ≡ turns_of old + turns
-
--- after an answer that stops the worker the run is over
-abbrev pub IsSettled : {A : Type 0} → Named → SeatView → Reply A → Type 0
-IsSettled n s (Accepted grant) = Unit {0}
-IsSettled n s (Stale r back) = Unit {0}
-IsSettled n s Gone = Unit {0}
-IsSettled n s (Stopped why) = IsOver n s
-IsSettled n s (NoMemory back) = Unit {0}
 
 module _ {T : Type 0} where
   -- how many tickets these ends got

@@ -1,5 +1,5 @@
 //! Where a worker's tickets come from, and where they go.
-ghost use Rattle.std.specs.Prelude.{◌≡◌, ◌+◌, map, length, IfSome, IfNone};
+ghost use Rattle.std.specs.Prelude.{◌≡◌, ◌+◌, true, map, length, IfSome, IfNone};
 ghost use Rattle.std.specs.List.{sum_by};
 ghost use Rattle.eventpool.specs.Ends.{thief_card};
 ghost use Rattle.workers.specs.Working.{Goes, OverUnless, OnlyPuts, SameEnds, got_by_ends};
@@ -93,6 +93,7 @@ pub(crate) fn put<K: Naming, R: Wait>(
     ticket: Ticket<K>,
 ) -> bool
     ensures goes { Goes 0 seat.old seat.new }
+    ensures kept { result ≡ true → seat.new ≡ seat.old }
     ensures puts { OnlyPuts owner.old owner.new }
     ensures over { OverUnless K.named result seat.new }
 {

@@ -8,12 +8,14 @@
 //!    none is active it looks for a ticket for some microseconds more, and then asks for a change of the regions, for which
 //!    it may have to wait (`worker`).
 //! 3. Where a worker's turns are short, it takes tickets only while no other such worker does, since they would only meet at
-//!    the lock (`pace`).
+//!    the lock (`pace`). It evaluates several of them, one after another, and commits them in one holding of the lock, as long
+//!    as none of them makes another stale (`batch`).
 //! 4. A worker ends where no event is left or the run is stopped; want of memory stops it. What the workers had is taken
 //!    apart (`apart`).
 #![tactic(auto)]
 
 mod apart;
+mod batch;
 mod deques;
 mod fault;
 mod pace;

@@ -2,6 +2,8 @@
 //! a worker whose turns are short takes tickets only while it is in the lane, where one worker is at a time; the others nap.
 //! That decides who evaluates a turn and when, and never what a run may answer.
 
+use crate::batch::MOST_TURNS;
+use commitgate::{Naming, Reply};
 use std::sync::atomic::{AtomicBool, AtomicU64, Ordering};
 use std::sync::{Condvar, Wait};
 use std::time::Duration;
@@ -11,6 +13,9 @@ const SHORT: u64 = 100;
 
 // In the mean the last turn has the weight of one in so many.
 const WEIGHT: u64 = 8;
+
+// After so many answers that weren't stale, twice as many turns are committed at once.
+const ENOUGH: u32 = 64;
 
 // How long a nap is, in microseconds. A worker in the lane that makes no round for so long is held up.
 const NAP: u64 = 500;
@@ -46,11 +51,16 @@ impl Lane {
     }
 }
 
-/// How long a worker's turns were of late, and whether it is in the lane.
+/// How long a worker's turns were of late, how many of them it commits at once, and whether it is in the lane.
 #[derive(Drop)]
 pub(crate) struct Pace {
     // The mean of the counted steps of its turns, times WEIGHT.
     steps: u64,
+    // How many short turns are committed at once, and how many answers since that number changed weren't stale.
+    turns: usize,
+    fresh: u32,
+    // Whether it commits one turn at a time, whatever they are.
+    is_alone: bool,
     in_lane: bool,
     // The lane's rounds at the beginning of the last nap, where no ticket was looked for since.
     rounds: Option<u64>,
@@ -61,6 +71,9 @@ impl Pace {
     pub(crate) fn new() -> Pace {
         Pace {
             steps: 4 * SHORT * WEIGHT,
+            turns: 1,
+            fresh: 0,
+            is_alone: false,
             in_lane: false,
             rounds: None,
         }
@@ -74,6 +87,39 @@ impl Pace {
     /// Whether the worker's turns are short.
     pub(crate) fn is_short(&self) -> bool {
         self.steps < SHORT * WEIGHT
+    }
+
+    /// How many turns are committed at once.
+    pub(crate) fn turns(&self) -> usize {
+        self.turns
+    }
+
+    /// Whether the worker commits several turns at once.
+    pub(crate) fn takes_several(&self) -> bool {
+        self.turns > 1 && !self.is_alone && self.is_short()
+    }
+
+    /// One turn is committed at a time from now on.
+    pub(crate) fn stay_alone(&mut self) {
+        self.is_alone = true;
+    }
+
+    /// Takes an answer into account. Where turns change what others read, those of one batch make each other stale: so one turn is
+    /// committed at a time after a stale one, and twice as many after some that weren't.
+    pub(crate) fn answered<K: Naming>(&mut self, reply: &Reply<K>) {
+        match reply {
+            Reply::Stale(_, _) => {
+                self.turns = 1;
+                self.fresh = 0;
+            }
+            _ => {
+                self.fresh = self.fresh.saturating_add(1);
+                if self.fresh >= ENOUGH && self.turns < MOST_TURNS {
+                    self.turns = self.turns.saturating_mul(2);
+                    self.fresh = 0;
+                }
+            }
+        }
     }
 
     /// Lets another worker into the lane, and wakes those who nap. A worker that rests stays in the lane: it comes back with

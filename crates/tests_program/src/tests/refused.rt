@@ -16,10 +16,10 @@ use std::thread::Threads;
 /// How much more memory a run gets each time, and how often at most.
 const STEP: usize = 48;
 
-const ROOMS: usize = 900;
+const ROOMS: usize = 1_200;
 
 /// The bytes of a piece of memory. Each run takes a piece, and each look at what it left.
-const PIECE: usize = 48 << 10;
+const PIECE: usize = 64 << 10;
 
 const ONE_WORKER: Options = Options {
     workers: 1,

@@ -1,11 +1,19 @@
-use Rattle.std.proofs.Common.{◌∙◌}
-use Rattle.turn.proofs.Runs.{ran_more}
+use Rattle.std.proofs.Common.{[], ◌∷◌, reverse, refl, sym, ap}
+use Rattle.design.specs.Steps.{below}
+use Rattle.turn.specs.Evaluate.{vectors}
+use Rattle.turn.proofs.Runs.{ran_first, ran_empty}
 use Rattle.turn.proofs.evaluate.compute.Goals as goal
 
-pub loop-op-preserved : goal.loop-op-preserved
-loop-op-preserved g c = record {
-  ran = λ all. ran_more c.args.ops.now c.loop-op.op-index c.op-item.result _ _ _ _ _ _ _ _ _ c.loop-op-test.true c.op-item.is all (c.loop-op.invariant.ran all) c.in_ok-step.ensures.acts;
-  gave = λ h. c.in_ok-step.ensures.gave (c.loop-op.invariant.gave h);
-  keeps = λ r s h. c.in_ok-step.ensures.keeps r s (c.loop-op.invariant.keeps r s h);
-  lasting = c.in_ok-step.ensures.lasting ∙ c.loop-op.invariant.lasting;
-}
+pub returns-in_ok-go_on-in-Some-clause-value : goal.returns-in_ok-go_on-in-Some-clause-value
+returns-in_ok-go_on-in-Some-clause-value g c = λ all.
+    (reverse c.args.stack.now.rest.items, (vectors c.go_on.new.stack, (refl, ran_first c.args.ops.now c.in-Some.first.now c.in-Some.others.now _ _ _ _ _ (vectors c.start.new.stack) _ _ _ c.in-Some.ensures.cases.0 all c.in_ok-start-in-Some.ensures.acts c.in_ok-go_on-in-Some.ensures.ran)))
+
+pub returns-in_ok-go_on-in-Some-clause-rest : goal.returns-in_ok-go_on-in-Some-clause-rest
+returns-in_ok-go_on-in-Some-clause-rest g c = λ values all holds.
+    let ran = ran_first c.args.ops.now c.in-Some.first.now c.in-Some.others.now _ _ (reverse c.args.stack.now.rest.items) _ _ (vectors c.start.new.stack) _ _ (vectors c.go_on.new.stack) c.in-Some.ensures.cases.0 all c.in_ok-start-in-Some.ensures.acts c.in_ok-go_on-in-Some.ensures.ran in
+    ap below (sym (ran.stack values holds))
+
+pub returns-in-None-clause-value : goal.returns-in-None-clause-value
+returns-in-None-clause-value g c = λ all.
+    let st = c.pop-stack.result ∷ [] in
+    (st, (st, (refl, ran_empty c.args.ops.now c.args.memory.now.known c.args.memory.now.reads.entries st c.in-None.ensures.cases)))

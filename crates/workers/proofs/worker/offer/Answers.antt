@@ -6,13 +6,13 @@ use Rattle.workers.proofs.worker.offer.Goals as goal
 pub returns-in-Ok-clause-goes : goal.returns-in-Ok-clause-goes
 returns-in-Ok-clause-goes g c =
     on_then _ _ _
-    (first_on _ _ _ (goes_read _ _ c.evaluate.ensures.reads_on) (answered g.K.Naming.named _ c.evaluate.new.seat c.args.ticket _ c.commit-reply.new.seat _ c.commit-reply.ensures).0)
+    (first_on _ _ _ (goes_read _ _ c.evaluate.ensures.reads_on) (answered g.K.Naming.named _ c.evaluate.new.seat c.args.ticket _ c.commit-reply.new.seat _ c.commit-reply.ensures))
     c.finish.ensures.goes
 
 pub returns-in-Err-TooLong-clause-goes : goal.returns-in-Err-TooLong-clause-goes
 returns-in-Err-TooLong-clause-goes g c =
     on_then _ _ _
-    (first_on _ _ _ (goes_read _ _ c.evaluate.ensures.reads_on) (long_answered g.K.Naming.named c.evaluate.new.seat c.args.ticket _ c.too_long-reply.new.seat _ c.too_long-reply.ensures).0)
+    (first_on _ _ _ (goes_read _ _ c.evaluate.ensures.reads_on) (long_answered g.K.Naming.named c.evaluate.new.seat c.args.ticket _ c.too_long-reply.new.seat _ c.too_long-reply.ensures))
     c.finish-in-Err-TooLong.ensures.goes
 
 pub returns-in-Err-Memory-clause-goes : goal.returns-in-Err-Memory-clause-goes

@@ -3,4 +3,4 @@ use Rattle.turn.proofs.progress.Progress.print_piece.Goals as goal
 
 pub returns-in_ok-print_value-in-Value-clause-prints : goal.returns-in_ok-print_value-in-Value-clause-prints
 returns-in_ok-print_value-in-Value-clause-prints g c =
-    rw c.in-Value.is (c.in_ok-value-in-Value.value, (status_of c.value.new.self, (c.in_ok-value-in-Value.ensures.value, c.in_ok-print_value-in-Value.ensures)))
+    rw c.in-Value.is (c.compute.new.self.stack.top, (status_of c.compute.new.self, (c.in_ok-compute-in-Value.ensures.value, c.in_ok-print_value-in-Value.ensures)))

@@ -14,7 +14,7 @@ note-requires-clause-counts c = λ place n is.
 pub invariant_of-self-2 : goal.invariant_of-self-2
 invariant_of-self-2 c =
     let w : ℕ × Vector = (c.args.register, c.args.value.now) in
-    let items : c.push_reserved.new.self.items ≡ c.self.inside.list.items ++ w ∷ [] = c.push_reserved.ensures.items ∙ ap (λ l. l ++ w ∷ []) c.reserve.ensures.items in
+    let items : c.push_reserved.new.self.items ≡ c.self.inside.list.items ++ w ∷ [] = c.push_reserved.ensures.items ∙ ap (λ l. l ++ (c.args.register, c.by_words.result) ∷ []) c.reserve.ensures.items ∙ ap (λ v. c.self.inside.list.items ++ (c.args.register, v) ∷ []) c.by_words.ensures in
     let all : c.note.new.nets.items ≡ nets_of (c.self.inside.list.items ++ w ∷ []) =
     c.in_ok-note.ensures.noted ∙ ap (λ l. noted l w) c.self.invariant.all ∙ sym (nets_of_more c.self.inside.list.items w) in
     record {

@@ -1,13 +1,13 @@
-use Rattle.std.proofs.Common.{◌≡◌, take, reverse, length}
+use Rattle.std.proofs.Common.{◌≡◌, take, length}
 use Rattle.std.specs.List.{All}
 use Rattle.design.specs.Steps.{IsOpOf}
-use Rattle.turn.specs.Evaluate.{Ran}
+use Rattle.turn.specs.Evaluate.{Ran, vectors}
 use Rattle.turn.specs.Reads.{GaveAll, Keeps}
-use Rattle.turn.proofs.evaluate.compute.Given as goal
+use Rattle.turn.proofs.evaluate.go_on.Given as goal
 
 abbrev pub invariant-loop-op : goal.invariant-loop-op
 invariant-loop-op g l = record {
-  ran : All (IsOpOf (length l.fn.memory.known)) l.ops → Ran (take l.op-index l.ops) l.fn.memory.known l.fn.memory.reads.entries (reverse l.fn.stack.items) l.memory.known l.memory.reads.entries (reverse l.stack.items);
+  ran : All (IsOpOf (length l.fn.memory.known)) l.ops → Ran (take l.op-index l.ops) l.fn.memory.known l.fn.memory.reads.entries (vectors l.fn.stack) l.memory.known l.memory.reads.entries (vectors l.stack);
   gave : GaveAll (g.R.RegReader.gave l.fn.reader) l.fn.memory.reads.entries → GaveAll (g.R.RegReader.gave l.reader) l.memory.reads.entries;
   keeps : Keeps (g.R.RegReader.gave l.fn.reader) (g.R.RegReader.gave l.reader);
   lasting : g.R.RegReader.lasting l.reader ≡ g.R.RegReader.lasting l.fn.reader;

@@ -1,0 +1,32 @@
+-- What the bytes of a token are worth.
+use Rattle.std.proofs.Common.{◌≡◌, ℕ, List, [], ◌∷◌, Bool, true, false, ◌&&◌, if◌then◌else◌, Option, Some, None, option_map, refl}
+use Rattle.logic4.specs.Vector.{Vector}
+use Rattle.tokens.specs.Bytes.{is_digit, all}
+use Rattle.tokens.specs.Literals.{Worth, plain_worth, decimal_of, literal_of, number_of, worth_or_none, token_value}
+
+-- a number, or 0
+abbrev pub number_or_none : Option ℕ → ℕ
+number_or_none None = 0
+number_or_none (Some n) = n
+
+of_number : (digits : Bool) (n : Option ℕ) (v : Option Vector)
+    → (worth_or_none (if digits then option_map plain_worth n else option_map (λ v. (0, Some v)) v)).0 ≡ (if digits then number_or_none n else 0)
+of_number true None v = refl
+of_number true (Some n) v = refl
+of_number false n None = refl
+of_number false n (Some v) = refl
+
+number_value : (text : List ℕ) → (worth_or_none (number_of text)).0 ≡ (if all is_digit text then number_or_none (decimal_of text) else 0)
+unfolding number_of
+number_value text = of_number (all is_digit text) (decimal_of text) (literal_of text)
+
+of_token : (first others : Bool) (w : Option Worth) (n : ℕ) → (worth_or_none w).0 ≡ (if first && others then n else 0)
+    → (worth_or_none (if first then w else Some (0, None))).0 ≡ (if first && others then n else 0)
+of_token true others w n h = h
+of_token false others w n h = refl
+
+-- a plain decimal has a number, and no other token
+pub value_is : (text : List ℕ) → token_value text ≡ (if all is_digit text then number_or_none (decimal_of text) else 0)
+unfolding token_value decimal_of
+value_is [] = refl
+value_is (b ∷ bs) = of_token (is_digit b) (all is_digit bs) (number_of (b ∷ bs)) _ (number_value (b ∷ bs))

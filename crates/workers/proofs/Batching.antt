@@ -1,0 +1,105 @@
+-- What a worker counts while it fills a batch and commits it.
+use Rattle.std.proofs.Common.{◌≡◌, ℕ, ◌+◌, ◌-◌, ◌^◌, ◌<◌, ◌≤◌, min, List, [], ◌∷◌, ◌++◌, length, set, map, ap, ◌∙◌, arith}
+use Rattle.logic4.specs.Vector.{Vector}
+use Rattle.design.specs.Compiled.{Compiled}
+use Rattle.turn.specs.Logs.{LogView}
+use Rattle.turn.specs.Answers.{IsTurnLog}
+use Rattle.turn.specs.Reads.{GaveAll}
+use Rattle.gateparts.specs.Histories.{IsRead}
+use Rattle.commitgate.specs.Tickets.{TicketView, most_tries}
+use Rattle.commitgate.specs.Batches.{AreOffered}
+use Rattle.eventpool.specs.Ends.{Owning, Stealing, thief_card}
+use Rattle.commitgate.specs.Seats.{SeatView}
+use Rattle.workers.specs.Batching.{IsOpen, Fills}
+use Rattle.workers.specs.Working.{turns_of, Goes, OnlyPuts, SameEnds, got_by_ends, Serves}
+use Rattle.workers.specs.declared.worker.Worker.{Worker}
+use Rattle.workers.proofs.Rounds.{got_kept}
+
+-- one more turn is offered, with its log behind those of the others
+pub offered_more : (code : Compiled) (fresh : List (List Vector)) (tickets : List TicketView) (ticket : TicketView) (logs : List LogView) (log : LogView) → length tickets < length logs
+    → AreOffered code fresh tickets logs → ticket.tries < most_tries → IsTurnLog code ticket.state ticket.time log → GaveAll (IsRead code fresh) log.reads
+    → AreOffered code fresh (tickets ++ ticket ∷ []) (set logs (length tickets) log)
+offered_more code fresh [] ticket [] log lt o tries turn gave = absurd (omega arith)
+offered_more code fresh [] ticket (l ∷ ls) log lt o tries turn gave = (tries, turn, gave, tt)
+offered_more code fresh (t ∷ ts) ticket [] log lt o tries turn gave = absurd o
+offered_more code fresh (t ∷ ts) ticket (l ∷ ls) log lt o tries turn gave = (o.0, o.1, o.2, offered_more code fresh ts ticket ls log (omega arith) o.3 tries turn gave)
+
+-- a log behind those of the tickets counts for nothing
+pub offered_kept : (code : Compiled) (fresh : List (List Vector)) (tickets : List TicketView) (logs : List LogView) (log : LogView)
+    → AreOffered code fresh tickets logs → AreOffered code fresh tickets (set logs (length tickets) log)
+offered_kept code fresh [] logs log o = tt
+offered_kept code fresh (t ∷ ts) [] log o = absurd o
+offered_kept code fresh (t ∷ ts) (l ∷ ls) log o = (o.0, o.1, o.2, offered_kept code fresh ts ls log o.3)
+
+module _ {T : Type 0} where
+  -- no evaluation is counted, and so many of the turns that wait are appended
+  open_goes : (s s' : SeatView) (o o1 : Owning T) (r r1 : List (Stealing T)) (e turns tickets appended left : ℕ) → got_by_ends o1 r1 ≡ got_by_ends o r
+      → Goes appended s s' → appended + left ≤ turns → IsOpen s o r e turns tickets → IsOpen s' o1 r1 e left 0
+  open_goes s s' o o1 r r1 e turns tickets appended left got goes few c =
+      let t = goes.counted c.0 in (
+        goes.positions c.0,
+        (λ lt. let p = c.1 lt in omega (arith, p, t, few)),
+        (let q = c.2 in omega (arith, q, got)),
+      )
+
+  -- one more evaluation is counted, of a ticket in hand, and its turn waits, or doesn't
+  open_begun : (s s' : SeatView) (o o1 : Owning T) (r r1 : List (Stealing T)) (e e' turns more : ℕ) → got_by_ends o1 r1 ≡ got_by_ends o r
+      → Goes 0 s s' → e' ≡ min (e + 1) (2 ^ 64 - 1) → more ≤ turns + 1 → IsOpen s o r e turns 1 → IsOpen s' o1 r1 e' more 0
+  open_begun s s' o o1 r r1 e e' turns more got goes one few c =
+      let t = goes.counted c.0 in (
+        goes.positions c.0,
+        (λ lt. let p = c.1 (omega (arith, one, lt)) in omega (arith, p, t, one, few, lt)),
+        (let q = c.2 in omega (arith, q, got, one)),
+      )
+
+module _ {A : Type 0} where
+  got_puts : (a b : Worker A) → OnlyPuts a.owner b.owner → b.row.items ≡ a.row.items → got_by_ends b.owner b.row.items ≡ got_by_ends a.owner a.row.items
+  got_puts a b puts row = (λ i. got_by_ends b.owner (row i)) ∙ got_kept a.owner b.owner a.row.items puts
+
+  -- a worker that puts tickets, and whose turns were appended
+  pub fills_goes : (a b : Worker A) (turns tickets appended left : ℕ) → Goes appended a.seat b.seat → appended + left ≤ turns → OnlyPuts a.owner b.owner
+      → b.row.items ≡ a.row.items → b.evaluations ≡ a.evaluations → Fills a b turns tickets left 0
+  fills_goes a b turns tickets appended left goes few puts row same = record {
+    worker = goes.worker;
+    ends = (puts.0, ap (map thief_card) row);
+    counted = λ c. rw same (open_goes a.seat b.seat a.owner b.owner a.row.items b.row.items a.evaluations turns tickets appended left (got_puts a b puts row) goes few c);
+  }
+
+  -- a worker that begins with a ticket in hand
+  pub fills_begun : (a b : Worker A) (turns more : ℕ) → Goes 0 a.seat b.seat → b.evaluations ≡ min (a.evaluations + 1) (2 ^ 64 - 1) → more ≤ turns + 1
+      → OnlyPuts a.owner b.owner → b.row.items ≡ a.row.items → Fills a b turns 1 more 0
+  fills_begun a b turns more goes one few puts row = record {
+    worker = goes.worker;
+    ends = (puts.0, ap (map thief_card) row);
+    counted = open_begun a.seat b.seat a.owner b.owner a.row.items b.row.items a.evaluations b.evaluations turns more (got_puts a b puts row) goes one few;
+  }
+
+  -- a worker that got a ticket, and goes on with it
+  pub fills_taken : (a b c : Worker A) (turns more left : ℕ) → b.seat ≡ a.seat → SameEnds a.owner a.row.items b.owner b.row.items
+      → got_by_ends b.owner b.row.items ≡ got_by_ends a.owner a.row.items + 1 → b.evaluations ≡ a.evaluations → Fills b c turns 1 more left → Fills a c turns 0 more left
+  fills_taken a b c turns more left seat ends got same fills = record {
+    worker = fills.worker ∙ ap (λ s. s.worker) seat;
+    ends = (fills.ends.0 ∙ ends.0, fills.ends.1 ∙ ends.1);
+    counted = λ k. fills.counted (
+      rw seat k.0,
+      (λ lt. let t : turns_of b.seat ≡ turns_of a.seat = ap turns_of seat in let p = k.1 (omega (arith, same, lt)) in omega (arith, p, t, same)),
+      (let q = k.2 in omega (arith, q, got, same)),
+    );
+  }
+
+  pub fills_more : (a b c : Worker A) (turns tickets more left most last : ℕ) → Fills a b turns tickets more left → Fills b c more left most last → Fills a c turns tickets most last
+  fills_more a b c turns tickets more left most last f g = record {
+    worker = g.worker ∙ f.worker;
+    ends = (g.ends.0 ∙ f.ends.0, g.ends.1 ∙ f.ends.1);
+    counted = λ x. g.counted (f.counted x);
+  }
+
+  -- a ticket is served where a batch that it began was filled and committed
+  pub serves_fills : (a b : Worker A) → Fills a b 0 1 0 0 → Serves a b
+  serves_fills a b f = record {
+    worker = f.worker;
+    ends = f.ends;
+    counted = λ k.
+        let c = f.counted (k.0, (λ lt. let p = k.1 lt in omega (arith, p)), k.2) in
+        (c.0, (λ lt. let p = c.1 lt in omega (arith, p)), (let q = c.2 in omega (arith, q)));
+  }

@@ -1,0 +1,44 @@
+-- Several turns that a worker commits at once.
+use Rattle.std.specs.Prelude.{◌≡◌, ℕ, ◌+◌, ◌-◌, ◌^◌, ◌<◌, ◌≤◌, List, length}
+use Rattle.std.specs.Vec.{vec_capacity}
+use Rattle.std.specs.VecDeque.{deque_capacity}
+use Rattle.commitgate.specs.Named.{Named}
+use Rattle.commitgate.specs.Seats.{SeatView}
+use Rattle.commitgate.specs.Batches.{AreOffered}
+use Rattle.eventpool.specs.Ends.{Owning, Stealing}
+use Rattle.workers.specs.declared.batch.Batch.{Batch}
+use Rattle.workers.specs.declared.batch.Next.{Next}
+use Rattle.workers.specs.declared.batch.Next.TheVariants.{More, Enough, Over}
+use Rattle.workers.specs.declared.worker.Worker.{Worker}
+use Rattle.workers.specs.Working.{HasPositions, turns_of, SameEnds, IsOver, got_by_ends}
+
+-- the most of them
+abbrev pub most_turns : ℕ
+most_turns = 16
+
+-- a batch has room for the most turns: a log for each, their tickets, and their answers
+abbrev pub HasRoom : {A : Type 0} → Batch A → Type 0
+HasRoom batch =
+    (length batch.logs.items ≡ most_turns) × (most_turns ≤ deque_capacity batch.tickets) × (most_turns ≤ vec_capacity batch.replies)
+
+-- its turns may be committed by a worker: their tickets and logs, by what the worker's seat has seen
+abbrev pub IsOffered : {A : Type 0} → Named → Batch A → Worker A → Type 0
+IsOffered n batch worker = AreOffered n.code worker.seat.fresh batch.tickets.items batch.logs.items
+
+-- what comes of a ticket: the turns of the batch may be committed, or the run is over
+abbrev pub Leads : {A : Type 0} → Named → Next → Batch A → Worker A → Type 0
+Leads n More batch worker = IsOffered n batch worker
+Leads n Enough batch worker = IsOffered n batch worker
+Leads n Over batch worker = IsOver n worker.seat
+
+-- What a worker counts, of which so many turns were evaluated and aren't committed yet, and of so many tickets that its ends
+-- got no evaluation was begun.
+abbrev pub IsOpen : {T : Type 0} → SeatView → Owning T → List (Stealing T) → ℕ → ℕ → ℕ → Type 0
+IsOpen s owner row evaluations turns tickets =
+    HasPositions s × (evaluations < 2 ^ 64 - 1 → turns_of s + turns ≤ evaluations) × (evaluations + tickets ≤ got_by_ends owner row)
+
+-- A worker stays the same worker, and goes on to count: with so many turns and tickets before, and with these after.
+pub record Fills {A : Type 0} (old new : Worker A) (turns tickets more left : ℕ) : Type 0 where
+  pub worker : new.seat.worker ≡ old.seat.worker
+  pub ends : SameEnds old.owner old.row.items new.owner new.row.items
+  pub counted : IsOpen old.seat old.owner old.row.items old.evaluations turns tickets → IsOpen new.seat new.owner new.row.items new.evaluations more left

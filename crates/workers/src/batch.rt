@@ -1,0 +1,326 @@
+//! Several turns at once: a worker whose turns are short evaluates the tickets of its own deque, one after another, and commits
+//! their turns in one holding of the lock.
+ghost use Rattle.std.specs.Prelude.{◌≡◌, ◌+◌, ◌<◌, ◌≤◌, [], true, if◌then◌else◌, length, IfOk, MatchResult};
+ghost use Rattle.commitgate.specs.Tickets.{most_tries};
+ghost use Rattle.commitgate.specs.Batches.{AreOffered};
+ghost use Rattle.workers.specs.Working.{Goes, OverUnless, OnlyPuts, Serves};
+ghost use Rattle.workers.specs.Batching.{most_turns, HasRoom, IsOffered, Leads, Fills};
+ghost use Rattle.workers.specs.declared.batch.Next.TheVariants.{Enough, Over};
+
+use crate::deques::put;
+use crate::pace::Pace;
+use crate::probe::Probe;
+use crate::worker::{Shared, Worker, evaluate, finish};
+use commitgate::{MAX_TRIES, Naming, Reply, Seat, Ticket};
+use eventpool::Owner;
+use std::alloc::{AllocError, Global};
+use std::collections::VecDeque;
+use std::marker::Brand;
+use std::mem;
+use std::sync::Wait;
+use turn::{TurnFault, TurnLog};
+
+/// The most turns that a worker commits at once.
+pub(crate) const MOST_TURNS: usize = 16;
+
+// With this many counted steps together turns are enough.
+const MOST_STEPS: u32 = 100;
+
+/// Turns that were evaluated and aren't committed yet, in room that is kept: their tickets, each with its log at its place and
+/// the number of its event, and then the answers. `steps` counts their steps.
+#[derive(Drop)]
+pub struct Batch<K: Naming> {
+    pub tickets: VecDeque<Ticket<K>>,
+    pub logs: Vec<TurnLog>,
+    pub events: [u64; 16],
+    pub replies: Vec<Reply<K>>,
+    pub steps: u32,
+}
+
+/// What comes after a ticket: another one, or the batch is committed as it is, or the run is over.
+#[derive(Clone, Copy)]
+pub enum Next {
+    More,
+    Enough,
+    Over,
+}
+
+impl<K: Naming> Batch<K> {
+    /// An empty batch, with room for the most turns.
+    pub(crate) fn new(alloc: Global) -> Result<Batch<K>, AllocError>
+        ensures room { IfOk result (λ batch. HasRoom batch) }
+        ensures empty { IfOk result (λ batch. batch.tickets.items ≡ []) }
+    {
+        let tickets = VecDeque::with_capacity(alloc, MOST_TURNS)?;
+        let replies = Vec::with_capacity(alloc, MOST_TURNS)?;
+        let mut logs = Vec::with_capacity(alloc, MOST_TURNS)?;
+        for _turn in 0..MOST_TURNS {
+            logs.push_reserved(TurnLog::new(alloc));
+        }
+        Ok(Batch {
+            tickets,
+            logs,
+            events: [0; 16],
+            replies,
+            steps: 0,
+        })
+    }
+}
+
+// Evaluates a ticket's turn into the next log of a batch, and adds it. Else the ticket comes back.
+fn add<K: Naming, P: Probe, R: Wait>(
+    run: &Shared<'_, '_, K, P, R>,
+    batch: &mut Batch<K>,
+    seat: &mut Seat<K>,
+    ticket: Ticket<K>,
+) -> Result<u32, (Ticket<K>, TurnFault)>
+    requires design { run.now.design.now ≡ K.named.code }
+    requires room { HasRoom batch.old }
+    requires few { length batch.old.tickets.items < most_turns }
+    requires tries { ticket.tries < most_tries }
+    requires offered { AreOffered K.named.code seat.old.fresh batch.old.tickets.items batch.old.logs.items }
+    ensures goes { Goes 0 seat.old seat.new }
+    ensures room { HasRoom batch.new }
+    ensures offered { AreOffered K.named.code seat.new.fresh batch.new.tickets.items batch.new.logs.items }
+    ensures added { MatchResult result (λ _. length batch.new.tickets.items ≡ length batch.old.tickets.items + 1) (λ _. length batch.new.tickets.items ≡ length batch.old.tickets.items) }
+{
+    let place = batch.tickets.len();
+    match evaluate::<K, Brand, P, R>(run, &mut batch.logs[place], seat, &ticket) {
+        Ok(()) => {
+            batch.tickets.push_back_reserved(ticket);
+            Ok(batch.logs[place].count())
+        }
+        Err(fault) => Err((ticket, fault)),
+    }
+}
+
+// What comes of a ticket that was put back.
+fn after_put(is_put: bool) -> Next
+    ensures { result ≡ (if is_put then Enough else Over) }
+{
+    if is_put { Next::Enough } else { Next::Over }
+}
+
+impl<K: Naming> Batch<K> {
+    // Notes the event of the last turn and its steps.
+    fn note(&mut self, event: u64, count: u32)
+        ensures { self.new ≡ record self.old { events = self.new.events; steps = self.new.steps } }
+    {
+        let place = self.tickets.len().saturating_sub(1);
+        if let Some(slot) = self.events.get_mut(place) {
+            *slot = event;
+        }
+        self.steps = self.steps.saturating_add(count);
+    }
+
+    // Whether it has so many turns, or those that it has are long enough.
+    fn is_enough(&self, turns: usize) -> bool {
+        self.steps >= MOST_STEPS || self.tickets.len() >= turns
+    }
+}
+
+// Evaluates the turn of a ticket that the worker got, and adds it to the batch. A turn that is too long stands in no batch, so
+// its ticket goes back into the worker's deque, and the worker takes one at a time from then on.
+fn start<K: Naming, P: Probe, R: Wait>(
+    run: &Shared<'_, '_, K, P, R>,
+    batch: &mut Batch<K>,
+    pace: &mut Pace,
+    worker: &mut Worker<K>,
+    ticket: Ticket<K>,
+) -> Next
+    requires design { run.now.design.now ≡ K.named.code }
+    requires room { HasRoom batch.old }
+    requires few { length batch.old.tickets.items < most_turns }
+    requires tries { ticket.tries < most_tries }
+    requires offered { IsOffered K.named batch.old worker.old }
+    ensures room { HasRoom batch.new }
+    ensures few { length batch.new.tickets.items ≤ length batch.old.tickets.items + 1 }
+    ensures fills { Fills worker.old worker.new (length batch.old.tickets.items) 1 (length batch.new.tickets.items) 0 }
+    ensures leads { Leads K.named result batch.new worker.new }
+{
+    worker.evaluations = worker.evaluations.saturating_add(1);
+    let event = ticket.event();
+    run.probe
+        .evaluation(worker.seat.worker(), event, ticket.tries());
+    match add(run, batch, &mut worker.seat, ticket) {
+        Ok(count) => {
+            pace.note(count);
+            batch.note(event, count);
+            if batch.is_enough(pace.turns()) {
+                Next::Enough
+            } else {
+                Next::More
+            }
+        }
+        Err((ticket, TurnFault::TooLong)) => {
+            pace.stay_alone();
+            let (seat, owner) = (&mut worker.seat, &mut worker.owner);
+            after_put(put(run.rt, run.gate, seat, owner, ticket))
+        }
+        Err((_, TurnFault::Memory)) => {
+            run.gate.stop(run.rt, &mut worker.seat);
+            Next::Over
+        }
+    }
+}
+
+// The same with a ticket of any tries. One whose turn is to be evaluated under the lock goes back, too.
+fn begin<K: Naming, P: Probe, R: Wait>(
+    run: &Shared<'_, '_, K, P, R>,
+    batch: &mut Batch<K>,
+    pace: &mut Pace,
+    worker: &mut Worker<K>,
+    ticket: Ticket<K>,
+) -> Next
+    requires design { run.now.design.now ≡ K.named.code }
+    requires room { HasRoom batch.old }
+    requires few { length batch.old.tickets.items < most_turns }
+    requires offered { IsOffered K.named batch.old worker.old }
+    ensures room { HasRoom batch.new }
+    ensures few { length batch.new.tickets.items ≤ length batch.old.tickets.items + 1 }
+    ensures fills { Fills worker.old worker.new (length batch.old.tickets.items) 1 (length batch.new.tickets.items) 0 }
+    ensures leads { Leads K.named result batch.new worker.new }
+{
+    if ticket.tries() < MAX_TRIES {
+        start(run, batch, pace, worker, ticket)
+    } else {
+        pace.stay_alone();
+        let (seat, owner) = (&mut worker.seat, &mut worker.owner);
+        let is_put = put(run.rt, run.gate, seat, owner, ticket);
+        after_put(is_put)
+    }
+}
+
+// The same with the next ticket of the worker's own deque, if there is one.
+fn extend<K: Naming, P: Probe, R: Wait>(
+    run: &Shared<'_, '_, K, P, R>,
+    batch: &mut Batch<K>,
+    pace: &mut Pace,
+    worker: &mut Worker<K>,
+) -> Next
+    requires design { run.now.design.now ≡ K.named.code }
+    requires room { HasRoom batch.old }
+    requires few { length batch.old.tickets.items < most_turns }
+    requires offered { IsOffered K.named batch.old worker.old }
+    ensures room { HasRoom batch.new }
+    ensures few { length batch.new.tickets.items ≤ length batch.old.tickets.items + 1 }
+    ensures fills { Fills worker.old worker.new (length batch.old.tickets.items) 0 (length batch.new.tickets.items) 0 }
+    ensures leads { Leads K.named result batch.new worker.new }
+{
+    match worker.owner.take() {
+        Some(ticket) => begin(run, batch, pace, worker, ticket),
+        None => Next::Enough,
+    }
+}
+
+// Fills an empty batch, from a ticket that the worker got on. Answers whether the worker goes on.
+fn fill<K: Naming, P: Probe, R: Wait>(
+    run: &Shared<'_, '_, K, P, R>,
+    batch: &mut Batch<K>,
+    pace: &mut Pace,
+    worker: &mut Worker<K>,
+    ticket: Ticket<K>,
+) -> bool
+    requires design { run.now.design.now ≡ K.named.code }
+    requires room { HasRoom batch.old }
+    requires empty { batch.old.tickets.items ≡ [] }
+    ensures room { HasRoom batch.new }
+    ensures few { length batch.new.tickets.items ≤ most_turns }
+    ensures fills { Fills worker.old worker.new 0 1 (length batch.new.tickets.items) 0 }
+    ensures offered { result ≡ true → IsOffered K.named batch.new worker.new }
+    ensures over { OverUnless K.named result worker.new.seat }
+{
+    batch.steps = 0;
+    let mut next = begin(run, batch, pace, worker, ticket);
+    for _place in 1..MOST_TURNS {
+        match next {
+            Next::More => {}
+            Next::Enough => return true,
+            Next::Over => return false,
+        }
+        next = extend(run, batch, pace, worker);
+    }
+    match next {
+        Next::More => true,
+        Next::Enough => true,
+        Next::Over => false,
+    }
+}
+
+// What comes of the answers: each is told to the probe, and settled. Answers whether the worker goes on.
+fn settle_all<K: Naming, P: Probe, R: Wait>(
+    run: &Shared<'_, '_, K, P, R>,
+    batch: &mut Batch<K>,
+    pace: &mut Pace,
+    seat: &mut Seat<K>,
+    owner: &mut Owner<Ticket<K>>,
+) -> bool
+    requires room { HasRoom batch.old }
+    ensures room { HasRoom batch.new }
+    ensures tickets { batch.new.tickets ≡ batch.old.tickets }
+    ensures goes { Goes 0 seat.old seat.new }
+    ensures puts { OnlyPuts owner.old owner.new }
+    ensures over { OverUnless K.named result seat.new }
+{
+    for place in 0..MOST_TURNS {
+        let event = batch.events[place];
+        let Some(reply) = batch.replies.get_mut(place) else {
+            return true;
+        };
+        let reply = mem::replace(reply, Reply::Gone);
+        pace.answered(&reply);
+        if !finish(run, seat, owner, event, reply) {
+            return false;
+        }
+    }
+    true
+}
+
+// Commits the turns of a batch in one holding of the lock, and settles the answers. Answers whether the worker goes on.
+fn commit<K: Naming, P: Probe, R: Wait>(
+    run: &Shared<'_, '_, K, P, R>,
+    batch: &mut Batch<K>,
+    pace: &mut Pace,
+    worker: &mut Worker<K>,
+) -> bool
+    requires room { HasRoom batch.old }
+    requires few { length batch.old.tickets.items ≤ most_turns }
+    requires offered { IsOffered K.named batch.old worker.old }
+    ensures room { HasRoom batch.new }
+    ensures empty { batch.new.tickets.items ≡ [] }
+    ensures fills { Fills worker.old worker.new (length batch.old.tickets.items) 0 0 0 }
+    ensures over { OverUnless K.named result worker.new.seat }
+{
+    let Batch {
+        tickets,
+        logs,
+        events: _,
+        replies,
+        steps: _,
+    } = batch;
+    run.gate.commit_all(run.rt, run.alloc, &mut worker.seat, tickets, logs, replies);
+    settle_all(run, batch, pace, &mut worker.seat, &mut worker.owner)
+}
+
+/// Evaluates a ticket that the worker got, and more of its own deque, and commits their turns. Answers whether the worker goes
+/// on, and then the batch is empty again.
+pub(crate) fn serve_several<K: Naming, P: Probe, R: Wait>(
+    run: &Shared<'_, '_, K, P, R>,
+    batch: &mut Batch<K>,
+    pace: &mut Pace,
+    worker: &mut Worker<K>,
+    ticket: Ticket<K>,
+) -> bool
+    requires design { run.now.design.now ≡ K.named.code }
+    requires room { HasRoom batch.old }
+    requires empty { batch.old.tickets.items ≡ [] }
+    ensures room { HasRoom batch.new }
+    ensures empty { result ≡ true → batch.new.tickets.items ≡ [] }
+    ensures serves { Serves worker.old worker.new }
+    ensures over { OverUnless K.named result worker.new.seat }
+{
+    if !fill(run, batch, pace, worker, ticket) {
+        return false;
+    }
+    commit(run, batch, pace, worker)
+}
