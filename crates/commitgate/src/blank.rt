@@ -130,7 +130,7 @@ fn seat_all<K: Naming>(
             unreachable!()
         };
         let pass = next_seat(mark, whole);
-        seats.push(Seat::new(worker, own, pass))?;
+        seats.push(Seat::new(alloc, worker, own, pass))?;
     }
     Ok(seats)
 }

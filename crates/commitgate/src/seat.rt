@@ -9,15 +9,20 @@ ghost use Rattle.commitgate.specs.Seats.{ReadsOn, LooksOn};
 ghost use Rattle.gateparts.specs.Histories.{IsEntryOf};
 
 use crate::naming::Naming;
+use crate::ticket::Ticket;
 use design::RegId;
 use gateparts::{MarkCell, MarkPass, look};
 use regcells::{RegCells, RegSeat};
+use std::alloc::Global;
 use std::marker::{Model, PhantomData};
 use std::sync::Wait;
 use turn::Seen;
 
-/// A worker's seat: its number, how many entries it has seen and how many it appended, and what it has seen of the
-/// registers and of the log.
+// The most lists whose room a seat keeps.
+const MOST_ROOMS: usize = 16;
+
+/// A worker's seat: its number, how many entries it has seen and how many it appended, what it has seen of the registers and
+/// of the log, and room for the tickets of the entries that it will append.
 #[derive(Drop)]
 pub struct Seat<K: Naming> {
     pub(crate) worker: u32,
@@ -25,6 +30,7 @@ pub struct Seat<K: Naming> {
     pub(crate) share: u64,
     pub(crate) regs: RegSeat,
     pub(crate) pass: MarkPass,
+    pub(crate) rooms: Vec<Vec<Ticket<K>>>,
     pub(crate) of: PhantomData<K>,
 }
 
@@ -42,7 +48,7 @@ impl<K: Naming> Model for Seat<K> {
 
 impl<K: Naming> Seat<K> {
     /// The seat of a worker that has seen nothing of the log.
-    pub(crate) fn new(worker: u32, regs: RegSeat, pass: MarkPass) -> Seat<K>
+    pub(crate) fn new(alloc: Global, worker: u32, regs: RegSeat, pass: MarkPass) -> Seat<K>
         requires names { (regs.cells ≡ K.named.cells) × (pass.table_id ≡ K.named.mark) }
         requires worker { worker < K.named.workers }
         requires pass { cell_view pass ≡ seated worker [] None [] }
@@ -54,7 +60,19 @@ impl<K: Naming> Seat<K> {
             share: 0,
             regs,
             pass,
+            rooms: Vec::new(alloc),
             of: PhantomData,
+        }
+    }
+
+    /// Keeps the room of a list of tickets, for those of an entry that the seat will append. Tickets that are in it are
+    /// dropped.
+    pub fn keep_room(&mut self, tickets: Vec<Ticket<K>>)
+        ensures { self.new ≡ self.old }
+    {
+        if tickets.capacity() > 0 && self.rooms.len() < MOST_ROOMS {
+            // Where memory is refused the room is given back.
+            let _ = self.rooms.push(tickets);
         }
     }
 

@@ -2,7 +2,7 @@
 ghost use Rattle.std.specs.Prelude.{◌≡◌, ◌<◌, ◌∷◌, [], IfSome, MatchResult};
 ghost use Rattle.turn.specs.declared.log.TurnFault.TheVariants.{TooLong};
 ghost use Rattle.turn.specs.Answers.{IsTurnLog, IsNoTurn};
-ghost use Rattle.turn.specs.Reads.{GaveAll};
+ghost use Rattle.turn.specs.Reads.{GaveAll, Keeps};
 ghost use Rattle.gateparts.specs.Histories.{IsRead};
 
 use commitgate::{Closed, Gate, Grant, Naming, Reply, Seat, Ticket};
@@ -24,10 +24,11 @@ pub struct Course<'g, 'd, K: Naming, R: Wait + Abort> {
 }
 
 impl<'g, 'd, K: Naming, R: Wait + Abort> Course<'g, 'd, K, R> {
-    /// The turn of a ticket, evaluated without the lock.
+    /// The turn of a ticket, evaluated without the lock. What the seat read before stays read.
     pub fn evaluate(&self, seat: &mut Seat<K>, ticket: &Ticket<K>) -> TurnLog
         ensures turn { IsTurnLog K.named.code ticket.now.state ticket.now.time result }
         ensures gave { GaveAll (IsRead K.named.code seat.new.fresh) result.reads }
+        ensures keeps { Keeps (IsRead K.named.code seat.old.fresh) (IsRead K.named.code seat.new.fresh) }
     {
         self.try_evaluate(seat, ticket).expect(self.rt, "memory")
     }
@@ -36,6 +37,7 @@ impl<'g, 'd, K: Naming, R: Wait + Abort> Course<'g, 'd, K, R> {
     pub fn try_evaluate(&self, seat: &mut Seat<K>, ticket: &Ticket<K>) -> Option<TurnLog>
         ensures turn { IfSome result (λ log. IsTurnLog K.named.code ticket.now.state ticket.now.time log) }
         ensures gave { IfSome result (λ log. GaveAll (IsRead K.named.code seat.new.fresh) log.reads) }
+        ensures keeps { Keeps (IsRead K.named.code seat.old.fresh) (IsRead K.named.code seat.new.fresh) }
     {
         let mut log = TurnLog::new(self.alloc);
         match self.fill(&mut log, seat, ticket) {
@@ -56,6 +58,7 @@ impl<'g, 'd, K: Naming, R: Wait + Abort> Course<'g, 'd, K, R> {
     ) -> Result<(), TurnFault>
         ensures turn { MatchResult result (λ _. IsTurnLog K.named.code ticket.now.state ticket.now.time log.new) (IsNoTurn K.named.code ticket.now.state ticket.now.time log.new.reads) }
         ensures gave { MatchResult result (λ _. GaveAll (IsRead K.named.code seat.new.fresh) log.new.reads) (λ fault. fault ≡ TooLong → GaveAll (IsRead K.named.code seat.new.fresh) log.new.reads) }
+        ensures keeps { Keeps (IsRead K.named.code seat.old.fresh) (IsRead K.named.code seat.new.fresh) }
     {
         let mut reader = self.gate.reader(self.rt, seat);
         let turn = run_turn(log, self.design, ticket.state(), ticket.time(), &mut reader);

@@ -45,17 +45,21 @@ fn look_back<K: Naming, R: Wait + Abort>(course: &Course<'_, '_, K, R>, seat: &m
         course.gate.entries(rt, seat) == 1,
         "another number of entries"
     );
-    assert_journal(course, seat);
+    assert_journal(course, seat, &[Entry::Turn(0)]);
 }
 
-// The journal is that turn's entry.
-fn assert_journal<K: Naming, R: Wait + Abort>(course: &Course<'_, '_, K, R>, seat: &mut Seat<K>) {
+/// The journal has these entries, which the seat has then seen.
+pub fn assert_journal<K: Naming, R: Wait + Abort>(
+    course: &Course<'_, '_, K, R>,
+    seat: &mut Seat<K>,
+    wanted: &[Entry],
+) {
     let rt = course.rt;
     let journal = course
         .gate
         .snapshot(rt, course.alloc, seat)
         .expect(rt, "memory");
-    assert!(rt; journal.as_slice() == [Entry::Turn(0)].as_slice());
+    assert!(rt; journal.as_slice() == wanted, "another journal");
 }
 
 // The only worker takes one turn.
@@ -86,8 +90,8 @@ fn take_at<K: Naming, R: Wait + Abort>(
     course.read_as(two, wanted.0, &wanted.1);
 }
 
-// A register's value and version.
-fn seen_of(version: u64, width: u32, value: u64) -> Seen
+/// A register's value and version.
+pub fn seen_of(version: u64, width: u32, value: u64) -> Seen
     requires some { 1 ≤ width }
     requires most { width ≤ 128 }
 {
@@ -97,8 +101,8 @@ fn seen_of(version: u64, width: u32, value: u64) -> Seen
     }
 }
 
-// Whether a turn read register 0 when it was all x.
-fn read_unknown(log: &TurnLog) -> bool {
+/// Whether a turn read register 0 when it was all x.
+pub fn read_unknown(log: &TurnLog) -> bool {
     match log.reads().get(&0) {
         Some(seen) => seen.version == 0 && seen.value == Bits::unknown(1),
         None => false,
@@ -287,7 +291,7 @@ fn assert_ends<R: Wait + Abort>(
 }
 
 /// One process gives a register a value, and another reads it.
-const COPY: &str = "module t; reg a, b; initial a=1'b1; initial b=a; endmodule";
+pub const COPY: &str = "module t; reg a, b; initial a=1'b1; initial b=a; endmodule";
 
 #[test]
 fn a_turn_that_read_too_early_is_stale(rt: HostRuntime) {

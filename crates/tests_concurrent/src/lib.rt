@@ -11,15 +11,19 @@
 //! 8. `stops` stops a run of two seats after each reply: what later calls answer, and what the gate leaves.
 //! 9. `strobes` has a run of one seat with strobes, and its lines.
 //! 10. `updates` makes several updates in one holding of the lock.
-//! 11. `deques` takes and steals tickets of pools of deques, by one thread and by four, and counts where each went.
-//! 12. `cells` stores and reads cells of registers, by one thread and by two: no read goes back, and each gives the value of
+//! 11. `batches` commits several turns in one holding of the lock: one that read what another of them changed is stale, and
+//!     where memory is refused for one, those behind it are left.
+//! 12. `deques` takes and steals tickets of pools of deques, by one thread and by four, and counts where each went.
+//! 13. `cells` stores and reads cells of registers, by one thread and by two: no read goes back, and each gives the value of
 //!     its version.
-//! 13. `wide_cells` stores a cell of 128 digits by one thread and reads it by another: each read gives a whole value.
-//! 14. `hoards` holds all memory, and counts what is left of it.
+//! 14. `wide_cells` stores a cell of 128 digits by one thread and reads it by another: each read gives a whole value.
+//! 15. `hoards` holds all memory, and counts what is left of it.
 #![tactic(auto)]
 
 #[cfg(test)]
 mod alone;
+#[cfg(test)]
+mod batches;
 #[cfg(test)]
 mod between;
 #[cfg(test)]

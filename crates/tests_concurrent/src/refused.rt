@@ -76,8 +76,12 @@ fn came_of_rest<K: Naming>(rt: &impl Abort, rest: Rest<K>) -> Came<K> {
     }
 }
 
-// The grant of an accepted turn, or the ticket of one that was refused memory: this event's, with no tries.
-fn granted<K: Naming>(rt: &impl Abort, reply: Reply<K>, event: u64) -> Result<Grant<K>, Ticket<K>> {
+/// The grant of an accepted turn, or the ticket of one that was refused memory: this event's, with no tries.
+pub fn granted<K: Naming>(
+    rt: &impl Abort,
+    reply: Reply<K>,
+    event: u64,
+) -> Result<Grant<K>, Ticket<K>> {
     match reply {
         Reply::Accepted(grant) => Ok(grant),
         Reply::NoMemory(back) => {

@@ -41,6 +41,7 @@ impl Stack {
         self.rest.push(self.top)?;
         Ok(())
     }
+
     /// Puts a vector above the topmost one.
     pub fn put(&mut self, value: &Bits) -> Result<(), AllocError>
         ensures { OnOk result (vectors self.new ≡ value.now ∷ vectors self.old) }

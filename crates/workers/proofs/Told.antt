@@ -1,5 +1,7 @@
 -- What the gate's answers say of a worker's seat.
-use Rattle.std.proofs.Common.{◌≡◌, ℕ, ◌+◌, ◌≤◌, List, [], ◌∷◌, length, arith, refl, sym, subst}
+use Rattle.std.specs.List.{All}
+use Rattle.std.proofs.lemmas.List.Elements.{All-pop}
+use Rattle.std.proofs.Common.{◌≡◌, inl, inr, Some, ℕ, ◌+◌, ◌≤◌, List, [], ◌∷◌, length, arith, refl, sym, subst}
 use Rattle.model.specs.declared.entry.Entry.{Entry}
 use Rattle.model.specs.declared.entry.Entry.TheVariants.{Turn, Update, ActivateInactive, ActivateNba, ActivateMonitor, Advance}
 use Rattle.model.specs.declared.end.Why.{Why}
@@ -14,7 +16,7 @@ use Rattle.commitgate.specs.Told.{CommitCauses, AnsweredTo, LongAnsweredTo, Held
 use Rattle.workers.specs.Counting.{turn_count}
 use Rattle.workers.specs.Working.{Goes}
 use Rattle.turn.specs.Logs.{LogView}
-use Rattle.commitgate.specs.Batches.{AreUpdatedTo, UpdatesEndedTo, UpdatesAnsweredTo, AreAnsweredTo}
+use Rattle.commitgate.specs.Batches.{AreUpdatedTo, UpdatesEndedTo, UpdatesAnsweredTo, AreAnsweredTo, AnswersEnd, HadMemory}
 use Rattle.commitgate.specs.declared.reply.UpdatesEnd.{UpdatesEnd}
 use Rattle.commitgate.specs.declared.reply.UpdatesEnd.TheVariants as ends
 use Rattle.commitgate.specs.declared.reply.Grant.{Grant}
@@ -87,15 +89,27 @@ pub updates_go : {A : Type 0} → (n : Named) (old : SeatView) (grants : List (G
 updates_go n old grants end new all = goes_then 0 old all.0 new (appended_go n old grants all.0 all.1) (ended_go n all.0 end new all.2)
 
 -- a seat that was answered several tickets: it appended at most as many turns
-pub answers_go : {A : Type 0} → (n : Named) (old : SeatView) (tickets : List TicketView) (logs : List LogView) (replies : List (Reply A)) (new : SeatView)
-    → AreAnsweredTo n old tickets logs replies new → (turns : ℕ) × (turns ≤ length tickets) × Goes turns old new
-answers_go n old [] logs [] new same = (0, omega arith, subst (λ (s : SeatView). Goes 0 old s) (sym same) (goes_self old))
-answers_go n old [] logs (r ∷ rs) new a = absurd a
-answers_go n old (t ∷ ts) [] rs new a = absurd a
-answers_go n old (t ∷ ts) (l ∷ ls) [] new a = absurd a
-answers_go n old (t ∷ ts) (l ∷ ls) (r ∷ rs) new a =
+pub answers_go : {A : Type 0} → (n : Named) (old : SeatView) (tickets : List TicketView) (logs : List LogView) (replies : List (Reply A)) (left : List TicketView) (new : SeatView)
+    → AreAnsweredTo n old tickets logs replies left new → (turns : ℕ) × (turns ≤ length tickets) × Goes turns old new
+answers_go n old tickets logs [] left new same = (0, omega arith, subst (λ (s : SeatView). Goes 0 old s) (sym same.1) (goes_self old))
+answers_go n old [] logs (r ∷ rs) left new a = absurd a
+answers_go n old (t ∷ ts) [] (r ∷ rs) left new a = absurd a
+answers_go n old (t ∷ ts) (l ∷ ls) (r ∷ rs) left new a =
     let one = answered n CommitCauses old t l.reads a.0 r a.1 in
-    let more = answers_go n a.0 ts ls rs new a.2 in
+    let more = answers_go n a.0 ts ls rs left new a.2 in
     let few = one.1 in
     let most = more.1 in
     (one.0 + more.0, omega (arith, few, most), goes_more one.0 more.0 old a.0 new one.2 more.2)
+
+-- there is at most an answer to each ticket
+pub few_answers : {A : Type 0} → (n : Named) (old : SeatView) (tickets : List TicketView) (logs : List LogView) (replies : List (Reply A)) (left : List TicketView) (new : SeatView)
+    → AreAnsweredTo n old tickets logs replies left new → length replies ≤ length tickets
+few_answers n old tickets logs [] left new same = omega arith
+few_answers n old [] logs (r ∷ rs) left new a = absurd a
+few_answers n old (t ∷ ts) [] (r ∷ rs) left new a = absurd a
+few_answers n old (t ∷ ts) (l ∷ ls) (r ∷ rs) left new a = let few = few_answers n a.0 ts ls rs left new a.2 in omega (arith, few)
+
+-- no ticket is left where memory was refused for none
+pub none_left : {A : Type 0} → (replies : List (Reply A)) (left : List TicketView) → AnswersEnd replies left → All HadMemory replies → left ≡ []
+none_left replies left (inl end) all = end.1
+none_left replies left (inr end) all = absurd (end.4 (All-pop HadMemory replies end.0 (Some end.1) end.2 all).1)

@@ -1,6 +1,5 @@
 -- Several turns that a worker commits at once.
 use Rattle.std.specs.Prelude.{◌≡◌, ℕ, ◌+◌, ◌-◌, ◌^◌, ◌<◌, ◌≤◌, List, length}
-use Rattle.std.specs.Vec.{vec_capacity}
 use Rattle.std.specs.VecDeque.{deque_capacity}
 use Rattle.commitgate.specs.Named.{Named}
 use Rattle.commitgate.specs.Seats.{SeatView}
@@ -19,7 +18,7 @@ most_turns = 16
 -- a batch has room for the most turns: a log for each, their tickets, and their answers
 abbrev pub HasRoom : {A : Type 0} → Batch A → Type 0
 HasRoom batch =
-    (length batch.logs.items ≡ most_turns) × (most_turns ≤ deque_capacity batch.tickets) × (most_turns ≤ vec_capacity batch.replies)
+    (length batch.logs.items ≡ most_turns) × (most_turns ≤ deque_capacity batch.tickets) × (most_turns ≤ deque_capacity batch.replies)
 
 -- its turns may be committed by a worker: their tickets and logs, by what the worker's seat has seen
 abbrev pub IsOffered : {A : Type 0} → Named → Batch A → Worker A → Type 0

@@ -1,8 +1,9 @@
 //! Several turns at once: a worker whose turns are short evaluates the tickets of its own deque, one after another, and commits
 //! their turns in one holding of the lock.
 ghost use Rattle.std.specs.Prelude.{◌≡◌, ◌+◌, ◌<◌, ◌≤◌, [], true, if◌then◌else◌, length, IfOk, MatchResult};
+ghost use Rattle.std.specs.List.{All};
 ghost use Rattle.commitgate.specs.Tickets.{most_tries};
-ghost use Rattle.commitgate.specs.Batches.{AreOffered};
+ghost use Rattle.commitgate.specs.Batches.{AreOffered, HadMemory};
 ghost use Rattle.workers.specs.Working.{Goes, OverUnless, OnlyPuts, Serves};
 ghost use Rattle.workers.specs.Batching.{most_turns, HasRoom, IsOffered, Leads, Fills};
 ghost use Rattle.workers.specs.declared.batch.Next.TheVariants.{Enough, Over};
@@ -16,7 +17,6 @@ use eventpool::Owner;
 use std::alloc::{AllocError, Global};
 use std::collections::VecDeque;
 use std::marker::Brand;
-use std::mem;
 use std::sync::Wait;
 use turn::{TurnFault, TurnLog};
 
@@ -32,8 +32,8 @@ const MOST_STEPS: u32 = 100;
 pub struct Batch<K: Naming> {
     pub tickets: VecDeque<Ticket<K>>,
     pub logs: Vec<TurnLog>,
-    pub events: [u64; 16],
-    pub replies: Vec<Reply<K>>,
+    pub events: [u64; MOST_TURNS],
+    pub replies: VecDeque<Reply<K>>,
     pub steps: u32,
 }
 
@@ -52,7 +52,7 @@ impl<K: Naming> Batch<K> {
         ensures empty { IfOk result (λ batch. batch.tickets.items ≡ []) }
     {
         let tickets = VecDeque::with_capacity(alloc, MOST_TURNS)?;
-        let replies = Vec::with_capacity(alloc, MOST_TURNS)?;
+        let replies = VecDeque::with_capacity(alloc, MOST_TURNS)?;
         let mut logs = Vec::with_capacity(alloc, MOST_TURNS)?;
         for _turn in 0..MOST_TURNS {
             logs.push_reserved(TurnLog::new(alloc));
@@ -60,7 +60,7 @@ impl<K: Naming> Batch<K> {
         Ok(Batch {
             tickets,
             logs,
-            events: [0; 16],
+            events: [0; MOST_TURNS],
             replies,
             steps: 0,
         })
@@ -247,7 +247,8 @@ fn fill<K: Naming, P: Probe, R: Wait>(
     }
 }
 
-// What comes of the answers: each is told to the probe, and settled. Answers whether the worker goes on.
+// What comes of the answers: each is told to the probe, and settled. Answers whether the worker goes on, and then memory was
+// refused for none.
 fn settle_all<K: Naming, P: Probe, R: Wait>(
     run: &Shared<'_, '_, K, P, R>,
     batch: &mut Batch<K>,
@@ -256,18 +257,19 @@ fn settle_all<K: Naming, P: Probe, R: Wait>(
     owner: &mut Owner<Ticket<K>>,
 ) -> bool
     requires room { HasRoom batch.old }
+    requires few { length batch.old.replies.items ≤ most_turns }
     ensures room { HasRoom batch.new }
     ensures tickets { batch.new.tickets ≡ batch.old.tickets }
     ensures goes { Goes 0 seat.old seat.new }
     ensures puts { OnlyPuts owner.old owner.new }
     ensures over { OverUnless K.named result seat.new }
+    ensures had { result ≡ true → All HadMemory batch.old.replies.items }
 {
     for place in 0..MOST_TURNS {
         let event = batch.events[place];
-        let Some(reply) = batch.replies.get_mut(place) else {
+        let Some(reply) = batch.replies.pop_front() else {
             return true;
         };
-        let reply = mem::replace(reply, Reply::Gone);
         pace.answered(&reply);
         if !finish(run, seat, owner, event, reply) {
             return false;
@@ -287,7 +289,7 @@ fn commit<K: Naming, P: Probe, R: Wait>(
     requires few { length batch.old.tickets.items ≤ most_turns }
     requires offered { IsOffered K.named batch.old worker.old }
     ensures room { HasRoom batch.new }
-    ensures empty { batch.new.tickets.items ≡ [] }
+    ensures empty { result ≡ true → batch.new.tickets.items ≡ [] }
     ensures fills { Fills worker.old worker.new (length batch.old.tickets.items) 0 0 0 }
     ensures over { OverUnless K.named result worker.new.seat }
 {

@@ -106,22 +106,26 @@ pub(crate) fn put<K: Naming, R: Wait>(
     }
 }
 
-/// Puts new tickets into a worker's own deque, in order.
+/// Puts new tickets into a worker's own deque, in order. The seat keeps the room of their list.
 pub(crate) fn put_all<K: Naming, R: Wait>(
     rt: &R,
     gate: &Gate<'_, K>,
     seat: &mut Seat<K>,
     owner: &mut Owner<Ticket<K>>,
-    tickets: Vec<Ticket<K>>,
+    mut tickets: Vec<Ticket<K>>,
 ) -> bool
     ensures goes { Goes 0 seat.old seat.new }
     ensures puts { OnlyPuts owner.old owner.new }
     ensures over { OverUnless K.named result seat.new }
 {
-    for ticket in tickets {
+    if tickets.is_empty() {
+        return true;
+    }
+    for ticket in tickets.drain(..) {
         if !put(rt, gate, seat, owner, ticket) {
             return false;
         }
     }
+    seat.keep_room(tickets);
     true
 }

@@ -1,7 +1,18 @@
-use Rattle.std.proofs.Common.{◌≡◌}
-use Rattle.workers.specs.Batching.{HasRoom}
+use Rattle.std.proofs.Common.{◌≡◌, ◌+◌, ◌≤◌}
+use Rattle.std.specs.List.{All}
+use Rattle.std.specs.VecDeque.{deque_len}
+use Rattle.commitgate.specs.Batches.{HadMemory}
+use Rattle.workers.specs.Batching.{HasRoom, most_turns}
 use Rattle.workers.specs.Working.{Goes, OnlyPuts}
 use Rattle.workers.proofs.batch.settle_all.Given as goal
 
+-- for the answers that were taken memory was refused for none
 abbrev pub invariant-loop-place : goal.invariant-loop-place
-invariant-loop-place g l = HasRoom l.batch × (l.batch.tickets ≡ l.fn.batch.tickets) × Goes 0 l.fn.seat l.seat × OnlyPuts l.fn.owner l.owner
+invariant-loop-place g l = record {
+  room : HasRoom l.batch;
+  tickets : l.batch.tickets ≡ l.fn.batch.tickets;
+  goes : Goes 0 l.fn.seat l.seat;
+  puts : OnlyPuts l.fn.owner l.owner;
+  few : l.place + deque_len l.batch.replies ≤ most_turns;
+  had : All HadMemory l.batch.replies.items → All HadMemory l.fn.batch.replies.items;
+}

@@ -3,6 +3,13 @@ use Rattle.workers.proofs.Seats.{told}
 use Rattle.workers.proofs.Rounds.{works_more, works_puts}
 use Rattle.workers.proofs.worker.work.Goals as goal
 
+pub loop-preserved : goal.loop-preserved
+loop-preserved g c = record {
+  works = works_more _ _ _ c.loop.invariant.works c.step.ensures.works;
+  room = c.step.ensures.room;
+  empty = c.step.ensures.empty c.if-not-step.false;
+}
+
 pub returns-then-not-step : goal.returns-then-not-step
 returns-then-not-step g c = record {
   works = works_more _ _ _ c.loop.invariant.works c.step.ensures.works;

@@ -7,14 +7,14 @@ use Rattle.design.specs.contracts.design.Design as Design
 use Rattle.commitgate.proofs.Crossing.{gate_sync}
 use Rattle.workers.proofs.Crossing.{worker_send}
 use Rattle.workers.proofs.Joining.{joined_none, joined_more, joined_all, no_items, started_all}
-use Rattle.workers.proofs.team.fn.work_all.scope.Lts.{arg-15-2}
+use Rattle.workers.proofs.team.fn.work_all.scope.Lts.{arg-16-2}
 use Rattle.workers.proofs.team.fn.work_all.scope.Goals as goal
 
 pub spawn_with-requires-send-F : goal.spawn_with-requires-send-F
 spawn_with-requires-send-F g c κs within = param_send 2 _ (given c.requires.design c.requires.runtime c.requires.probe c.requires.name)
   where
     given : IsSync Design.the_row → IsSync (param 2 g.row.R) → IsSync (param 1 g.row.P) → IsSend (param 0 g.row.K)
-        → IsSend (arg-15-2 g.row.K g.row.P g.row.R g.K.laws g.P.laws g.R.laws g.K.Naming g.K.Naming-dict g.P.Probe g.P.Probe-dict g.R.Threads g.R.Threads-dict g.R.Wait g.R.Wait-dict κs)
+        → IsSend (arg-16-2 g.row.K g.row.P g.row.R g.K.laws g.P.laws g.R.laws g.K.Naming g.K.Naming-dict g.P.Probe g.P.Probe-dict g.R.Threads g.R.Threads-dict g.R.Wait g.R.Wait-dict κs)
     given design runtime probe name = search (gate_sync, worker_send, crosses, sendable) depth 40 fits 5000
 
 pub loop-handle-init : goal.loop-handle-init

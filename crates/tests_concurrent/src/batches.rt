@@ -1,0 +1,356 @@
+// Several turns of one seat that are evaluated one after another and then committed in one holding of the lock: each is validated
+// against all that stands before it, and where memory is refused for one, those behind it are left.
+ghost use Rattle.std.specs.Prelude.{◌≡◌, length};
+ghost use Rattle.commitgate.specs.Batches.{AreOffered};
+
+use crate::alone::{Alone, play_alone};
+use crate::course::{Course, accepted, stale};
+use crate::examples::{COPY, assert_journal, read_unknown, seen_of};
+use crate::refused::granted;
+use commitgate::{Grant, Naming, Reply, Seat, Ticket};
+use hoard::{Hoard, LARGEST_PIECE};
+use model::end::End;
+use model::entry::Entry;
+use std::alloc::Global;
+use std::collections::VecDeque;
+use std::ops::Range;
+use std::process::Abort;
+use std::sync::Wait;
+use turn::TurnLog;
+
+/// Three turns, of which none reads what another one writes. Each prints more than all before it, so each needs more memory.
+const APART: &str =
+    "module t; reg [7:0] a; reg [31:0] b; reg [127:0] c; initial begin a=8'd1; $display(\"%b\",a); end initial begin b=32'd2; $display(\"%b\",b); end initial begin c=128'd3; $display(\"%b\",c); end endmodule";
+
+// Its turns, and its journal.
+const TURNS: u64 = 3;
+
+const JOURNAL: [Entry; 3] = [Entry::Turn(0), Entry::Turn(1), Entry::Turn(2)];
+
+// The bytes of its lines: each has a digit for each bit of a register, and an end.
+const LINES: usize = 9 + 33 + 129;
+
+// The most turns that are committed at once here.
+const ANSWERS: usize = 3;
+
+// How much more memory a batch gets each time, and how often at most.
+const STEP: usize = 16;
+
+const ROOMS: usize = 512;
+
+// A run gets a piece of memory at its beginning, one of which its batch gets a part, and one behind that.
+const PIECES: usize = 3 * ROOMS;
+
+// Turns of one seat that were evaluated and aren't committed yet: their tickets, and the log of each at its place.
+#[derive(Drop)]
+struct Batch<K: Naming> {
+    tickets: VecDeque<Ticket<K>>,
+    logs: Vec<TurnLog>,
+}
+
+impl<K: Naming> Batch<K> {
+    // Evaluates the turn of a ticket, and puts it behind the others.
+    fn add<R: Wait + Abort>(
+        &mut self,
+        course: &Course<'_, '_, K, R>,
+        seat: &mut Seat<K>,
+        ticket: Ticket<K>,
+    )
+        requires pairs { length self.old.tickets.items ≡ length self.old.logs.items }
+        requires offered { AreOffered K.named.code seat.old.fresh self.old.tickets.items self.old.logs.items }
+        ensures pairs { length self.new.tickets.items ≡ length self.new.logs.items }
+        ensures offered { AreOffered K.named.code seat.new.fresh self.new.tickets.items self.new.logs.items }
+    {
+        let rt = course.rt;
+        assert!(rt; ticket.tries() < 3, "refused three times");
+        let log = course.evaluate(seat, &ticket);
+        self.tickets
+            .push_back(ticket)
+            .expect(rt, "room for a ticket");
+        self.logs.push(log).expect(rt, "room for a log");
+    }
+}
+
+// The turns of these tickets, evaluated one after another.
+fn evaluated<K: Naming, R: Wait + Abort>(
+    course: &Course<'_, '_, K, R>,
+    seat: &mut Seat<K>,
+    tickets: Vec<Ticket<K>>,
+) -> Batch<K>
+    ensures { AreOffered K.named.code seat.new.fresh result.tickets.items result.logs.items }
+{
+    let mut batch = Batch {
+        tickets: VecDeque::new(course.alloc),
+        logs: Vec::new(course.alloc),
+    };
+    for ticket in tickets {
+        batch.add(course, seat, ticket);
+    }
+    batch
+}
+
+// Room for the answers to a batch.
+fn room<K: Naming>(rt: &impl Abort, alloc: Global) -> VecDeque<Reply<K>> {
+    VecDeque::with_capacity(alloc, ANSWERS).expect(rt, "memory")
+}
+
+// Commits the turns of a batch in one holding of the lock.
+fn commit<K: Naming, R: Wait + Abort>(
+    course: &Course<'_, '_, K, R>,
+    seat: &mut Seat<K>,
+    batch: &mut Batch<K>,
+    replies: &mut VecDeque<Reply<K>>,
+)
+    requires { AreOffered K.named.code seat.old.fresh batch.old.tickets.items batch.old.logs.items }
+{
+    let rt = course.rt;
+    let Batch { tickets, logs } = batch;
+    assert!(rt; tickets.len() <= replies.capacity(), "room for the answers");
+    course
+        .gate
+        .commit_all(rt, course.alloc, seat, tickets, logs, replies);
+}
+
+// The answers to a batch, which leave none of its tickets.
+fn committed<K: Naming, R: Wait + Abort>(
+    course: &Course<'_, '_, K, R>,
+    seat: &mut Seat<K>,
+    batch: &mut Batch<K>,
+) -> VecDeque<Reply<K>>
+    requires { AreOffered K.named.code seat.old.fresh batch.old.tickets.items batch.old.logs.items }
+{
+    let mut replies = room(course.rt, course.alloc);
+    commit(course, seat, batch, &mut replies);
+    assert!(course.rt; batch.tickets.is_empty(), "a ticket without an answer");
+    replies
+}
+
+// The next answer.
+fn next<K: Naming>(rt: &impl Abort, replies: &mut VecDeque<Reply<K>>) -> Reply<K> {
+    replies.pop_front().expect(rt, "an answer")
+}
+
+// The turn of this event stands at the position of the event's number, and made nothing active.
+fn assert_turn<K: Naming>(rt: &impl Abort, grant: Grant<K>, event: u64) {
+    assert!(rt;
+        grant.position == event && grant.entry == Entry::Turn(event) && grant.tickets.is_empty(),
+        "another entry"
+    );
+}
+
+// The answers are that the turns of these events were accepted, in this order.
+fn assert_turns<K: Naming>(rt: &impl Abort, mut replies: VecDeque<Reply<K>>, events: Range<u64>) {
+    for event in events {
+        assert_turn(rt, accepted(rt, next(rt, &mut replies)), event);
+    }
+    assert!(rt; replies.is_empty(), "another answer");
+}
+
+// The turns of these tickets, which are those of these events, are accepted at once.
+fn accept_all<K: Naming, R: Wait + Abort>(
+    course: &Course<'_, '_, K, R>,
+    seat: &mut Seat<K>,
+    tickets: Vec<Ticket<K>>,
+    events: Range<u64>,
+) {
+    let mut batch = evaluated(course, seat, tickets);
+    assert_turns(course.rt, committed(course, seat, &mut batch), events);
+}
+
+// The last turn of a batch read a register when it was all x.
+fn assert_read_unknown(rt: &impl Abort, logs: &[TurnLog]) {
+    let log = logs.last().expect(rt, "a log");
+    assert!(rt; read_unknown(log), "a value that isn't x");
+}
+
+// The first of two turns is accepted, and the second is stale, since it read what the first one changed.
+fn one_behind<K: Naming>(rt: &impl Abort, mut replies: VecDeque<Reply<K>>) -> Ticket<K> {
+    assert!(rt; replies.len() == 2, "another number of answers");
+    assert_turn(rt, accepted(rt, next(rt, &mut replies)), 0);
+    stale(rt, next(rt, &mut replies), 1)
+}
+
+// Both turns are evaluated before one is committed. Answers the ticket of the second one, which comes back.
+fn take_both<K: Naming, R: Wait + Abort>(
+    course: &Course<'_, '_, K, R>,
+    seat: &mut Seat<K>,
+    tickets: Vec<Ticket<K>>,
+) -> Ticket<K> {
+    let mut batch = evaluated(course, seat, tickets);
+    assert_read_unknown(course.rt, &batch.logs);
+    one_behind(course.rt, committed(course, seat, &mut batch))
+}
+
+// A list of one ticket.
+fn only<K: Naming>(rt: &impl Abort, alloc: Global, ticket: Ticket<K>) -> Vec<Ticket<K>> {
+    vec![in alloc; ticket].ok().expect(rt, "memory")
+}
+
+// The only worker commits two turns at once, and then the one that was stale by itself.
+#[derive(Drop)]
+struct Both;
+
+impl Alone for Both {
+    fn lead<K: Naming, R: Wait + Abort>(
+        &mut self,
+        course: &Course<'_, '_, K, R>,
+        seat: &mut Seat<K>,
+        tickets: Vec<Ticket<K>>,
+    ) {
+        let late = take_both(course, seat, tickets);
+        accept_all(course, seat, only(course.rt, course.alloc, late), 1..2);
+        course.read_as(seat, 1, &seen_of(1, 1, 1));
+    }
+}
+
+// The only worker commits all three turns at once.
+#[derive(Drop)]
+struct Three;
+
+impl Alone for Three {
+    fn lead<K: Naming, R: Wait + Abort>(
+        &mut self,
+        course: &Course<'_, '_, K, R>,
+        seat: &mut Seat<K>,
+        tickets: Vec<Ticket<K>>,
+    ) {
+        accept_all(course, seat, tickets, 0..TURNS);
+        assert_journal(course, seat, &JOURNAL);
+    }
+}
+
+// Commits the turns of a batch where no more than so many bytes of memory can be had. Behind that there is enough again.
+fn commit_in<K: Naming, R: Wait + Abort>(
+    course: &Course<'_, '_, K, R>,
+    seat: &mut Seat<K>,
+    batch: &mut Batch<K>,
+    replies: &mut VecDeque<Reply<K>>,
+    hoard: &mut Hoard,
+    bytes: usize,
+)
+    requires { AreOffered K.named.code seat.old.fresh batch.old.tickets.items batch.old.logs.items }
+{
+    hoard.shut();
+    assert!(course.rt; hoard.leave(bytes), "a piece of memory");
+    commit(course, seat, batch, replies);
+    assert!(course.rt; hoard.open(), "a piece of memory");
+}
+
+// How many turns were accepted, at the positions from 0 on. Where memory was refused for the next one, its ticket comes back
+// as it was, and is put before those that were left.
+fn settle<K: Naming>(
+    rt: &impl Abort,
+    replies: &mut VecDeque<Reply<K>>,
+    tickets: &mut VecDeque<Ticket<K>>,
+) -> u64 {
+    for event in 0..TURNS {
+        match granted(rt, next(rt, replies), event) {
+            Ok(grant) => assert_turn(rt, grant, event),
+            Err(back) => {
+                tickets.push_front(back).expect(rt, "room for a ticket");
+                return event;
+            }
+        }
+    }
+    TURNS
+}
+
+// These are the tickets of all events from this one on, in order, and none has a try yet.
+fn assert_waiting<K: Naming>(rt: &impl Abort, tickets: &VecDeque<Ticket<K>>, first: u64) {
+    let count = TURNS.saturating_sub(first);
+    assert!(rt; tickets.len() as u64 == count, "another number of tickets");
+    for (event, ticket) in (first..TURNS).zip(tickets) {
+        assert!(rt;
+            ticket.event() == event && ticket.tries() == 0,
+            "another ticket"
+        );
+    }
+}
+
+// Commits the turns of a batch in so many bytes. Answers how many were accepted; the tickets of all others wait.
+fn commit_starved<K: Naming, R: Wait + Abort>(
+    course: &Course<'_, '_, K, R>,
+    seat: &mut Seat<K>,
+    batch: &mut Batch<K>,
+    hoard: &mut Hoard,
+    bytes: usize,
+) -> u64
+    requires { AreOffered K.named.code seat.old.fresh batch.old.tickets.items batch.old.logs.items }
+{
+    let rt = course.rt;
+    let mut replies = room(rt, course.alloc);
+    commit_in(course, seat, batch, &mut replies, hoard, bytes);
+    let accepted = settle(rt, &mut replies, &mut batch.tickets);
+    assert!(rt; replies.is_empty(), "an answer behind a refusal of memory");
+    assert_waiting(rt, &batch.tickets, accepted);
+    accepted
+}
+
+// The only worker commits three turns at once in so many bytes, and then those that were left in enough memory. How many
+// were accepted at first.
+#[derive(Drop)]
+struct Starving<'h> {
+    hoard: &'h mut Hoard,
+    bytes: usize,
+    accepted: u64,
+}
+
+impl<'h> Alone for Starving<'h> {
+    fn lead<K: Naming, R: Wait + Abort>(
+        &mut self,
+        course: &Course<'_, '_, K, R>,
+        seat: &mut Seat<K>,
+        tickets: Vec<Ticket<K>>,
+    ) {
+        let mut batch = evaluated(course, seat, tickets);
+        self.accepted = commit_starved(course, seat, &mut batch, self.hoard, self.bytes);
+        let left = batch.tickets.into_vec();
+        accept_all(course, seat, left, self.accepted..TURNS);
+        assert_journal(course, seat, &JOURNAL);
+    }
+}
+
+// How many of the three turns so many bytes were enough for.
+fn play_starving<R: Wait + Abort>(rt: &R, alloc: Global, hoard: &mut Hoard, bytes: usize) -> u64 {
+    assert!(rt; hoard.open(), "a piece of memory");
+    let mut starving = Starving {
+        hoard,
+        bytes,
+        accepted: 0,
+    };
+    let closed = play_alone(rt, alloc, APART, &mut starving);
+    assert!(rt;
+        closed.end() == End::Quiet && closed.lines().len() == LINES,
+        "another end"
+    );
+    starving.accepted
+}
+
+#[test]
+fn a_turn_that_read_what_one_before_it_changed_is_stale(rt: HostRuntime) {
+    let closed = play_alone(&rt, rt.alloc(), COPY, &mut Both);
+    assert!(rt; closed.end() == End::Quiet && closed.committed() == [2].as_slice());
+}
+
+#[test]
+fn turns_that_read_nothing_of_each_other_stand_in_their_order(rt: HostRuntime) {
+    let closed = play_alone(&rt, rt.alloc(), APART, &mut Three);
+    assert!(rt; closed.end() == End::Quiet && closed.lines().len() == LINES);
+}
+
+#[test]
+fn turns_behind_one_that_is_refused_memory_are_left(rt: HostRuntime) {
+    let mut hoard = Hoard::new(rt.alloc(), PIECES, LARGEST_PIECE).expect(&rt, "memory");
+    let mut refused = [false; ANSWERS];
+    for count in 0..ROOMS {
+        let accepted = play_starving(&rt, rt.alloc(), &mut hoard, count * STEP);
+        match refused.get_mut(accepted as usize) {
+            Some(was) => *was = true,
+            None => {
+                assert!(rt; refused == [true; ANSWERS], "a turn wasn't refused memory");
+                return;
+            }
+        }
+    }
+    panic!(rt; "memory is refused still");
+}
