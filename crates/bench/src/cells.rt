@@ -45,7 +45,12 @@ fn stores<R: Wait>(threads: &R, cells: &RegCells, mut holder: Holder, times: u32
 }
 
 fn read_row<R: Wait>(rt: &HostRuntime, threads: &R, times: u32) -> io::Result<(Measure, u64)> {
-    let (cells, holder, mut seats) = RegCells::new(threads, rt.alloc(), &[DIGITS; REGISTERS], 1)?;
+    let (cells, holder, mut seats) = RegCells::of_widths(
+        threads,
+        rt.alloc(),
+        &[DIGITS; REGISTERS],
+        1,
+    )?;
     let Some(seat) = seats.pop() else {
         return Err(io::Error::from(io::ErrorKind::InvalidData));
     };
@@ -58,7 +63,7 @@ fn read_row<R: Wait>(rt: &HostRuntime, threads: &R, times: u32) -> io::Result<(M
 }
 
 fn store_row<R: Wait>(rt: &HostRuntime, threads: &R, times: u32) -> io::Result<(Measure, u64)> {
-    let (cells, holder, _) = RegCells::new(threads, rt.alloc(), &[DIGITS; REGISTERS], 1)?;
+    let (cells, holder, _) = RegCells::of_widths(threads, rt.alloc(), &[DIGITS; REGISTERS], 1)?;
     if holder.registers() != REGISTERS {
         return Err(io::Error::from(io::ErrorKind::InvalidData));
     }

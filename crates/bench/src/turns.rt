@@ -22,7 +22,7 @@ fn turn(
         return Ok(Measure::NONE);
     }
     let clock = Stopwatch::start(rt);
-    match turn_on(log, design, &design.start(0), 0, store) {
+    match turn_on(log, design, &design.first(0), 0, store) {
         Ok(()) => Ok(clock.stop(rt, u64::from(log.count()))),
         Err(_) => Err(io::Error::from(io::ErrorKind::InvalidData)),
     }
@@ -30,7 +30,7 @@ fn turn(
 
 /// The fastest of several turns.
 fn least_turn(rt: &HostRuntime, how: How, design: &Design) -> io::Result<Measure> {
-    let store = PlainStore::new(rt.alloc(), design.widths())?;
+    let store = PlainStore::new(rt.alloc(), design)?;
     let mut log = TurnLog::new(rt.alloc());
     let mut least = Measure::SLOWEST;
     for _run in 0..how.runs() {

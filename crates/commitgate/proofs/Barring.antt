@@ -24,12 +24,13 @@ use Rattle.commitgate.specs.Kept.{Kept}
 use Rattle.regcells.specs.Meetings.{fresh_of, Rises, AreReadsIn}
 use Rattle.commitgate.specs.Seats.{SeatView}
 use Rattle.commitgate.specs.Tickets.{TicketView, IsCurrent, again}
-use Rattle.gateparts.specs.Histories.{hist, IsRead, IsFirstMovedIn}
+use Rattle.gateparts.specs.Histories.{hist, IsRead, IsCurrentIn, IsFirstMovedIn}
+use Rattle.gateparts.proofs.Items.{entries_ended}
 use Rattle.gateparts.specs.Evaluated.{turn_at}
-use Rattle.commitgate.specs.Answers.{MayCommit, AreCurrent, StopsAt, Full, Long, stopped}
+use Rattle.commitgate.specs.Answers.{MayCommit, AreCurrent, StopsAt, Full, Long, LongStopsAt, FullLong, CurrentLong, stopped}
 use Rattle.commitgate.specs.Answers as answers
 use Rattle.commitgate.specs.Replies.{Barred, Answered, LongAnswered}
-use Rattle.commitgate.specs.Told.{CommitCauses, LongCauses, IsStopped, IsStale, BarredTo, AnsweredTo, LongAnsweredTo}
+use Rattle.commitgate.specs.Told.{AreCurrentTo, CommitCauses, LongCauses, ReadCauses, IsStopped, IsStale, BarredTo, AnsweredTo, LongAnsweredTo}
 use Rattle.commitgate.proofs.Agreeing.{agrees}
 use Rattle.commitgate.proofs.AtLock.{long_at_lock}
 use Rattle.commitgate.proofs.Tellings.{tell_refused}
@@ -53,28 +54,37 @@ pub full_stopped : (code : Compiled) (limits : Limits) (worker : ℕ) (old : Gat
 full_stopped code limits worker old ticket why new (inl h) = inl h
 full_stopped code limits worker old ticket why new (inr h) = inr (h.0, h.1, subst (StopsAt code limits old ticket) (sym h.3) (Full h.2), h.4)
 
+full_long_stopped : (code : Compiled) (limits : Limits) (worker : ℕ) (old : GateState) (ticket : TicketView) (reads : List (ℕ × Seen)) (why : Why) (new : GateState)
+    → answers.IsFullStopped code limits worker old ticket why new → answers.IsLongStopped code limits worker old ticket reads why new
+full_long_stopped code limits worker old ticket reads why new (inl h) = inl h
+full_long_stopped code limits worker old ticket reads why new (inr h) = inr (h.0, h.1, subst (LongStopsAt code limits old ticket reads) (sym h.3) (FullLong h.2), h.4)
+
 pub barred_long : {A : Type 0} (code : Compiled) (limits : Limits) (worker : ℕ) (old : GateState) (ticket : TicketView) (reads : List (ℕ × Seen)) (new : GateState) (r : Reply A)
     → Barred code limits worker old ticket new r → LongAnswered code limits worker old ticket reads new r
 barred_long code limits worker old ticket reads new (Accepted grant) h = absurd h
 barred_long code limits worker old ticket reads new (Stale register back) h = absurd h
 barred_long code limits worker old ticket reads new Gone h = h
-barred_long code limits worker old ticket reads new (replies.Stopped why) h = full_stopped code limits worker old ticket why new h
+barred_long code limits worker old ticket reads new (replies.Stopped why) h = full_long_stopped code limits worker old ticket reads why new h
 barred_long code limits worker old ticket reads new (NoMemory back) h = absurd h
 
--- a stop for a full journal is one of the causes of a call with a turn that is too long
-long_stored : (p : ℕ) (new old : Option Why) (why : Why) → (new ≡ old) ⊎ ((new ≡ Some why) × CommitCauses why) → (new ≡ old) ⊎ ((new ≡ Some why) × LongCauses p why)
-long_stored p new old why (inl h) = inl h
-long_stored p new old why (inr h) = inr (h.0, inl h.1)
+-- a stop for one cause is a stop for any that it implies
+stored_for : (P Q : Why → Type 0) (new old : Option Why) (why : Why) → (P why → Q why) → (new ≡ old) ⊎ ((new ≡ Some why) × P why) → (new ≡ old) ⊎ ((new ≡ Some why) × Q why)
+stored_for P Q new old why f (inl h) = inl h
+stored_for P Q new old why f (inr h) = inr (h.0, f h.1)
 
-pub stopped_long : (n : Named) (p : ℕ) (old : SeatView) (why : Why) (new : SeatView) → IsStopped n CommitCauses old why new → IsStopped n (LongCauses p) old why new
-stopped_long n p old why new s = record {
+pub stopped_for : (n : Named) (P Q : Why → Type 0) (old : SeatView) (why : Why) (new : SeatView) → (P why → Q why) → IsStopped n P old why new → IsStopped n Q old why new
+stopped_for n P Q old why new f s = record {
   log = s.log;
   follows = s.follows;
   mine = s.mine;
   end = s.end;
   stays = s.stays;
-  stored = long_stored p new.stored old.stored why s.stored;
+  stored = stored_for P Q new.stored old.stored why f s.stored;
 }
+
+-- a stop for a full journal is one of the causes of a call with a turn that is too long
+pub stopped_long : (n : Named) (p : ℕ) (old : SeatView) (why : Why) (new : SeatView) → IsStopped n CommitCauses old why new → IsStopped n (LongCauses p) old why new
+stopped_long n p old why new s = stopped_for n CommitCauses (LongCauses p) old why new (λ h. inl h) s
 
 -- The same of what the seat is told.
 pub barred_told : {A : Type 0} (n : Named) (old : SeatView) (ticket : TicketView) (reads : List (ℕ × Seen)) (new : SeatView) (r : Reply A)
@@ -90,7 +100,7 @@ pub barred_long_told : {A : Type 0} (n : Named) (old : SeatView) (ticket : Ticke
 barred_long_told n old ticket reads new (Accepted grant) h = absurd h
 barred_long_told n old ticket reads new (Stale register back) h = absurd h
 barred_long_told n old ticket reads new Gone h = h
-barred_long_told n old ticket reads new (replies.Stopped why) h = stopped_long n ticket.process old why new h
+barred_long_told n old ticket reads new (replies.Stopped why) h = stopped_for n CommitCauses (ReadCauses n ticket.process reads new) old why new (λ e. inl e) h
 barred_long_told n old ticket reads new (NoMemory back) h = absurd h
 
 -- a register that was read has changed
@@ -127,8 +137,23 @@ long_by n held ticket reads fresh kept current own turn gave cur count begins =
     (subst (λ t. IsNoTurn n.code ticket.state t reads fault.TooLong) (sym current.time) turn)
     (subst (Agrees reads) (sym kept.values) agree)
 
--- the run is stopped for a turn that is too long
-pub long_stopped : (code : Compiled) (limits : Limits) (worker : ℕ) (old : GateState) (ticket : TicketView) (process : ℕ) (new : GateState) → process ≡ ticket.process → MayCommit limits old ticket
-    → turn_at code old ticket.process ticket.state ≡ None → new ≡ stopped worker (TooLong process) old → answers.IsStopped code limits worker old ticket (TooLong process) new
-long_stopped code limits worker old ticket process new is may none same =
-    inr (may.running, may.current, subst (λ p. StopsAt code limits old ticket (TooLong p)) (sym is) (Long may.room none), same)
+-- what is current under the lock is current in what a seat has seen that saw the run stopped
+pub current_told : (n : Named) (worker : ℕ) (why : Why) (held held' : GateState) (reads : List (ℕ × Seen)) (new : SeatView) → Kept n held → held' ≡ stopped worker why held → new.seen ≡ held'.log
+    → AreCurrent n.code held reads → AreCurrentTo n reads new
+current_told n worker why held held' reads new kept is seen current k d at =
+    let journal : held.journal ≡ entries_of new.seen =
+    kept.journal_is ∙ sym (entries_ended held.log worker why) ∙ ap (λ (h : GateState). entries_of h.log) (sym is) ∙ ap entries_of (sym seen) in
+    subst (λ j. IsCurrentIn (design_of n.code) j d) journal (current k d at)
+
+-- the run is stopped for a turn that is too long, which was evaluated under the lock
+pub long_stopped : (code : Compiled) (limits : Limits) (worker : ℕ) (old : GateState) (ticket : TicketView) (why : Why) (new : GateState) → why ≡ TooLong ticket.process → MayCommit limits old ticket
+    → turn_at code old ticket.process ticket.state ≡ None → new ≡ stopped worker why old → answers.IsStopped code limits worker old ticket why new
+long_stopped code limits worker old ticket why new is may none same =
+    inr (may.running, may.current, subst (StopsAt code limits old ticket) (sym is) (Long may.room none), same)
+
+-- and so it is for one that was evaluated outside, where what was read is current
+pub read_stopped : (code : Compiled) (limits : Limits) (worker : ℕ) (old : GateState) (ticket : TicketView) (reads : List (ℕ × Seen)) (why : Why) (new : GateState) → why ≡ TooLong ticket.process
+    → MayCommit limits old ticket → AreCurrent code old reads → turn_at code old ticket.process ticket.state ≡ None → new ≡ stopped worker why old
+    → answers.IsLongStopped code limits worker old ticket reads why new
+read_stopped code limits worker old ticket reads why new is may current none same =
+    inr (may.running, may.current, subst (LongStopsAt code limits old ticket reads) (sym is) (CurrentLong may.room current none), same)

@@ -6,13 +6,14 @@ use mathlib.Core.List.{IsPrefix}
 use Rattle.model.specs.declared.entry.Entry.{Entry}
 use Rattle.model.specs.declared.entry.Entry.TheVariants.{Turn, Update, ActivateInactive, ActivateNba, ActivateMonitor, Advance}
 use Rattle.model.specs.declared.end.Why.{Why}
+use Rattle.model.specs.declared.end.Why.TheVariants.{Memory}
 use Rattle.model.specs.declared.end.End.TheVariants.{Quiet}
 use Rattle.model.specs.States.{State, Event, is_evaluation}
-use Rattle.model.specs.Runs.{run, has_any, is_quiet, Ends}
+use Rattle.model.specs.Runs.{run, after, has_any, is_quiet, Ends}
 use Rattle.design.specs.Compiled.{design_of}
-use Rattle.gateparts.specs.declared.log.Item.TheVariants.{Ended}
+use Rattle.gateparts.specs.declared.log.Item.TheVariants.{Did, Ended}
 use Rattle.commitgate.specs.Named.{Named}
-use Rattle.gateparts.specs.Log.{Log, entries_of}
+use Rattle.gateparts.specs.Log.{Log, entries_of, end_from, end_in}
 use Rattle.gateparts.specs.GateState.{GateState, state_in}
 use Rattle.gateparts.specs.Guarded.{Guarded}
 use Rattle.commitgate.specs.Kept.{Kept}
@@ -21,11 +22,11 @@ use Rattle.commitgate.specs.Seats.{SeatView}
 use Rattle.commitgate.specs.Journals.{Stays}
 use Rattle.commitgate.specs.Answers.{HasNoUpdate, IsRegionChange, stopped}
 use Rattle.commitgate.specs.Regions.{IsDueChange, IsPassed, why_past}
-use Rattle.commitgate.specs.Told.{IsQuietTo, IsBusy, IsRefused, IsStopped, HasMetEntry}
-use Rattle.commitgate.specs.Told.{RestCauses}
+use Rattle.commitgate.specs.Told.{MemoryCauses, RestCauses, IsQuietTo, IsBusy, IsRefused, IsStopped, HasMetEntry}
 use Rattle.logic4.specs.Vector.{Vector}
 use Rattle.model.specs.declared.end.Limits.{Limits}
 use Rattle.gateparts.proofs.Beginnings.{prefix_trans}
+use Rattle.gateparts.proofs.Logs.{end_join}
 use Rattle.commitgate.proofs.Guards.{unfinished}
 use Rattle.commitgate.proofs.Meetings.{rises_self}
 use Rattle.commitgate.proofs.Staying.{quiet_stays}
@@ -60,6 +61,28 @@ tell_stop n causes old mid new why held same held' g' k' later same_is mid_is st
     seen
     (ap (λ (h : GateState). h.end) state)
     (inr (ap (λ (v : SeatView). v.stored) new_is, cause))
+
+end_remains : (why : Why) (xs : Log) → end_from (Some why) xs ≡ None → ⊥
+end_remains why [] h = cc
+end_remains why ((k, Did entry) ∷ xs) h = end_remains why xs h
+end_remains why ((k, Ended other) ∷ xs) h = end_remains other xs h
+
+-- where a log has no end none of its beginnings has one
+pub no_end_before : (seen log : Log) → IsPrefix seen log → end_in log ≡ None → end_in seen ≡ None
+no_end_before seen log p none = by_case (end_in seen) refl
+  where
+    by_case : (o : Option Why) → end_in seen ≡ o → o ≡ None
+    by_case None is = refl
+    by_case (Some why) is = absurd (end_remains why p.0 (sym (ap (λ o. end_from o p.0) is) ∙ sym (end_join None seen p.0) ∙ ap end_in p.1 ∙ none))
+
+-- the call stored that memory was refused: the run went on, with an event left
+pub memory_cause : (n : Named) (old new : SeatView) (held held' : GateState) → Guarded n.code n.limits held' → Kept n held' → Kept n held → IsPrefix old.seen held.log → held.end ≡ None
+    → new.seen ≡ held'.log → is_quiet (state_in n.code held') ≡ false → MemoryCauses n old new Memory
+memory_cause n old new held held' g' k' k later running seen left = (
+  refl,
+  no_end_before old.seen held.log later (sym k.end_is ∙ running),
+  (state_in n.code held', ap (λ (l : Log). after (design_of n.code) (entries_of l)) seen ∙ after_log n held' g' k', left),
+)
 
 none_of : (xs : List Event) → has_any xs ≡ false → map (λ e. e.0) xs ≡ []
 none_of [] h = refl

@@ -32,7 +32,7 @@ use Rattle.regcells.specs.Meetings.{Rises}
 use Rattle.commitgate.specs.Seats.{SeatView, Follows}
 use Rattle.commitgate.specs.Tickets.{TicketView, IsCurrent, process_in, ticket_for}
 use Rattle.commitgate.specs.Journals.{HasNoUpdate, EndHolds, IsLog, IsActiveTicket, made_active, AreTicketsOf}
-use Rattle.commitgate.specs.Answers.{IsGranted, stopped}
+use Rattle.commitgate.specs.Answers.{IsGranted, AreTimely, stopped}
 use Rattle.commitgate.specs.declared.reply.Reply.{Reply}
 use Rattle.commitgate.specs.declared.reply.Reply.TheVariants as replies
 use Rattle.commitgate.specs.declared.reply.Reply.TheVariants.{Accepted, Stale, Gone, NoMemory}
@@ -58,6 +58,7 @@ pub is_log : (n : Named) (held : GateState) → Guarded n.code n.limits held →
 is_log n held g k = record {
   lawful = subst (IsLawful (design_of n.code)) k.journal_is (lawful_of n.code n.limits held g);
   few = subst (λ (j : List Entry). length j ≤ n.limits.max_entries) k.journal_is g.few;
+  timely = subst (AreTimely n.limits) k.journal_is k.timely;
   last = k.last;
   end = holds held.end k.end_is g.ends;
   workers = k.workers;
@@ -204,6 +205,7 @@ module _ (n : Named) (old : SeatView) (held : GateState) (g : Guarded n.code n.l
         (tickets_of n.code held'.values held'.core (made_active held.core.active held'.core.active)
         (evaluations_only (λ e. not (has_event held.core.active e.0)) held'.core.active)
         (λ j t at. h.within j t (ap (λ ts. slice_get ts j) h.tickets_are ∙ at)));
+    rising = h.rising;
     met = met;
   }
 
@@ -290,6 +292,7 @@ module _ (n : Named) (old : SeatView) (log : Log) (later : IsPrefix old.seen log
     position_is = a.position_is;
     entry_is = a.entry_is;
     tickets_are = a.tickets_are;
+    rising = a.rising;
     met = a.met;
   }
 

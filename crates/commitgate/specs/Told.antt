@@ -1,5 +1,5 @@
 -- What a seat is told by each call, in terms of what it has seen.
-use Rattle.std.specs.Prelude.{◌≡◌, ◌⊎◌, ℕ, ◌<◌, if◌then◌else◌, List, [], ◌∷◌, ◌++◌, length, Some, None}
+use Rattle.std.specs.Prelude.{◌≡◌, ◌⊎◌, ℕ, ◌<◌, if◌then◌else◌, List, [], ◌∷◌, ◌++◌, length, slice_get, false, Some, None}
 use mathlib.Core.List.{IsPrefix}
 use Rattle.logic4.specs.Vector.{Vector}
 use Rattle.std.specs.List.{All}
@@ -11,7 +11,7 @@ use Rattle.model.specs.declared.end.End.TheVariants.{Quiet}
 use Rattle.model.specs.States as states
 use Rattle.model.specs.States.{State, Evaluate}
 use Rattle.model.specs.Turns as turns
-use Rattle.model.specs.Runs.{after, action_in, turn_of, Ends}
+use Rattle.model.specs.Runs.{after, action_in, turn_of, is_quiet, Ends}
 use Rattle.design.specs.Compiled.{design_of}
 use Rattle.turn.specs.declared.memory.Seen.{Seen}
 use Rattle.commitgate.specs.declared.reply.Reply.{Reply}
@@ -24,8 +24,8 @@ use Rattle.commitgate.specs.Named.{Named}
 use Rattle.gateparts.specs.Log.{Log, entries_of, end_in, items_of}
 use Rattle.regcells.specs.Meetings.{fresh_of}
 use Rattle.commitgate.specs.Seats.{SeatView, Follows, LooksOn}
-use Rattle.commitgate.specs.Tickets.{TicketView, again}
-use Rattle.gateparts.specs.Histories.{hist, IsFirstMovedIn}
+use Rattle.commitgate.specs.Tickets.{TicketView, AreRising, again}
+use Rattle.gateparts.specs.Histories.{hist, IsCurrentIn, IsFirstMovedIn}
 use Rattle.commitgate.specs.Journals.{IsLog, After, Stays, IsActiveTicket, made_active, AreTicketsOf, HasUpdate, HasNoUpdate}
 use Rattle.commitgate.specs.Answers.{IsRegionChange, IsTimely}
 
@@ -53,7 +53,7 @@ HasMetEntry n s (Advance time) log fresh = Unit {0}
 -- The entry stands in the journal. What the seat has seen is lawful, is all that it had seen with further items, and
 -- ends with this entry in the seat's name, with the end Finish behind it where the run is finished. Its position is one
 -- more of the seat's. The answer names the entry and its position, counted from 0, and has a new ticket for each
--- evaluation that became active, in the order of their numbers. Of each register that the entry's turn read, or that the
+-- evaluation that became active, in rising number. Of each register that the entry's turn read, or that the
 -- entry wrote, the seat has seen the whole history.
 pub record IsAppended (n : Named) (old : SeatView) (entry : Entry) (position : ℕ) (named : Entry) (tickets : List TicketView) (new : SeatView) : Type 0 where
   pub log : IsLog n new.seen
@@ -70,6 +70,7 @@ pub record IsAppended (n : Named) (old : SeatView) (entry : Entry) (position : �
   pub position_is : position ≡ length (entries_of before)
   pub entry_is : named ≡ entry
   pub tickets_are : AreTicketsOf n.code to (made_active from.active to.active) tickets
+  pub rising : AreRising tickets
   pub met : HasMetEntry n from entry new.seen new.fresh
 
 -- the run goes on, the call appended nothing, and what the seat has seen is lawful
@@ -92,7 +93,16 @@ pub record IsStopped (n : Named) (causes : Why → Type 0) (old : SeatView) (why
 abbrev pub CommitCauses : Why → Type 0
 CommitCauses why = why ≡ Entries
 
--- for what a call with a turn that is too long stops a run, and one that evaluates it
+-- each recorded version is the register's by the journal that the seat has then seen
+abbrev pub AreCurrentTo : Named → List (ℕ × Seen) → SeatView → Type 0
+AreCurrentTo n reads new = (k : ℕ) (d : ℕ × Seen) → slice_get reads k ≡ Some d → IsCurrentIn (design_of n.code) (entries_of new.seen) d
+
+-- for what a call with a turn that was evaluated outside the lock and is too long stops a run: the journal is full, or all that was
+-- read is current
+abbrev pub ReadCauses : Named → ℕ → List (ℕ × Seen) → SeatView → Why → Type 0
+ReadCauses n process reads new why = (why ≡ Entries) ⊎ ((why ≡ TooLong process) × AreCurrentTo n reads new)
+
+-- for what a call that evaluates a turn under the lock stops a run
 abbrev pub LongCauses : ℕ → Why → Type 0
 LongCauses process why = (why ≡ Entries) ⊎ (why ≡ TooLong process)
 
@@ -139,7 +149,7 @@ abbrev pub LongAnsweredTo : {A : Type 0} → Named → SeatView → TicketView �
 LongAnsweredTo n old ticket reads new (Accepted grant) = ⊥
 LongAnsweredTo n old ticket reads new (Stale r back) = IsStale n old ticket reads r back new
 LongAnsweredTo n old ticket reads new Gone = IsGone n old ticket new
-LongAnsweredTo n old ticket reads new (Stopped why) = IsStopped n (LongCauses ticket.process) old why new
+LongAnsweredTo n old ticket reads new (Stopped why) = IsStopped n (ReadCauses n ticket.process reads new) old why new
 LongAnsweredTo n old ticket reads new (NoMemory back) = ⊥
 
 -- The answers to a ticket whose turn is evaluated under the lock: none is stale.
@@ -187,7 +197,12 @@ RestAnsweredTo n old new rests.Quiet = IsQuietTo n old new
 RestAnsweredTo n old new (rests.Stopped why) = IsStopped n RestCauses old why new
 RestAnsweredTo n old new rests.NoMemory = IsRefused n old new
 
--- After a call that stops a run for want of memory it is quiet or stopped, and the journal stays as it is. The end was
--- stored before, or else by this call for want of memory.
+-- for what a call for want of memory stops a run: the run wasn't stopped in what the seat had seen, and after the journal that it has
+-- then seen an event is left
+abbrev pub MemoryCauses : Named → SeatView → SeatView → Why → Type 0
+MemoryCauses n old new why = (why ≡ Memory) × (end_in old.seen ≡ None) × After n new.seen (λ s. is_quiet s ≡ false)
+
+-- After a call that stops a run for want of memory it is quiet, and then the seat stored nothing, or it is stopped, and the journal
+-- stays as it is. The end was stored before, or else by this call for want of memory, where an event is left.
 abbrev pub StoppedTo : Named → SeatView → SeatView → Type 0
-StoppedTo n old new = IsQuietTo n old new ⊎ ((why : Why) × IsStopped n (λ w. w ≡ Memory) old why new)
+StoppedTo n old new = IsQuietTo n old new ⊎ ((why : Why) × IsStopped n (MemoryCauses n old new) old why new)

@@ -74,7 +74,7 @@ impl<'d> Gate<'d, Brand> {
         ensures workers { IfOk result (λ b. b.workers ≡ workers) }
         ensures limits { IfOk result (λ b. b.limits ≡ limits) }
     {
-        let (cells, holder, seats) = RegCells::new(rt, alloc, design.widths(), workers)?;
+        let (cells, holder, seats) = RegCells::new(rt, alloc, design, workers)?;
         let (mark, whole) = new_mark(alloc)?;
         let committed = Vec::with_capacity(alloc, workers as usize)?;
         let parts = Parts::new(alloc, design, limits, holder, whole)?;

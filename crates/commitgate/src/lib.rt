@@ -21,12 +21,14 @@
 //!
 //! `blank` makes a gate and opens it under a name (`naming`), with a seat for each worker and a ticket for each process. Each
 //! call of the `Gate` (`gate`) takes the lock, does one thing to the state under it and lets go; `reply` has the answers. At
-//! the end the seats are given back (`state/closing`), and journal, lines and end stay as a `Closed` gate (`closed`).
+//! the end the seats are given back (`state/closing`), and journal, lines and end stay as a `Closed` gate (`closed`). `laws`
+//! says of the shares of workers that they are the whole journal.
 #![tactic(auto)]
 
 mod blank;
 mod closed;
 mod gate;
+mod laws;
 mod naming;
 mod reader;
 mod reply;
@@ -38,6 +40,7 @@ mod ticket;
 pub use blank::Blank;
 pub use closed::Closed;
 pub use gate::Gate;
+pub use laws::shares_add_up;
 pub use naming::Naming;
 pub use reader::SeatReader;
 pub use reply::{Grant, Reply, Rest, UpdateReply, UpdatesEnd};

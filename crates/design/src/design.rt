@@ -83,7 +83,7 @@ impl Design {
     }
 
     /// Where a process begins: at the place of its whole body.
-    pub fn start(&self, process: u32) -> ProcState
+    pub fn first(&self, process: u32) -> ProcState
         requires { process < length self.now.processes }
         ensures state { IsStateOf self.now process result }
         ensures whole { remainder_of self.now result ≡ whole (design_of self.now) process }

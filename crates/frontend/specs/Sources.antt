@@ -1,10 +1,10 @@
 -- The design that a source describes, and which faults a source has.
-use Rattle.std.specs.Prelude.{◌≡◌, ℕ, List, []}
+use Rattle.std.specs.Prelude.{◌≡◌, ℕ, List, [], map}
 use Rattle.tokens.specs.Lexing.{Stops, stray, bad_number}
 use Rattle.model.specs.Syntax.{Module}
-use Rattle.model.specs.Elaboration.{faults}
+use Rattle.model.specs.Elaboration.{declared, faults}
 use Rattle.model.specs.Elaboration as model
-use Rattle.vparse.specs.Spells.{Spells, IsDeepTextAt}
+use Rattle.vparse.specs.Spells.{Spells, IsUnspelledAt, IsDeepText, IsDeepTextAt}
 use Rattle.vparse.specs.declared.parse.ParseFault.{ParseFault}
 use Rattle.vparse.specs.declared.parse.ParseFault.TheVariants.{Byte, Syntax, Literal, Deep, Unsized, Memory}
 use Rattle.design.specs.Compiled.{Compiled, design_of}
@@ -13,27 +13,31 @@ use Rattle.elaborate.specs.declared.fault.ElabFault.{ElabFault}
 use Rattle.frontend.specs.declared.source.SourceFault.{SourceFault}
 use Rattle.frontend.specs.declared.source.SourceFault.TheVariants.{Parse, Elaborate}
 
--- the text spells a module without faults, and this is its design
+-- the text spells a module without faults and nests no deeper than it may, and this is the module's design, with the
+-- names of its registers
 pub record IsDesignOf (source : List ℕ) (design : Compiled) : Type 0 where
   pub parsed : Module
   pub spells : Spells parsed source
+  pub shallow : ¬ (IsDeepText source)
   pub faultless : faults parsed ≡ []
   pub is_design : design_of design ≡ model.design_of parsed
+  pub names : design.names ≡ map (λ d. d.0) (declared parsed)
 
--- The text has this fault: its cut into tokens stops at this byte, no module is spelled, or it nests too deep at this
--- token. Want of memory says nothing of the text.
+-- The text has this fault: its cut into tokens stops at this byte; or it is cut into tokens to its end, and these spell no
+-- module, or nest too deep at this token and at none before it. Want of memory says nothing of the text.
 abbrev pub IsTextFault : List ℕ → ParseFault → Type 0
 IsTextFault source (Byte place) = Stops source stray place
 IsTextFault source (Literal place) = Stops source bad_number place
-IsTextFault source (Syntax token) = (m : Module) → Spells m source → ⊥
-IsTextFault source (Unsized token) = (m : Module) → Spells m source → ⊥
+IsTextFault source (Syntax token) = IsUnspelledAt source token
+IsTextFault source (Unsized token) = IsUnspelledAt source token
 IsTextFault source (Deep token) = IsDeepTextAt source token
 IsTextFault source Memory = Unit {0}
 
--- the text spells a module of which this fault is told
+-- the text spells a module and nests no deeper than it may, and of the module this fault is told
 pub record HasModuleFault (source : List ℕ) (fault : ElabFault) : Type 0 where
   pub parsed : Module
   pub spells : Spells parsed source
+  pub shallow : ¬ (IsDeepText source)
   pub is_first : IsFirstFault fault (faults parsed)
 
 -- a fault of a source

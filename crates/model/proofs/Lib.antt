@@ -2,6 +2,7 @@
 pub mod Rows
 pub mod SourceRows
 pub mod TurnLaws
+pub mod TurnCaseLaws
 pub mod RunLaws
 pub mod EvaluationLaws
 pub mod StepLaws

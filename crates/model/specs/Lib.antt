@@ -4,6 +4,7 @@ pub mod Design
 pub mod Elaboration
 pub mod Expressions
 pub mod Turns
+pub mod TurnCases
 pub mod States
 pub mod Runs
 pub mod Steps

@@ -1,4 +1,7 @@
--- Lemmas of options, statuses and ends.
+-- Lemmas of words, options, statuses, ends and files.
 pub mod GivenLemmas
+pub mod WordLemmas
+pub mod SecondWord
 pub mod Statuses
 pub mod Endings
+pub mod Ended

@@ -1,8 +1,9 @@
 -- What a status tells of a run.
-use Rattle.std.proofs.Common.{◌≡◌, ℕ, List, Option, Some, None, IfOk, Result, Ok, Err}
+use Rattle.std.proofs.Common.{◌≡◌, ◌≢◌, ◌⊎◌, ◌∙◌, inl, inr, sym, ℕ, List, Option, Some, None, IfErr, IfOk, OnOk, Result, Ok, Err}
 use Rattle.program.specs.declared.fault.Fault.{Fault}
 use Rattle.program.specs.declared.fault.Fault.TheVariants as fault
 use Rattle.program.specs.declared.fault.Stop.{Stop}
+use Rattle.program.specs.declared.fault.Stop.TheVariants as stop
 use Rattle.frontend.specs.declared.source.SourceFault.{SourceFault}
 use Rattle.frontend.specs.declared.source.SourceFault.TheVariants as source
 use Rattle.journal.specs.declared.fault.ReadFault.{ReadFault}
@@ -13,10 +14,7 @@ use Rattle.replay.specs.declared.fault.Cause.{Cause}
 use Rattle.replay.specs.declared.fault.Cause.TheVariants as cause
 use Rattle.vparse.specs.declared.parse.ParseFault.TheVariants as parsing
 use Rattle.elaborate.specs.declared.fault.ElabFault.TheVariants as elaboration
-use Rattle.program.specs.Program.{ended_status, status_of, source_status_of, read_status_of, cause_status_of, replay_status_of}
-use Rattle.simulate.specs.declared.run.Options.{Options}
-use Rattle.program.specs.Options.{CanRun}
-use Rattle.program.specs.Printed.{HasPrinted, HasStopped}
+use Rattle.program.specs.Program.{ended_status, stop_status, status_of, source_status_of, read_status_of, cause_status_of, replay_status_of}
 
 source_not_four : (f : SourceFault) → source_status_of f ≡ 4 → ⊥
 source_not_four (source.Parse parsing.Memory) e = cc
@@ -29,6 +27,7 @@ read_not_four reading.Memory e = cc
 read_not_four f e = cc
 
 cause_not_four : (c : Cause) → cause_status_of c ≡ 4 → ⊥
+cause_not_four cause.ApplyMemory e = cc
 cause_not_four cause.Memory e = cc
 cause_not_four c e = cc
 
@@ -46,15 +45,118 @@ fault_not_four (fault.Source f) e = source_not_four f e
 fault_not_four (fault.Simulate f) e = cc
 fault_not_four (fault.Replay f) e = replay_not_four f e
 
--- status 4 is a stop's alone
-pub stopped_by_status : (options : Options) (old new : Option (List ℕ)) (ended : Result (Option Stop) Fault) → CanRun options
-    → IfOk ended (λ told. HasPrinted options old new told) → ended_status ended ≡ 4 → HasStopped old new
-stopped_by_status options old new (Ok None) fit h e = cc
-stopped_by_status options old new (Ok (Some s)) fit h e = record { options = options; can_run = fit; stop = s; printed = h }
-stopped_by_status options old new (Err f) fit h e = absurd (fault_not_four f e)
+source_not_zero : (f : SourceFault) → source_status_of f ≡ 0 → ⊥
+source_not_zero (source.Parse parsing.Memory) e = cc
+source_not_zero (source.Elaborate elaboration.Memory) e = cc
+source_not_zero f e = cc
 
--- and a replay isn't stopped
+read_not_zero : (f : ReadFault) → read_status_of f ≡ 0 → ⊥
+read_not_zero reading.Read e = cc
+read_not_zero reading.Memory e = cc
+read_not_zero f e = cc
+
+cause_not_zero : (c : Cause) → cause_status_of c ≡ 0 → ⊥
+cause_not_zero cause.Memory e = cc
+cause_not_zero c e = cc
+
+replay_not_zero : (f : BytesFault) → replay_status_of f ≡ 0 → ⊥
+replay_not_zero (replaying.Source f) e = source_not_zero f e
+replay_not_zero (replaying.Read f) e = read_not_zero f e
+replay_not_zero (replaying.Replay f) e = cause_not_zero f.cause e
+replay_not_zero replaying.CannotWrite e = cc
+
+fault_not_zero : (f : Fault) → status_of f ≡ 0 → ⊥
+fault_not_zero (fault.CannotRead p) e = cc
+fault_not_zero fault.CannotWrite e = cc
+fault_not_zero fault.Memory e = cc
+fault_not_zero (fault.Source f) e = source_not_zero f e
+fault_not_zero (fault.Simulate f) e = cc
+fault_not_zero (fault.Replay f) e = replay_not_zero f e
+
+stop_not_zero : (s : Stop) → stop_status s ≡ 0 → ⊥
+stop_not_zero stop.Memory e = cc
+stop_not_zero s e = cc
+
+source_not_two : (f : SourceFault) → source_status_of f ≡ 2 → ⊥
+source_not_two (source.Parse parsing.Memory) e = cc
+source_not_two (source.Elaborate elaboration.Memory) e = cc
+source_not_two f e = cc
+
+read_not_two : (f : ReadFault) → read_status_of f ≡ 2 → ⊥
+read_not_two reading.Read e = cc
+read_not_two reading.Memory e = cc
+read_not_two f e = cc
+
+cause_not_two : (c : Cause) → cause_status_of c ≡ 2 → ⊥
+cause_not_two cause.Memory e = cc
+cause_not_two c e = cc
+
+replay_not_two : (f : BytesFault) → replay_status_of f ≡ 2 → ⊥
+replay_not_two (replaying.Source f) e = source_not_two f e
+replay_not_two (replaying.Read f) e = read_not_two f e
+replay_not_two (replaying.Replay f) e = cause_not_two f.cause e
+replay_not_two replaying.CannotWrite e = cc
+
+fault_not_two : (f : Fault) → status_of f ≡ 2 → ⊥
+fault_not_two (fault.CannotRead p) e = cc
+fault_not_two fault.CannotWrite e = cc
+fault_not_two fault.Memory e = cc
+fault_not_two (fault.Source f) e = source_not_two f e
+fault_not_two (fault.Simulate f) e = cc
+fault_not_two (fault.Replay f) e = replay_not_two f e
+
+stop_not_two : (s : Stop) → stop_status s ≡ 2 → ⊥
+stop_not_two stop.Memory e = cc
+stop_not_two s e = cc
+
+-- what a status tells of how a command ended
+
+pub done_by_status : (P : Option Stop → Type 0) (ended : Result (Option Stop) Fault) → IfOk ended P → ended_status ended ≡ 0 → P None
+done_by_status P (Ok None) h e = h
+done_by_status P (Ok (Some s)) h e = absurd (stop_not_zero s e)
+done_by_status P (Err f) h e = absurd (fault_not_zero f e)
+
+-- status 4 is a stop's alone
+pub stopped_by_status : (P : Option Stop → Type 0) (ended : Result (Option Stop) Fault) → IfOk ended P → ended_status ended ≡ 4
+    → (s : Stop) × P (Some s)
+stopped_by_status P (Ok None) h e = cc
+stopped_by_status P (Ok (Some s)) h e = (s, h)
+stopped_by_status P (Err f) h e = absurd (fault_not_four f e)
+
+-- status 2 is that of wrong words
+pub not_two : (ended : Result (Option Stop) Fault) → ended_status ended ≡ 2 → ⊥
+not_two (Ok None) e = cc
+not_two (Ok (Some s)) e = stop_not_two s e
+not_two (Err f) e = fault_not_two f e
+
+stop_not_source : (s : Stop) → (stop_status s ≡ 3) ⊎ (stop_status s ≡ 5) → ⊥
+stop_not_source stop.Memory (inl e) = cc
+stop_not_source stop.Memory (inr e) = cc
+stop_not_source s (inl e) = cc
+stop_not_source s (inr e) = cc
+
+-- statuses 3 and 5 are those of faults that aren't of files
+pub kept_by_status : (K : Type 0) (ended : Result (Option Stop) Fault) → IfErr ended (λ f. status_of f ≢ 1 → K)
+    → (ended_status ended ≡ 3) ⊎ (ended_status ended ≡ 5) → K
+kept_by_status K (Ok None) h (inl e) = cc
+kept_by_status K (Ok None) h (inr e) = cc
+kept_by_status K (Ok (Some s)) h e = absurd (stop_not_source s e)
+kept_by_status K (Err f) h (inl e) = h (λ one. three_is_not_one (sym e ∙ one))
+  where
+    three_is_not_one : ◌≡◌ {A = ℕ} 3 1 → ⊥
+    three_is_not_one x = cc
+kept_by_status K (Err f) h (inr e) = h (λ one. five_is_not_one (sym e ∙ one))
+  where
+    five_is_not_one : ◌≡◌ {A = ℕ} 5 1 → ⊥
+    five_is_not_one x = cc
+
+-- a replay isn't stopped
 pub replay_by_status : (ended : Result (Option Stop) Fault) → IfOk ended (λ told. told ≡ None) → ended_status ended ≡ 4 → ⊥
 replay_by_status (Ok None) h e = cc
 replay_by_status (Ok (Some s)) h e = cc
 replay_by_status (Err f) h e = absurd (fault_not_four f e)
+
+pub replay_done : (K : Type 0) (ended : Result (Option Stop) Fault) → OnOk ended K → ended_status ended ≡ 0 → K
+replay_done K (Ok None) h e = h
+replay_done K (Ok (Some s)) h e = absurd (stop_not_zero s e)
+replay_done K (Err f) h e = absurd (fault_not_zero f e)

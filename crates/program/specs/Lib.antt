@@ -2,3 +2,5 @@ pub mod Arguments
 pub mod Options
 pub mod Printed
 pub mod Program
+pub mod Saved
+pub mod Words

@@ -4,8 +4,8 @@ use Rattle.model.specs.declared.end.End.{End}
 use Rattle.model.specs.declared.end.End.TheVariants as end
 use Rattle.model.specs.declared.end.Why.{Why}
 use Rattle.model.specs.declared.end.Why.TheVariants as why
-use Rattle.program.specs.declared.arguments.Refusal.{Refusal}
-use Rattle.program.specs.declared.arguments.Refusal.TheVariants as refusal
+use Rattle.program.specs.declared.request.Refusal.{Refusal}
+use Rattle.program.specs.declared.request.Refusal.TheVariants as refusal
 use Rattle.program.specs.declared.fault.Fault.{Fault}
 use Rattle.program.specs.declared.fault.Fault.TheVariants as fault
 use Rattle.program.specs.declared.fault.Stop.{Stop}
@@ -40,6 +40,7 @@ read_status_of f = 5
 
 -- no memory for a replay, or an unlawful journal
 abbrev pub cause_status_of : Cause → ℕ
+cause_status_of cause.ApplyMemory = 6
 cause_status_of cause.Memory = 6
 cause_status_of c = 5
 

@@ -5,12 +5,15 @@
 //! arguments `clap` promises that a required one has a value, and that each value passed its
 //! parser. So reading a path can't fail, and the options of a request are those of a run.
 
-ghost use Rattle.std.specs.Prelude.{◌≡◌, ◌≤◌, ◌^◌, ◌∷◌, IfOk, IfSome, None, Some, true, false, codes};
-ghost use Rattle.clap.specs.Words.{found_of};
+ghost use Rattle.std.specs.Prelude.{◌≡◌, ◌⊎◌, ◌≤◌, ◌^◌, ◌∷◌, IfErr, IfOk, IfSome, None, Some, true, false, codes, drop, unwrap_or};
+ghost use Rattle.clap.specs.Words.{HasKind, IsAmong, app_of, found_of, kind_of, rows_of, rule_of};
+ghost use Rattle.clap.specs.declared.error.kind.ErrorKind.TheVariants.{MissingSubcommand, OutOfMemory};
 ghost use Rattle.model.specs.Runs.{last_time};
 ghost use Rattle.program.specs.Arguments.{Takes, HasRules, IsGiven, GivesRun, GivesReplay, run_rules, replay_rules, rule, workers_parser, until_parser, entries_parser};
 ghost use Rattle.program.specs.Options.{CanRun};
+ghost use Rattle.program.specs.Words.{Asks, AsksReplay, AsksRun, Begins, FailsAs, IsRefusal, IsRefusalBy, IsReplayOf, IsRunOf, choice, number_given, options_of, other_faults, place, replay_app, replay_faults, replay_rows, run_app, run_faults, run_rows, texts_of, whole_app};
 
+use crate::request::{Refusal, ReplayRequest, Request, RunRequest};
 use clap::error::ErrorKind;
 use clap::{Arg, ArgAction, ArgMatches, Command, Error, value_parser};
 use simulate::Options;
@@ -20,47 +23,21 @@ const DEFAULT_WORKERS: u32 = 2;
 
 const DEFAULT_MAX_ENTRIES: u32 = 1_000_000;
 
-/// What the program was asked to do.
-#[derive(Debug, Drop)]
-pub enum Request<'a> {
-    Run(RunRequest<'a>),
-    Replay(ReplayRequest<'a>),
-}
-
-/// `run FILE`, with a path for the journal where one is wanted.
-#[derive(Debug, Drop)]
-pub struct RunRequest<'a> {
-    pub file: &'a str,
-    pub options: Options,
-    pub journal: Option<&'a str>,
-    ghost fit: { CanRun options },
-}
-
-/// `replay FILE JOURNAL`.
-#[derive(Debug, Drop)]
-pub struct ReplayRequest<'a> {
-    pub file: &'a str,
-    pub journal: &'a str,
-}
-
-/// Why there is no request: help was asked for, the words are wrong, or memory was refused. A text
-/// is what `clap` says.
-#[derive(Debug, Drop)]
-pub enum Refusal {
-    Help(String),
-    Usage(String),
-    Memory,
-}
-
 /// The request that the words make. The first word is the program's name.
-pub fn read_request<'a>(alloc: Global, words: &'a [String]) -> Result<Request<'a>, Refusal> {
+pub fn read_request<'a>(alloc: Global, words: &'a [String]) -> Result<Request<'a>, Refusal>
+    ensures asked { IfOk result (Asks (texts_of words.now)) }
+    ensures refused { IfErr result (IsRefusal (texts_of words.now)) }
+{
     match parse(alloc, words) {
         Ok(request) => Ok(request),
         Err(error) => Err(refuse(alloc, &error)),
     }
 }
 
-fn refuse(alloc: Global, error: &Error) -> Refusal {
+/// What is answered to an error of this kind, or that memory is refused.
+fn refuse(alloc: Global, error: &Error) -> Refusal
+    ensures { IsRefusalBy (kind_of error.now) result }
+{
     if matches!(error.kind(), ErrorKind::OutOfMemory) {
         return Refusal::Memory;
     }
@@ -71,33 +48,108 @@ fn refuse(alloc: Global, error: &Error) -> Refusal {
     }
 }
 
-fn parse<'a>(alloc: Global, words: &'a [String]) -> Result<Request<'a>, Error> {
-    if let Some((_, own_words)) = words.split_first() {
-        match own_words.first() {
-            Some(name) if name.as_str() == "run" => {
-                let matches = run_matches(alloc, own_words)?;
-                return Ok(Request::Run(run_request(&matches)));
-            }
-            Some(name) if name.as_str() == "replay" => {
-                let matches = replay_matches(alloc, own_words)?;
-                return Ok(Request::Replay(replay_request(&matches)));
-            }
-            _ => {}
-        }
+fn parse<'a>(alloc: Global, words: &'a [String]) -> Result<Request<'a>, Error>
+    ensures asked { IfOk result (Asks (texts_of words.now)) }
+    ensures failed { IfErr result (λ e. FailsAs (texts_of words.now) (kind_of e)) }
+{
+    if is_subcommand(words, "run") {
+        return match parse_run(alloc, words) {
+            Ok(run) => Ok(Request::Run(run)),
+            Err(error) => Err(error),
+        };
     }
-    Err(no_subcommand(alloc, words)?)
+    if is_subcommand(words, "replay") {
+        return match parse_replay(alloc, words) {
+            Ok(replay) => Ok(Request::Replay(replay)),
+            Err(error) => Err(error),
+        };
+    }
+    Err(no_subcommand(alloc, words))
+}
+
+/// The word after the program's name is this one.
+fn is_subcommand(words: &[String], name: &str) -> bool
+    ensures yes { result ≡ true → Begins (texts_of words.now) name.now }
+    ensures no { result ≡ false → Begins (texts_of words.now) name.now → ⊥ }
+{
+    match words.get(1) {
+        Some(word) => word.as_str() == name,
+        None => false,
+    }
+}
+
+/// The words after the program's name.
+fn own_words<'a>(words: &'a [String]) -> &'a [String]
+    ensures { texts_of result.now ≡ drop 1 (texts_of words.now) }
+{
+    match words.split_first() {
+        Some((_, own)) => own,
+        None => words,
+    }
+}
+
+fn parse_run<'a>(alloc: Global, words: &'a [String]) -> Result<RunRequest<'a>, Error>
+    requires { Begins (texts_of words.now) (codes "run") }
+    ensures asked { IfOk result (AsksRun (texts_of words.now)) }
+    ensures failed { IfErr result (λ e. FailsAs (texts_of words.now) (kind_of e)) }
+{
+    let own = own_words(words);
+    match run_matches(alloc, own) {
+        Ok(matches) => Ok(run_request(&matches)),
+        Err(error) => Err(error),
+    }
+}
+
+fn parse_replay<'a>(alloc: Global, words: &'a [String]) -> Result<ReplayRequest<'a>, Error>
+    requires { Begins (texts_of words.now) (codes "replay") }
+    ensures asked { IfOk result (AsksReplay (texts_of words.now)) }
+    ensures failed { IfErr result (λ e. FailsAs (texts_of words.now) (kind_of e)) }
+{
+    let own = own_words(words);
+    match replay_matches(alloc, own) {
+        Ok(matches) => Ok(replay_request(&matches)),
+        Err(error) => Err(error),
+    }
 }
 
 /// What to say of words that begin with no subcommand of the program.
-fn no_subcommand(alloc: Global, words: &[String]) -> Result<Error, AllocError> {
-    match program(alloc)?.try_get_matches_from(words) {
-        Err(error) => Ok(error),
-        Ok(_) => program(alloc)?.error(ErrorKind::MissingSubcommand, "a subcommand is required"),
+fn no_subcommand(alloc: Global, words: &[String]) -> Error
+    requires no_run { Begins (texts_of words.now) (codes "run") → ⊥ }
+    requires no_replay { Begins (texts_of words.now) (codes "replay") → ⊥ }
+    ensures { FailsAs (texts_of words.now) (kind_of result) }
+{
+    match whole_matches(alloc, words) {
+        Err(error) => error,
+        Ok(_) => missing_subcommand(alloc),
     }
 }
 
+fn whole_matches<'a>(alloc: Global, words: &'a [String]) -> Result<ArgMatches<'a>, Error>
+    ensures taken { IfOk result (λ m. IsAmong MissingSubcommand (other_faults (texts_of words.now))) }
+    ensures failed { IfErr result (HasKind (other_faults (texts_of words.now))) }
+{
+    program(alloc)?.try_get_matches_from(words)
+}
+
+fn missing_subcommand(alloc: Global) -> Error
+    ensures { (kind_of result ≡ OutOfMemory) ⊎ (kind_of result ≡ MissingSubcommand) }
+{
+    match missing(alloc) {
+        Ok(error) => error,
+        Err(error) => Error::from(error),
+    }
+}
+
+fn missing(alloc: Global) -> Result<Error, AllocError>
+    ensures { IfOk result (λ e. kind_of e ≡ MissingSubcommand) }
+{
+    program(alloc)?.error(ErrorKind::MissingSubcommand, "a subcommand is required")
+}
+
 /// The program as a whole, for its help and for words that begin with no subcommand.
-fn program<'a>(alloc: Global) -> Result<Command<'a>, AllocError> {
+fn program<'a>(alloc: Global) -> Result<Command<'a>, AllocError>
+    ensures { IfOk result (λ c. app_of c ≡ whole_app) }
+{
     Command::new(alloc, "vsimtx")
         .about("Simulates one Verilog module on several workers")
         .subcommand_required(true)
@@ -108,18 +160,23 @@ fn program<'a>(alloc: Global) -> Result<Command<'a>, AllocError> {
 
 fn run_matches<'a>(alloc: Global, words: &'a [String]) -> Result<ArgMatches<'a>, Error>
     ensures given { IfOk result (λ m. GivesRun (found_of m)) }
+    ensures found { IfOk result (λ m. rows_of (found_of m) ≡ run_rows (texts_of words.now)) }
+    ensures failed { IfErr result (HasKind (run_faults (texts_of words.now))) }
 {
     run_command(alloc)?.try_get_matches_from(words)
 }
 
 fn replay_matches<'a>(alloc: Global, words: &'a [String]) -> Result<ArgMatches<'a>, Error>
     ensures given { IfOk result (λ m. GivesReplay (found_of m)) }
+    ensures found { IfOk result (λ m. rows_of (found_of m) ≡ replay_rows (texts_of words.now)) }
+    ensures failed { IfErr result (HasKind (replay_faults (texts_of words.now))) }
 {
     replay_command(alloc)?.try_get_matches_from(words)
 }
 
 fn run_command<'a>(alloc: Global) -> Result<Command<'a>, AllocError>
     ensures rules { IfOk result (λ c. HasRules c run_rules) }
+    ensures app { IfOk result (λ c. app_of c ≡ run_app) }
 {
     Command::new(alloc, "run")
         .about("Simulates FILE and prints its lines")
@@ -133,6 +190,7 @@ fn run_command<'a>(alloc: Global) -> Result<Command<'a>, AllocError>
 
 fn replay_command<'a>(alloc: Global) -> Result<Command<'a>, AllocError>
     ensures rules { IfOk result (λ c. HasRules c replay_rules) }
+    ensures app { IfOk result (λ c. app_of c ≡ replay_app) }
 {
     Command::new(alloc, "replay")
         .about("Replays JOURNAL on FILE and prints its lines")
@@ -143,6 +201,7 @@ fn replay_command<'a>(alloc: Global) -> Result<Command<'a>, AllocError>
 
 fn positional<'a>(alloc: Global, name: &'a str, help: &'a str) -> Arg<'a>
     ensures takes { Takes result (rule name.entry.now true None) }
+    ensures rule { rule_of result ≡ place name.entry.now }
 {
     Arg::new(alloc, name)
         .required(true)
@@ -152,6 +211,7 @@ fn positional<'a>(alloc: Global, name: &'a str, help: &'a str) -> Arg<'a>
 
 fn workers<'a>(alloc: Global) -> Arg<'a>
     ensures takes { Takes result (rule (codes "workers") false (Some workers_parser)) }
+    ensures rule { rule_of result ≡ choice (codes "workers") (Some workers_parser) }
 {
     Arg::new(alloc, "workers")
         .long("workers")
@@ -163,6 +223,7 @@ fn workers<'a>(alloc: Global) -> Arg<'a>
 
 fn until<'a>(alloc: Global) -> Arg<'a>
     ensures takes { Takes result (rule (codes "until") false (Some until_parser)) }
+    ensures rule { rule_of result ≡ choice (codes "until") (Some until_parser) }
 {
     Arg::new(alloc, "until")
         .long("until")
@@ -174,6 +235,7 @@ fn until<'a>(alloc: Global) -> Arg<'a>
 
 fn max_entries<'a>(alloc: Global) -> Arg<'a>
     ensures takes { Takes result (rule (codes "max-entries") false (Some entries_parser)) }
+    ensures rule { rule_of result ≡ choice (codes "max-entries") (Some entries_parser) }
 {
     Arg::new(alloc, "max-entries")
         .long("max-entries")
@@ -185,6 +247,7 @@ fn max_entries<'a>(alloc: Global) -> Arg<'a>
 
 fn journal<'a>(alloc: Global) -> Arg<'a>
     ensures takes { Takes result (rule (codes "journal") false None) }
+    ensures rule { rule_of result ≡ choice (codes "journal") None }
 {
     Arg::new(alloc, "journal")
         .long("journal")
@@ -195,6 +258,7 @@ fn journal<'a>(alloc: Global) -> Arg<'a>
 
 fn run_request<'a>(matches: &ArgMatches<'a>) -> RunRequest<'a>
     requires { GivesRun (found_of matches.now) }
+    ensures { IsRunOf (rows_of (found_of matches.now)) result }
 {
     RunRequest {
         file: matches.get_str("FILE").unwrap(),
@@ -205,6 +269,7 @@ fn run_request<'a>(matches: &ArgMatches<'a>) -> RunRequest<'a>
 
 fn replay_request<'a>(matches: &ArgMatches<'a>) -> ReplayRequest<'a>
     requires { GivesReplay (found_of matches.now) }
+    ensures { IsReplayOf (rows_of (found_of matches.now)) result }
 {
     ReplayRequest {
         file: matches.get_str("FILE").unwrap(),
@@ -214,7 +279,8 @@ fn replay_request<'a>(matches: &ArgMatches<'a>) -> ReplayRequest<'a>
 
 fn options(matches: &ArgMatches<'_>) -> Options
     requires { GivesRun (found_of matches.now) }
-    ensures { CanRun result }
+    ensures fit { CanRun result }
+    ensures given { result ≡ options_of (rows_of (found_of matches.now)) }
 {
     Options {
         workers: given_workers(matches),
@@ -227,20 +293,23 @@ fn given_workers(matches: &ArgMatches<'_>) -> u32
     requires { IsGiven (found_of matches.now) (codes "workers") workers_parser }
     ensures least { 1 ≤ result }
     ensures most { result ≤ 16 }
+    ensures given { result ≡ unwrap_or (number_given (codes "workers") (rows_of (found_of matches.now))) 2 }
 {
     matches.get_one::<u32>("workers").unwrap_or(DEFAULT_WORKERS)
 }
 
 fn given_until(matches: &ArgMatches<'_>) -> Option<u64>
     requires { IsGiven (found_of matches.now) (codes "until") until_parser }
-    ensures { IfSome result (λ t. t ≤ last_time) }
+    ensures last { IfSome result (λ t. t ≤ last_time) }
+    ensures given { result ≡ number_given (codes "until") (rows_of (found_of matches.now)) }
 {
     matches.get_one::<u64>("until")
 }
 
 fn given_max_entries(matches: &ArgMatches<'_>) -> u32
     requires { IsGiven (found_of matches.now) (codes "max-entries") entries_parser }
-    ensures { 1 ≤ result }
+    ensures least { 1 ≤ result }
+    ensures given { result ≡ unwrap_or (number_given (codes "max-entries") (rows_of (found_of matches.now))) 1000000 }
 {
     matches
         .get_one::<u32>("max-entries")

@@ -139,7 +139,7 @@ fn cause_status(cause: Cause) -> u8
     ensures { result ≡ cause_status_of cause }
 {
     match cause {
-        Cause::Memory => 6,
+        Cause::ApplyMemory | Cause::Memory => 6,
         _ => 5,
     }
 }

@@ -1,7 +1,7 @@
 //! The program `vsimtx` as a library: it runs one Verilog module on several workers, or replays the journal of a run, and
 //! prints the lines.
 //!
-//! 1. `arguments` reads the command line into a request, whose options are proved to be in range.
+//! 1. `arguments` reads the command line into a `request`, whose options are those of the words, and proved to be in range.
 //! 2. `files` says where paths lead: to the system's files, or to a test's.
 //! 3. `reading` and `writing` take a file or a text whole.
 //! 4. `running` is a run, and `replaying` a replay.
@@ -15,6 +15,7 @@ mod files;
 mod program;
 mod reading;
 mod replaying;
+mod request;
 mod running;
 mod writing;
 

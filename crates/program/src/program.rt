@@ -3,16 +3,20 @@
 //! It reads the words into a request and does what is asked, and last it tells the first fault or
 //! the reason of a stop, if there is one.
 
-ghost use Rattle.std.specs.Prelude.{◌≡◌, ◌⊎◌, ◌≤◌};
+ghost use Rattle.std.specs.Prelude.{◌≡◌, ◌⊎◌, ◌≤◌, List, [], None};
+ghost use Rattle.clap.specs.Words.{Text};
 ghost use Rattle.std.specs.Io.KnownBytes.{Appends, Keeps};
 ghost use Rattle.journal.specs.Counted.{held};
 ghost use Rattle.program.specs.Program.{ended_status, IsRefusalStatus, help_text};
-ghost use Rattle.program.specs.Printed.{HasStopped};
+ghost use Rattle.program.specs.Printed.{HasReplayed, HasRun, HasStopped, IsDone};
+ghost use Rattle.program.specs.Saved.{KeepsFiles};
+ghost use Rattle.program.specs.Words.{AreWrong, Asks, AsksReplay, AsksRun, texts_of};
 
-use crate::arguments::{Refusal, Request, read_request};
+use crate::arguments::read_request;
 use crate::fault::{Fault, Stop};
 use crate::files::Files;
 use crate::replaying::replay_journal;
+use crate::request::{Refusal, ReplayRequest, Request, RunRequest};
 use crate::running::run;
 use crate::writing::show;
 use journal::Counted;
@@ -34,20 +38,78 @@ pub fn command<R: Threads + Wait + Sync, F: Files, O: Write, E: Write>(
 ) -> u8
     ensures range { result ≤ 6 }
     ensures silent { result ≡ 0 → Keeps (E.contents err.old) (E.contents err.new) }
-    ensures stopped { result ≡ 4 → HasStopped (O.contents (held out.old)) (O.contents (held out.new)) }
+    ensures done { result ≡ 0 → IsDone (texts_of words.now) (O.contents (held out.old)) (O.contents (held out.new)) (F.made files.old) (F.made files.new) }
+    ensures wrong { result ≡ 2 → AreWrong (texts_of words.now) }
+    ensures stopped { result ≡ 4 → HasStopped (texts_of words.now) (O.contents (held out.old)) (O.contents (held out.new)) (F.made files.old) (F.made files.new) }
     ensures nothing { (result ≡ 2) ⊎ ((result ≡ 3) ⊎ (result ≡ 5)) → Keeps (O.contents (held out.old)) (O.contents (held out.new)) }
+    ensures unsaved { (result ≡ 2) ⊎ ((result ≡ 3) ⊎ (result ≡ 5)) → KeepsFiles (F.made files.old) (F.made files.new) }
 {
     match read_request(alloc, words) {
-        Ok(Request::Run(request)) => {
-            let ended = run(rt, alloc, &request, files, out);
-            finish(ended, err)
-        }
-        Ok(Request::Replay(request)) => {
-            let ended = replay_journal(alloc, &request, files, out);
-            finish(ended, err)
-        }
+        Ok(request) => answer(rt, alloc, &request, files, out, err),
         Err(refusal) => refuse(refusal, out, err),
     }
+}
+
+/// Does what is asked, and tells how it ended.
+fn answer<R: Threads + Wait + Sync, F: Files, O: Write, E: Write>(
+    rt: &R,
+    alloc: Global,
+    request: &Request<'_>,
+    files: &mut F,
+    out: &mut Counted<O>,
+    err: &mut E,
+) -> u8
+    ensures range { result ≤ 6 }
+    ensures silent { result ≡ 0 → Keeps (E.contents err.old) (E.contents err.new) }
+    ensures done { (words : List Text) → Asks words request.now → result ≡ 0 → IsDone words (O.contents (held out.old)) (O.contents (held out.new)) (F.made files.old) (F.made files.new) }
+    ensures right { result ≡ 2 → ⊥ }
+    ensures stopped { (words : List Text) → Asks words request.now → result ≡ 4 → HasStopped words (O.contents (held out.old)) (O.contents (held out.new)) (F.made files.old) (F.made files.new) }
+    ensures nothing { (result ≡ 3) ⊎ (result ≡ 5) → Keeps (O.contents (held out.old)) (O.contents (held out.new)) }
+    ensures unsaved { (result ≡ 3) ⊎ (result ≡ 5) → KeepsFiles (F.made files.old) (F.made files.new) }
+{
+    match request {
+        Request::Run(request) => answer_run(rt, alloc, request, files, out, err),
+        Request::Replay(request) => answer_replay(alloc, request, files, out, err),
+    }
+}
+
+fn answer_run<R: Threads + Wait + Sync, F: Files, O: Write, E: Write>(
+    rt: &R,
+    alloc: Global,
+    request: &RunRequest<'_>,
+    files: &mut F,
+    out: &mut Counted<O>,
+    err: &mut E,
+) -> u8
+    ensures range { result ≤ 6 }
+    ensures silent { result ≡ 0 → Keeps (E.contents err.old) (E.contents err.new) }
+    ensures done { (words : List Text) → AsksRun words request.now → result ≡ 0 → HasRun words (O.contents (held out.old)) (O.contents (held out.new)) (F.made files.old) (F.made files.new) None }
+    ensures right { result ≡ 2 → ⊥ }
+    ensures stopped { (words : List Text) → AsksRun words request.now → result ≡ 4 → HasStopped words (O.contents (held out.old)) (O.contents (held out.new)) (F.made files.old) (F.made files.new) }
+    ensures nothing { (result ≡ 3) ⊎ (result ≡ 5) → Keeps (O.contents (held out.old)) (O.contents (held out.new)) }
+    ensures unsaved { (result ≡ 3) ⊎ (result ≡ 5) → KeepsFiles (F.made files.old) (F.made files.new) }
+{
+    let ended = run(rt, alloc, request, files, out);
+    finish(ended, err)
+}
+
+fn answer_replay<F: Files, O: Write, E: Write>(
+    alloc: Global,
+    request: &ReplayRequest<'_>,
+    files: &mut F,
+    out: &mut Counted<O>,
+    err: &mut E,
+) -> u8
+    ensures range { result ≤ 6 }
+    ensures silent { result ≡ 0 → Keeps (E.contents err.old) (E.contents err.new) }
+    ensures done { result ≡ 0 → HasReplayed (O.contents (held out.old)) (O.contents (held out.new)) }
+    ensures right { result ≡ 2 → ⊥ }
+    ensures unstopped { result ≡ 4 → ⊥ }
+    ensures nothing { (result ≡ 3) ⊎ (result ≡ 5) → Keeps (O.contents (held out.old)) (O.contents (held out.new)) }
+    ensures unsaved { KeepsFiles (F.made files.old) (F.made files.new) }
+{
+    let replayed = replay_journal(alloc, request, files, out);
+    finish(replayed, err)
 }
 
 /// Answers arguments that can't be had: want of memory as such, any other error as wrong words.
@@ -61,7 +123,9 @@ pub fn without_words<R: Threads + Wait + Sync, F: Files, O: Write, E: Write>(
 ) -> u8
     ensures range { result ≤ 6 }
     ensures silent { result ≡ 0 → Keeps (E.contents err.old) (E.contents err.new) }
+    ensures done { result ≡ 0 → IsDone [] (O.contents (held out.old)) (O.contents (held out.new)) (F.made files.old) (F.made files.new) }
     ensures nothing { (result ≡ 2) ⊎ ((result ≡ 3) ⊎ (result ≡ 5)) → Keeps (O.contents (held out.old)) (O.contents (held out.new)) }
+    ensures unsaved { (result ≡ 2) ⊎ ((result ≡ 3) ⊎ (result ≡ 5)) → KeepsFiles (F.made files.old) (F.made files.new) }
 {
     match error.kind() {
         ErrorKind::OutOfMemory => {

@@ -1,5 +1,7 @@
 //! Files that are read.
 
+ghost use Rattle.program.specs.Saved.{KeepsFiles};
+
 use crate::fault::Fault;
 use crate::files::Files;
 use std::alloc::Global;
@@ -29,7 +31,9 @@ pub fn read_file<'a, F: Files>(
     alloc: Global,
     path: &'a str,
     files: &mut F,
-) -> Result<Vec<u8>, Fault<'a>> {
+) -> Result<Vec<u8>, Fault<'a>>
+    ensures { KeepsFiles (F.made files.old) (F.made files.new) }
+{
     let mut file = open_file(path, files)?;
     let mut text = Vec::new(alloc);
     match file.read_to_end(&mut text) {
@@ -42,7 +46,9 @@ pub fn read_file<'a, F: Files>(
 pub fn open_file<'a, F: Files>(
     path: &'a str,
     files: &mut F,
-) -> Result<Retrying<F::Source>, Fault<'a>> {
+) -> Result<Retrying<F::Source>, Fault<'a>>
+    ensures { KeepsFiles (F.made files.old) (F.made files.new) }
+{
     match files.open(path) {
         Ok(file) => Ok(Retrying { file }),
         Err(error) => Err(unread(path, &error)),

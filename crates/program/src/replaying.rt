@@ -6,11 +6,12 @@ ghost use Rattle.std.specs.Io.KnownBytes.{Keeps};
 ghost use Rattle.journal.specs.Counted.{held};
 ghost use Rattle.program.specs.Program.{status_of};
 ghost use Rattle.program.specs.Printed.{HasReplayed};
+ghost use Rattle.program.specs.Saved.{KeepsFiles};
 
-use crate::arguments::ReplayRequest;
 use crate::fault::{Fault, Stop};
 use crate::files::Files;
 use crate::reading::{open_file, read_file};
+use crate::request::ReplayRequest;
 use crate::writing::send_off;
 use journal::Counted;
 use replay::replay_bytes;
@@ -27,6 +28,7 @@ pub fn replay_journal<'a, F: Files, O: Write>(
     ensures quiet { IfOk result (λ told. told ≡ None) }
     ensures printed { OnOk result (HasReplayed (O.contents (held out.old)) (O.contents (held out.new))) }
     ensures nothing { IfErr result (λ fault. status_of fault ≢ 1 → Keeps (O.contents (held out.old)) (O.contents (held out.new))) }
+    ensures unsaved { KeepsFiles (F.made files.old) (F.made files.new) }
 {
     let source = read_file(alloc, request.file, files)?;
     let mut journal = Counted::new(open_file(request.journal, files)?);

@@ -11,7 +11,7 @@ ghost use Rattle.regcells.specs.Seats.{Fresh, widths_of, seen_of, with_seen, las
 
 use crate::register::Register;
 use crate::rule::RegPass;
-use design::RegId;
+use design::{Design, RegId};
 use logic4::bits::Bits;
 use std::alloc::{AllocError, Global};
 use std::marker::{Brand, Model};
@@ -126,9 +126,24 @@ fn notes(
 }
 
 impl RegCells {
-    /// A cell for each register, of these widths, all x. They come with the holder and with so many seats, and each has
-    /// seen that. Fails where memory is refused.
+    /// A cell for each register of a design, all x. They come with the holder and with so many seats, and each has seen
+    /// that. Fails where memory is refused.
     pub fn new<R: Wait>(
+        rt: &R,
+        alloc: Global,
+        design: &Design,
+        workers: u32,
+    ) -> Result<(RegCells, Holder, Vec<RegSeat>), AllocError>
+        ensures widths { IfOk result (λ r. widths_of r.0 ≡ design.now.widths) }
+        ensures cells { IfOk result (λ r. r.1.cells ≡ r.0) }
+        ensures unknown { IfOk result (λ r. r.1.seen ≡ beginnings design.now.widths) }
+        ensures seats { IfOk result (λ r. r.2.items ≡ replicate workers r.1) }
+    {
+        RegCells::of_widths(rt, alloc, design.widths(), workers)
+    }
+
+    /// The same for registers of these widths, of no design.
+    pub fn of_widths<R: Wait>(
         rt: &R,
         alloc: Global,
         widths: &[u32],

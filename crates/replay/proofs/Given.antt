@@ -21,7 +21,7 @@ use Rattle.regions.specs.Evaluations.{IsEvaluation}
 use Rattle.regions.specs.Passing.{HasOwnStates}
 use Rattle.regions.specs.Logs.{IsLogFor, IsTurnGiven}
 use Rattle.regions.proofs.Evaluated.{turn_of-is, own_state}
-use Rattle.replay.specs.declared.replayed.Replayed.{Replayed}
+use Rattle.replay.specs.declared.replayed.Replayer.{Replayer}
 use Rattle.replay.specs.declared.fault.Cause.TheVariants.{TooLong}
 use Rattle.replay.specs.Replays.{Stands, state_in}
 use Rattle.replay.specs.Faults.{IsStop}
@@ -92,7 +92,7 @@ unless_none None e h = h
 unless_none (Some reason) e h = refl
 
 -- a turn that is permitted and isn't short stops the replay
-pub stop_turn : (code : Compiled) (r : Replayed) (event p : ℕ) (st : ProcState) → Stands code r → IsEvaluation r.state event (p, st)
+pub stop_turn : (code : Compiled) (r : Replayer) (event p : ℕ) (st : ProcState) → Stands code r → IsEvaluation r.state event (p, st)
     → refusal (state_in code r) (entries.Turn event) ≡ None
     → ((q : ℕ) → IsStateOf code q st → short_turn (design_of code) q (remainder_of code st) r.store r.state.time ≡ None)
     → IsStop code (state_in code r) (entries.Turn event) TooLong

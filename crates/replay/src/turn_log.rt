@@ -6,7 +6,7 @@ ghost use Rattle.replay.specs.Replays.{Stands, state_in};
 ghost use Rattle.replay.specs.Faults.{IsStop};
 
 use crate::fault::Cause;
-use crate::replayed::Replayed;
+use crate::replayed::Replayer;
 use design::Design;
 use model::entry::Entry;
 use regions::turn_on;
@@ -16,19 +16,19 @@ use turn::{TurnFault, TurnLog};
 fn fill_turn(
     log: &mut TurnLog,
     design: &Design,
-    replayed: &Replayed,
+    replayer: &Replayer,
     number: u64,
 ) -> Result<bool, Cause>
-    requires stands { Stands design.now replayed.now }
-    ensures { MatchResult result (λ has. IsTurnGiven design.now (state_in design.now replayed.now) (entries.Turn number) (if has then Some log.new else None)) (IsStop design.now (state_in design.now replayed.now) (entries.Turn number)) }
+    requires stands { Stands design.now replayer.now }
+    ensures { MatchResult result (λ has. IsTurnGiven design.now (state_in design.now replayer.now) (entries.Turn number) (if has then Some log.new else None)) (IsStop design.now (state_in design.now replayer.now) (entries.Turn number)) }
 {
-    if !replayed.state.legal(&Entry::Turn(number)) {
+    if !replayer.state.legal(&Entry::Turn(number)) {
         return Ok(false);
     }
-    match replayed.state.evaluation(number) {
+    match replayer.state.evaluation(number) {
         Some((_, state)) => {
-            let now = replayed.state.time();
-            match turn_on(log, design, &state, now, &replayed.store) {
+            let now = replayer.state.time();
+            match turn_on(log, design, &state, now, &replayer.store) {
                 Ok(()) => Ok(true),
                 Err(TurnFault::TooLong) => Err(Cause::TooLong),
                 Err(TurnFault::Memory) => Err(Cause::Memory),
@@ -42,14 +42,14 @@ fn fill_turn(
 pub fn fill_log(
     log: &mut TurnLog,
     design: &Design,
-    replayed: &Replayed,
+    replayer: &Replayer,
     entry: Entry,
 ) -> Result<bool, Cause>
-    requires stands { Stands design.now replayed.now }
-    ensures { MatchResult result (λ has. IsTurnGiven design.now (state_in design.now replayed.now) entry (if has then Some log.new else None)) (IsStop design.now (state_in design.now replayed.now) entry) }
+    requires stands { Stands design.now replayer.now }
+    ensures { MatchResult result (λ has. IsTurnGiven design.now (state_in design.now replayer.now) entry (if has then Some log.new else None)) (IsStop design.now (state_in design.now replayer.now) entry) }
 {
     match entry {
-        Entry::Turn(number) => fill_turn(log, design, replayed, number),
+        Entry::Turn(number) => fill_turn(log, design, replayer, number),
         _ => Ok(false),
     }
 }

@@ -1,18 +1,23 @@
 //! Runs each command line of standard input as `vsimtx` would, and prints behind each what it leaves: its output, its line on
-//! standard error, and its status. The lines are the commands of docs/tutorial.md, and then worked rows, whose sources and
-//! journals stand in data/rows: each tells by its name what it shows.
+//! standard error, and its status. A line `show FILE` prints a file that one of them made, as a journal. The lines are the
+//! commands of docs/tutorial.md, and then worked rows, whose sources and journals stand in data/rows: each tells by its name
+//! what it shows.
 #![tactic(auto)]
 
 use journal::Counted;
 use program::{SystemFiles, command};
 use std::alloc::{AllocError, Global};
-use std::io;
+use std::{fs, io};
 
 fn main(rt: HostRuntime) -> io::Result<()> {
     let alloc = rt.alloc();
     for line in rt.lines(alloc) {
         let line = line?;
         println!(rt; "$ {line}")?;
+        if let Some(path) = line.strip_prefix("show ") {
+            print!(rt; "{}", fs::read_to_string(&rt, path)?)?;
+            continue;
+        }
         let words = words_of(alloc, line.as_str())?;
         let mut files = SystemFiles { rt: &rt };
         let mut out = Counted::new(rt.stdout());

@@ -239,6 +239,7 @@ module _ {A : Type 0} where
       (steals ∙ ap (sum_by (λ (v : Vec (Stealing _)). sum_by (λ (t : Stealing _). length t.stolen) v.items)) r ∙ sum_map (λ (v : Vec (Stealing _)). sum_by (λ (t : Stealing _). length t.stolen) v.items) (λ (w : Worker A). w.row) left) in
       record {
         lawful = c.closed_is.lawful;
+        timely = c.closed_is.timely;
         once = λ event. once (design_of n.code) closed.entries event c.closed_is.lawful;
         lines_are = c.closed_is.lines_are;
         ends = at_end n first left c.log closed h some long extends c.is_log c.entries c.end_is c.closed_is.ends;

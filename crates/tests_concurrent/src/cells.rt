@@ -12,11 +12,14 @@ use regions::Store;
 use std::process::Abort;
 use std::sync::Wait;
 use std::test::*;
-use std::thread::{Threads, join};
+use std::thread::{Threads, join, yield_now};
 use turn::{Net, Seen};
 
-// How often one thread stores, and the other reads.
-const TIMES: u32 = 10_000;
+// How often one thread stores, while the other reads.
+const TIMES: u64 = 10_000;
+
+// How often a thread reads before it gives up.
+const LOOKS: u32 = 1_000_000;
 
 // Whether this is what stands: all x at first, and then each version's own number, in the register's width.
 fn is_stored(seen: &Seen) -> bool {
@@ -77,7 +80,7 @@ fn read_and_meet<R: Wait + Abort>(
 #[test]
 fn a_read_gives_the_last_value_and_its_version(rt: HostRuntime) -> Result<(), Fail> {
     let widths = [1, 8, 128];
-    let (cells, mut holder, mut seats) = RegCells::new(&rt, rt.alloc(), &widths, 2)?;
+    let (cells, mut holder, mut seats) = RegCells::of_widths(&rt, rt.alloc(), &widths, 2)?;
     let mut seat = seats.pop().expect(&rt, "a seat");
     read_and_meet(&rt, &cells, &mut holder, &mut seat, 0);
     read_and_meet(&rt, &cells, &mut holder, &mut seat, 1);
@@ -197,7 +200,7 @@ fn give_twice<R: Wait + Abort>(rt: &R, cells: &RegCells, holder: &mut Holder)
 
 #[test]
 fn a_net_adds_each_value_that_differs(rt: HostRuntime) -> Result<(), Fail> {
-    let (cells, mut holder, _) = RegCells::new(&rt, rt.alloc(), &[8], 1)?;
+    let (cells, mut holder, _) = RegCells::of_widths(&rt, rt.alloc(), &[8], 1)?;
     give_twice(&rt, &cells, &mut holder);
     Ok(())
 }
@@ -212,19 +215,26 @@ fn store_often<R: Wait + Abort>(rt: &R, cells: &RegCells, mut holder: Holder, re
     }
 }
 
-// Whether each read gives what was stored, and none an older version than the one before.
-fn read_often<R: Wait>(rt: &R, cells: &RegCells, mut seat: RegSeat, register: RegId) -> bool
+// Reads until the last version stands. Whether that comes in time, each read gives what was stored, and none an older version
+// than the one before.
+fn read_to_the_last<R: Wait>(rt: &R, cells: &RegCells, mut seat: RegSeat, register: RegId) -> bool
     requires cells { seat.cells ≡ cells.now }
     requires register { register < length cells.now }
 {
     let mut good = true;
     let mut version = 0;
-    for _ in 0..TIMES {
+    for _ in 0..LOOKS {
         let seen = cells.read(rt, &mut seat, register);
         good = good & is_stored(&seen) & (version <= seen.version);
+        if seen.version >= TIMES {
+            return good;
+        }
+        if seen.version == version {
+            yield_now();
+        }
         version = seen.version;
     }
-    good
+    false
 }
 
 // One thread stores a register, and another reads it.
@@ -242,7 +252,7 @@ fn race<R: Threads + Wait + Abort + Sync>(
     let ((), good) = join(
         rt,
         move || store_often(rt, cells, holder, register),
-        move || -> bool { read_often(rt, cells, seat, register) },
+        move || -> bool { read_to_the_last(rt, cells, seat, register) },
     );
     good
 }
@@ -250,7 +260,7 @@ fn race<R: Threads + Wait + Abort + Sync>(
 #[test]
 fn one_thread_stores_and_another_reads(rt: HostRuntime) -> Result<(), Fail> {
     for register in 0..3 {
-        let (cells, holder, mut seats) = RegCells::new(&rt, rt.alloc(), &[1, 8, 128], 1)?;
+        let (cells, holder, mut seats) = RegCells::of_widths(&rt, rt.alloc(), &[1, 8, 128], 1)?;
         let seat = seats.pop().expect(&rt, "a seat");
         assert!(&rt; race(&rt, &cells, holder, seat, register));
     }

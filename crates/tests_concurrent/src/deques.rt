@@ -1,41 +1,52 @@
-// Pools of deques: a step at a time, and by four threads at once.
+// Pools of deques with the tickets of a gate: a step at a time, and by four threads at once.
 ghost use Rattle.std.specs.Prelude.{◌≡◌, map, IfSome};
 ghost use Rattle.eventpool.specs.Ends.{owner_card, thief_card};
 ghost use Rattle.eventpool.specs.Pools.{cards_of, IsPool};
 
-use eventpool::{Owner, Pool, Stolen, Thief, close};
+use crate::alone::{Alone, play_alone};
+use crate::course::{Course, design_of, last};
+use commitgate::{Blank, Gate, Naming, Seat, Ticket};
+use eventpool::{Owner, Pool, PutFault, Stolen, Thief, close};
 use hoard::Hoard;
-use std::alloc::Global;
+use model::end::{End, Limits};
+use std::alloc::{AllocError, Global};
+use std::marker::Brand;
+use std::process::Abort;
 use std::sync::Wait;
-use std::test::*;
 use std::thread;
 use std::thread::Threads;
 
-// A ticket that knows its event. It moves, and is neither copied nor cloned.
-#[derive(Drop)]
-struct Ticket {
-    event: u64,
-}
-
-fn put_at(owners: &mut Vec<Owner<Ticket>>, d: usize, event: u64) -> bool
-    ensures { map owner_card owners.new.items ≡ map owner_card owners.old.items }
-{
-    if d < owners.len() {
-        return owners[d].put(Ticket { event }).is_ok();
+// The ticket that a put gave back, where it was refused.
+fn refused<K: Naming>(answer: Result<(), (Ticket<K>, PutFault)>) -> Option<Ticket<K>> {
+    match answer {
+        Ok(()) => None,
+        Err((ticket, _)) => Some(ticket),
     }
-    false
 }
 
-fn take_at(owners: &mut Vec<Owner<Ticket>>, d: usize) -> Option<u64>
+fn put_at<K: Naming>(
+    owners: &mut Vec<Owner<Ticket<K>>>,
+    d: usize,
+    ticket: Ticket<K>,
+) -> Option<Ticket<K>>
     ensures { map owner_card owners.new.items ≡ map owner_card owners.old.items }
 {
     if d < owners.len() {
-        return Some(owners[d].take()?.event);
+        return refused(owners[d].put(ticket));
+    }
+    Some(ticket)
+}
+
+fn take_at<K: Naming>(owners: &mut Vec<Owner<Ticket<K>>>, d: usize) -> Option<u64>
+    ensures { map owner_card owners.new.items ≡ map owner_card owners.old.items }
+{
+    if d < owners.len() {
+        return Some(owners[d].take()?.event());
     }
     None
 }
 
-fn steal_in(row: &mut Vec<Thief<Ticket>>, i: usize) -> Stolen<Ticket>
+fn steal_in<K: Naming>(row: &mut Vec<Thief<Ticket<K>>>, i: usize) -> Stolen<Ticket<K>>
     ensures { map thief_card row.new.items ≡ map thief_card row.old.items }
 {
     if i < row.len() {
@@ -44,7 +55,11 @@ fn steal_in(row: &mut Vec<Thief<Ticket>>, i: usize) -> Stolen<Ticket>
     Stolen::Again
 }
 
-fn steal_at(rows: &mut Vec<Vec<Thief<Ticket>>>, w: usize, i: usize) -> Stolen<Ticket>
+fn steal_at<K: Naming>(
+    rows: &mut Vec<Vec<Thief<Ticket<K>>>>,
+    w: usize,
+    i: usize,
+) -> Stolen<Ticket<K>>
     ensures { cards_of rows.new.items ≡ cards_of rows.old.items }
 {
     if w < rows.len() {
@@ -53,26 +68,41 @@ fn steal_at(rows: &mut Vec<Vec<Thief<Ticket>>>, w: usize, i: usize) -> Stolen<Ti
     Stolen::Again
 }
 
-fn is_one(stolen: &Stolen<Ticket>, event: u64) -> bool {
+fn is_one<K: Naming>(stolen: &Stolen<Ticket<K>>, event: u64) -> bool {
     match stolen {
-        Stolen::One(ticket) => ticket.event == event,
+        Stolen::One(ticket) => ticket.event() == event,
         _ => false,
     }
 }
 
-fn is_empty(stolen: &Stolen<Ticket>) -> bool {
+fn is_empty<K: Naming>(stolen: &Stolen<Ticket<K>>) -> bool {
     match stolen {
         Stolen::Empty => true,
         _ => false,
     }
 }
 
-#[test]
-fn a_pool_of_two(rt: HostRuntime) -> Result<(), Fail> {
-    let (mut owners, mut thieves) = Pool::new::<Ticket>(rt.alloc(), 2)?;
-    let one = put_at(&mut owners, 0, 0);
-    let two = put_at(&mut owners, 0, 1);
-    assert!(rt; one && two);
+// Puts tickets into the deque d. Whether none is refused.
+fn fill<K: Naming>(owners: &mut Vec<Owner<Ticket<K>>>, d: usize, tickets: Vec<Ticket<K>>) -> bool
+    ensures { map owner_card owners.new.items ≡ map owner_card owners.old.items }
+{
+    let mut all = true;
+    for ticket in tickets {
+        let back = put_at(owners, d, ticket);
+        all = all && back.is_none();
+    }
+    all
+}
+
+// Two tickets in one deque of two: the first is stolen, and the second taken.
+fn share_two<K: Naming>(
+    rt: &impl Abort,
+    alloc: Global,
+    tickets: Vec<Ticket<K>>,
+) -> Result<(), AllocError> {
+    let (mut owners, mut thieves) = Pool::new::<Ticket<K>>(alloc, 2)?;
+    let all = fill(&mut owners, 0, tickets);
+    assert!(rt; all);
     let first = steal_at(&mut thieves, 1, 0);
     assert!(rt; is_one(&first, 0));
     assert_eq!(rt; take_at(&mut owners, 0), Some(1));
@@ -87,25 +117,57 @@ fn a_pool_of_two(rt: HostRuntime) -> Result<(), Fail> {
     Ok(())
 }
 
-// Puts the tickets of the events below `count` into the deque d.
-fn fill(owners: &mut Vec<Owner<Ticket>>, d: usize, count: u64) -> bool
-    ensures { map owner_card owners.new.items ≡ map owner_card owners.old.items }
-{
-    let mut all = true;
-    for event in 0..count {
-        let one = put_at(owners, d, event);
-        all = all && one;
+// What one thread does with a pool for the tickets of a gate's processes.
+#[derive(Clone, Copy)]
+enum Pooled {
+    Two,
+    Refused,
+}
+
+impl Alone for Pooled {
+    fn lead<K: Naming, R: Wait + Abort>(
+        &mut self,
+        course: &Course<'_, '_, K, R>,
+        _seat: &mut Seat<K>,
+        tickets: Vec<Ticket<K>>,
+    ) {
+        let answer = match *self {
+            Pooled::Two => share_two(course.rt, course.alloc, tickets),
+            Pooled::Refused => put_more(course.rt, course.alloc, tickets),
+        };
+        answer.expect(course.rt, "memory");
     }
-    all
+}
+
+// The source of so many processes.
+fn processes(rt: &impl Abort, alloc: Global, count: u32) -> String {
+    let mut source = String::from_str(alloc, "module t;").expect(rt, "memory");
+    for _ in 0..count {
+        source.push_str(" initial ;").expect(rt, "memory");
+    }
+    source.push_str(" endmodule").expect(rt, "memory");
+    source
+}
+
+// One thread has the tickets of a gate of so many processes.
+fn play_pooled<R: Wait + Abort>(rt: &R, alloc: Global, count: u32, mut pooled: Pooled) {
+    let source = processes(rt, alloc, count);
+    let closed = play_alone(rt, alloc, source.as_str(), &mut pooled);
+    assert!(rt; closed.end() == End::Running, "another end");
+}
+
+#[test]
+fn a_pool_of_two(rt: HostRuntime) {
+    play_pooled(&rt, rt.alloc(), 2, Pooled::Two);
 }
 
 // Takes from the deque d until it is empty.
-fn take_all<R: Wait>(
+fn take_all<K: Naming, R: Wait>(
     rt: &R,
     alloc: Global,
-    mut owners: Vec<Owner<Ticket>>,
+    mut owners: Vec<Owner<Ticket<K>>>,
     d: usize,
-) -> (Vec<Owner<Ticket>>, Vec<u64>)
+) -> (Vec<Owner<Ticket<K>>>, Vec<u64>)
     ensures { map owner_card result.0.items ≡ map owner_card owners.items }
 {
     let mut got = Vec::new(alloc);
@@ -121,18 +183,26 @@ fn take_all<R: Wait>(
     (owners, got)
 }
 
-// A deque has room for 64 tickets. The next put is refused where memory is, and then the deque has what it had.
-#[test]
-fn a_put_that_is_refused_changes_nothing(rt: HostRuntime) -> Result<(), Fail> {
-    let (mut owners, _thieves) = Pool::new::<Ticket>(rt.alloc(), 2)?;
-    assert!(rt; fill(&mut owners, 0, 64), "the first puts");
-    let hoard = Hoard::new(rt.alloc(), 0, 0)?;
-    let one = put_at(&mut owners, 0, 64);
-    let two = put_at(&mut owners, 0, 64);
+// A deque has room for 64 tickets. The next put is refused where memory is, and then the ticket comes back, and the deque has
+// what it had.
+fn put_more<K: Naming, R: Wait + Abort>(
+    rt: &R,
+    alloc: Global,
+    mut tickets: Vec<Ticket<K>>,
+) -> Result<(), AllocError> {
+    let (mut owners, _thieves) = Pool::new::<Ticket<K>>(alloc, 2)?;
+    let more = last(rt, &mut tickets);
+    assert!(rt; fill(&mut owners, 0, tickets), "the first puts");
+    let hoard = Hoard::new(alloc, 0, 0)?;
+    let back = put_at(&mut owners, 0, more).expect(rt, "memory was refused");
+    let back = put_at(&mut owners, 0, back).expect(rt, "memory was refused");
     drop(hoard);
-    assert!(rt; !one && !two, "memory was refused");
-    assert!(rt; put_at(&mut owners, 0, 64), "a put with more memory");
-    let (_owners, got) = take_all(&rt, rt.alloc(), owners, 0);
+    assert!(rt; back.event() == 64 && back.tries() == 0, "another ticket");
+    assert!(rt;
+        put_at(&mut owners, 0, back).is_none(),
+        "a put with more memory"
+    );
+    let (_owners, got) = take_all(rt, alloc, owners, 0);
     assert_eq!(rt; got.len(), 65);
     for (place, event) in got.iter().enumerate() {
         assert_eq!(rt; *event, place as u64);
@@ -140,20 +210,25 @@ fn a_put_that_is_refused_changes_nothing(rt: HostRuntime) -> Result<(), Fail> {
     Ok(())
 }
 
+#[test]
+fn a_put_that_is_refused_changes_nothing(rt: HostRuntime) {
+    play_pooled(&rt, rt.alloc(), 65, Pooled::Refused);
+}
+
 // Steals by the thief i of a row until its deque is empty.
-fn steal_all<R: Wait>(
+fn steal_all<K: Naming, R: Wait>(
     rt: &R,
     alloc: Global,
-    mut row: Vec<Thief<Ticket>>,
+    mut row: Vec<Thief<Ticket<K>>>,
     i: usize,
-) -> (Vec<Thief<Ticket>>, Vec<u64>)
+) -> (Vec<Thief<Ticket<K>>>, Vec<u64>)
     ensures { map thief_card result.0.items ≡ map thief_card row.items }
 {
     let mut got = Vec::new(alloc);
     for _ in rt.forever() {
         match steal_in(&mut row, i) {
             Stolen::One(ticket) => {
-                if got.push(ticket.event).is_err() {
+                if got.push(ticket.event()).is_err() {
                     break;
                 }
             }
@@ -165,32 +240,32 @@ fn steal_all<R: Wait>(
 }
 
 // A worker's thieves, and the events of the tickets that it stole.
-type Robbed = (Vec<Thief<Ticket>>, Vec<u64>);
+type Robbed<K> = (Vec<Thief<Ticket<K>>>, Vec<u64>);
 
 // Three threads steal from the deque 0: each has the row of its worker, in which that deque is the one of the number named.
-fn steal_by_three<R: Threads + Wait + Sync>(
+fn steal_by_three<K: Naming + Send, R: Threads + Wait + Sync>(
     rt: &R,
     alloc: Global,
-    one: Vec<Thief<Ticket>>,
-    two: Vec<Thief<Ticket>>,
-    three: Vec<Thief<Ticket>>,
-) -> (Robbed, (Robbed, Robbed))
+    one: Vec<Thief<Ticket<K>>>,
+    two: Vec<Thief<Ticket<K>>>,
+    three: Vec<Thief<Ticket<K>>>,
+) -> (Robbed<K>, (Robbed<K>, Robbed<K>))
     ensures { (map thief_card result.0.0.items ≡ map thief_card one.items) × (map thief_card result.1.0.0.items ≡ map thief_card two.items) × (map thief_card result.1.1.0.items ≡ map thief_card three.items) }
 {
     thread::join(
         rt,
-        move || -> Robbed
+        move || -> Robbed<K>
             ensures { map thief_card result.0.items ≡ map thief_card one.items }
         { steal_all(rt, alloc, one, 2) },
-        move || -> (Robbed, Robbed)
+        move || -> (Robbed<K>, Robbed<K>)
             ensures { (map thief_card result.0.0.items ≡ map thief_card two.items) × (map thief_card result.1.0.items ≡ map thief_card three.items) }
         {
             thread::join(
                 rt,
-                move || -> Robbed
+                move || -> Robbed<K>
                     ensures { map thief_card result.0.items ≡ map thief_card two.items }
                 { steal_all(rt, alloc, two, 1) },
-                move || -> Robbed
+                move || -> Robbed<K>
                     ensures { map thief_card result.0.items ≡ map thief_card three.items }
                 { steal_all(rt, alloc, three, 0) },
             )
@@ -208,12 +283,12 @@ struct Got {
 }
 
 // Worker 0 takes from its deque, and the three others steal from it.
-fn race<R: Threads + Wait + Sync>(
+fn race<K: Naming + Send, R: Threads + Wait + Sync>(
     rt: &R,
     alloc: Global,
-    owners: Vec<Owner<Ticket>>,
-    mut thieves: Vec<Vec<Thief<Ticket>>>,
-) -> Option<(Vec<Owner<Ticket>>, Vec<Vec<Thief<Ticket>>>, Got)>
+    owners: Vec<Owner<Ticket<K>>>,
+    mut thieves: Vec<Vec<Thief<Ticket<K>>>>,
+) -> Option<(Vec<Owner<Ticket<K>>>, Vec<Vec<Thief<Ticket<K>>>>, Got)>
     requires { IsPool owners.items thieves.items }
     ensures { IfSome result (λ r. IsPool r.0.items r.1.items) }
 {
@@ -222,10 +297,10 @@ fn race<R: Threads + Wait + Sync>(
     let one = thieves.pop()?;
     let ((owners, mine), ((one, first), ((two, second), (three, third)))) = thread::join(
         rt,
-        move || -> (Vec<Owner<Ticket>>, Vec<u64>)
+        move || -> (Vec<Owner<Ticket<K>>>, Vec<u64>)
             ensures { map owner_card result.0.items ≡ map owner_card owners.items }
         { take_all(rt, alloc, owners, 0) },
-        move || -> (Robbed, (Robbed, Robbed))
+        move || -> (Robbed<K>, (Robbed<K>, Robbed<K>))
             ensures { (map thief_card result.0.0.items ≡ map thief_card one.items) × (map thief_card result.1.0.0.items ≡ map thief_card two.items) × (map thief_card result.1.1.0.items ≡ map thief_card three.items) }
         { steal_by_three(rt, alloc, one, two, three) },
     );
@@ -247,22 +322,8 @@ fn race<R: Threads + Wait + Sync>(
     Some((owners, thieves, got))
 }
 
-#[test]
-fn four_workers_share_one_deque(rt: HostRuntime) -> Result<(), Fail> {
-    let (mut owners, thieves) = Pool::new::<Ticket>(rt.alloc(), 4)?;
-    let all = fill(&mut owners, 0, 256);
-    assert!(rt; all);
-    let raced = race(&rt, rt.alloc(), owners, thieves);
-    assert!(rt; raced.is_some());
-    let Some((owners, thieves, got)) = raced else {
-        return Ok(());
-    };
-    let tally = close(owners, thieves);
-    let stolen = got.first.len() + got.second.len() + got.third.len();
-    assert_eq!(rt;
-        (tally.puts(), tally.takes(), tally.steals(), tally.left()),
-        (256, got.mine.len() as u128, stolen as u128, 0)
-    );
+// Each event of 256 stands once among those of four workers, and those of the owner rise.
+fn assert_got(rt: &impl Abort, got: Got) -> Result<(), AllocError> {
     let mut events = got.mine;
     let rises = events.is_sorted();
     assert!(rt; rises);
@@ -275,4 +336,56 @@ fn four_workers_share_one_deque(rt: HostRuntime) -> Result<(), Fail> {
         assert_eq!(rt; events.get(event), Some(&(event as u64)));
     }
     Ok(())
+}
+
+// Worker 0 puts tickets, and four workers share them.
+fn share_all<K: Naming + Send, R: Threads + Wait + Abort + Sync>(
+    rt: &R,
+    alloc: Global,
+    tickets: Vec<Ticket<K>>,
+) -> Result<(), AllocError> {
+    let (mut owners, thieves) = Pool::new::<Ticket<K>>(alloc, 4)?;
+    let all = fill(&mut owners, 0, tickets);
+    assert!(rt; all);
+    let raced = race(rt, alloc, owners, thieves);
+    assert!(rt; raced.is_some());
+    let Some((owners, thieves, got)) = raced else {
+        return Ok(());
+    };
+    let tally = close(owners, thieves);
+    let stolen = got.first.len() + got.second.len() + got.third.len();
+    assert_eq!(rt;
+        (tally.puts(), tally.takes(), tally.steals(), tally.left()),
+        (256, got.mine.len() as u128, stolen as u128, 0)
+    );
+    assert_got(rt, got)
+}
+
+// Four workers share the tickets of a gate's processes.
+fn open<K: Naming + Send, R: Threads + Wait + Abort + Sync>(
+    rt: &R,
+    alloc: Global,
+    blank: Blank<'_>,
+) -> Result<(), AllocError>
+    requires { blank ≡ K.named }
+{
+    let (_gate, _seats, tickets) = blank.open::<K>(alloc)?;
+    share_all(rt, alloc, tickets)
+}
+
+// The same of a gate of its own.
+fn play_all<R: Threads + Wait + Abort + Sync>(rt: &R, alloc: Global) {
+    let source = processes(rt, alloc, 256);
+    let design = design_of(rt, alloc, source.as_str());
+    let limits = Limits {
+        until: None,
+        max_entries: 1,
+    };
+    let blank = Gate::new(rt, alloc, &design, 1, limits).expect(rt, "memory");
+    open::<Brand, R>(rt, alloc, blank).expect(rt, "memory");
+}
+
+#[test]
+fn four_workers_share_one_deque(rt: HostRuntime) {
+    play_all(&rt, rt.alloc());
 }

@@ -22,7 +22,7 @@ fn assert_lines(rt: &impl Abort, alloc: Global, design: &Design, entries: &[Entr
         .ok()
         .expect(rt, "a lawful journal");
     assert!(rt;
-        replayed.made.lines.as_str() == lines,
+        replayed.lines.as_str() == lines,
         "other lines than the replay's"
     );
 }

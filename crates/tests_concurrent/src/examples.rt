@@ -194,9 +194,9 @@ fn three_times<K: Naming, R: Wait + Abort>(
     take_held(course, two, late);
 }
 
-// Whether a turn read that register 1 was given 0.
-fn read_zero(log: &TurnLog) -> bool {
-    log.reads().get(&1) == Some(&seen_of(1, 1, 0))
+// Whether a turn read that register 0 was all x, and that register 1 was given 0.
+fn read_two_moments(log: &TurnLog) -> bool {
+    read_unknown(log) && log.reads().get(&1) == Some(&seen_of(1, 1, 0))
 }
 
 // A turn that never ends, since it saw one register before another turn and the other after it, is refused. Evaluated
@@ -211,7 +211,7 @@ fn two_moments<K: Naming, R: Wait + Abort>(
     let late = last(rt, &mut tickets);
     let early = first(rt, &mut tickets);
     let log = mixed(course, one, early, two, &late);
-    assert!(rt; read_zero(&log), "another value");
+    assert!(rt; read_two_moments(&log), "other values");
     let late = stale(rt, course.give_up(two, late, &log), 1);
     take_at(course, two, late, 1, (0, seen_of(1, 1, 0)));
 }

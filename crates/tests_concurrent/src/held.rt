@@ -3,9 +3,8 @@ ghost use Rattle.std.specs.Prelude.{◌≡◌};
 ghost use Rattle.std.specs.Thread.{IsSend, IsSync};
 ghost use Rattle.design.specs.contracts.design.Design as design_rows;
 
-use crate::course::{Course, design_of, position_of};
-use crate::examples::overtake_thrice;
-use commitgate::{Blank, Gate, Naming, Seat, Ticket};
+use crate::course::{Course, design_of, last};
+use commitgate::{Blank, Gate, Naming, Rest, Seat, Ticket, UpdatesEnd};
 use design::Design;
 use model::end::Limits;
 use std::alloc::Global;
@@ -16,50 +15,115 @@ use std::sync::atomic::{AtomicBool, Ordering};
 use std::thread;
 use std::thread::{Threads, yield_now};
 
+/// One turn makes updates, which one holding of the lock takes one after another.
+const SOURCE: &str =
+    "module t; reg [15:0] n; reg a, b; initial begin n=16'd0; while (n<16'd5000) begin a<=n[0]; b<=~n[0]; n=n+16'd1; end end endmodule";
+
+// Its updates, and the entries before them: the turn, and the change of the regions.
+const UPDATES: u16 = 10_000;
+
+const BEFORE: u64 = 2;
+
+// How often each register is read in one holding of the lock.
+const READS: u32 = 1_000;
+
+// How many holdings are looked at, and how many more there may be, since a thread may begin to look too late.
+const HOLDINGS: u32 = 100;
+
+const MOST_HOLDINGS: u32 = 1_000;
+
 // How often a thread looks before it gives up.
 const LOOKS: u32 = 1_000_000;
 
-// Evaluates a ticket's turn under the lock, and tells when that begins and when it is over.
-fn hold<K: Naming, R: Wait + Abort>(
+// The only turn, and the change of the regions that makes its updates active.
+fn begin<K: Naming, R: Wait + Abort>(
     course: &Course<'_, '_, K, R>,
-    mut two: Seat<K>,
-    late: Ticket<K>,
-    began: &AtomicBool,
-    over: &AtomicBool,
-) -> Seat<K> {
-    began.store(true, Ordering::SeqCst);
-    let reply = course.commit_held(&mut two, late);
-    over.store(true, Ordering::SeqCst);
-    position_of(course.rt, reply);
-    two
+    seat: &mut Seat<K>,
+    mut tickets: Vec<Ticket<K>>,
+) {
+    let rt = course.rt;
+    course.serve_at(seat, last(rt, &mut tickets), 0);
+    let rest = course.gate.rest(rt, course.alloc, seat);
+    assert!(rt;
+        matches!(rest, Rest::Changed(_)),
+        "no change of the regions"
+    );
 }
 
-// Reads both registers.
-fn read_both<K: Naming, R: Wait + Abort>(course: &Course<'_, '_, K, R>, one: &mut Seat<K>) {
-    course.read(one, 0);
-    course.read(one, 1);
+// Waits until the other thread looks.
+fn wait_for(rt: &impl Abort, looks: &AtomicBool) {
+    for _ in 0..LOOKS {
+        if looks.load(Ordering::SeqCst) {
+            return;
+        }
+        yield_now();
+    }
+    panic!(rt; "the other thread doesn't look");
 }
 
-// How often both registers were read between, until many times.
-fn read_between<K: Naming, R: Wait + Abort>(
+// Makes all updates in one holding of the lock.
+fn update_all<K: Naming, R: Wait + Abort>(
     course: &Course<'_, '_, K, R>,
     mut one: Seat<K>,
-    began: &AtomicBool,
-    over: &AtomicBool,
-) -> (Seat<K>, u32) {
+    looks: &AtomicBool,
+) -> Seat<K> {
+    let rt = course.rt;
+    let room = usize::from(UPDATES) + 1;
+    let mut grants = Vec::with_capacity(course.alloc, room).expect(rt, "memory");
+    wait_for(rt, looks);
+    let end = course
+        .gate
+        .update_all(rt, course.alloc, &mut one, &mut grants);
+    assert!(rt; matches!(end, UpdatesEnd::Nothing) && grants.len() == usize::from(UPDATES));
+    one
+}
+
+// How many updates the mark tells of.
+fn updates<K: Naming, R: Wait + Abort>(course: &Course<'_, '_, K, R>, seat: &mut Seat<K>) -> u64 {
+    let entries = course.gate.entries(course.rt, seat);
+    entries.saturating_sub(BEFORE)
+}
+
+// Whether another thread has the lock: it made some of the updates and not the last one.
+fn is_held(updates: u64) -> bool {
+    0 < updates && updates < u64::from(UPDATES)
+}
+
+// Whether the lock was held from before each register was read until after that.
+fn read_held<K: Naming, R: Wait + Abort>(
+    course: &Course<'_, '_, K, R>,
+    seat: &mut Seat<K>,
+) -> bool {
+    if !is_held(updates(course, seat)) {
+        yield_now();
+        return false;
+    }
+    course.read(seat, 0);
+    course.read(seat, 1);
+    course.read(seat, 2);
+    is_held(updates(course, seat))
+}
+
+// Whether each register was read so often while the lock was held.
+fn read_often<K: Naming, R: Wait + Abort>(
+    course: &Course<'_, '_, K, R>,
+    mut two: Seat<K>,
+    looks: &AtomicBool,
+) -> bool {
+    looks.store(true, Ordering::SeqCst);
     let mut times = 0u32;
     for _ in 0..LOOKS {
-        if over.load(Ordering::SeqCst) {
-            break;
-        }
-        if began.load(Ordering::SeqCst) {
-            read_both(course, &mut one);
+        if read_held(course, &mut two) {
             times = times.saturating_add(1);
-        } else {
-            yield_now();
+        }
+        if times == READS {
+            return true;
+        }
+        if updates(course, &mut two) == u64::from(UPDATES) {
+            return false;
         }
     }
-    (one, times)
+    panic!(course.rt; "the updates don't end")
 }
 
 fn is_shared<T: Sync>()
@@ -77,34 +141,34 @@ fn race<K: Naming + Send + Sync, R: Threads + Wait + Abort + Sync>(
     course: &Course<'_, '_, K, R>,
     one: Seat<K>,
     two: Seat<K>,
-    late: Ticket<K>,
-) -> (Seat<K>, Seat<K>, u32)
+) -> bool
     requires design { IsSync design_rows.the_row }
     requires runtime { IsSync R.row }
     requires name { IsSend K.row }
 {
-    let began = AtomicBool::new(false);
-    let over = AtomicBool::new(false);
-    let (two, (one, times)) = thread::join(
+    let looks = AtomicBool::new(false);
+    let (one, was_read) = thread::join(
         course.rt,
-        || -> Seat<K> { hold(course, two, late, &began, &over) },
-        || -> (Seat<K>, u32) { read_between(course, one, &began, &over) },
+        || -> Seat<K> { update_all(course, one, &looks) },
+        || -> bool { read_often(course, two, &looks) },
     );
-    (one, two, times)
+    drop(one);
+    was_read
 }
 
-// Opens a gate for two workers. One thread evaluates a long turn under the lock, and the other reads meanwhile: how often.
+// Opens a gate for two workers. One of them makes all updates in one holding of the lock, and the other reads meanwhile:
+// whether it read each register often enough before the lock was let go.
 fn run<K: Naming + Send + Sync, R: Threads + Wait + Abort + Sync>(
     rt: &R,
     alloc: Global,
     design: &Design,
     blank: Blank<'_>,
-) -> u32
+) -> bool
     requires name { blank ≡ K.named }
     requires design { design.now ≡ K.named.code }
 {
     let (gate, mut seats, tickets) = blank.open::<K>(alloc).expect(rt, "memory");
-    let mut two = seats.pop().expect(rt, "a seat");
+    let two = seats.pop().expect(rt, "a seat");
     let mut one = seats.pop().expect(rt, "a seat");
     let course = Course {
         rt,
@@ -112,31 +176,32 @@ fn run<K: Naming + Send + Sync, R: Threads + Wait + Abort + Sync>(
         gate: &gate,
         design,
     };
-    let late = overtake_thrice(&course, &mut one, &mut two, tickets);
+    begin(&course, &mut one, tickets);
     design_is_shared();
-    let (_one, _two, times) = race(&course, one, two, late);
-    times
+    race(&course, one, two)
 }
 
-// The same for the gate of a source.
-fn play<R: Threads + Wait + Abort + Sync>(rt: &R, alloc: Global, source: &str) -> u32 {
-    let design = design_of(rt, alloc, source);
+// The same for a gate of its own.
+fn play<R: Threads + Wait + Abort + Sync>(rt: &R, alloc: Global, design: &Design) -> bool {
     let limits = Limits {
         until: None,
-        max_entries: 1_000,
+        max_entries: 20_000,
     };
-    let blank = Gate::new(rt, alloc, &design, 2, limits).expect(rt, "memory");
-    run::<Brand, R>(rt, alloc, &design, blank)
+    let blank = Gate::new(rt, alloc, design, 2, limits).expect(rt, "memory");
+    run::<Brand, R>(rt, alloc, design, blank)
 }
 
 #[test]
 fn registers_are_read_while_the_lock_is_held(rt: HostRuntime) {
-    let source =
-        "module t; reg [15:0] a, b, i; initial a=16'd1; initial a=16'd2; initial a=16'd3; initial begin i=16'd0; while (i<16'd30000) begin i=i+16'd1; end b=a; end endmodule";
-    for _ in 0..100 {
-        if play(&rt, rt.alloc(), source) >= 100 {
+    let design = design_of(&rt, rt.alloc(), SOURCE);
+    let mut read = 0u32;
+    for _ in 0..MOST_HOLDINGS {
+        if play(&rt, rt.alloc(), &design) {
+            read = read.saturating_add(1);
+        }
+        if read == HOLDINGS {
             return;
         }
     }
-    panic!(rt; "no read while the lock was held");
+    panic!(rt; "{read} times of {HOLDINGS}");
 }

@@ -6,7 +6,7 @@
 //! 3. `between` has a reader that lets another seat commit a turn between two reads.
 //! 4. `examples` has worked examples of one and of two seats: what each call answers, and what the gate leaves.
 //! 5. `driven` leads whole journals through a gate by `drive`.
-//! 6. `held` reads registers while another thread has the lock.
+//! 6. `held` reads every register while another thread has the lock, as the mark tells before and after.
 //! 7. `refused` leads a run of one seat in too little memory: what each call answers, and that it succeeds with more.
 //! 8. `stops` stops a run of two seats after each reply: what later calls answer, and what the gate leaves.
 //! 9. `strobes` has a run of one seat with strobes, and its lines.
@@ -18,6 +18,7 @@
 //!     its version.
 //! 14. `wide_cells` stores a cell of 128 digits by one thread and reads it by another: each read gives a whole value.
 //! 15. `hoards` holds all memory, and counts what is left of it.
+//! 16. `starved` evaluates a turn under the lock, copies a journal and leads journals through a gate in too little memory.
 #![tactic(auto)]
 
 #[cfg(test)]
@@ -44,6 +45,8 @@ mod hoards;
 mod pair;
 #[cfg(test)]
 mod refused;
+#[cfg(test)]
+mod starved;
 #[cfg(test)]
 mod stops;
 #[cfg(test)]

@@ -5,6 +5,7 @@ ghost use Rattle.gateparts.specs.Histories.{IsRead};
 
 use crate::alone::{Alone, play_alone};
 use crate::course::{Course, first, keep};
+use crate::examples::COPY;
 use commitgate::{Grant, Naming, Reply, Rest, Seat, Ticket, UpdateReply};
 use hoard::Hoard;
 use model::end::End;
@@ -319,4 +320,10 @@ fn an_update_that_wakes_runs_through_refusals(rt: HostRuntime) {
         "module t; reg a; initial begin a<=1'b0; a<=1'b1; end initial @(posedge a) $display(\"up %b\",a); endmodule";
     let refused = play(&rt, rt.alloc(), source, 6, "up 1\n");
     assert!(rt; refused.updates > 0, "updates");
+}
+
+#[test]
+fn a_copy_runs_through_refusals(rt: HostRuntime) {
+    let refused = play(&rt, rt.alloc(), COPY, 2, "");
+    assert!(rt; refused.evaluations > 0 && refused.commits > 0);
 }

@@ -258,10 +258,7 @@ fn assert_replayed(rt: &impl Abort, alloc: Global, design: &Design, closed: &Clo
     let replayed = replay(alloc, design, closed.entries())
         .ok()
         .expect(rt, "a lawful journal");
-    assert!(rt;
-        replayed.made.lines.as_str() == closed.lines(),
-        "other lines"
-    );
+    assert!(rt; replayed.lines.as_str() == closed.lines(), "other lines");
 }
 
 // What the gate of a source leaves.

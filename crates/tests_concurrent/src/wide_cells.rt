@@ -6,7 +6,7 @@ use regcells::{Holder, RegCells, RegSeat};
 use std::process::Abort;
 use std::sync::Wait;
 use std::test::*;
-use std::thread::{Threads, join};
+use std::thread::{Threads, join, yield_now};
 use turn::Seen;
 
 // The digits of the only register.
@@ -14,6 +14,9 @@ const WIDTH: u32 = 128;
 
 // How often one thread stores: all ones and all zeros by turns, 10,000 times each.
 const STORES: u64 = 20_000;
+
+// How often the other reads before it gives up.
+const LOOKS: u32 = 1_000_000;
 
 // The value of a version: all ones where it is odd, and else all zeros.
 fn value_at(width: u32, version: u64) -> Bits
@@ -55,23 +58,26 @@ fn store_all<R: Wait + Abort>(rt: &R, cells: &RegCells, mut holder: Holder)
     }
 }
 
-// Reads until the last version stands. Whether each read gives what was stored, and none an older version than the one
-// before.
+// Reads until the last version stands. Whether that comes in time, each read gives what was stored, and none an older version
+// than the one before.
 fn read_to_the_last<R: Wait>(rt: &R, cells: &RegCells, mut seat: RegSeat) -> bool
     requires cells { seat.cells ≡ cells.now }
     requires some { 0 < length cells.now }
 {
     let mut good = true;
     let mut version = 0;
-    for _ in rt.forever() {
+    for _ in 0..LOOKS {
         let seen = cells.read(rt, &mut seat, 0);
         good = good & is_stored(&seen) & (version <= seen.version);
-        version = seen.version;
-        if version >= STORES {
-            break;
+        if seen.version >= STORES {
+            return good;
         }
+        if seen.version == version {
+            yield_now();
+        }
+        version = seen.version;
     }
-    good
+    false
 }
 
 // One thread stores, and another reads.
@@ -95,7 +101,7 @@ fn race<R: Threads + Wait + Abort + Sync>(
 
 #[test]
 fn each_read_is_all_ones_or_all_zeros(rt: HostRuntime) -> Result<(), Fail> {
-    let (cells, holder, mut seats) = RegCells::new(&rt, rt.alloc(), &[WIDTH], 1)?;
+    let (cells, holder, mut seats) = RegCells::of_widths(&rt, rt.alloc(), &[WIDTH], 1)?;
     let seat = seats.pop().expect(&rt, "a seat");
     assert!(&rt; race(&rt, &cells, holder, seat));
     Ok(())

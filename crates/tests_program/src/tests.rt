@@ -99,6 +99,8 @@ impl<'a> Files for Memory<'a> {
             written: self.made.clone()?,
         })
     }
+
+    fn close(&mut self, _path: &str, _target: Target) {}
 }
 
 /// A writer that takes one byte a call, and fails after its room.

@@ -5,6 +5,7 @@ mod event_queue;
 mod held;
 mod journal_text;
 mod refused;
+mod replaced;
 mod replayed;
 mod replays;
 mod streams;

@@ -22,7 +22,7 @@ all_reads-append : (xs ys : List Op) → all_reads (xs ++ ys) ≡ all_reads xs +
 all_reads-append [] ys = refl
 all_reads-append (x ∷ xs) ys = ap (λ rs. reads_of x ++ rs) (all_reads-append xs ys) ∙ sym (append_assoc (reads_of x) (all_reads xs) (all_reads ys))
 
-uses_append : (W rs us qs : List ℕ) → with_uses W us (rs ++ qs) ≡ with_uses W (with_uses W us rs) qs
+pub uses_append : (W rs us qs : List ℕ) → with_uses W us (rs ++ qs) ≡ with_uses W (with_uses W us rs) qs
 uses_append W [] us qs = refl
 uses_append W (r ∷ rs) us qs = uses_append W rs (if contains us r || contains W r then us else us ++ r ∷ []) qs
 

@@ -1,16 +1,16 @@
 -- The lines of $strobe statements: at each place the line of the statement there is printed, on every store that agrees
 -- with what was read.
 use Rattle.std.proofs.Common.{◌≡◌, ℕ, zero, suc, ◌+◌, ◌<◌, ◌≤◌, List, [], ◌∷◌, ◌++◌, length, take, get_or, Option, Some, None, refl, sym, ap, ◌∙◌, arith, ⊎_elim, subst}
-use Rattle.std.specs.Prelude.{slice_get}
+use Rattle.std.specs.Prelude.{slice_get, flat_map}
 use Rattle.std.specs.List.{All}
 use Rattle.std.proofs.lemmas.Bool.{cases_lt}
 use Rattle.std.proofs.lemmas.List.{append-nil, length-map, length-replicate, take_more, flat_map_more}
 use Rattle.model.specs.declared.tree.Task.TheVariants as Task
-use Rattle.model.specs.Syntax.{Expressions}
+use Rattle.model.specs.Syntax.{Expressions, all_registers_of}
 use Rattle.model.specs.Design as tree
 use Rattle.model.specs.Design.{Design, Statement, Piece, statement_at}
 use Rattle.model.specs.Expressions.{Store}
-use Rattle.model.specs.Turns.{At, Remainder, line_text, own_values}
+use Rattle.model.specs.Turns.{At, Remainder, with_uses, line_text, own_values}
 use Rattle.model.specs.Runs.{strobe_line, strobe_lines_at}
 use Rattle.design.specs.declared.code.Node.{Node}
 use Rattle.design.specs.declared.code.Op.{Op}
@@ -24,12 +24,13 @@ use Rattle.design.specs.Compiled.{Compiled, design_of}
 use Rattle.design.specs.Meaning.{IsFine, IsCompiled}
 use Rattle.design.proofs.Numbered.{place_named, past_is_empty, end_is_empty, some_process}
 use Rattle.turn.specs.declared.memory.Seen.{Seen}
-use Rattle.turn.specs.Reads.{Agrees, GaveAll}
-use Rattle.turn.specs.Evaluate.{Knows, written}
+use Rattle.turn.specs.Reads.{registers, Agrees}
+use Rattle.turn.specs.Evaluate.{Knows, written, written_in}
 use Rattle.turn.specs.Progress.{Status, fresh, printing}
-use Rattle.turn.specs.Strobes.{PrintsStrobe, HasGiven, AreStrobeLines}
+use Rattle.turn.specs.Strobes.{PrintsStrobe, strobe_uses, strobe_uses_at, AreStrobeLines}
 use Rattle.turn.proofs.Values.{Lined, lined}
 use Rattle.turn.proofs.Steps.{not_past}
+use Rattle.turn.proofs.Runs.{uses_append}
 use Rattle.turn.proofs.Turns.{knows_none}
 
 -- what was printed is the lines of the $strobe statements at these places, and nothing was written
@@ -38,6 +39,7 @@ pub record Strobed (code : Compiled) (places : List ℕ) (s : Status) : Type 0 w
   pub writes : s.writes ≡ []
   pub knows : Knows s.writes s.reads s.known
   pub lines : (store : Store) → length store ≡ length code.widths → Agrees s.reads store → s.lines ≡ strobe_lines_at (design_of code) store places
+  pub uses : registers s.reads ≡ strobe_uses_at (design_of code) places
 
 pub strobed_none : (code : Compiled) (state : ProcState) → Strobed code [] (fresh state (length code.widths))
 strobed_none code state = record {
@@ -45,6 +47,7 @@ strobed_none code state = record {
   writes = refl;
   knows = knows_none (length code.widths);
   lines = λ store len agree. refl;
+  uses = refl;
 }
 
 -- a list of places with one more
@@ -62,9 +65,21 @@ module _ (code : Compiled) (places : List ℕ) (place : ℕ) where
   abbrev line_there : Store → List ℕ
   line_there store = strobe_line (design_of code) store (statement_at (design_of code) place)
 
-  -- no line is printed at the place
+  -- the registers that the line of the statement at the place uses
+  abbrev uses_there : List ℕ
+  uses_there = strobe_uses (statement_at (design_of code) place)
+
+  -- no line is printed at the place, and no register used
   abbrev IsStill : Type 0
-  IsStill = (store : Store) → line_there store ≡ []
+  IsStill = ((store : Store) → line_there store ≡ []) × (uses_there ≡ [])
+
+  -- one place more, and the registers that its line uses
+  uses_more : (before after rs : List ℕ) → before ≡ strobe_uses_at (design_of code) places → after ≡ with_uses [] before rs → rs ≡ uses_there → after ≡ strobe_uses_at (design_of code) (with_place places place)
+  uses_more before after rs e1 e2 e3 =
+      let used : ℕ → List ℕ = λ p. strobe_uses (statement_at (design_of code) p) in
+      e2 ∙ ap (λ us. with_uses [] us rs) e1 ∙ ap (with_uses [] (strobe_uses_at (design_of code) places)) e3
+      ∙ sym (uses_append [] (flat_map used places) [] uses_there)
+      ∙ ap (with_uses [] []) (flat_map_more used [] places place)
 
   -- one place more, and its line
   lines_more : (store : Store) (before after line : List ℕ) → before ≡ strobe_lines_at (design_of code) store places → after ≡ before ++ line → line ≡ line_there store → after ≡ strobe_lines_at (design_of code) store (with_place places place)
@@ -72,13 +87,18 @@ module _ (code : Compiled) (places : List ℕ) (place : ℕ) where
       e2 ∙ ap (λ l. l ++ line) e1 ∙ ap (λ l. strobe_lines_at (design_of code) store places ++ l) e3
       ∙ flat_map_more (λ p. strobe_line (design_of code) store (statement_at (design_of code) p)) [] places place
 
+  -- nor is one where nothing stands
+  still_empty : statement_at (design_of code) place ≡ tree.Empty → IsStill
+  still_empty is = (λ store. ap (strobe_line (design_of code) store) is, ap strobe_uses is)
+
   -- nothing is printed where no $strobe stands
   strobed_still : (s s' : Status) → Strobed code places s → IsStill → s' ≡ s → Strobed code (with_place places place) s'
   strobed_still s s' strobed still same = subst (Strobed code (with_place places place)) (sym same) (record {
     size = strobed.size;
     writes = strobed.writes;
     knows = strobed.knows;
-    lines = λ store len agree. lines_more store s.lines s.lines [] (strobed.lines store len agree) (sym (append-nil s.lines)) (sym (still store));
+    lines = λ store len agree. lines_more store s.lines s.lines [] (strobed.lines store len agree) (sym (append-nil s.lines)) (sym (still.0 store));
+    uses = uses_more (registers s.reads) (registers s.reads) [] strobed.uses refl (sym still.1);
   })
 
   -- a line is printed where one stands
@@ -95,6 +115,9 @@ module _ (code : Compiled) (places : List ℕ) (place : ℕ) where
             l.lines store (len ∙ sym strobed.size) agree ∙ ap (λ ws. s.lines ++ line_text format (own_values code.widths (written store ws) arguments)) strobed.writes in
             lines_more store s.lines (m.lines ++ 10 ∷ []) line
             (strobed.lines store len (l.continues.agrees store agree)) printed (sym (ap (strobe_line (design_of code) store) is));
+        uses = uses_more (registers s.reads) (registers m.reads) (all_registers_of arguments) strobed.uses
+            (l.continues.uses ∙ ap (λ ws. with_uses (written_in ws) (registers s.reads) (all_registers_of arguments)) strobed.writes)
+            (sym (ap strobe_uses is));
       })
 
   module _ (p : ℕ) (own : IsPlaceOf (design_of code) p place) where
@@ -104,35 +127,38 @@ module _ (code : Compiled) (places : List ℕ) (place : ℕ) where
         ap (statement_at (design_of code)) (sym (place_named (design_of code) p place named rest own left)) ∙ is
 
     -- a statement that isn't a $strobe has no line
-    still_there : (named : ℕ) (rest : Remainder) (st : Statement) → remainder_at (design_of code) place ≡ At named ∷ rest → statement_at (design_of code) named ≡ st → ((store : Store) → strobe_line (design_of code) store st ≡ []) → IsStill
-    still_there named rest st left is none store = ap (strobe_line (design_of code) store) (statement_there named rest st left is) ∙ none store
+    still_there : (named : ℕ) (rest : Remainder) (st : Statement) → remainder_at (design_of code) place ≡ At named ∷ rest → statement_at (design_of code) named ≡ st → ((store : Store) → strobe_line (design_of code) store st ≡ []) → strobe_uses st ≡ [] → IsStill
+    still_there named rest st left is none unused = (
+      λ store. ap (strobe_line (design_of code) store) (statement_there named rest st left is) ∙ none store,
+      ap strobe_uses (statement_there named rest st left is) ∙ unused,
+    )
 
     -- nor has the end of a process
     still_end : remainder_at (design_of code) place ≡ [] → IsStill
-    still_end left store = ap (strobe_line (design_of code) store) (end_is_empty (design_of code) p place own left)
+    still_end left = still_empty (end_is_empty (design_of code) p place own left)
 
     -- each node
     node_strobed : (i : Node) (s s' : Status) → IsCompiled code → Strobed code places s → IsFine code p i (remainder_at (design_of code) place) → PrintsStrobe code.ops code.shown (Some i) s s' → Strobed code (with_place places place) s'
     node_strobed node.Over s s' is strobed (left, still) e = strobed_still s s' strobed (still_end left) e
     node_strobed (node.Restart to) s s' is strobed (left, again, there, within) e = strobed_still s s' strobed (still_end left) e
-    node_strobed (node.Skip to) s s' is strobed (n, (left, st, within)) e = strobed_still s s' strobed (still_there n _ tree.Empty left st (λ store. refl)) e
-    node_strobed (node.Assign q span to) s s' is strobed (n, (x, (left, st, c, fits, within))) e = strobed_still s s' strobed (still_there n _ (tree.Assign q x) left st (λ store. refl)) e
-    node_strobed (node.AssignAfter q delay span to) s s' is strobed (n, (x, (left, st, c, fits, within))) e = strobed_still s s' strobed (still_there n _ (tree.AssignAfter q delay x) left st (λ store. refl)) e
-    node_strobed (node.AssignLater q delay span to) s s' is strobed (n, (x, (left, st, c, fits, within))) e = strobed_still s s' strobed (still_there n _ (tree.AssignLater q delay x) left st (λ store. refl)) e
-    node_strobed (node.Delay delay to) s s' is strobed (n, (body, (rest, (left, st, there, within)))) e = strobed_still s s' strobed (still_there n rest (tree.Delay delay body) left st (λ store. refl)) e
-    node_strobed (node.Await control to) s s' is strobed (n, (body, (rest, (triggers, (left, found, st, there, within))))) e = strobed_still s s' strobed (still_there n rest (tree.Await triggers body) left st (λ store. refl)) e
+    node_strobed (node.Skip to) s s' is strobed (n, (left, st, within)) e = strobed_still s s' strobed (still_there n _ tree.Empty left st (λ store. refl) refl) e
+    node_strobed (node.Assign q span to) s s' is strobed (n, (x, (left, st, c, fits, within))) e = strobed_still s s' strobed (still_there n _ (tree.Assign q x) left st (λ store. refl) refl) e
+    node_strobed (node.AssignAfter q delay span to) s s' is strobed (n, (x, (left, st, c, fits, within))) e = strobed_still s s' strobed (still_there n _ (tree.AssignAfter q delay x) left st (λ store. refl) refl) e
+    node_strobed (node.AssignLater q delay span to) s s' is strobed (n, (x, (left, st, c, fits, within))) e = strobed_still s s' strobed (still_there n _ (tree.AssignLater q delay x) left st (λ store. refl) refl) e
+    node_strobed (node.Delay delay to) s s' is strobed (n, (body, (rest, (left, st, there, within)))) e = strobed_still s s' strobed (still_there n rest (tree.Delay delay body) left st (λ store. refl) refl) e
+    node_strobed (node.Await control to) s s' is strobed (n, (body, (rest, (triggers, (left, found, st, there, within))))) e = strobed_still s s' strobed (still_there n rest (tree.Await triggers body) left st (λ store. refl) refl) e
     node_strobed (node.Branch span taken missed) s s' is strobed (n, (c, (rest, (left, computes, test, w1, w2)))) e =
         let still : IsStill = ⊎_elim
-        (λ (body, (otherwise, (st, e1, e2))). still_there n rest (tree.If c body otherwise) left st (λ store. refl))
-        (λ (body, (st, e1, e2)). still_there n rest (tree.While c body) left st (λ store. refl))
+        (λ (body, (otherwise, (st, e1, e2))). still_there n rest (tree.If c body otherwise) left st (λ store. refl) refl)
+        (λ (body, (st, e1, e2)). still_there n rest (tree.While c body) left st (λ store. refl) refl)
         test in
         strobed_still s s' strobed still e
-    node_strobed (node.Print Task.Display span to) s s' is strobed (n, (format, (arguments, (left, st, line, within)))) e = strobed_still s s' strobed (still_there n _ (tree.Print Task.Display format arguments) left st (λ store. refl)) e
+    node_strobed (node.Print Task.Display span to) s s' is strobed (n, (format, (arguments, (left, st, line, within)))) e = strobed_still s s' strobed (still_there n _ (tree.Print Task.Display format arguments) left st (λ store. refl) refl) e
     node_strobed (node.Print Task.Strobe span to) s s' is strobed (n, (format, (arguments, (left, st, line, within)))) (m, (prints, e)) =
         let all : All (IsOpOf (length s.known)) code.ops = subst (λ k. All (IsOpOf k) code.ops) (sym strobed.size) is.ops in
         let l = lined code.widths code.ops (piece code.shown span) s m format arguments all strobed.knows line prints in
         strobed_line s m s' format arguments strobed (statement_there n _ (tree.Print Task.Strobe format arguments) left st) l e
-    node_strobed (node.Finish to) s s' is strobed (n, (left, st, within)) e = strobed_still s s' strobed (still_there n _ tree.Finish left st (λ store. refl)) e
+    node_strobed (node.Finish to) s s' is strobed (n, (left, st, within)) e = strobed_still s s' strobed (still_there n _ tree.Finish left st (λ store. refl) refl) e
 
   -- as many nodes as statements and ends
   count_there : IsCompiled code → length code.nodes ≡ statement_count (design_of code) + length (design_of code).processes
@@ -144,7 +170,7 @@ module _ (code : Compiled) (places : List ℕ) (place : ℕ) where
       (λ within. absurd (not_past code.nodes place within found))
       (λ behind. omega (arith, behind, is.count))
       (cases_lt place (length code.nodes)) in
-      strobed_still s s' strobed (λ store. ap (strobe_line (design_of code) store) (past_is_empty (design_of code) place past)) e
+      strobed_still s s' strobed (still_empty (past_is_empty (design_of code) place past)) e
   some_strobed (Some i) s s' is strobed found prints =
       let within : place < length code.nodes = ⊎_elim (λ lt. lt) (λ behind. absurd (past_none code.nodes place i behind found)) (cases_lt place (length code.nodes)) in
       let (p, (among, own)) = some_process (design_of code) place (omega (arith, within, count_there is)) in
@@ -160,14 +186,12 @@ pub strobed_next : (code : Compiled) (places : List ℕ) (i : ℕ) (s s' : Statu
 strobed_next code places i s s' lt is strobed prints =
     subst (λ ps. Strobed code ps s') (sym (take_more places i 0 lt)) (strobed_more code (take i places) (get_or places i 0) s s' is strobed prints)
 
--- what a reader gave agrees with each store that has it
-agrees_given : (gave : ℕ → Seen → Type 0) (reads : List (ℕ × Seen)) (store : Store) → GaveAll gave reads → HasGiven gave store → Agrees reads store
-agrees_given gave [] store given has = tt
-agrees_given gave (r ∷ reads) store given has = (has r.0 r.1 given.0, agrees_given gave reads store given.1 has)
-
 -- the text of all places
-pub strobed_all : (code : Compiled) (places : List ℕ) (s : Status) (gave : ℕ → Seen → Type 0) (text : List ℕ) → Strobed code places s → GaveAll gave s.reads → text ≡ s.lines → AreStrobeLines code places gave text
-strobed_all code places s gave text strobed given same store len has = same ∙ strobed.lines store len (agrees_given gave s.reads store given has)
+pub strobed_all : (code : Compiled) (places : List ℕ) (s : Status) (reads : List (ℕ × Seen)) (text : List ℕ) → Strobed code places s → reads ≡ s.reads → text ≡ s.lines → AreStrobeLines code places reads text
+strobed_all code places s reads text strobed read same = record {
+  lines = λ store len agree. same ∙ strobed.lines store len (subst (λ rs. Agrees rs store) read agree);
+  uses = ap registers read ∙ strobed.uses;
+}
 
 -- a step over the lists that the program has
 pub printed : (code : Compiled) (nodes : List Node) (ops : List Op) (shown : List Shown) (place : ℕ) (s s' : Status) → nodes ≡ code.nodes → ops ≡ code.ops → shown ≡ code.shown → PrintsStrobe ops shown (slice_get nodes place) s s' → PrintsStrobe code.ops code.shown (slice_get code.nodes place) s s'

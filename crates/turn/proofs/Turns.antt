@@ -1,8 +1,7 @@
 -- The steps of a turn, one after another.
-use Rattle.std.proofs.Common.{◌≡◌, ℕ, zero, suc, ◌+◌, ◌≤◌, Bool, true, false, nat_le, List, [], ◌∷◌, ◌++◌, map, length, replicate, Option, Some, None, refl, sym, ap, ◌∙◌, arith, zero-add, subst, if◌then◌else◌}
+use Rattle.std.proofs.Common.{◌≡◌, ℕ, zero, suc, ◌+◌, ◌≤◌, Bool, true, false, nat_le, List, [], ◌∷◌, ◌++◌, map, length, replicate, Option, Some, None, refl, sym, ap, ◌∙◌, arith, zero-add, add-one, subst, if◌then◌else◌}
 use Rattle.std.specs.Prelude.{slice_get, slice_index_or, is_some}
-use Rattle.std.specs.Option.{IsSomeAnd}
-use Rattle.std.specs.String.{string_bytes}
+use Rattle.std.specs.Option.{IsSomeAnd, option_and_then, option_map}
 use Rattle.std.specs.List.{All}
 use Rattle.std.proofs.lemmas.List.{length-replicate}
 use Rattle.std.proofs.lemmas.List.Elements.{All-nil}
@@ -29,6 +28,7 @@ use Rattle.turn.specs.declared.log.Suspend.TheVariants as suspends
 use Rattle.turn.specs.declared.machine.Step.{Step}
 use Rattle.turn.specs.declared.machine.Step.TheVariants as step
 use Rattle.turn.specs.Reads.{registers, AreDeclared, Agrees}
+use Rattle.turn.specs.Partial.{under_way, going_after, first_uses}
 use Rattle.turn.specs.Evaluate.{Knows}
 use Rattle.turn.specs.Progress.{Status, fresh}
 use Rattle.turn.specs.Machine.{Takes, TakesSome, TakesPending, IsEndNode, IsAtEnd}
@@ -42,6 +42,7 @@ use Rattle.turn.proofs.Steps.{going_of, turn_of, Sound, takes_follows, not_past,
 pub record ReachedIn (code : Compiled) (p now : ℕ) (state : ProcState) (count : ℕ) (s : Status) : Type 0 where
   pub sound : Sound code p s
   pub goes : (store : Store) → length store ≡ length code.widths → Agrees s.reads store → (k : ℕ) → turn_within (count + k) (design_of code) p now (begun (remainder_of code state) store) ≡ turn_within k (design_of code) p now (going_of code store count s)
+  pub passed : (store : Store) → length store ≡ length code.widths → Agrees s.reads store → going_after count (design_of code) p now (begun (remainder_of code state) store) ≡ Some (going_of code store count s)
 
 -- the same for each process with this state
 abbrev pub Reached : Compiled → ProcState → ℕ → ℕ → Status → Type 0
@@ -70,6 +71,10 @@ knows_none n = record {
   marks = λ r lt. none_marked n r;
 }
 
+after_none : (design : Design) (p now : ℕ) (g : Going) → going_after 0 design p now g ≡ Some g
+unfolding going_after
+after_none design p now g = refl
+
 pub reached_none : (code : Compiled) (state : ProcState) (now : ℕ) → Reached code state now 0 (fresh state (length code.widths))
 reached_none code state now p start = record {
   sound = record {
@@ -80,6 +85,7 @@ reached_none code state now p start = record {
     nbas = All-nil _;
   };
   goes = λ store len agree k. ap (λ n. turn_within n (design_of code) p now (begun (remainder_of code state) store)) (zero-add k);
+  passed = λ store len agree. after_none (design_of code) p now (begun (remainder_of code state) store);
 }
 
 -- ---- one step more
@@ -87,6 +93,11 @@ reached_none code state now p start = record {
 goes_more : (design : Design) (p now k : ℕ) (g h : Going) → next design p now g g.left ≡ turns.Goes h → turn_within (suc k) design p now g ≡ turn_within k design p now h
 unfolding turn_within
 goes_more design p now k g h e = rw e refl
+
+after_more : (design : Design) (p now k : ℕ) (g h i : Going) → going_after k design p now g ≡ Some h → next design p now h h.left ≡ turns.Goes i → going_after (k + 1) design p now g ≡ Some i
+unfolding going_after
+after_more design p now k g h i e f =
+    ap (λ n. going_after n design p now g) (add-one k) ∙ ap (option_and_then (λ j. under_way (next design p now j j.left))) e ∙ ap under_way f
 
 over_more : (design : Design) (p now k : ℕ) (g : Going) (turn : Turn) → next design p now g g.left ≡ turns.Over turn → turn_within (suc k) design p now g ≡ Some turn
 unfolding turn_within
@@ -103,6 +114,9 @@ reached_more code is state now count s s' reached takes p start =
           ap (λ n. turn_within n (design_of code) p now (begun (remainder_of code state) store)) sum
           ∙ r.goes store len (f.agrees store agree) (suc k)
           ∙ goes_more (design_of code) p now k (going_of code store count s) (going_of code store (count + 1) s') (f.goes store count len agree);
+      passed = λ store len agree.
+          after_more (design_of code) p now count (begun (remainder_of code state) store) (going_of code store count s) (going_of code store (count + 1) s')
+          (r.passed store len (f.agrees store agree)) (f.goes store count len agree);
     }
 
 -- ---- the end
@@ -269,7 +283,13 @@ too_long code is state now count s reached full not p start store len agree =
     ap if_short (ap (λ n. turn_within (n + 1) (design_of code) p now (begun (remainder_of code state) store)) (sym full) ∙ r.goes store len agree 1 ∙ one_within (design_of code) p now g)
     ∙ long_none (design_of code) p now (next (design_of code) p now g g.left) long
 
--- and its reads are of declared registers
+-- and its reads are what these steps used
+pub uses_first : (code : Compiled) (state : ProcState) (now count : ℕ) (s : Status) → Reached code state now count s → count ≡ most_steps → (p : ℕ) → IsStateOf code p state → (store : Store) → length store ≡ length code.widths → Agrees s.reads store → first_uses (design_of code) p (remainder_of code state) store now ≡ Some (registers s.reads)
+uses_first code state now count s reached full p start store len agree =
+    ap (λ n. option_map (λ (g : Going). g.uses) (going_after n (design_of code) p now (begun (remainder_of code state) store))) (sym full)
+    ∙ ap (option_map (λ (g : Going). g.uses)) ((reached p start).passed store len agree)
+
+-- and they are of declared registers
 pub reads_declared : (code : Compiled) (state : ProcState) (now count : ℕ) (s : Status) → Reached code state now count s → (p : ℕ) → IsStateOf code p state → AreDeclared (length code.widths) s.reads
 reads_declared code state now count s reached p start =
     let f = (reached p start).sound in

@@ -1,5 +1,5 @@
 -- What a turn answers.
-use Rattle.std.specs.Prelude.{◌≡◌, ℕ, List, [], length, None}
+use Rattle.std.specs.Prelude.{◌≡◌, ℕ, List, length, Some, None}
 use Rattle.std.specs.Option.{IsSomeAnd}
 use Rattle.model.specs.Expressions.{Store}
 use Rattle.model.specs.Turns.{short_turn}
@@ -9,7 +9,8 @@ use Rattle.design.specs.Standing.{remainder_of, controls_of, IsStateOf}
 use Rattle.turn.specs.declared.memory.Seen.{Seen}
 use Rattle.turn.specs.declared.log.TurnFault.{TurnFault}
 use Rattle.turn.specs.declared.log.TurnFault.TheVariants.{TooLong, Memory}
-use Rattle.turn.specs.Reads.{AreDeclared, Agrees}
+use Rattle.turn.specs.Reads.{registers, AreDeclared, Agrees}
+use Rattle.turn.specs.Partial.{first_uses}
 use Rattle.turn.specs.Logs.{LogView, IsLogOf, LogFits}
 
 -- The log is the short turn of the process, on every store that agrees with the reads, which are of declared registers. What is left is a state of the
@@ -21,11 +22,14 @@ pub record IsTurnLog (code : Compiled) (state : ProcState) (now : ℕ) (log : Lo
   pub next : (p : ℕ) → IsStateOf code p state → IsStateOf code p log.next
   pub fits : (p : ℕ) → IsStateOf code p state → LogFits code.widths log
 
--- where a turn is too long, no store that agrees with the reads so far gives the process a short turn
+-- where a turn is too long, no store that agrees with the reads so far gives the process a short turn, and on each the reads are
+-- what as many counted steps as a turn may have use, in the order of first use
 abbrev pub IsNoTurn : Compiled → ProcState → ℕ → List (ℕ × Seen) → TurnFault → Type 0
 IsNoTurn code state now reads TooLong =
     (p : ℕ) → IsStateOf code p state
     → AreDeclared (length code.widths) reads
     × ((store : Store) → length store ≡ length code.widths → Agrees reads store
     → short_turn (design_of code) p (remainder_of code state) store now ≡ None)
+    × ((store : Store) → length store ≡ length code.widths → Agrees reads store
+    → first_uses (design_of code) p (remainder_of code state) store now ≡ Some (registers reads))
 IsNoTurn code state now reads Memory = Unit {0}

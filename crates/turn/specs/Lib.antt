@@ -6,5 +6,6 @@ pub mod Evaluate
 pub mod Progress
 pub mod Machine
 pub mod Logs
+pub mod Partial
 pub mod Answers
 pub mod Strobes

@@ -1,6 +1,6 @@
 //! The lines of `$strobe` (17.1.2).
 ghost use Rattle.std.specs.Prelude.{◌≡◌, ◌≤◌, length, slice_get, string_bytes, OnOk, IfOk};
-ghost use Rattle.turn.specs.Reads.{GaveAll};
+ghost use Rattle.turn.specs.Reads.{GaveAll, Keeps};
 ghost use Rattle.turn.specs.Evaluate.{NamesDeclared};
 ghost use Rattle.turn.specs.Progress.{status_of};
 ghost use Rattle.turn.specs.Strobes.{PrintsStrobe, AreStrobeLines};
@@ -27,6 +27,7 @@ impl Progress {
         requires { NamesDeclared R.registers ops.now }
         ensures prints { OnOk result (PrintsStrobe ops.now shown.now (slice_get nodes.now place) (status_of self.old) (status_of self.new)) }
         ensures gave { OnOk result (GaveAll (R.gave reader.old) self.old.memory.reads.entries → GaveAll (R.gave reader.new) self.new.memory.reads.entries) }
+        ensures keeps { Keeps (R.gave reader.old) (R.gave reader.new) }
         ensures lasting { R.lasting reader.new ≡ R.lasting reader.old }
     {
         if let Some(
@@ -52,7 +53,9 @@ fn print_lines<R: RegReader>(
     reader: &mut R,
 ) -> Result<(), AllocError>
     requires registers { length design.now.widths ≤ R.registers }
-    ensures lines { OnOk result (AreStrobeLines design.now places.now (R.gave reader.new) (string_bytes progress.new.lines)) }
+    ensures lines { OnOk result (AreStrobeLines design.now places.now progress.new.memory.reads.entries (string_bytes progress.new.lines)) }
+    ensures gave { OnOk result (GaveAll (R.gave reader.new) progress.new.memory.reads.entries) }
+    ensures keeps { Keeps (R.gave reader.old) (R.gave reader.new) }
     ensures lasting { R.lasting reader.new ≡ R.lasting reader.old }
 {
     let nodes = design.nodes();
@@ -70,8 +73,8 @@ fn print_lines<R: RegReader>(
 }
 
 /// The lines of the `$strobe` statements at these places, one after another (17.1.2): nothing where none stands. Their
-/// arguments have the values that the reader gives, each register's that of its first use. Fails where memory is refused.
-/// It works in a log that its caller keeps, which is then that of no turn.
+/// arguments have the values that the reader gives: a register is read once, at its first use. Fails where memory is refused.
+/// It works in a log that its caller keeps, which is then that of no turn, and has these reads.
 pub fn strobe_lines<R: RegReader>(
     alloc: Global,
     log: &mut TurnLog,
@@ -80,7 +83,9 @@ pub fn strobe_lines<R: RegReader>(
     reader: &mut R,
 ) -> Result<String, AllocError>
     requires registers { length design.now.widths ≤ R.registers }
-    ensures lines { IfOk result (λ text. AreStrobeLines design.now places.now (R.gave reader.new) (string_bytes text)) }
+    ensures lines { IfOk result (λ text. AreStrobeLines design.now places.now log.new.reads (string_bytes text)) }
+    ensures gave { OnOk result (GaveAll (R.gave reader.new) log.new.reads) }
+    ensures keeps { Keeps (R.gave reader.old) (R.gave reader.new) }
     ensures lasting { R.lasting reader.new ≡ R.lasting reader.old }
 {
     print_lines(&mut log.progress, design, places, reader)?;

@@ -1,11 +1,11 @@
 -- From facts on the one cut of a text to facts on the text.
-use Rattle.std.proofs.Common.{◌≡◌, ℕ, List, false, ◌⊎◌, inl, inr, refl, ap, subst}
+use Rattle.std.proofs.Common.{◌≡◌, ℕ, ◌+◌, ◌≤◌, List, length, false, ◌⊎◌, inl, inr, refl, ap, subst, arith}
 use Rattle.tokens.specs.Tokens.{PlainTokens}
 use Rattle.model.specs.Syntax.{Module}
 use Rattle.grammar.specs.Grammar.{IsModule}
 use Rattle.vparse.specs.Nesting.{IsDeep}
 use Rattle.tokens.specs.Lexing.{Cut, stray, bad_number, Stops}
-use Rattle.vparse.specs.Spells.{Spells, IsDeepText}
+use Rattle.vparse.specs.Spells.{Spells, IsUnspelledAt, IsDeepText}
 use Rattle.vparse.specs.Faults.{of_cut, of_tokens, is_syntax}
 use Rattle.tokens.specs.declared.cut.CutFault.{CutFault}
 use Rattle.tokens.specs.declared.cut.CutFault.TheVariants as cut_fault
@@ -72,17 +72,23 @@ tokens_not fault.Unsized n place = ((λ h. cc), (λ h. cc))
 tokens_not fault.Deep n place = ((λ h. cc), (λ h. cc))
 tokens_not fault.Memory n place = ((λ h. cc), (λ h. cc))
 
-pub tokens_syntax : (bad : Fault) (n k : ℕ) → is_syntax bad ≡ false → of_tokens bad n ≡ Syntax k → ⊥
-tokens_syntax fault.Syntax n k h e = cc
-tokens_syntax fault.Unsized n k h e = cc
-tokens_syntax fault.Deep n k h e = cc
-tokens_syntax fault.Memory n k h e = cc
+-- no module is spelled, at this token or at the end of the text
+unspelled : (text : List ℕ) (ts : PlainTokens) (m n : ℕ) → Cut text ts → ((x : Module) → IsModule x ts → ⊥) → 1 ≤ m → m ≤ length ts + 1 → m ≡ n → IsUnspelledAt text n
+unspelled text ts m n d none counted within e = record { tokens = ts; cut = d; none = none; counted = omega (arith, counted, e); within = omega (arith, within, e) }
 
-pub tokens_unsized : (bad : Fault) (n k : ℕ) → is_syntax bad ≡ false → of_tokens bad n ≡ Unsized k → ⊥
-tokens_unsized fault.Syntax n k h e = cc
-tokens_unsized fault.Unsized n k h e = cc
-tokens_unsized fault.Deep n k h e = cc
-tokens_unsized fault.Memory n k h e = cc
+pub tokens_syntax : (text : List ℕ) (ts : PlainTokens) (bad : Fault) (m n : ℕ) → Cut text ts → ((x : Module) → IsModule x ts → is_syntax bad ≡ false)
+    → 1 ≤ m → m ≤ length ts + 1 → of_tokens bad m ≡ Syntax n → IsUnspelledAt text n
+tokens_syntax text ts fault.Syntax m n d none counted within e = unspelled text ts m n d (λ x h. let no = none x h in cc) counted within (cc)
+tokens_syntax text ts fault.Unsized m n d none counted within e = absurd (cc)
+tokens_syntax text ts fault.Deep m n d none counted within e = absurd (cc)
+tokens_syntax text ts fault.Memory m n d none counted within e = absurd (cc)
+
+pub tokens_unsized : (text : List ℕ) (ts : PlainTokens) (bad : Fault) (m n : ℕ) → Cut text ts → ((x : Module) → IsModule x ts → is_syntax bad ≡ false)
+    → 1 ≤ m → m ≤ length ts + 1 → of_tokens bad m ≡ Unsized n → IsUnspelledAt text n
+tokens_unsized text ts fault.Syntax m n d none counted within e = absurd (cc)
+tokens_unsized text ts fault.Unsized m n d none counted within e = unspelled text ts m n d (λ x h. let no = none x h in cc) counted within (cc)
+tokens_unsized text ts fault.Deep m n d none counted within e = absurd (cc)
+tokens_unsized text ts fault.Memory m n d none counted within e = absurd (cc)
 
 pub tokens_deep : (bad : Fault) (n k : ℕ) → of_tokens bad n ≡ Deep k → bad ≡ fault.Deep
 tokens_deep fault.Syntax n k h = cc

@@ -1,13 +1,13 @@
 //! From a text to a module.
 
-ghost use Rattle.std.specs.Prelude.{◌≡◌, ◌≤◌, ◌+◌, ◌⊎◌, ℕ, map, false, IfOk, MatchResult};
+ghost use Rattle.std.specs.Prelude.{◌≡◌, ◌≤◌, ◌+◌, ◌⊎◌, ℕ, map, length, false, IfOk, IfErr, MatchResult};
 ghost use Rattle.tokens.specs.Tokens.{plain_token};
 ghost use Rattle.tokens.specs.Lexing.{Stops, stray, bad_number};
 ghost use Rattle.model.specs.Trees.{module_of};
 ghost use Rattle.model.specs.Syntax as tree;
 ghost use Rattle.grammar.specs.Grammar.{IsModule};
 ghost use Rattle.vparse.specs.Nesting.{IsDeep, IsDeepAt};
-ghost use Rattle.vparse.specs.Spells.{Spells, IsDeepText, IsDeepTextAt};
+ghost use Rattle.vparse.specs.Spells.{Spells, IsUnspelledAt, IsDeepText, IsDeepTextAt};
 ghost use Rattle.vparse.specs.Faults.{of_cut, of_tokens, is_syntax};
 
 use crate::nesting::too_deep;
@@ -27,7 +27,9 @@ struct Misfit {
 
 /// The number of a token, by how many are left there. The end of the text counts as the last token.
 fn number(all: usize, left: usize) -> usize
-    ensures { 1 ≤ left → left ≤ all → result + left ≡ all + 1 }
+    ensures place { 1 ≤ left → left ≤ all → result + left ≡ all + 1 }
+    ensures counted { 1 ≤ result }
+    ensures within { result ≤ all + 1 }
 {
     all.saturating_sub(left).saturating_add(1)
 }
@@ -45,6 +47,8 @@ fn read_module(alloc: Global, tokens: &[Token<'_>]) -> Result<Module, Misfit>
     ensures syntax { (m : tree.Module) → IsModule m (map plain_token tokens.now) → MatchResult result (λ _. Unit {0}) (λ e. is_syntax e.fault ≡ false) }
     ensures deep { MatchResult result (λ _. Unit {0}) (λ e. e.fault ≡ Fault.Deep → IsDeep (map plain_token tokens.now)) }
     ensures deep_first { MatchResult result (λ _. Unit {0}) (λ e. e.fault ≡ Fault.Deep → IsDeepAt (map plain_token tokens.now) e.token) }
+    ensures counted { IfErr result (λ e. 1 ≤ e.token) }
+    ensures within { IfErr result (λ e. e.token ≤ length tokens.now + 1) }
 {
     let stop = too_deep(tokens);
     let mut cursor = Cursor::new(tokens);
@@ -128,8 +132,8 @@ pub fn parse(alloc: Global, text: &[u8]) -> Result<Module, ParseFault>
         → MatchResult result (λ _. ⊥) (λ e. (e ≡ ParseFault.Byte place) ⊎ (e ≡ ParseFault.Memory)) }
     ensures literal_first { (place : ℕ) → Stops text.now bad_number place
         → MatchResult result (λ _. ⊥) (λ e. (e ≡ ParseFault.Literal place) ⊎ (e ≡ ParseFault.Memory)) }
-    ensures syntax { (n : ℕ) → result ≡ Err (ParseFault.Syntax n) → (m : tree.Module) → Spells m text.now → ⊥ }
-    ensures no_size { (n : ℕ) → result ≡ Err (ParseFault.Unsized n) → (m : tree.Module) → Spells m text.now → ⊥ }
+    ensures syntax { (n : ℕ) → result ≡ Err (ParseFault.Syntax n) → IsUnspelledAt text.now n }
+    ensures no_size { (n : ℕ) → result ≡ Err (ParseFault.Unsized n) → IsUnspelledAt text.now n }
     ensures deep { (n : ℕ) → result ≡ Err (ParseFault.Deep n) → IsDeepText text.now }
     ensures deep_first { (n : ℕ) → result ≡ Err (ParseFault.Deep n) → IsDeepTextAt text.now n }
 {

@@ -1,5 +1,6 @@
 -- What a worker counts while it fills a batch and commits it.
-use Rattle.std.proofs.Common.{◌≡◌, ℕ, ◌+◌, ◌-◌, ◌^◌, ◌<◌, ◌≤◌, min, List, [], ◌∷◌, ◌++◌, length, set, map, ap, ◌∙◌, arith}
+use Rattle.std.proofs.Common.{◌≡◌, ℕ, ◌+◌, ◌-◌, ◌^◌, ◌<◌, ◌≤◌, min, List, [], ◌∷◌, ◌++◌, length, set, get_or, map, ap, ◌∙◌, arith, Bool, true, false, if◌then◌else◌, subst, sym, refl}
+use Rattle.std.proofs.lemmas.List.{get_or-set_same}
 use Rattle.logic4.specs.Vector.{Vector}
 use Rattle.design.specs.Compiled.{Compiled}
 use Rattle.turn.specs.Logs.{LogView}
@@ -10,8 +11,11 @@ use Rattle.commitgate.specs.Tickets.{TicketView, most_tries}
 use Rattle.commitgate.specs.Batches.{AreOffered}
 use Rattle.eventpool.specs.Ends.{Owning, Stealing, thief_card}
 use Rattle.commitgate.specs.Seats.{SeatView}
-use Rattle.workers.specs.Batching.{IsOpen, Fills}
-use Rattle.workers.specs.Working.{turns_of, Goes, OnlyPuts, SameEnds, got_by_ends, Serves}
+use Rattle.commitgate.specs.Named.{Named}
+use Rattle.workers.specs.declared.batch.Batch.{Batch}
+use Rattle.workers.specs.declared.batch.Next.TheVariants.{Enough, Over}
+use Rattle.workers.specs.Batching.{IsOpen, Fills, Leads}
+use Rattle.workers.specs.Working.{turns_of, Goes, OnlyPuts, SameEnds, OverUnless, got_by_ends, Serves}
 use Rattle.workers.specs.declared.worker.Worker.{Worker}
 use Rattle.workers.proofs.Rounds.{got_kept}
 
@@ -30,6 +34,17 @@ pub offered_kept : (code : Compiled) (fresh : List (List Vector)) (tickets : Lis
 offered_kept code fresh [] logs log o = tt
 offered_kept code fresh (t ∷ ts) [] log o = absurd o
 offered_kept code fresh (t ∷ ts) (l ∷ ls) log o = (o.0, o.1, o.2, offered_kept code fresh ts ls log o.3)
+
+-- what is said of a log holds of what is read at the place where the log was written
+pub log_written : (P : LogView → Type 0) (logs : List LogView) (place at : ℕ) (new : LogView) → place ≡ at → at < length logs → P new
+    → (log : LogView) → log ≡ get_or (set logs place new) at log → P log
+log_written P logs place at new same lt holds log is =
+    subst P (sym (is ∙ (λ i. get_or (set logs (same i) new) at log) ∙ get_or-set_same logs at new log lt)) holds
+
+-- what is said of the log at a place holds of the log that is found there in logs that were kept
+pub log_found : (P : LogView → Type 0) (logs kept : List LogView) (place at : ℕ) (log : LogView) → kept ≡ logs → at ≡ place
+    → ((l : LogView) → l ≡ get_or logs place l → P l) → log ≡ get_or kept at log → P log
+log_found P logs kept place at log same is holds found = holds log (found ∙ (λ i. get_or (same i) (is i) log))
 
 module _ {T : Type 0} where
   -- no evaluation is counted, and so many of the turns that wait are appended
@@ -94,9 +109,20 @@ module _ {A : Type 0} where
     counted = λ x. g.counted (f.counted x);
   }
 
+  -- the same, by a worker that goes on without the ticket
+  pub fills_begun_more : (a b c : Worker A) (turns more most : ℕ) → Fills b c more 0 most 0 → Goes 0 a.seat b.seat → b.evaluations ≡ min (a.evaluations + 1) (2 ^ 64 - 1)
+      → more ≤ turns + 1 → OnlyPuts a.owner b.owner → b.row.items ≡ a.row.items → Fills a c turns 1 most 0
+  fills_begun_more a b c turns more most f goes one few puts row = fills_more a b c turns 1 more 0 most 0 (fills_begun a b turns more goes one few puts row) f
+
+  -- what comes of a ticket of which the gate was told: the batch is empty, or the run is over
+  pub leads_told : (n : Named) (goes_on : Bool) (batch : Batch A) (w : Worker A) → (goes_on ≡ true → batch.tickets.items ≡ []) → OverUnless n goes_on w.seat
+      → Leads n (if goes_on then Enough else Over) batch w
+  leads_told n true batch w empty over = subst (λ (l : List TicketView). AreOffered n.code w.seat.fresh l batch.logs.items) (sym (empty refl)) tt
+  leads_told n false batch w empty over = over refl
+
   -- a ticket is served where a batch that it began was filled and committed
-  pub serves_fills : (a b : Worker A) → Fills a b 0 1 0 0 → Serves a b
-  serves_fills a b f = record {
+  pub serves_fills : (a b : Worker A) (left : ℕ) → Fills a b 0 1 left 0 → Serves a b
+  serves_fills a b left f = record {
     worker = f.worker;
     ends = f.ends;
     counted = λ k.

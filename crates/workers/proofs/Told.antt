@@ -1,13 +1,20 @@
 -- What the gate's answers say of a worker's seat.
 use Rattle.std.specs.List.{All}
 use Rattle.std.proofs.lemmas.List.Elements.{All-pop}
-use Rattle.std.proofs.Common.{◌≡◌, inl, inr, Some, ℕ, ◌+◌, ◌≤◌, List, [], ◌∷◌, length, arith, refl, sym, subst}
+use Rattle.std.proofs.Common.{◌≡◌, inl, inr, Some, ℕ, ◌+◌, ◌≤◌, List, [], ◌∷◌, length, arith, refl, sym, subst, ap, append-nil}
 use Rattle.model.specs.declared.entry.Entry.{Entry}
 use Rattle.model.specs.declared.entry.Entry.TheVariants.{Turn, Update, ActivateInactive, ActivateNba, ActivateMonitor, Advance}
 use Rattle.model.specs.declared.end.Why.{Why}
 use Rattle.turn.specs.declared.memory.Seen.{Seen}
 use Rattle.commitgate.specs.declared.reply.Reply.{Reply}
 use Rattle.commitgate.specs.declared.reply.Reply.TheVariants.{Accepted, Stale, Gone, Stopped, NoMemory}
+use Rattle.logic4.specs.Vector.{Vector}
+use Rattle.design.specs.Compiled.{Compiled}
+use Rattle.turn.specs.Reads.{GaveAll}
+use Rattle.regcells.specs.Meetings.{fresh_of, Rises}
+use Rattle.gateparts.specs.Histories.{IsRead}
+use Rattle.gateparts.proofs.Beginnings.{prefix_get}
+use Rattle.commitgate.proofs.Batches.{answered_follows}
 use Rattle.commitgate.specs.Named.{Named}
 use Rattle.commitgate.specs.Seats.{SeatView}
 use Rattle.commitgate.specs.Tickets.{TicketView}
@@ -20,7 +27,7 @@ use Rattle.commitgate.specs.Batches.{AreUpdatedTo, UpdatesEndedTo, UpdatesAnswer
 use Rattle.commitgate.specs.declared.reply.UpdatesEnd.{UpdatesEnd}
 use Rattle.commitgate.specs.declared.reply.UpdatesEnd.TheVariants as ends
 use Rattle.commitgate.specs.declared.reply.Grant.{Grant}
-use Rattle.workers.proofs.Seats.{goes_appended, goes_refused, goes_stopped, goes_self, goes_first, goes_then, goes_more}
+use Rattle.workers.proofs.Seats.{goes_appended, goes_refused, goes_stopped, goes_self, goes_first, goes_then, goes_more, begins_more}
 
 -- the seat goes on, with one more turn at most
 abbrev pub GoesOn : SeatView → SeatView → Type 0
@@ -35,13 +42,18 @@ module _ {A : Type 0} where
   answered n causes old ticket reads new (Stopped why) a = (0, omega arith, goes_stopped n causes old why new a)
   answered n causes old ticket reads new (NoMemory back) a = (0, omega arith, goes_refused n old new a.0)
 
+  -- a turn that is too long isn't appended
+  pub long_goes : (n : Named) (old : SeatView) (ticket : TicketView) (reads : List (ℕ × Seen)) (new : SeatView) (r : Reply A)
+      → LongAnsweredTo n old ticket reads new r → Goes 0 old new
+  long_goes n old ticket reads new (Accepted grant) a = absurd a
+  long_goes n old ticket reads new (Stale r back) a = goes_refused n old new a.refused
+  long_goes n old ticket reads new Gone a = goes_refused n old new a.refused
+  long_goes n old ticket reads new (Stopped why) a = goes_stopped n _ old why new a
+  long_goes n old ticket reads new (NoMemory back) a = absurd a
+
   pub long_answered : (n : Named) (old : SeatView) (ticket : TicketView) (reads : List (ℕ × Seen)) (new : SeatView) (r : Reply A)
       → LongAnsweredTo n old ticket reads new r → GoesOn old new
-  long_answered n old ticket reads new (Accepted grant) a = absurd a
-  long_answered n old ticket reads new (Stale r back) a = (0, omega arith, goes_refused n old new a.refused)
-  long_answered n old ticket reads new Gone a = (0, omega arith, goes_refused n old new a.refused)
-  long_answered n old ticket reads new (Stopped why) a = (0, omega arith, goes_stopped n _ old why new a)
-  long_answered n old ticket reads new (NoMemory back) a = absurd a
+  long_answered n old ticket reads new r a = (0, omega arith, long_goes n old ticket reads new r a)
 
   pub held_answered : (n : Named) (old : SeatView) (ticket : TicketView) (new : SeatView) (r : Reply A)
       → HeldAnsweredTo n old ticket new r → GoesOn old new
@@ -90,8 +102,9 @@ updates_go n old grants end new all = goes_then 0 old all.0 new (appended_go n o
 
 -- a seat that was answered several tickets: it appended at most as many turns
 pub answers_go : {A : Type 0} → (n : Named) (old : SeatView) (tickets : List TicketView) (logs : List LogView) (replies : List (Reply A)) (left : List TicketView) (new : SeatView)
-    → AreAnsweredTo n old tickets logs replies left new → (turns : ℕ) × (turns ≤ length tickets) × Goes turns old new
-answers_go n old tickets logs [] left new same = (0, omega arith, subst (λ (s : SeatView). Goes 0 old s) (sym same.1) (goes_self old))
+    → AreAnsweredTo n old tickets logs replies left new → (turns : ℕ) × (turns + length left ≤ length tickets) × Goes turns old new
+answers_go n old tickets logs [] left new same =
+    (0, (let l : length left ≡ length tickets = ap length same.0 in omega (arith, l)), subst (λ (s : SeatView). Goes 0 old s) (sym same.1) (goes_self old))
 answers_go n old [] logs (r ∷ rs) left new a = absurd a
 answers_go n old (t ∷ ts) [] (r ∷ rs) left new a = absurd a
 answers_go n old (t ∷ ts) (l ∷ ls) (r ∷ rs) left new a =
@@ -100,6 +113,28 @@ answers_go n old (t ∷ ts) (l ∷ ls) (r ∷ rs) left new a =
     let few = one.1 in
     let most = more.1 in
     (one.0 + more.0, omega (arith, few, most), goes_more one.0 more.0 old a.0 new one.2 more.2)
+
+rises_self : (fresh : List (List Vector)) → Rises fresh fresh
+rises_self fresh r = ([], append-nil (fresh_of fresh r))
+
+rises_both : (a b c : List (List Vector)) → Rises a b → Rises b c → Rises a c
+rises_both a b c f g r = begins_more (fresh_of a r) (fresh_of b r) (fresh_of c r) (f r) (g r)
+
+-- a seat that was answered several tickets has seen of the registers all that it had seen
+pub answers_rise : {A : Type 0} → (n : Named) (old : SeatView) (tickets : List TicketView) (logs : List LogView) (replies : List (Reply A)) (left : List TicketView) (new : SeatView)
+    → AreAnsweredTo n old tickets logs replies left new → Rises old.fresh new.fresh
+answers_rise n old tickets logs [] left new same = subst (λ (s : SeatView). Rises old.fresh s.fresh) (sym same.1) (rises_self old.fresh)
+answers_rise n old [] logs (r ∷ rs) left new a = absurd a
+answers_rise n old (t ∷ ts) [] (r ∷ rs) left new a = absurd a
+answers_rise n old (t ∷ ts) (l ∷ ls) (r ∷ rs) left new a =
+    rises_both old.fresh a.0.fresh new.fresh (answered_follows n CommitCauses old t l.reads a.0 r a.1).rises (answers_rise n a.0 ts ls rs left new a.2)
+
+-- what was read stays so where more was seen of the registers
+pub gave_later : (code : Compiled) (fresh fresh' : List (List Vector)) (reads : List (ℕ × Seen)) → Rises fresh fresh'
+    → GaveAll (IsRead code fresh) reads → GaveAll (IsRead code fresh') reads
+gave_later code fresh fresh' [] rises gave = tt
+gave_later code fresh fresh' (d ∷ ds) rises gave =
+    (λ low. prefix_get (fresh_of fresh d.0) (fresh_of fresh' d.0) d.1.version d.1.value (rises d.0) (gave.0 low), gave_later code fresh fresh' ds rises gave.1)
 
 -- there is at most an answer to each ticket
 pub few_answers : {A : Type 0} → (n : Named) (old : SeatView) (tickets : List TicketView) (logs : List LogView) (replies : List (Reply A)) (left : List TicketView) (new : SeatView)

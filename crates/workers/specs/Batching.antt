@@ -1,8 +1,14 @@
 -- Several turns that a worker commits at once.
-use Rattle.std.specs.Prelude.{◌≡◌, ℕ, ◌+◌, ◌-◌, ◌^◌, ◌<◌, ◌≤◌, List, length}
+use Rattle.std.specs.Prelude.{◌≡◌, ℕ, ◌+◌, ◌-◌, ◌^◌, ◌<◌, ◌≤◌, List, length, slice_index_or}
 use Rattle.std.specs.VecDeque.{deque_capacity}
 use Rattle.commitgate.specs.Named.{Named}
+use Rattle.turn.specs.Logs.{LogView}
+use Rattle.turn.specs.Reads.{GaveAll}
+use Rattle.turn.specs.Answers.{IsNoTurn}
+use Rattle.turn.specs.declared.log.TurnFault.TheVariants.{TooLong}
+use Rattle.gateparts.specs.Histories.{IsRead}
 use Rattle.commitgate.specs.Seats.{SeatView}
+use Rattle.commitgate.specs.Tickets.{TicketView}
 use Rattle.commitgate.specs.Batches.{AreOffered}
 use Rattle.eventpool.specs.Ends.{Owning, Stealing}
 use Rattle.workers.specs.declared.batch.Batch.{Batch}
@@ -23,6 +29,13 @@ HasRoom batch =
 -- its turns may be committed by a worker: their tickets and logs, by what the worker's seat has seen
 abbrev pub IsOffered : {A : Type 0} → Named → Batch A → Worker A → Type 0
 IsOffered n batch worker = AreOffered n.code worker.seat.fresh batch.tickets.items batch.logs.items
+
+-- The turn of a ticket is too long, by the log behind those of the batch's turns. What was read in it stands in what a seat
+-- has seen of the registers.
+abbrev pub IsLong : {A : Type 0} → Named → Batch A → TicketView → SeatView → Type 0
+IsLong n batch ticket s =
+    (log : LogView) → log ≡ slice_index_or batch.logs.items (length batch.tickets.items) log
+    → IsNoTurn n.code ticket.state ticket.time log.reads TooLong × GaveAll (IsRead n.code s.fresh) log.reads
 
 -- what comes of a ticket: the turns of the batch may be committed, or the run is over
 abbrev pub Leads : {A : Type 0} → Named → Next → Batch A → Worker A → Type 0

@@ -1,5 +1,5 @@
 -- What a worker has, and what its calls keep.
-use Rattle.std.specs.Prelude.{◌≡◌, ◌⊎◌, ℕ, ◌+◌, ◌-◌, ◌^◌, ◌<◌, ◌≤◌, false, Bool, List, [], ◌∷◌, map, length, IsSome}
+use Rattle.std.specs.Prelude.{◌≡◌, ◌⊎◌, ℕ, zero, suc, ◌+◌, ◌-◌, ◌^◌, ◌<◌, ◌≤◌, false, Bool, List, [], ◌∷◌, ◌++◌, map, length, Some, IsSome, slice_get}
 use Rattle.std.specs.List.{sum_by, AllByRecursion, range_with_len}
 use Rattle.model.specs.declared.end.End.TheVariants.{Quiet}
 use Rattle.model.specs.Runs.{Ends}
@@ -7,6 +7,9 @@ use Rattle.design.specs.Compiled.{design_of}
 use Rattle.commitgate.specs.Named.{Named}
 use Rattle.gateparts.specs.Log.{entries_of, end_in}
 use Rattle.commitgate.specs.Seats.{SeatView, new_seat}
+use Rattle.commitgate.specs.Tickets.{TicketView}
+use Rattle.commitgate.specs.declared.reply.Reply.{Reply}
+use Rattle.commitgate.specs.declared.reply.Reply.TheVariants.{Accepted, Stale, Gone, Stopped, NoMemory}
 use Rattle.eventpool.specs.Pools.{IsPool}
 use Rattle.commitgate.specs.Journals.{Stays}
 use Rattle.eventpool.specs.Ends.{Owning, Stealing, owner_card, thief_card}
@@ -34,6 +37,19 @@ pub record Goes (turns : ℕ) (old new : SeatView) : Type 0 where
   pub worker : new.worker ≡ old.worker
   pub positions : HasPositions old → HasPositions new
   pub counted : HasPositions old → turns_of new ≡ turns_of old + turns
+
+-- the tickets that an answer of the gate gives: those that the entry made, or the one that comes back
+abbrev pub tickets_in : {A : Type 0} → Reply A → List TicketView
+tickets_in (Accepted grant) = grant.tickets.items
+tickets_in (Stale register back) = back ∷ []
+tickets_in Gone = []
+tickets_in (Stopped why) = []
+tickets_in (NoMemory back) = []
+
+-- the tickets that several answers give, in order
+abbrev pub tickets_of : {A : Type 0} → List (Reply A) → List TicketView
+tickets_of [] = []
+tickets_of (reply ∷ replies) = tickets_in reply ++ tickets_of replies
 
 module _ {T : Type 0} where
   -- how many tickets these ends got
@@ -85,6 +101,17 @@ AreDone n _ _ = ⊥
 -- the owners are the same ends, and have taken the same
 abbrev pub IsFixed : {T : Type 0} → List (Owning T) → List (Owning T) → Type 0
 IsFixed old new = (map owner_card new ≡ map owner_card old) × (map (λ o. o.taken) new ≡ map (λ o. o.taken) old)
+
+-- every n-th of some tickets, where so many stand before the first of them
+abbrev pub every : {T : Type 0} → ℕ → ℕ → List T → List T
+every n skipped [] = []
+every n zero (x ∷ xs) = x ∷ every n (n - 1) xs
+every n (suc skipped) (x ∷ xs) = every n skipped xs
+
+-- of n owners each was put every n-th of the tickets, in order, from the one with its own number on
+abbrev pub ArePlaced : {T : Type 0} → List (Owning T) → List T → List (Owning T) → Type 0
+ArePlaced {T} old tickets new =
+    (w : ℕ) (o : Owning T) → slice_get old w ≡ Some o → slice_get new w ≡ Some (record o { put = o.put ++ every (length old) w tickets })
 
 -- The workers of a run that begins: each has its seat, in order, with nothing seen; their ends of the deques are those of
 -- one pool; and nothing was taken, stolen or evaluated.

@@ -1,11 +1,13 @@
 //! Several turns at once: a worker whose turns are short evaluates the tickets of its own deque, one after another, and commits
 //! their turns in one holding of the lock.
-ghost use Rattle.std.specs.Prelude.{◌≡◌, ◌+◌, ◌<◌, ◌≤◌, [], true, if◌then◌else◌, length, IfOk, MatchResult};
+ghost use Rattle.std.specs.Prelude.{◌≡◌, ◌+◌, ◌<◌, ◌≤◌, ◌++◌, [], true, if◌then◌else◌, length, IfOk, IfErr, MatchResult};
 ghost use Rattle.std.specs.List.{All};
 ghost use Rattle.commitgate.specs.Tickets.{most_tries};
 ghost use Rattle.commitgate.specs.Batches.{AreOffered, HadMemory};
-ghost use Rattle.workers.specs.Working.{Goes, OverUnless, OnlyPuts, Serves};
-ghost use Rattle.workers.specs.Batching.{most_turns, HasRoom, IsOffered, Leads, Fills};
+ghost use Rattle.regcells.specs.Meetings.{Rises};
+ghost use Rattle.turn.specs.declared.log.TurnFault.TheVariants.{TooLong};
+ghost use Rattle.workers.specs.Working.{Goes, OverUnless, OnlyPuts, Serves, tickets_of};
+ghost use Rattle.workers.specs.Batching.{most_turns, HasRoom, IsOffered, IsLong, Leads, Fills};
 ghost use Rattle.workers.specs.declared.batch.Next.TheVariants.{Enough, Over};
 
 use crate::deques::put;
@@ -82,7 +84,8 @@ fn add<K: Naming, P: Probe, R: Wait>(
     ensures goes { Goes 0 seat.old seat.new }
     ensures room { HasRoom batch.new }
     ensures offered { AreOffered K.named.code seat.new.fresh batch.new.tickets.items batch.new.logs.items }
-    ensures added { MatchResult result (λ _. length batch.new.tickets.items ≡ length batch.old.tickets.items + 1) (λ _. length batch.new.tickets.items ≡ length batch.old.tickets.items) }
+    ensures added { MatchResult result (λ _. length batch.new.tickets.items ≡ length batch.old.tickets.items + 1) (λ e. (batch.new.tickets ≡ batch.old.tickets) × (e.0 ≡ ticket)) }
+    ensures long { IfErr result (λ e. e.1 ≡ TooLong → IsLong K.named batch.new ticket seat.new) }
 {
     let place = batch.tickets.len();
     match evaluate::<K, Brand, P, R>(run, &mut batch.logs[place], seat, &ticket) {
@@ -94,11 +97,11 @@ fn add<K: Naming, P: Probe, R: Wait>(
     }
 }
 
-// What comes of a ticket that was put back.
-fn after_put(is_put: bool) -> Next
-    ensures { result ≡ (if is_put then Enough else Over) }
+// What comes of a ticket that the batch doesn't get.
+fn after(goes_on: bool) -> Next
+    ensures { result ≡ (if goes_on then Enough else Over) }
 {
-    if is_put { Next::Enough } else { Next::Over }
+    if goes_on { Next::Enough } else { Next::Over }
 }
 
 impl<K: Naming> Batch<K> {
@@ -119,8 +122,38 @@ impl<K: Naming> Batch<K> {
     }
 }
 
-// Evaluates the turn of a ticket that the worker got, and adds it to the batch. A turn that is too long stands in no batch, so
-// its ticket goes back into the worker's deque, and the worker takes one at a time from then on.
+// Tells the gate of a turn that is too long, by the log behind those of the batch. The turns before it are committed first.
+// Answers whether the worker goes on, and then the batch is empty.
+fn tell_long<K: Naming, P: Probe, R: Wait>(
+    run: &Shared<'_, '_, K, P, R>,
+    batch: &mut Batch<K>,
+    pace: &mut Pace,
+    worker: &mut Worker<K>,
+    ticket: Ticket<K>,
+) -> bool
+    requires room { HasRoom batch.old }
+    requires few { length batch.old.tickets.items < most_turns }
+    requires tries { ticket.tries < most_tries }
+    requires offered { IsOffered K.named batch.old worker.old }
+    requires long { IsLong K.named batch.old ticket worker.old.seat }
+    ensures room { HasRoom batch.new }
+    ensures few { length batch.new.tickets.items ≤ length batch.old.tickets.items }
+    ensures empty { result ≡ true → batch.new.tickets.items ≡ [] }
+    ensures fills { Fills worker.old worker.new (length batch.old.tickets.items) 0 (length batch.new.tickets.items) 0 }
+    ensures over { OverUnless K.named result worker.new.seat }
+{
+    let place = batch.tickets.len();
+    if !commit(run, batch, pace, worker) {
+        return false;
+    }
+    let event = ticket.event();
+    let (seat, owner) = (&mut worker.seat, &mut worker.owner);
+    let reply = run.gate.too_long(run.rt, seat, ticket, &batch.logs[place]);
+    finish(run, seat, owner, event, reply)
+}
+
+// Evaluates the turn of a ticket that the worker got, and adds it to the batch. A turn that is too long stands in no batch:
+// the gate is told of it at once, and the worker takes one ticket at a time from then on.
 fn start<K: Naming, P: Probe, R: Wait>(
     run: &Shared<'_, '_, K, P, R>,
     batch: &mut Batch<K>,
@@ -154,8 +187,7 @@ fn start<K: Naming, P: Probe, R: Wait>(
         }
         Err((ticket, TurnFault::TooLong)) => {
             pace.stay_alone();
-            let (seat, owner) = (&mut worker.seat, &mut worker.owner);
-            after_put(put(run.rt, run.gate, seat, owner, ticket))
+            after(tell_long(run, batch, pace, worker, ticket))
         }
         Err((_, TurnFault::Memory)) => {
             run.gate.stop(run.rt, &mut worker.seat);
@@ -187,7 +219,7 @@ fn begin<K: Naming, P: Probe, R: Wait>(
         pace.stay_alone();
         let (seat, owner) = (&mut worker.seat, &mut worker.owner);
         let is_put = put(run.rt, run.gate, seat, owner, ticket);
-        after_put(is_put)
+        after(is_put)
     }
 }
 
@@ -260,8 +292,11 @@ fn settle_all<K: Naming, P: Probe, R: Wait>(
     requires few { length batch.old.replies.items ≤ most_turns }
     ensures room { HasRoom batch.new }
     ensures tickets { batch.new.tickets ≡ batch.old.tickets }
+    ensures logs { batch.new.logs ≡ batch.old.logs }
     ensures goes { Goes 0 seat.old seat.new }
+    ensures kept { result ≡ true → seat.new ≡ seat.old }
     ensures puts { OnlyPuts owner.old owner.new }
+    ensures all { result ≡ true → owner.new.put ≡ owner.old.put ++ tickets_of batch.old.replies.items }
     ensures over { OverUnless K.named result seat.new }
     ensures had { result ≡ true → All HadMemory batch.old.replies.items }
 {
@@ -289,8 +324,11 @@ fn commit<K: Naming, P: Probe, R: Wait>(
     requires few { length batch.old.tickets.items ≤ most_turns }
     requires offered { IsOffered K.named batch.old worker.old }
     ensures room { HasRoom batch.new }
+    ensures few { length batch.new.tickets.items ≤ length batch.old.tickets.items }
     ensures empty { result ≡ true → batch.new.tickets.items ≡ [] }
-    ensures fills { Fills worker.old worker.new (length batch.old.tickets.items) 0 0 0 }
+    ensures logs { batch.new.logs ≡ batch.old.logs }
+    ensures rises { result ≡ true → Rises worker.old.seat.fresh worker.new.seat.fresh }
+    ensures fills { Fills worker.old worker.new (length batch.old.tickets.items) 0 (length batch.new.tickets.items) 0 }
     ensures over { OverUnless K.named result worker.new.seat }
 {
     let Batch {

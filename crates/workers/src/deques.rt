@@ -1,5 +1,5 @@
 //! Where a worker's tickets come from, and where they go.
-ghost use Rattle.std.specs.Prelude.{◌≡◌, ◌+◌, true, map, length, IfSome, IfNone};
+ghost use Rattle.std.specs.Prelude.{◌≡◌, ◌+◌, ◌++◌, true, [], ◌∷◌, map, length, IfSome, IfNone};
 ghost use Rattle.std.specs.List.{sum_by};
 ghost use Rattle.eventpool.specs.Ends.{thief_card};
 ghost use Rattle.workers.specs.Working.{Goes, OverUnless, OnlyPuts, SameEnds, got_by_ends};
@@ -95,6 +95,7 @@ pub(crate) fn put<K: Naming, R: Wait>(
     ensures goes { Goes 0 seat.old seat.new }
     ensures kept { result ≡ true → seat.new ≡ seat.old }
     ensures puts { OnlyPuts owner.old owner.new }
+    ensures all { result ≡ true → owner.new.put ≡ owner.old.put ++ ticket ∷ [] }
     ensures over { OverUnless K.named result seat.new }
 {
     match owner.put(ticket) {
@@ -115,7 +116,9 @@ pub(crate) fn put_all<K: Naming, R: Wait>(
     mut tickets: Vec<Ticket<K>>,
 ) -> bool
     ensures goes { Goes 0 seat.old seat.new }
+    ensures kept { result ≡ true → seat.new ≡ seat.old }
     ensures puts { OnlyPuts owner.old owner.new }
+    ensures all { result ≡ true → owner.new.put ≡ owner.old.put ++ tickets.items }
     ensures over { OverUnless K.named result seat.new }
 {
     if tickets.is_empty() {

@@ -3,7 +3,7 @@ ghost use Rattle.std.specs.Prelude.{◌≡◌, ◌+◌, ◌<◌, ◌∷◌, map,
 ghost use Rattle.std.specs.List.{AllByRecursion};
 ghost use Rattle.std.specs.Thread.{IsSend, IsSync};
 ghost use Rattle.design.specs.contracts.design.Design as design_rows;
-ghost use Rattle.workers.specs.Working.{AreDone, IsDone, IsFixed};
+ghost use Rattle.workers.specs.Working.{AreDone, ArePlaced, IsDone, IsFixed};
 
 use crate::fault::SimFault;
 use crate::probe::Probe;
@@ -30,7 +30,8 @@ impl<K: Naming> Promise<Worker<K>> for ComesToEnd<K> {
 /// Puts the first tickets into the deques: that of a process goes to the worker with its number, round and round.
 pub fn place<T: Drop>(owners: &mut Vec<Owner<T>>, tickets: Vec<T>) -> Result<(), SimFault>
     requires { 0 < length owners.old.items }
-    ensures { IsFixed owners.old.items owners.new.items }
+    ensures fixed { IsFixed owners.old.items owners.new.items }
+    ensures placed { IfOk result (λ _. ArePlaced owners.old.items tickets.items owners.new.items) }
 {
     let workers = owners.len();
     let mut next = 0;

@@ -1,9 +1,8 @@
 //! The seats that are given back, and what a gate leaves.
 ghost use Rattle.std.specs.Prelude.{◌≡◌, length};
-ghost use mathlib.Core.List.{IsPrefix};
-ghost use Rattle.gateparts.specs.Log.{entries_of, positions_of};
+ghost use Rattle.gateparts.specs.Log.{entries_of};
 ghost use Rattle.commitgate.specs.Journals.{IsLog};
-ghost use Rattle.commitgate.specs.Closing.{IsClosed, IsEndIn};
+ghost use Rattle.commitgate.specs.Closing.{IsClosed, IsEndIn, Settled};
 
 use crate::closed::Closed;
 use crate::naming::Naming;
@@ -13,16 +12,16 @@ use gateparts::{MarkCell, Parts};
 use std::sync::Wait;
 
 impl<'d, K: Naming> GateState<'d, K> {
-    /// The number of entries that a seat appended. The log extends what it has seen, and has in its name just those.
+    /// The number of entries that a seat appended. The log extends what it has seen, and has in its name just what it knows.
     pub(crate) fn settle<R: Wait>(&mut self, rt: &R, mark: &MarkCell, mut seat: Seat<K>) -> u64
         requires { mark.now.table.shared.table_id ≡ K.named.mark }
         ensures same { self.new ≡ self.old }
         ensures share { result ≡ length seat.mine }
-        ensures later { IsPrefix seat.seen self.old.log }
-        ensures mine { seat.mine ≡ positions_of seat.worker self.old.log }
+        ensures settled { Settled self.old.log seat }
     {
+        let share = seat.share();
         self.greet(rt, mark, &mut seat);
-        seat.share()
+        share
     }
 
     /// The journal, the lines and the end, with these numbers of entries of the seats.

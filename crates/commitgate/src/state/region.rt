@@ -3,7 +3,7 @@ ghost use Rattle.std.specs.Prelude.{◌≡◌, ◌≤◌, ◌↔◌, true, None,
 ghost use Rattle.model.specs.Runs.{has_any};
 ghost use Rattle.gateparts.specs.Log.{entries_of};
 ghost use Rattle.gateparts.specs.GateState.{state_in};
-ghost use Rattle.commitgate.specs.Answers.{HasNoUpdate, IsResting, IsTimely};
+ghost use Rattle.commitgate.specs.Answers.{HasNoUpdate, IsResting, IsTimely, stopped_for_memory};
 ghost use Rattle.commitgate.specs.Regions.{IsDueChange, IsPassed};
 ghost use Rattle.commitgate.specs.Closing.{IsEndOf};
 ghost use Rattle.commitgate.specs.Replies.{RestAnswered};
@@ -155,6 +155,7 @@ impl<'d, K: Naming> GateState<'d, K> {
     /// Stops a run that goes on and has events left, for want of memory.
     pub fn stop_for_memory<R: Wait>(&mut self, rt: &R, mark: &MarkCell, seat: &mut Seat<K>)
         requires mark { mark.now.table.shared.table_id ≡ K.named.mark }
+        ensures state { self.new ≡ stopped_for_memory K.named.code seat.old.worker self.old }
         ensures seat { StoppedTo K.named seat.old seat.new }
     {
         self.known();

@@ -61,7 +61,7 @@ fn assert_end(rt: &impl Abort, end: End, is_whole: bool) {
 /// A journal replays to these lines.
 fn assert_lines(rt: &impl Abort, alloc: Global, design: &Design, entries: &[Entry], lines: &str) {
     let again = replayed(rt, alloc, design, entries);
-    assert!(rt; again.made.lines.as_str() == lines, "the lines");
+    assert!(rt; again.lines.as_str() == lines, "the lines");
 }
 
 /// A run of one worker has one journal, of which the run that was stopped has a beginning, with its lines.

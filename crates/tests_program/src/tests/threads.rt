@@ -51,7 +51,7 @@ fn active_in(state: &State) -> u64 {
 /// How many evaluations are active after a run's journal. A replay of it prints the same lines.
 fn active_after(rt: &impl Abort, alloc: Global, design: &Design, closed: &Closed) -> u64 {
     let again = replayed(rt, alloc, design, closed.entries());
-    let lines = again.made.lines.as_str();
+    let lines = again.lines.as_str();
     assert!(rt; lines == closed.lines(), "the lines of the replay");
     active_in(&again.state)
 }

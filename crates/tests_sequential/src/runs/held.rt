@@ -64,7 +64,7 @@ pub fn text_of_fault(rt: &impl Abort, alloc: Global, fault: &SourceFault) -> Str
 /// Where the first process of a design begins.
 pub fn beginning(rt: &impl Abort, design: &Design) -> ProcState {
     assert!(rt; design.processes() > 0, "no process");
-    design.start(0)
+    design.first(0)
 }
 
 /// A register stands at this place of the reads of a turn.

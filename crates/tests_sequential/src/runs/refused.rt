@@ -22,13 +22,13 @@ const PIECE: usize = 32 << 10;
 /// More bytes than any of the texts has.
 const TEXT: usize = 256;
 
-/// A swap by nonblocking assignments, its journal, and its line.
-const SWAP: &[u8] =
+/// A swap by nonblocking assignments, and its journal.
+pub const SWAP: &[u8] =
     b"module t; reg a, b; initial begin a=1'b0; b=1'b1; #1 a<=b; b<=a; #1 $display(\"%b %b\",a,b); end endmodule";
 
-const JOURNAL: &[u8] = b"vsimtx-journal 1\nT 0\nA 1\nT 1\nN\nU 2\nU 3\nA 2\nT 4\n";
+pub const JOURNAL: &[u8] = b"vsimtx-journal 1\nT 0\nA 1\nT 1\nN\nU 2\nU 3\nA 2\nT 4\n";
 
-const ENTRIES: [Entry; 8] = [
+pub const ENTRIES: [Entry; 8] = [
     Entry::Turn(0),
     Entry::Advance(1),
     Entry::Turn(1),
@@ -39,7 +39,48 @@ const ENTRIES: [Entry; 8] = [
     Entry::Turn(4),
 ];
 
-const LINE: &[u8] = b"1 0\n";
+/// A source, how many registers it has, and of one of its runs the journal's text in version 1, the entries and the lines.
+#[derive(Clone, Copy)]
+struct Row<'a> {
+    source: &'a [u8],
+    registers: u64,
+    text: &'a [u8],
+    entries: &'a [Entry],
+    lines: &'a [u8],
+}
+
+/// A swap, a glitch that wakes a process, and a copy.
+const ROWS: &[Row<'static>] = &[
+    Row {
+        source: SWAP,
+        registers: 2,
+        text: JOURNAL,
+        entries: &ENTRIES,
+        lines: b"1 0\n",
+    },
+    Row {
+        source: b"module t; reg a; initial begin a=1'b1; #1 a=1'b0; a=1'b1; end initial #0 @(posedge a) $display(\"glitch\"); endmodule",
+        registers: 1,
+        text: b"vsimtx-journal 1\nT 0\nT 1\nI\nT 3\nA 1\nT 2\nT 4\n",
+        entries: &[
+            Entry::Turn(0),
+            Entry::Turn(1),
+            Entry::ActivateInactive,
+            Entry::Turn(3),
+            Entry::Advance(1),
+            Entry::Turn(2),
+            Entry::Turn(4),
+        ],
+        lines: b"glitch\n",
+    },
+    Row {
+        source: b"module t; reg a, b; initial a=1'b1; initial b=a; endmodule",
+        registers: 2,
+        text: b"vsimtx-journal 1\nT 1\nT 0\n",
+        entries: &[Entry::Turn(1), Entry::Turn(0)],
+        lines: b"",
+    },
+];
 
 // Takes all memory but so many pieces.
 fn take_all(rt: &impl Abort, alloc: Global, pieces: usize) -> Hoard {
@@ -63,13 +104,19 @@ fn assert_memory(rt: &impl Abort, told: &str) {
 }
 
 // Whether a design is read.
-fn is_design(rt: &impl Abort, alloc: Global, hoard: &mut Hoard, count: usize) -> bool {
+fn is_design(
+    rt: &impl Abort,
+    alloc: Global,
+    hoard: &mut Hoard,
+    row: &Row<'_>,
+    count: usize,
+) -> bool {
     leave(rt, hoard, count);
-    let answer = read_design(alloc, SWAP);
+    let answer = read_design(alloc, row.source);
     assert!(rt; hoard.open(), "a piece of memory");
     match answer {
         Ok(design) => {
-            assert_number(rt, u64::from(design.registers()), 2);
+            assert_number(rt, u64::from(design.registers()), row.registers);
             true
         }
         Err(fault) => {
@@ -79,11 +126,11 @@ fn is_design(rt: &impl Abort, alloc: Global, hoard: &mut Hoard, count: usize) ->
     }
 }
 
-#[test]
-fn a_source_is_read_or_refused_memory(rt: HostRuntime) {
-    let mut hoard = take_all(&rt, rt.alloc(), 2 * ROOMS);
+// A source is read with more and more memory.
+fn assert_design(rt: &impl Abort, alloc: Global, row: &Row<'_>) {
+    let mut hoard = take_all(rt, alloc, 2 * ROOMS);
     for count in 0..ROOMS {
-        let is_read = is_design(&rt, rt.alloc(), &mut hoard, count);
+        let is_read = is_design(rt, alloc, &mut hoard, row, count);
         hoard.shut();
         if is_read {
             assert!(rt; count > 0, "memory was refused");
@@ -93,12 +140,25 @@ fn a_source_is_read_or_refused_memory(rt: HostRuntime) {
     panic!(rt; "no design");
 }
 
+#[test]
+fn a_source_is_read_or_refused_memory(rt: HostRuntime) {
+    for row in ROWS {
+        assert_design(&rt, rt.alloc(), row);
+    }
+}
+
 // Whether a journal is read.
-fn is_journal(rt: &impl Abort, alloc: Global, hoard: &mut Hoard, count: usize) -> bool {
+fn is_journal(
+    rt: &impl Abort,
+    alloc: Global,
+    hoard: &mut Hoard,
+    row: &Row<'_>,
+    count: usize,
+) -> bool {
     leave(rt, hoard, count);
-    match read_journal(alloc, &mut Counted::new(JOURNAL)) {
+    match read_journal(alloc, &mut Counted::new(row.text)) {
         Ok(entries) => {
-            assert_entries(rt, &entries, &ENTRIES);
+            assert_entries(rt, &entries, row.entries);
             true
         }
         Err(fault) => {
@@ -108,11 +168,11 @@ fn is_journal(rt: &impl Abort, alloc: Global, hoard: &mut Hoard, count: usize) -
     }
 }
 
-#[test]
-fn a_journal_is_read_or_refused_memory(rt: HostRuntime) {
-    let mut hoard = take_all(&rt, rt.alloc(), ROOMS);
+// A journal is read with more and more memory.
+fn assert_journal(rt: &impl Abort, alloc: Global, row: &Row<'_>) {
+    let mut hoard = take_all(rt, alloc, ROOMS);
     for count in 0..ROOMS {
-        let is_read = is_journal(&rt, rt.alloc(), &mut hoard, count);
+        let is_read = is_journal(rt, alloc, &mut hoard, row, count);
         hoard.shut();
         if is_read {
             assert!(rt; count > 0, "memory was refused");
@@ -122,10 +182,17 @@ fn a_journal_is_read_or_refused_memory(rt: HostRuntime) {
     panic!(rt; "no journal");
 }
 
-// The text of the journal.
-fn whole_text(rt: &impl Abort, alloc: Global) -> Vec<u8> {
+#[test]
+fn a_journal_is_read_or_refused_memory(rt: HostRuntime) {
+    for row in ROWS {
+        assert_journal(&rt, rt.alloc(), row);
+    }
+}
+
+// The text of a journal.
+fn whole_text(rt: &impl Abort, alloc: Global, row: &Row<'_>) -> Vec<u8> {
     let mut out = Counted::new(Vec::new(alloc));
-    assert!(rt; write_journal(alloc, &mut out, &ENTRIES).is_ok());
+    assert!(rt; write_journal(alloc, &mut out, row.entries).is_ok());
     out.into_inner()
 }
 
@@ -135,12 +202,13 @@ fn is_written(
     alloc: Global,
     hoard: &mut Hoard,
     out: Vec<u8>,
-    whole: &[u8],
+    both: (&[Entry], &[u8]),
     count: usize,
 ) -> (Vec<u8>, bool) {
+    let (entries, whole) = both;
     leave(rt, hoard, count);
     let mut out = Counted::new(out);
-    let answer = write_journal(alloc, &mut out, &ENTRIES);
+    let answer = write_journal(alloc, &mut out, entries);
     hoard.shut();
     let mut out = out.into_inner();
     match answer {
@@ -154,13 +222,14 @@ fn is_written(
     (out, answer.is_ok())
 }
 
-#[test]
-fn a_journal_is_written_or_refused_memory(rt: HostRuntime) {
-    let whole = whole_text(&rt, rt.alloc());
-    let mut out = room(&rt, rt.alloc());
-    let mut hoard = take_all(&rt, rt.alloc(), ROOMS);
+// A journal is written with more and more memory.
+fn assert_written(rt: &impl Abort, alloc: Global, row: &Row<'_>) {
+    let whole = whole_text(rt, alloc, row);
+    let both = (row.entries, whole.as_slice());
+    let mut out = room(rt, alloc);
+    let mut hoard = take_all(rt, alloc, ROOMS);
     for count in 0..ROOMS {
-        let (left, is_whole) = is_written(&rt, rt.alloc(), &mut hoard, out, &whole, count);
+        let (left, is_whole) = is_written(rt, alloc, &mut hoard, out, both, count);
         out = left;
         if is_whole {
             assert!(rt; count > 0, "memory was refused");
@@ -168,6 +237,13 @@ fn a_journal_is_written_or_refused_memory(rt: HostRuntime) {
         }
     }
     panic!(rt; "no text");
+}
+
+#[test]
+fn a_journal_is_written_or_refused_memory(rt: HostRuntime) {
+    for row in ROWS {
+        assert_written(&rt, rt.alloc(), row);
+    }
 }
 
 // A text tells of memory.
@@ -188,28 +264,29 @@ fn is_replayed(
     alloc: Global,
     hoard: &mut Hoard,
     out: Vec<u8>,
+    row: &Row<'_>,
     count: usize,
 ) -> (Vec<u8>, bool) {
     leave(rt, hoard, count);
     let mut out = Counted::new(out);
-    let answer = replay_bytes(alloc, SWAP, &mut Counted::new(JOURNAL), &mut out);
+    let answer = replay_bytes(alloc, row.source, &mut Counted::new(row.text), &mut out);
     assert!(rt; hoard.open(), "a piece of memory");
     let mut out = out.into_inner();
     let is_whole = answer.is_ok();
     match answer {
-        Ok(()) => assert!(rt; out.as_slice() == LINE, "the line"),
+        Ok(()) => assert!(rt; out.as_slice() == row.lines, "the lines"),
         Err(fault) => assert_refused_replay(rt, alloc, &fault, &out),
     }
     out.clear();
     (out, is_whole)
 }
 
-#[test]
-fn a_journal_is_replayed_or_refused_memory(rt: HostRuntime) {
-    let mut out = room(&rt, rt.alloc());
-    let mut hoard = take_all(&rt, rt.alloc(), 2 * ROOMS);
+// A journal is replayed with more and more memory.
+fn assert_replayed(rt: &impl Abort, alloc: Global, row: &Row<'_>) {
+    let mut out = room(rt, alloc);
+    let mut hoard = take_all(rt, alloc, 2 * ROOMS);
     for count in 0..ROOMS {
-        let (left, is_whole) = is_replayed(&rt, rt.alloc(), &mut hoard, out, count);
+        let (left, is_whole) = is_replayed(rt, alloc, &mut hoard, out, row, count);
         hoard.shut();
         out = left;
         if is_whole {
@@ -218,4 +295,11 @@ fn a_journal_is_replayed_or_refused_memory(rt: HostRuntime) {
         }
     }
     panic!(rt; "no replay");
+}
+
+#[test]
+fn a_journal_is_replayed_or_refused_memory(rt: HostRuntime) {
+    for row in ROWS {
+        assert_replayed(&rt, rt.alloc(), row);
+    }
 }

@@ -10,20 +10,20 @@ use std::process::Abort;
 
 /// What comes of a lawful journal: its lines, and whether nothing is left to do.
 #[derive(Drop)]
-struct Printed {
+pub struct Printed {
     lines: String,
-    is_over: bool,
+    pub is_over: bool,
 }
 
 fn printed_of(rt: &impl Abort, alloc: Global, replayed: &Replayed) -> Printed {
     Printed {
-        lines: String::from_str(alloc, replayed.made.lines.as_str()).expect(rt, "memory"),
+        lines: String::from_str(alloc, replayed.lines.as_str()).expect(rt, "memory"),
         is_over: replayed.state.is_quiet(),
     }
 }
 
-// What comes of a journal of a design. Tests share this call of `replay`, since a state that is owned is dear to prove.
-fn outcome(
+/// What comes of a journal of a design. Tests share this call of `replay`, since a state that is owned is dear to prove.
+pub fn outcome(
     rt: &impl Abort,
     alloc: Global,
     design: &Design,

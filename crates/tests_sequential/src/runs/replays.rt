@@ -81,6 +81,7 @@ const FAULTS: &[(u64, Cause, &str)] = &[
         "entry 4294967296: too many entries",
     ),
     (0, Cause::Memory, "entry 0: memory"),
+    (7, Cause::ApplyMemory, "entry 7: memory"),
 ];
 
 #[test]

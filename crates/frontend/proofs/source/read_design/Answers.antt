@@ -2,8 +2,7 @@
 use Rattle.std.proofs.Common.{◌≡◌, ℕ, List}
 use Rattle.std.specs.Prelude.{Result, Err}
 use Rattle.tokens.specs.Lexing.{Stops, stray, bad_number}
-use Rattle.model.specs.Syntax as tree
-use Rattle.vparse.specs.Spells.{Spells, IsDeepTextAt}
+use Rattle.vparse.specs.Spells.{IsUnspelledAt, IsDeepTextAt}
 use Rattle.vparse.specs.declared.parse.ParseFault.{ParseFault}
 use Rattle.vparse.specs.declared.parse.ParseFault.TheVariants.{Byte, Syntax, Literal, Deep, Unsized, Memory}
 use Rattle.frontend.specs.Sources.{IsTextFault}
@@ -12,8 +11,8 @@ use Rattle.frontend.proofs.source.read_design.Goals as goal
 text_fault : {X : Type 0} (source : List ℕ) (result : Result X ParseFault) (fault : ParseFault) → result ≡ Err fault
     → ((place : ℕ) → result ≡ Err (Byte place) → Stops source stray place)
     → ((place : ℕ) → result ≡ Err (Literal place) → Stops source bad_number place)
-    → ((n : ℕ) → result ≡ Err (Syntax n) → (m : tree.Module) → Spells m source → ⊥)
-    → ((n : ℕ) → result ≡ Err (Unsized n) → (m : tree.Module) → Spells m source → ⊥)
+    → ((n : ℕ) → result ≡ Err (Syntax n) → IsUnspelledAt source n)
+    → ((n : ℕ) → result ≡ Err (Unsized n) → IsUnspelledAt source n)
     → ((n : ℕ) → result ≡ Err (Deep n) → IsDeepTextAt source n) → IsTextFault source fault
 text_fault source result (Byte place) is byte literal syntax no_size deep = byte place is
 text_fault source result (Literal place) is byte literal syntax no_size deep = literal place is

@@ -1,13 +1,16 @@
-use Rattle.std.proofs.Common.{refl, Some, None, true, false, codes}
+use Rattle.std.proofs.Common.{◌≡◌, map, string_bytes, refl, Some, None, true, false, codes}
 use Rattle.clap.specs.Built.{IsParsedFrom}
-use Rattle.clap.specs.Matches.{found_of}
+use Rattle.clap.specs.Words.{HasMatchesOf, Text, app_of, found_of, rows_of}
 use Rattle.program.specs.Arguments.{GivesRun, run_rules, rule, workers_parser, until_parser, entries_parser}
+use Rattle.program.specs.Words.{run_rows, texts_of}
+use Rattle.program.proofs.WordLemmas.{run_found, run_failed}
 use Rattle.program.proofs.GivenLemmas.{given, if_ok, required_text}
 use Rattle.program.proofs.arguments.run_matches.Goals as goal
 
 pub returns : goal.returns
 returns c =
     let cmd = c.in_ok-run_command.field-0 in
+    let words = texts_of c.args.words.now in
     let h = c.in_ok-run_command.ensures.rules in
     record {
       given = if_ok (IsParsedFrom cmd) (λ m. GivesRun (found_of m)) c.try_get_matches_from.result
@@ -17,4 +20,7 @@ returns c =
             until = given cmd m run_rules 2 (rule (codes "until") false (Some until_parser)) until_parser p h refl refl refl refl;
             max_entries = given cmd m run_rules 3 (rule (codes "max-entries") false (Some entries_parser)) entries_parser p h refl refl refl refl;
           }) c.try_get_matches_from.ensures.parsed;
+      found = if_ok (HasMatchesOf (app_of cmd) words) (λ m. rows_of (found_of m) ≡ run_rows words) c.try_get_matches_from.result
+          (λ m p. run_found (app_of cmd) words m c.in_ok-run_command.ensures.app p) c.try_get_matches_from.ensures.matches;
+      failed = run_failed (app_of cmd) words c.try_get_matches_from.result c.in_ok-run_command.ensures.app c.try_get_matches_from.ensures.kinds;
     }

@@ -9,5 +9,5 @@ use Rattle.replay.proofs.turn_log.fill_log.Goals as goal
 pub returns-in-Turn : goal.returns-in-Turn
 returns-in-Turn c =
     let code = c.args.design.now in
-    let s = state_in code c.args.replayed.now in
+    let s = state_in code c.args.replayer.now in
     subst (λ e. MatchResult c.fill_turn.result (λ has. IsTurnGiven code s e (if has then Some c.fill_turn.new.log else None)) (IsStop code s e)) (sym c.in-Turn.is) c.fill_turn.ensures

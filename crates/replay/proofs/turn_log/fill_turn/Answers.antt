@@ -1,5 +1,5 @@
 -- The turn of an event that is permitted, and why there is none.
-use Rattle.std.proofs.Common.{◌≡◌, subst, true, false, ℕ, None}
+use Rattle.std.proofs.Common.{◌≡◌, refl, subst, true, false, ℕ, None}
 use Rattle.model.specs.declared.entry.Entry.TheVariants as entries
 use Rattle.model.specs.Runs.{refusal}
 use Rattle.model.specs.Turns.{short_turn}
@@ -14,22 +14,27 @@ use Rattle.replay.proofs.turn_log.fill_turn.Goals as goal
 pub returns-then-not-legal : goal.returns-then-not-legal
 returns-then-not-legal c =
     let code = c.args.design.now in
-    let r = c.args.replayed.now in
+    let r = c.args.replayer.now in
     let no : c.legal.result ≡ false = c.if-not-legal.true in
     given_none code (state_in code r) c.args.number (λ none. let yes : c.legal.result ≡ true = (c.legal.ensures (remainder_of code) r.store).1 none in cc)
 
 pub returns-in-Ok : goal.returns-in-Ok
 returns-in-Ok c =
     let code = c.args.design.now in
-    let r = c.args.replayed.now in
+    let r = c.args.replayer.now in
     given_turn code r.state r.store c.args.number c.in-Some.field-0-0 c.in-Some.state c.turn_on.new.log c.requires.stands.states c.requires.stands.store c.in-Some.ensures
     (subst (λ (now : ℕ). IsTurnOn code c.in-Some.state r.store now c.turn_on.new.log) c.time-now.ensures c.in-Ok.ensures)
 
 pub returns-in-Err-TooLong : goal.returns-in-Err-TooLong
 returns-in-Err-TooLong c =
     let code = c.args.design.now in
-    let r = c.args.replayed.now in
+    let r = c.args.replayer.now in
     let permitted : refusal (state_in code r) (entries.Turn c.args.number) ≡ None = (c.legal.ensures (remainder_of code) r.store).0 c.if-not-legal.false in
     let none = subst (λ (f : TurnFault). IsNoTurnOn code c.in-Some.state r.store c.time-now.result f) c.in-Err-TooLong.field-0-is c.in-Err-TooLong.ensures in
     stop_turn code r c.args.number c.in-Some.field-0-0 c.in-Some.state c.requires.stands c.in-Some.ensures permitted
     (subst (λ (now : ℕ). (q : ℕ) → IsStateOf code q c.in-Some.state → short_turn (design_of code) q (remainder_of code c.in-Some.state) r.store now ≡ None) c.time-now.ensures none)
+
+pub returns-in-Err-Memory : goal.returns-in-Err-Memory
+returns-in-Err-Memory c =
+    let r = c.args.replayer.now in
+    ((c.legal.ensures (remainder_of c.args.design.now) r.store).0 c.if-not-legal.false, (c.args.number, refl))

@@ -9,8 +9,8 @@ use Rattle.commitgate.proofs.ticket.Ticket.TheSendSync as ticket
 use Rattle.tests_concurrent.proofs.held.race.Lts.{arg-1-1}
 use Rattle.tests_concurrent.proofs.held.race.Goals as goal
 
-pub join-two-requires-send-F : goal.join-two-requires-send-F
-join-two-requires-send-F g c κs within = param_send 1 _ (given c.requires.design c.requires.runtime c.requires.name)
+pub join-one-requires-send-F : goal.join-one-requires-send-F
+join-one-requires-send-F g c κs within = param_send 1 _ (given c.requires.design c.requires.runtime c.requires.name)
   where
     given : IsSync Design.the_row → IsSync (param 1 g.row.R) → IsSend (param 0 g.row.K) → IsSend (arg-1-1 g.row.K g.row.R g.K.laws g.R.laws g.K.Naming g.K.Naming-dict g.R.Threads g.R.Threads-dict g.R.Wait g.R.Wait-dict g.R.Abort g.R.Abort-dict κs)
     given design runtime name = search (gate_sync, seat.the_send, ticket.the_send, crosses, sendable) depth 40 fits 5000

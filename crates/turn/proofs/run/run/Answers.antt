@@ -6,7 +6,7 @@ use Rattle.turn.specs.Machine.{IsAtEnd}
 use Rattle.turn.specs.declared.log.Suspend.TheVariants as suspends
 use Rattle.turn.specs.declared.machine.Step.TheVariants as step
 use Rattle.turn.proofs.Values.{code_declared}
-use Rattle.turn.proofs.Turns.{Reached, reached_none, reached_more, ends_over, ends_counted, is_log, end_takes, too_long, reads_declared, taken}
+use Rattle.turn.proofs.Turns.{Reached, reached_none, reached_more, ends_over, ends_counted, is_log, end_takes, too_long, uses_first, reads_declared, taken}
 use Rattle.turn.proofs.run.run.Goals as goal
 
 pub take-requires-clause-declared : goal.take-requires-clause-declared
@@ -77,4 +77,5 @@ returns-else-is_over-clause-turn g c =
           c.loop-count.invariant.reached (omega arith)
           (λ there. let no : false ≡ true = c.if-is_over.ensures.1 (subst (λ nodes. IsAtEnd nodes s.state) (sym c.nodes-nodes.ensures) there) in cc)
           p start,
+      uses_first c.args.design.now c.args.state.now c.args.now c.loop-count.count s c.loop-count.invariant.reached (omega arith) p start,
     )

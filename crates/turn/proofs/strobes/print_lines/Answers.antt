@@ -1,4 +1,4 @@
-use Rattle.std.proofs.Common.{◌≡◌, ◌∙◌, [], length, take, get_or, refl, ap, sym, subst}
+use Rattle.std.proofs.Common.{rules, ◌≡◌, ◌∙◌, [], length, take, get_or, refl, ap, sym, subst}
 use Rattle.std.proofs.lemmas.List.{take_all}
 use Rattle.turn.specs.Progress.{status_of, fresh}
 use Rattle.turn.specs.Reads.{GaveAll}
@@ -19,6 +19,7 @@ loop-place-init g c =
     record {
       strobed = subst (Strobed design []) (sym begins) (strobed_none design _);
       gave = subst (GaveAll _) (sym (ap (λ s. s.reads) begins)) tt;
+      keeps = search rules;
       lasting = refl;
     }
 
@@ -33,6 +34,7 @@ loop-place-preserved g c =
     record {
       strobed = strobed_next code places i s t c.loop-place-test.true c.registers.ensures.compiled c.loop-place.invariant.strobed prints;
       gave = c.in_ok-strobe_line.ensures.gave c.loop-place.invariant.gave;
+      keeps = λ r s h. c.in_ok-strobe_line.ensures.keeps r s (c.loop-place.invariant.keeps r s h);
       lasting = c.in_ok-strobe_line.ensures.lasting ∙ c.loop-place.invariant.lasting;
     }
 
@@ -41,5 +43,5 @@ returns-clause-lines g c =
     let places = c.args.places.now in
     let i = c.loop-place.place-index in
     let all : take i places ≡ places = take_all i places c.loop-place-test.false in
-    strobed_all c.args.design.now places (status_of c.loop-place.progress) (g.R.RegReader.gave c.loop-place.reader) _
-    (subst (λ ps. Strobed c.args.design.now ps (status_of c.loop-place.progress)) all c.loop-place.invariant.strobed) c.loop-place.invariant.gave refl
+    strobed_all c.args.design.now places (status_of c.loop-place.progress) _ _
+    (subst (λ ps. Strobed c.args.design.now ps (status_of c.loop-place.progress)) all c.loop-place.invariant.strobed) refl refl

@@ -1,5 +1,6 @@
 -- The text has one cut, and its tokens answer for it.
-use Rattle.std.proofs.Common.{map, Err, refl, sym, ap, subst, ◌∙◌}
+use Rattle.std.proofs.Common.{map, Err, refl, sym, ap, subst, ◌∙◌, arith}
+use Rattle.std.proofs.lemmas.List.{length-map}
 use Rattle.tokens.specs.Tokens.{plain_token}
 use Rattle.tokens.specs.Lexing.{Cut}
 use Rattle.tokens.proofs.Chain.{cut_or_stops}
@@ -46,11 +47,13 @@ pub returns-clause-literal_first : goal.returns-clause-literal_first
 returns-clause-literal_first c place d = absurd (cut_or_stops c.in-Ok.ensures.cut refl d)
 
 pub returns-clause-syntax : goal.returns-clause-syntax
-returns-clause-syntax c n is m s =
+returns-clause-syntax c n is =
     let d = subst (λ x. Cut c.args.text.now (map plain_token x)) (sym c.deref.ensures.value) c.in-Ok.ensures.cut in
-    tokens_syntax _ _ n (c.in-Err-read_module.ensures.syntax m (spells_tokens _ _ m d s)) (sym c.of_tokens.ensures ∙ (cc))
+    tokens_syntax _ _ _ _ n d c.in-Err-read_module.ensures.syntax c.in-Err-read_module.ensures.counted
+    (omega (arith, c.in-Err-read_module.ensures.within, length-map c.deref.result.now plain_token)) (sym c.of_tokens.ensures ∙ (cc))
 
 pub returns-clause-no_size : goal.returns-clause-no_size
-returns-clause-no_size c n is m s =
+returns-clause-no_size c n is =
     let d = subst (λ x. Cut c.args.text.now (map plain_token x)) (sym c.deref.ensures.value) c.in-Ok.ensures.cut in
-    tokens_unsized _ _ n (c.in-Err-read_module.ensures.syntax m (spells_tokens _ _ m d s)) (sym c.of_tokens.ensures ∙ (cc))
+    tokens_unsized _ _ _ _ n d c.in-Err-read_module.ensures.syntax c.in-Err-read_module.ensures.counted
+    (omega (arith, c.in-Err-read_module.ensures.within, length-map c.deref.result.now plain_token)) (sym c.of_tokens.ensures ∙ (cc))

@@ -26,9 +26,9 @@ returns-in-Err-clause-syntax c m d =
 pub returns-in-Err-clause-deep_first : goal.returns-in-Err-clause-deep_first
 returns-in-Err-clause-deep_first c is =
     refused_at _ _ c.in-Err.fault (map plain_token c.args.tokens.now) _ _ c.len.result _ _ c.too_deep-stop.ensures.first c.len.ensures
-    (length-map c.args.tokens.now plain_token) c.number.ensures c.in-Err.ensures is
+    (length-map c.args.tokens.now plain_token) c.number.ensures.place c.in-Err.ensures is
 
 pub returns-in-Some-clause-deep_first : goal.returns-in-Some-clause-deep_first
 returns-in-Some-clause-deep_first c is =
     deep_at _ (map plain_token c.args.tokens.now) c.in-Some.left _ _ c.too_deep-stop.ensures.first c.in-Some.is
-    (length-map c.args.tokens.now plain_token) c.number-in-Some.ensures
+    (length-map c.args.tokens.now plain_token) c.number-in-Some.ensures.place

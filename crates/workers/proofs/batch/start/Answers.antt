@@ -1,4 +1,7 @@
-use Rattle.std.proofs.Common.{refl, rules}
+-- What is asked of a turn that is too long was said of the ticket that comes back.
+use Rattle.std.proofs.Common.{refl, rules, subst, sym}
+use Rattle.commitgate.specs.Tickets.{TicketView}
+use Rattle.workers.specs.Batching.{IsLong}
 use Rattle.workers.proofs.Batching.{fills_begun}
 use Rattle.workers.proofs.Seats.{told, goes_then}
 use Rattle.workers.proofs.batch.start.Goals as goal
@@ -6,3 +9,8 @@ use Rattle.workers.proofs.batch.start.Goals as goal
 pub returns-in-Err-default-Memory-clause-fills : goal.returns-in-Err-default-Memory-clause-fills
 returns-in-Err-default-Memory-clause-fills g c =
     fills_begun _ _ _ _ (goes_then 0 _ _ _ c.add.ensures.goes (told _ _ _ c.stop.ensures).0) (search rules) (search rules) (refl, refl) refl
+
+pub tell_long-requires-clause-long : goal.tell_long-requires-clause-long
+tell_long-requires-clause-long g c κs lives =
+    let refused = c.in-Err-default-TooLong.ensures in
+    subst (λ (ticket : TicketView). IsLong g.K.Naming.named c.add.new.batch ticket c.add.new.seat) (sym refused.added.1) (refused.long c.in-Err-default-TooLong.field-0-1-is)

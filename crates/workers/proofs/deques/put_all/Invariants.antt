@@ -1,5 +1,12 @@
+use Rattle.std.proofs.Common.{◌≡◌, ◌++◌}
+use Rattle.std.specs.Vec.Iter.{drain_items}
 use Rattle.workers.specs.Working.{Goes, OnlyPuts}
 use Rattle.workers.proofs.deques.put_all.Given as goal
 
 abbrev pub invariant-loop-ticket : goal.invariant-loop-ticket
-invariant-loop-ticket g l = Goes 0 l.fn.seat l.seat × OnlyPuts l.fn.owner l.owner
+invariant-loop-ticket g l = record {
+  goes : Goes 0 l.fn.seat l.seat;
+  kept : l.seat ≡ l.fn.seat;
+  puts : OnlyPuts l.fn.owner l.owner;
+  all : l.owner.put ++ drain_items l.ticket-iterator ≡ l.fn.owner.put ++ l.fn.tickets.items;
+}

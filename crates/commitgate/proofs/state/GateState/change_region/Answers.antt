@@ -67,6 +67,9 @@ returns-in-Some-clause-seat g c =
     c.known-in-Some.ensures.guarded c.known-in-Some.ensures.kept c.greet.ensures.later c.greet.ensures.same c.greet.ensures.seat c.stop-in-Some.ensures.state c.stop-in-Some.ensures.seat
     (passed_cause n.limits c.due_change-change.result c.in-Some.why passed)
 
+pub append-requires-clause-timely : goal.append-requires-clause-timely
+append-requires-clause-timely g c = subst (λ (l : Limits). IsTimely l c.due_change-change.result) c.self.invariant.limits_is c.in_default.ensures
+
 pub returns-in-Ok-clause-seat : goal.returns-in-Ok-clause-seat
 returns-in-Ok-clause-seat g c =
     let n = g.K.Naming.named in

@@ -1,5 +1,5 @@
 -- The evaluation has no short turn: the run may end so.
-use Rattle.std.proofs.Common.{◌≡◌, ℕ, length, [], ◌∷◌, ◌++◌, sym, ap, ◌∙◌, subst, inr}
+use Rattle.std.proofs.Common.{◌≡◌, ℕ, length, [], ◌∷◌, ◌++◌, refl, sym, ap, ◌∙◌, subst, inr}
 use Rattle.model.specs.declared.end.Why.TheVariants.{TooLong}
 use Rattle.model.specs.declared.end.End.TheVariants.{Stopped}
 use Rattle.model.specs.Runs.{EndsIn}
@@ -9,8 +9,6 @@ use Rattle.gateparts.specs.Log.{Log}
 use Rattle.gateparts.specs.GateState.{GateState, state_in}
 use Rattle.regcells.specs.Meetings.{Rises}
 use Rattle.commitgate.specs.Seats.{SeatView}
-use Rattle.commitgate.specs.Told.{LongCauses}
-use Rattle.commitgate.proofs.Barring.{long_stopped}
 use Rattle.commitgate.proofs.AtLock.{long_ends}
 use Rattle.commitgate.proofs.Guards.{unfinished}
 use Rattle.commitgate.proofs.Meetings.{rises_self}
@@ -25,11 +23,6 @@ stop-requires-clause-ends g c =
     subst (λ (p : ℕ). EndsIn (design_of n.code) n.limits (length held.journal) (state_in n.code held) (Stopped (TooLong p))) (sym c.process.ensures)
     (long_ends n.code n.limits held c.args.ticket.now (unfinished n.code n.limits held c.known.ensures.guarded may.running) may.current may.room c.requires.long)
 
-pub returns-clause-state : goal.returns-clause-state
-returns-clause-state g c =
-    let n = g.K.Naming.named in
-    long_stopped n.code n.limits c.args.seat.now.worker c.args.self.now c.args.ticket.now c.process.result c.stop.new.self c.process.ensures c.requires.may c.requires.long c.stop.ensures.state
-
 pub returns-clause-seat : goal.returns-clause-seat
 returns-clause-seat g c =
     let n = g.K.Naming.named in
@@ -38,7 +31,7 @@ returns-clause-seat g c =
     let stop = c.stop.ensures in
     let log : c.stop.new.self.log ≡ c.args.self.now.log ++ (old.worker, Ended why) ∷ [] = ap (λ (h : GateState). h.log) stop.state in
     let seen : c.stop.new.seat.seen ≡ c.stop.new.self.log = ap (λ (v : SeatView). v.seen) stop.seat in
-    tell_ended n (LongCauses c.args.ticket.now.process) old c.stop.new.seat why c.stop.new.self c.known-2.ensures.guarded c.known-2.ensures.kept
+    tell_ended n (λ w. w ≡ why) old c.stop.new.seat why c.stop.new.self c.known-2.ensures.guarded c.known-2.ensures.kept
     (record {
       worker = ap (λ (v : SeatView). v.worker) stop.seat;
       later = ((old.worker, Ended why) ∷ [], ap (λ (l : Log). l ++ (old.worker, Ended why) ∷ []) c.requires.seen ∙ sym (seen ∙ log));
@@ -47,4 +40,4 @@ returns-clause-seat g c =
     (ap (λ (v : SeatView). v.mine) stop.seat)
     seen
     (ap (λ (h : GateState). h.end) stop.state)
-    (inr (ap (λ (v : SeatView). v.stored) stop.seat, inr (ap TooLong c.process.ensures)))
+    (inr (ap (λ (v : SeatView). v.stored) stop.seat, refl))

@@ -1,5 +1,5 @@
 -- Each answer says what the lock keeps, and what the seat is told.
-use Rattle.std.proofs.Common.{◌≡◌, ℕ, length, sym, ap, ◌∙◌, subst, Some, None}
+use Rattle.std.proofs.Common.{◌≡◌, ℕ, length, sym, ap, ◌∙◌, subst, inr, Some, None}
 use Rattle.std.specs.Prelude.{slice_get}
 use Rattle.std.proofs.lemmas.List.{length-map}
 use mathlib.Core.List.{IsPrefix}
@@ -11,9 +11,9 @@ use Rattle.regcells.specs.Meetings.{fresh_of, Rises}
 use Rattle.commitgate.specs.Seats.{SeatView}
 use Rattle.gateparts.specs.Histories.{hist, IsRead, IsFirstMovedIn}
 use Rattle.gateparts.specs.Evaluated.{turn_at}
-use Rattle.commitgate.specs.Answers.{MayCommit, AreCurrent, IsStopped}
+use Rattle.commitgate.specs.Answers.{MayCommit, AreCurrent, stopped}
 use Rattle.commitgate.specs.Told as told
-use Rattle.commitgate.proofs.Barring.{of_none, barred_long, barred_long_told, tell_stale, long_reads_in, long_by}
+use Rattle.commitgate.proofs.Barring.{of_none, stopped_for, read_stopped, current_told, barred_long, barred_long_told, tell_stale, long_reads_in, long_by}
 use Rattle.commitgate.proofs.Tellings.{stopped_first}
 use Rattle.commitgate.proofs.state.GateState.too_long.Goals as goal
 
@@ -95,11 +95,19 @@ stop_long-requires-clause-long g c =
 pub returns-clause-state : goal.returns-clause-state
 returns-clause-state g c =
     let n = g.K.Naming.named in
-    let same = c.show_reads.ensures.same ∙ c.stale.ensures.same ∙ of_none c.barred.result _ c.barred.ensures.same c.in_default.is in
+    let held = c.args.self.now in
+    let barred = of_none c.barred.result _ c.barred.ensures.same c.in_default.is in
+    let same = c.show_reads.ensures.same ∙ c.stale.ensures.same ∙ barred in
+    let may = of_none c.barred.result _ c.barred.ensures.may c.in_default.is in
+    let current = subst (λ (h : GateState). AreCurrent n.code h c.args.log.now.reads) barred (of_none c.stale.result _ c.stale.ensures.none c.in_default-stale.is) in
     let seat = of_none c.stale.result _ c.stale.ensures.kept c.in_default-stale.is ∙ of_none c.barred.result _ c.barred.ensures.greeted c.in_default.is in
     let worker = ap (λ (v : SeatView). v.worker) c.show_reads.ensures.seat ∙ ap (λ (v : SeatView). v.worker) seat in
-    subst (λ (h : GateState). IsStopped n.code n.limits c.args.seat.now.worker h c.args.ticket c.stop_long.result c.stop_long.new.self) same
-    (subst (λ (w : ℕ). IsStopped n.code n.limits w c.show_reads.new.self c.args.ticket c.stop_long.result c.stop_long.new.self) worker c.stop_long.ensures.state)
+    let begins = subst (λ (v : SeatView). (k : ℕ) (d : ℕ × Seen) → slice_get c.args.log.now.reads k ≡ Some d → IsPrefix (fresh_of v.fresh d.0) (fresh_of held.histories d.0)) seat
+    (subst (λ (h : GateState). (k : ℕ) (d : ℕ × Seen) → slice_get c.args.log.now.reads k ≡ Some d → IsPrefix (fresh_of c.stale.new.seat.fresh d.0) (fresh_of h.histories d.0)) (c.stale.ensures.same ∙ barred) c.show_reads.ensures.begins) in
+    read_stopped n.code n.limits c.args.seat.now.worker c.args.self.now c.args.ticket c.args.log.now.reads c.stop_long.result c.stop_long.new.self c.stop_long.ensures.why
+    may current
+    (long_by n held c.args.ticket c.args.log.now.reads c.args.seat.now.fresh c.known.ensures.kept may.current c.known-2.ensures.own c.requires.turn c.requires.recorded current (sym (length-map held.values length) ∙ ap length c.known.ensures.guarded.store) begins)
+    (c.stop_long.ensures.state ∙ (λ i. stopped (worker i) c.stop_long.result (same i)))
 
 pub returns-clause-seat : goal.returns-clause-seat
 returns-clause-seat g c =
@@ -108,5 +116,14 @@ returns-clause-seat g c =
     let fresh = c.show_reads.new.seat.fresh in
     let kept = of_none c.stale.result _ c.stale.ensures.kept c.in_default-stale.is ∙ of_none c.barred.result _ c.barred.ensures.greeted c.in_default.is in
     let seat = c.show_reads.ensures.seat ∙ ap (λ (v : SeatView). record v { fresh = fresh }) kept in
-    stopped_first n old c.args.self.now.log c.barred.ensures.later fresh (subst (λ (v : SeatView). Rises v.fresh fresh) kept c.show_reads.ensures.rises) (told.LongCauses c.args.ticket.process) c.stop_long.result c.stop_long.new.seat
-    (subst (λ (v : SeatView). told.IsStopped n (told.LongCauses c.args.ticket.process) v c.stop_long.result c.stop_long.new.seat) seat c.stop_long.ensures.seat)
+    let reads = c.args.log.now.reads in
+    let new = c.stop_long.new.seat in
+    let causes = told.ReadCauses n c.args.ticket.process reads new in
+    let barred = of_none c.barred.result _ c.barred.ensures.same c.in_default.is in
+    let same = c.show_reads.ensures.same ∙ c.stale.ensures.same ∙ barred in
+    let current = current_told n c.show_reads.new.seat.worker c.stop_long.result c.args.self.now c.stop_long.new.self reads new c.known.ensures.kept
+    (c.stop_long.ensures.state ∙ ap (stopped c.show_reads.new.seat.worker c.stop_long.result) same) c.stop_long.ensures.seen
+    (subst (λ (h : GateState). AreCurrent n.code h reads) barred (of_none c.stale.result _ c.stale.ensures.none c.in_default-stale.is)) in
+    let long = stopped_for n (λ why. why ≡ c.stop_long.result) causes c.show_reads.new.seat c.stop_long.result new (λ _. inr (c.stop_long.ensures.why, current)) c.stop_long.ensures.seat in
+    stopped_first n old c.args.self.now.log c.barred.ensures.later fresh (subst (λ (v : SeatView). Rises v.fresh fresh) kept c.show_reads.ensures.rises) causes c.stop_long.result new
+    (subst (λ (v : SeatView). told.IsStopped n causes v c.stop_long.result new) seat long)

@@ -1,0 +1,157 @@
+-- What the words of a command line ask for, by what clap finds in them.
+use Rattle.std.specs.Prelude.{◌≡◌, ◌≢◌, ◌⊎◌, ℕ, List, [], ◌∷◌, Option, Some, None, map, drop, slice_get, option_map, unwrap_or, string_bytes, codes, String, true, false}
+use Rattle.std.specs.Str.Parse.{digits_value, without_leading_plus}
+use Rattle.clap.specs.Words.{App, Row, Rule, Text, Kinds, IsAmong, fault_of, first_of, matches_of, new_app, new_rule, one_of, with_rule, with_subcommand}
+use Rattle.clap.specs.Kinds.{or_else}
+use Rattle.clap.specs.Simple.{on_top}
+use Rattle.clap.specs.declared.error.kind.ErrorKind.{ErrorKind}
+use Rattle.clap.specs.declared.error.kind.ErrorKind.TheVariants.{DisplayHelp, DisplayVersion, MissingSubcommand, OutOfMemory}
+use Rattle.clap.specs.declared.builder.action.ArgAction.TheVariants.{Set}
+use Rattle.clap.specs.declared.builder.value_parser.ValueParser.{ValueParser}
+use Rattle.simulate.specs.declared.run.Options.{Options}
+use Rattle.program.specs.declared.request.Refusal.{Refusal}
+use Rattle.program.specs.declared.request.Refusal.TheVariants as refusal
+use Rattle.program.specs.declared.request.Request.{Request}
+use Rattle.program.specs.declared.request.Request.TheVariants as request
+use Rattle.program.specs.declared.request.RunRequest.{RunRequest}
+use Rattle.program.specs.declared.request.ReplayRequest.{ReplayRequest}
+use Rattle.program.specs.Options.{CanRun}
+use Rattle.program.specs.Arguments.{workers_parser, until_parser, entries_parser}
+
+-- the bytes of each word
+abbrev pub texts_of : {Z : Type 0} → List (String Z) → List Text
+texts_of = map string_bytes
+
+-- a word that has to be given
+abbrev pub place : Text → Rule
+place name = record (new_rule name) { required = true; action = Some Set }
+
+-- an option with one value, which may have to pass a parser
+abbrev pub choice : Text → Option ValueParser → Rule
+choice name parser = record (new_rule name) {
+  long = Some name;
+  value_names = 1;
+  action = Some Set;
+  parser = parser;
+}
+
+-- `run` with its words and options
+unfoldable pub run_app : App
+run_app =
+    with_rule
+    (with_rule
+    (with_rule
+    (with_rule
+    (with_rule (new_app (codes "run")) (place (codes "FILE")))
+    (choice (codes "workers") (Some workers_parser)))
+    (choice (codes "until") (Some until_parser)))
+    (choice (codes "max-entries") (Some entries_parser)))
+    (choice (codes "journal") None)
+
+-- `replay` with its words
+unfoldable pub replay_app : App
+replay_app =
+    with_rule
+    (with_rule (new_app (codes "replay")) (place (codes "FILE")))
+    (place (codes "JOURNAL"))
+
+-- the program with the two
+unfoldable pub whole_app : App
+whole_app =
+    with_subcommand
+    (with_subcommand (on_top (λ s. record s { subcommand_required = true; arg_required_else_help = true }) (new_app (codes "vsimtx"))) run_app.top)
+    replay_app.top
+
+-- what clap finds in the words of a run, from `run` on
+unfoldable pub run_rows : List Text → List Row
+run_rows = matches_of run_app
+
+-- and in those of a replay
+unfoldable pub replay_rows : List Text → List Row
+replay_rows = matches_of replay_app
+
+-- the number that was given under a name, in decimal digits, with a plus before them or none
+abbrev pub number_given : Text → List Row → Option ℕ
+number_given name rows = option_map (λ text. digits_value 10 (without_leading_plus text)) (one_of name rows)
+
+-- the options of a run: 2 workers, no limit of time and 1,000,000 entries where the words give no other number
+abbrev pub options_of : List Row → Options
+options_of rows = record {
+  workers = unwrap_or (number_given (codes "workers") rows) 2;
+  until = number_given (codes "until") rows;
+  max_entries = unwrap_or (number_given (codes "max-entries") rows) 1000000;
+}
+
+-- the word after the program's name is this one
+abbrev pub Begins : List Text → Text → Type 0
+Begins words name = slice_get words 1 ≡ Some name
+
+-- this run is asked for: of FILE, with these options, which are in range, and for its journal in OUT where that is given
+pub record IsRunOf (rows : List Row) (run : RunRequest) : Type 0 where
+  pub in_range : CanRun run.options
+  pub file : first_of (codes "FILE") rows ≡ Some run.file.now
+  pub options : run.options ≡ options_of rows
+  pub journal : first_of (codes "journal") rows ≡ option_map (λ path. path.now) run.journal
+
+-- this replay is asked for: of JOURNAL on FILE
+pub record IsReplayOf (rows : List Row) (replay : ReplayRequest) : Type 0 where
+  pub file : first_of (codes "FILE") rows ≡ Some replay.file.now
+  pub journal : first_of (codes "JOURNAL") rows ≡ Some replay.journal.now
+
+-- the words ask for this run
+pub record AsksRun (words : List Text) (run : RunRequest) : Type 0 where
+  pub begins : Begins words (codes "run")
+  pub is_run : IsRunOf (run_rows (drop 1 words)) run
+
+-- the words ask for this replay
+pub record AsksReplay (words : List Text) (replay : ReplayRequest) : Type 0 where
+  pub begins : Begins words (codes "replay")
+  pub is_replay : IsReplayOf (replay_rows (drop 1 words)) replay
+
+-- the words ask for this
+abbrev pub Asks : List Text → Request → Type 0
+Asks words (request.Run run) = AsksRun words run
+Asks words (request.Replay replay) = AsksReplay words replay
+
+-- the kinds of error by which clap may answer the words of a run, from `run` on
+unfoldable pub run_faults : List Text → Kinds
+run_faults = fault_of run_app
+
+-- those of a replay
+unfoldable pub replay_faults : List Text → Kinds
+replay_faults = fault_of replay_app
+
+-- and those of a whole command line that names neither
+unfoldable pub other_faults : List Text → Kinds
+other_faults words = or_else (fault_of whole_app words) (MissingSubcommand ∷ [])
+
+-- clap may answer the words by this kind of error
+pub data MayFail (words : List Text) (kind : ErrorKind) : Type 0 where
+  of_run : Begins words (codes "run") → IsAmong kind (run_faults (drop 1 words)) → MayFail words kind
+  of_replay : Begins words (codes "replay") → IsAmong kind (replay_faults (drop 1 words)) → MayFail words kind
+  of_others : (Begins words (codes "run") → ⊥) → (Begins words (codes "replay") → ⊥)
+      → IsAmong kind (other_faults words) → MayFail words kind
+
+-- memory was refused, or clap may answer the words so
+abbrev pub FailsAs : List Text → ErrorKind → Type 0
+FailsAs words kind = (kind ≡ OutOfMemory) ⊎ MayFail words kind
+
+-- the words ask for help
+abbrev pub AsksHelp : List Text → Type 0
+AsksHelp words = MayFail words DisplayHelp ⊎ MayFail words DisplayVersion
+
+-- the words are wrong: clap may answer them by an error that isn't help
+abbrev pub AreWrong : List Text → Type 0
+AreWrong words = (kind : ErrorKind) × MayFail words kind × (kind ≢ DisplayHelp) × (kind ≢ DisplayVersion)
+
+-- what is answered to an error of this kind, but for memory, which may be refused for any text
+abbrev pub IsRefusalBy : ErrorKind → Refusal → Type 0
+IsRefusalBy kind (refusal.Help text) = (kind ≡ DisplayHelp) ⊎ (kind ≡ DisplayVersion)
+IsRefusalBy kind (refusal.Usage text) = (kind ≢ OutOfMemory) × (kind ≢ DisplayHelp) × (kind ≢ DisplayVersion)
+IsRefusalBy kind refusal.Memory = Unit {0}
+
+-- the words make no request for this reason, but for memory, which may be refused for any words
+abbrev pub IsRefusal : List Text → Refusal → Type 0
+IsRefusal words (refusal.Help text) = AsksHelp words
+IsRefusal words (refusal.Usage text) = AreWrong words
+IsRefusal words refusal.Memory = Unit {0}

@@ -1,8 +1,0 @@
-use Rattle.std.proofs.Common.{◌∙◌}
-use Rattle.eventpool.proofs.Cards.{pool_kept}
-use Rattle.tests_concurrent.proofs.deques.a_pool_of_two.Goals as goal
-
-pub close-tally-requires : goal.close-tally-requires
-close-tally-requires g c =
-    pool_kept c.in_ok-owners.owners.items c.take_at-2.new.owners.items c.in_ok-owners.thieves.items c.steal_at-second.new.rows.items
-    (c.take_at-2.ensures ∙ c.take_at.ensures ∙ c.put_at-two.ensures ∙ c.put_at-one.ensures) (c.steal_at-second.ensures ∙ c.steal_at-first.ensures) c.in_ok-owners.ensures.pool

@@ -1,0 +1,45 @@
+-- The turns of the batch are appended, and the one that is too long isn't.
+use Rattle.std.proofs.Common.{◌≡◌, length, ap, refl, arith, rules}
+use Rattle.turn.specs.Logs.{LogView}
+use Rattle.turn.specs.Reads.{GaveAll}
+use Rattle.turn.specs.Answers.{IsNoTurn}
+use Rattle.turn.specs.declared.log.TurnFault.TheVariants.{TooLong}
+use Rattle.gateparts.specs.Histories.{IsRead}
+use Rattle.workers.proofs.Batching.{fills_goes, fills_more, log_found}
+use Rattle.workers.proofs.Seats.{goes_then}
+use Rattle.workers.proofs.Told.{gave_later, long_goes}
+use Rattle.workers.proofs.batch.tell_long.Goals as goal
+
+pub returns-clause-fills : goal.returns-clause-fills
+returns-clause-fills g c =
+    let before = length c.args.batch.now.tickets.items in
+    let left = length c.commit.new.batch.tickets.items in
+    fills_more c.args.worker.now c.commit.new.worker _ before 0 left 0 left 0 c.commit.ensures.fills
+    (fills_goes c.commit.new.worker _ left 0 0 left
+    (goes_then 0 _ _ _ (long_goes g.K.Naming.named c.commit.new.worker.seat c.args.ticket _ c.too_long-reply.new.seat _ c.too_long-reply.ensures) c.finish.ensures.goes)
+    (omega arith) c.finish.ensures.puts refl refl)
+
+pub too_long-reply-requires-clause-turn : goal.too_long-reply-requires-clause-turn
+too_long-reply-requires-clause-turn g c =
+    let code = g.K.Naming.named.code in
+    let ticket = c.args.ticket in
+    let tickets = c.args.batch.now.tickets.items in
+    let before = c.args.batch.now.logs.items in
+    let after = c.commit.new.batch.logs.items in
+    let log = c.index.result.now in
+    let at : c.len-place.result ≡ length tickets = search rules in
+    log_found (λ (l : LogView). IsNoTurn code ticket.state ticket.time l.reads TooLong) before after (length tickets) c.len-place.result log
+    (ap (λ logs. logs.items) c.commit.ensures.logs) at (λ l is. (c.requires.long l is).0) c.index.ensures
+
+pub too_long-reply-requires-clause-recorded : goal.too_long-reply-requires-clause-recorded
+too_long-reply-requires-clause-recorded g c =
+    let code = g.K.Naming.named.code in
+    let fresh = c.args.worker.now.seat.fresh in
+    let tickets = c.args.batch.now.tickets.items in
+    let before = c.args.batch.now.logs.items in
+    let after = c.commit.new.batch.logs.items in
+    let log = c.index.result.now in
+    let at : c.len-place.result ≡ length tickets = search rules in
+    let gave = log_found (λ (l : LogView). GaveAll (IsRead code fresh) l.reads) before after (length tickets) c.len-place.result log
+    (ap (λ logs. logs.items) c.commit.ensures.logs) at (λ l is. (c.requires.long l is).1) c.index.ensures in
+    gave_later code fresh c.commit.new.worker.seat.fresh log.reads (c.commit.ensures.rises c.if-not-commit.false) gave
