@@ -5,7 +5,6 @@
 
 mod cells;
 mod deques;
-mod run;
 mod sources;
 mod timing;
 mod turns;

@@ -1,10 +1,10 @@
 //! The updates of a run.
 
-use crate::run::Run;
 use crate::sources::{design_of, push_ring, push_updates};
 use crate::timing::{How, Measure, Stopwatch, Unit, tell};
 use design::Design;
 use model::entry::Entry;
+use regions::Machine;
 use std::alloc::{AllocError, Global};
 use std::collections::VecDeque;
 use std::io;
@@ -12,7 +12,7 @@ use std::io;
 /// A run, with the evaluations that are active.
 #[derive(Drop)]
 struct Driven<'d> {
-    run: Run<'d>,
+    run: Machine<'d>,
     active: VecDeque<u64>,
 }
 
@@ -28,7 +28,7 @@ fn first_events(alloc: Global, design: &Design) -> Result<VecDeque<u64>, AllocEr
 impl Driven<'_> {
     // Applies an entry. False where it isn't permitted.
     fn apply(&mut self, entry: Entry) -> bool {
-        if self.run.apply(entry).is_err() {
+        if self.run.take(entry).is_err() {
             return false;
         }
         for event in self.run.made() {
@@ -65,11 +65,8 @@ impl Driven<'_> {
 
     // Makes the change of the regions that is due, where no event is active.
     fn change_region(&mut self) {
-        if self.apply(Entry::ActivateInactive) || self.apply(Entry::ActivateNba) {
-            return;
-        }
-        if let Some(time) = self.run.state().next_time() {
-            self.apply(Entry::Advance(time));
+        if let Some(change) = self.run.due() {
+            self.apply(change);
         }
     }
 
@@ -93,7 +90,7 @@ impl Driven<'_> {
 fn drive(rt: &HostRuntime, how: How, design: &Design, most: u32) -> Result<Measure, AllocError> {
     let active = first_events(rt.alloc(), design)?;
     let mut driven = Driven {
-        run: Run::new(rt.alloc(), design)?,
+        run: Machine::start(rt.alloc(), design)?,
         active,
     };
     Ok(driven.measure(rt, how, most))

@@ -9,7 +9,7 @@ use Rattle.model.specs.declared.end.Limits.{Limits}
 use Rattle.design.specs.Compiled.{Compiled, design_of}
 use Rattle.design.specs.Standing.{IsStateOf}
 use Rattle.turn.specs.declared.memory.Seen.{Seen}
-use Rattle.turn.specs.declared.log.TurnFault.TheVariants as fault
+use Rattle.turn.specs.declared.log.FillFault.TheVariants as fault
 use Rattle.turn.specs.Answers.{IsNoTurn}
 use Rattle.turn.specs.Reads.{Agrees, GaveAll}
 use Rattle.regcells.specs.Values.{last_value}
@@ -24,17 +24,18 @@ use Rattle.commitgate.specs.Kept.{Kept}
 use Rattle.regcells.specs.Meetings.{fresh_of, Rises, AreReadsIn}
 use Rattle.commitgate.specs.Seats.{SeatView}
 use Rattle.commitgate.specs.Tickets.{TicketView, IsCurrent, again}
-use Rattle.gateparts.specs.Histories.{hist, IsRead, IsCurrentIn, IsFirstMovedIn}
+use Rattle.gateparts.specs.Histories.{hist, IsCurrentIn, IsFirstMovedIn}
 use Rattle.gateparts.proofs.Items.{entries_ended}
 use Rattle.gateparts.specs.Evaluated.{turn_at}
-use Rattle.commitgate.specs.Answers.{MayCommit, AreCurrent, StopsAt, Full, Long, LongStopsAt, FullLong, CurrentLong, stopped}
+use Rattle.commitgate.specs.Answers.{IsRecorded, MayCommit, AreCurrent, StopsAt, Full, Long, LongStopsAt, FullLong, CurrentLong, stopped}
 use Rattle.commitgate.specs.Answers as answers
 use Rattle.commitgate.specs.Replies.{Barred, Answered, LongAnswered}
 use Rattle.commitgate.specs.Told.{AreCurrentTo, CommitCauses, LongCauses, ReadCauses, IsStopped, IsStale, BarredTo, AnsweredTo, LongAnsweredTo}
 use Rattle.commitgate.proofs.Agreeing.{agrees}
 use Rattle.commitgate.proofs.AtLock.{long_at_lock}
 use Rattle.commitgate.proofs.Tellings.{tell_refused}
-use Rattle.commitgate.proofs.Validating.{get_all}
+use Rattle.commitgate.proofs.Validating.{get_all, recorded_in}
+use Rattle.gateparts.proofs.Beginnings.{prefix_self}
 
 -- what holds where there is none
 pub of_none : {A : Type 0} (o : Option A) (P : Type 0) → IfNone o P → o ≡ None → P
@@ -125,14 +126,14 @@ long_reads_in code m ticket reads e own turn k d at =
 
 -- where what was read is current, the ticket's evaluation has no short turn
 pub long_by : (n : Named) (held : GateState) (ticket : TicketView) (reads : List (ℕ × Seen)) (fresh : List (List Vector)) → Kept n held → IsCurrent held.core ticket → IsStateOf n.code ticket.process ticket.state
-    → IsNoTurn n.code ticket.state ticket.time reads fault.TooLong → GaveAll (IsRead n.code fresh) reads → AreCurrent n.code held reads
+    → IsNoTurn n.code ticket.state ticket.time reads fault.TooLong → GaveAll (IsRecorded n.code held.histories fresh) reads → AreCurrent n.code held reads
     → length held.values ≡ length n.code.widths
     → ((k : ℕ) (d : ℕ × Seen) → slice_get reads k ≡ Some d → IsPrefix (fresh_of fresh d.0) (fresh_of held.histories d.0))
     → turn_at n.code held ticket.process ticket.state ≡ None
 long_by n held ticket reads fresh kept current own turn gave cur count begins =
     let low = long_reads_in n.code (length n.code.widths) ticket reads refl own turn in
     let agree : Agrees reads (map last_value held.histories) =
-    agrees n.code fresh held.histories reads gave (turn ticket.process own).0 begins (λ k d at. ap length (kept.histories d.0 (low k d at)) ∙ cur k d at) in
+    agrees n.code held.histories held.histories reads (recorded_in n.code held.histories fresh reads gave begins) (turn ticket.process own).0 (λ k d at. prefix_self (fresh_of held.histories d.0)) (λ k d at. ap length (kept.histories d.0 (low k d at)) ∙ cur k d at) in
     long_at_lock n.code held ticket.process ticket.state reads own count
     (subst (λ t. IsNoTurn n.code ticket.state t reads fault.TooLong) (sym current.time) turn)
     (subst (Agrees reads) (sym kept.values) agree)

@@ -20,7 +20,7 @@ use Rattle.commitgate.specs.Kept.{Kept}
 use Rattle.regcells.specs.Meetings.{Rises}
 use Rattle.commitgate.specs.Seats.{SeatView}
 use Rattle.commitgate.specs.Journals.{Stays}
-use Rattle.commitgate.specs.Answers.{HasNoUpdate, IsRegionChange, stopped}
+use Rattle.commitgate.specs.Answers.{HasNoUpdate, IsRegionChange, MustWait, stopped}
 use Rattle.commitgate.specs.Regions.{IsDueChange, IsPassed, why_past}
 use Rattle.commitgate.specs.Told.{MemoryCauses, RestCauses, IsQuietTo, IsBusy, IsRefused, IsStopped, HasMetEntry}
 use Rattle.logic4.specs.Vector.{Vector}
@@ -94,7 +94,7 @@ below_or a b h = omega (arith, h)
 -- an event is active, and the worker was not to wait
 pub tell_busy : (n : Named) (old : SeatView) (held : GateState) → Guarded n.code n.limits held → Kept n held → IsPrefix old.seen held.log → (new : SeatView) → new ≡ record old { seen = held.log }
     → held.end ≡ None → has_any held.core.active ≡ true
-    → (held.end ≡ None → has_any held.core.active ≡ true → HasNoUpdate held.core → length held.journal ≤ length (entries_of old.seen) → ⊥)
+    → (MustWait held (length (entries_of old.seen)) → ⊥)
     → IsRefused n old new × IsBusy n old new
 tell_busy n old held g k later new is running active awake = (
   tell_refused n old held g k later new old.fresh is (rises_self old.fresh) running,
@@ -105,7 +105,7 @@ tell_busy n old held g k later new is running active awake = (
     by_case true e = inl (state_in n.code held, after_log n held g k, e)
     by_case false e =
         let none : HasNoUpdate held.core = none_of (filter (λ e. not (is_evaluation e.1)) held.core.active) e in
-        inr (below_or (length (entries_of held.log)) (length (entries_of old.seen)) (λ few. awake running active none (rw k.journal_is few)))
+        inr (below_or (length (entries_of held.log)) (length (entries_of old.seen)) (λ few. awake (running, active, none, rw k.journal_is few)))
 
 pub due_is_change : (s : State) (change : Entry) → IsDueChange s change → IsRegionChange change
 due_is_change s (Turn event) h = h

@@ -11,7 +11,7 @@ use Rattle.model.specs.declared.end.End.TheVariants.{Stopped}
 use Rattle.model.specs.Design.{Trigger}
 use Rattle.model.specs.Turns.{Remainder}
 use Rattle.model.specs.States.{State, Action, Evaluate, Update, Event, is_evaluation}
-use Rattle.model.specs.Runs.{after, action_in, has_any, EndsIn, IsLawful}
+use Rattle.model.specs.Runs.{after, action_in, has_any, EndsIn, IsLawful, AreTimely}
 use Rattle.design.specs.declared.code.ProcState.{ProcState}
 use Rattle.design.specs.Compiled.{Compiled, design_of}
 use Rattle.design.specs.Standing as standing
@@ -32,7 +32,7 @@ use Rattle.regcells.specs.Meetings.{Rises}
 use Rattle.commitgate.specs.Seats.{SeatView, Follows}
 use Rattle.commitgate.specs.Tickets.{TicketView, IsCurrent, process_in, ticket_for}
 use Rattle.commitgate.specs.Journals.{HasNoUpdate, EndHolds, IsLog, IsActiveTicket, made_active, AreTicketsOf}
-use Rattle.commitgate.specs.Answers.{IsGranted, AreTimely, stopped}
+use Rattle.commitgate.specs.Answers.{IsGranted, stopped}
 use Rattle.commitgate.specs.declared.reply.Reply.{Reply}
 use Rattle.commitgate.specs.declared.reply.Reply.TheVariants as replies
 use Rattle.commitgate.specs.declared.reply.Reply.TheVariants.{Accepted, Stale, Gone, NoMemory}

@@ -1,5 +1,5 @@
 -- A turn's reads against the histories, and what the seat has met once the turn is appended.
-use Rattle.std.proofs.Common.{◌≡◌, ℕ, zero, suc, ◌+◌, ◌<◌, List, [], ◌∷◌, map, length, Option, Some, None, refl, sym, ap, ◌∙◌, subst, arith}
+use Rattle.std.proofs.Common.{◌≡◌, ℕ, zero, suc, ◌+◌, ◌<◌, List, [], ◌∷◌, map, length, Option, Some, None, refl, sym, ap, ◌∙◌, subst, inl, inr, arith}
 use Rattle.std.specs.Prelude.{slice_get, option_and_then, IfNone}
 use Rattle.std.specs.List.{All}
 use mathlib.Core.List.{IsPrefix}
@@ -25,9 +25,9 @@ use Rattle.commitgate.specs.Tickets.{TicketView, IsCurrent}
 use Rattle.gateparts.specs.Histories.{hist, IsRead, IsFirstMovedIn}
 use Rattle.gateparts.specs.Working.{IsLogIn, register_in, updated_register, HasMetLog}
 use Rattle.gateparts.specs.Evaluated.{IsLogOfEvent}
-use Rattle.commitgate.specs.Answers.{AreCurrent}
+use Rattle.commitgate.specs.Answers.{IsRecorded, AreCurrent}
 use Rattle.commitgate.specs.Told.{HasMet, HasMetEntry}
-use Rattle.gateparts.proofs.Beginnings.{prefix_get}
+use Rattle.gateparts.proofs.Beginnings.{prefix_get, prefix_self}
 use Rattle.regcells.proofs.Places.{or_of, within}
 use Rattle.commitgate.proofs.Agreeing.{agrees}
 use Rattle.regions.proofs.Evaluated.{turn_of-is}
@@ -66,6 +66,29 @@ log_in code m ticket log e own turn = (
   λ k d at. subst (λ j. d.0 < j) (sym e) (get_all (λ (w : ℕ × Vector). FitsRegister code.widths w.0 w.1) log.writes (turn.fits ticket.process own).writes k d at).0,
 )
 
+recorded_at : (code : Compiled) (all fresh : List (List Vector)) (d : ℕ × Seen) → IsRecorded code all fresh d.0 d.1 → IsPrefix (fresh_of fresh d.0) (fresh_of all d.0) → IsRead code all d.0 d.1
+recorded_at code all fresh d (inl h) begins = h
+recorded_at code all fresh d (inr h) begins = λ low. prefix_get (fresh_of fresh d.0) (fresh_of all d.0) d.1.version d.1.value begins (h low)
+
+-- what was recorded stands in the lists under the lock, where what a seat has seen is a beginning of them
+pub recorded_in : (code : Compiled) (all fresh : List (List Vector)) (reads : List (ℕ × Seen)) → GaveAll (IsRecorded code all fresh) reads
+    → ((k : ℕ) (d : ℕ × Seen) → slice_get reads k ≡ Some d → IsPrefix (fresh_of fresh d.0) (fresh_of all d.0)) → GaveAll (IsRead code all) reads
+recorded_in code all fresh [] gave begins = tt
+recorded_in code all fresh (d ∷ ds) gave begins =
+    (recorded_at code all fresh d gave.0 (begins 0 d refl), recorded_in code all fresh ds gave.1 (λ k e at. begins (suc k) e at))
+
+pub gave_map : (P Q : ℕ → Seen → Type 0) (reads : List (ℕ × Seen)) → ((r : ℕ) (s : Seen) → P r s → Q r s) → GaveAll P reads → GaveAll Q reads
+gave_map P Q [] f gave = tt
+gave_map P Q (d ∷ ds) f gave = (f d.0 d.1 gave.0, gave_map P Q ds f gave.1)
+
+-- what stands in what a seat has seen is so recorded, whatever the lists
+pub recorded_seen : (code : Compiled) (all fresh : List (List Vector)) (reads : List (ℕ × Seen)) → GaveAll (IsRead code fresh) reads → GaveAll (IsRecorded code all fresh) reads
+recorded_seen code all fresh reads gave = gave_map (IsRead code fresh) (IsRecorded code all fresh) reads (λ r s h. inr h) gave
+
+-- and so is what stands in the lists, whatever a seat has seen
+pub recorded_held : (code : Compiled) (all fresh : List (List Vector)) (reads : List (ℕ × Seen)) → GaveAll (IsRead code all) reads → GaveAll (IsRecorded code all fresh) reads
+recorded_held code all fresh reads gave = gave_map (IsRead code all) (IsRecorded code all fresh) reads (λ r s h. inl h) gave
+
 -- current by the lists is current by the journal
 pub current_by : (n : Named) (held : GateState) (reads : List (ℕ × Seen)) → Kept n held → AreReadsIn (length n.code.widths) reads
     → ((k : ℕ) (d : ℕ × Seen) → slice_get reads k ≡ Some d → IsCurrentOf held.histories d) → AreCurrent n.code held reads
@@ -73,14 +96,13 @@ current_by n held reads kept low cur k d at = ap length (sym (kept.histories d.0
 
 -- and moved by the lists is moved by the journal
 pub moved_by : (n : Named) (held : GateState) (reads : List (ℕ × Seen)) (r : ℕ) (fresh : List (List Vector)) → Kept n held → AreReadsIn (length n.code.widths) reads
-    → IsFirstMovedOf held.histories reads r → GaveAll (IsRead n.code fresh) reads → IsPrefix (fresh_of fresh r) (fresh_of held.histories r)
+    → IsFirstMovedOf held.histories reads r → GaveAll (IsRecorded n.code held.histories fresh) reads → IsPrefix (fresh_of fresh r) (fresh_of held.histories r)
     → IsFirstMovedIn (design_of n.code) held.journal reads r
 moved_by n held reads r fresh kept low m gave begins =
     let d = m.read in
     let here = low m.at d m.there in
-    let pair = gave_at (IsRead n.code fresh) reads gave m.at d m.there here in
     let begins' : IsPrefix (fresh_of fresh d.0) (fresh_of held.histories d.0) = subst (λ q. IsPrefix (fresh_of fresh q) (fresh_of held.histories q)) (sym m.register) begins in
-    let there = prefix_get (fresh_of fresh d.0) (fresh_of held.histories d.0) d.1.version d.1.value begins' pair in
+    let there = recorded_at n.code held.histories fresh d (gave_at (IsRecorded n.code held.histories fresh) reads gave m.at d m.there) begins' here in
     let long = within (fresh_of held.histories d.0) d.1.version d.1.value there in
     let same = ap length (kept.histories d.0 here) in
     record {
@@ -97,14 +119,14 @@ moved_by n held reads r fresh kept low m gave begins =
 
 -- the log is that of the ticket's turn
 pub given_by : (n : Named) (held : GateState) (ticket : TicketView) (log : LogView) (fresh : List (List Vector)) → Kept n held → IsCurrent held.core ticket → IsStateOf n.code ticket.process ticket.state
-    → IsTurnLog n.code ticket.state ticket.time log → GaveAll (IsRead n.code fresh) log.reads → AreCurrent n.code held log.reads
+    → IsTurnLog n.code ticket.state ticket.time log → GaveAll (IsRecorded n.code held.histories fresh) log.reads → AreCurrent n.code held log.reads
     → length held.values ≡ length n.code.widths
     → ((k : ℕ) (d : ℕ × Seen) → slice_get log.reads k ≡ Some d → IsPrefix (fresh_of fresh d.0) (fresh_of held.histories d.0))
     → IsLogOfEvent n.code held ticket.event log
 given_by n held ticket log fresh kept current own turn gave cur count begins =
     let low = reads_in n.code (length n.code.widths) ticket log refl own turn in
     let agree : Agrees log.reads (map last_value held.histories) =
-    agrees n.code fresh held.histories log.reads gave (turn.declared ticket.process own) begins (λ k d at. ap length (kept.histories d.0 (low k d at)) ∙ cur k d at) in
+    agrees n.code held.histories held.histories log.reads (recorded_in n.code held.histories fresh log.reads gave begins) (turn.declared ticket.process own) (λ k d at. prefix_self (fresh_of held.histories d.0)) (λ k d at. ap length (kept.histories d.0 (low k d at)) ∙ cur k d at) in
     record {
       process = ticket.process;
       state = ticket.state;

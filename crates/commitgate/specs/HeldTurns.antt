@@ -2,8 +2,8 @@
 use Rattle.std.specs.Prelude.{◌≡◌, Bool, true, false, None}
 use Rattle.design.specs.Compiled.{Compiled}
 use Rattle.turn.specs.Logs.{LogView}
-use Rattle.turn.specs.declared.log.TurnFault.{TurnFault}
-use Rattle.turn.specs.declared.log.TurnFault.TheVariants.{TooLong, Memory}
+use Rattle.turn.specs.declared.log.FillFault.{FillFault}
+use Rattle.turn.specs.declared.log.FillFault.TheVariants.{TooLong, Memory}
 use Rattle.turn.specs.Answers.{IsTurnLog}
 use Rattle.turn.specs.Reads.{GaveAll}
 use Rattle.gateparts.specs.GateState.{GateState}
@@ -19,11 +19,11 @@ pub record IsHeldTurn (code : Compiled) (held : GateState) (ticket : TicketView)
   pub current : AreCurrent code held log.reads
 
 -- memory was refused
-abbrev pub is_refused : TurnFault → Bool
+abbrev pub is_refused : FillFault → Bool
 is_refused TooLong = false
 is_refused Memory = true
 
 -- a turn that is too long is no short turn from the ticket's state on
-abbrev pub IsNoHeldTurn : Compiled → GateState → TicketView → TurnFault → Type 0
+abbrev pub IsNoHeldTurn : Compiled → GateState → TicketView → FillFault → Type 0
 IsNoHeldTurn code held ticket TooLong = turn_at code held ticket.process ticket.state ≡ None
 IsNoHeldTurn code held ticket Memory = Unit {0}

@@ -11,7 +11,7 @@ use Rattle.model.specs.declared.end.End.TheVariants.{Quiet}
 use Rattle.model.specs.States as states
 use Rattle.model.specs.States.{State, Evaluate}
 use Rattle.model.specs.Turns as turns
-use Rattle.model.specs.Runs.{after, action_in, turn_of, is_quiet, Ends}
+use Rattle.model.specs.Runs.{after, action_in, turn_of, is_quiet, Ends, IsTimely}
 use Rattle.design.specs.Compiled.{design_of}
 use Rattle.turn.specs.declared.memory.Seen.{Seen}
 use Rattle.commitgate.specs.declared.reply.Reply.{Reply}
@@ -27,7 +27,7 @@ use Rattle.commitgate.specs.Seats.{SeatView, Follows, LooksOn}
 use Rattle.commitgate.specs.Tickets.{TicketView, AreRising, again}
 use Rattle.gateparts.specs.Histories.{hist, IsCurrentIn, IsFirstMovedIn}
 use Rattle.commitgate.specs.Journals.{IsLog, After, Stays, IsActiveTicket, made_active, AreTicketsOf, HasUpdate, HasNoUpdate}
-use Rattle.commitgate.specs.Answers.{IsRegionChange, IsTimely}
+use Rattle.commitgate.specs.Answers.{IsRegionChange}
 
 -- the seat has seen the whole history of a register by a log
 abbrev pub HasMet : Named → Log → List (List Vector) → ℕ → Type 0

@@ -3,6 +3,7 @@ ghost use Rattle.std.specs.Prelude.{◌≡◌, ◌<◌, ◌≤◌, ◌↔◌, le
 ghost use Rattle.std.specs.List.{All};
 ghost use Rattle.logic4.specs.Vector.{greatest_width, AreWithin};
 
+use crate::ascii::Ascii;
 use crate::control::{Control, RegId};
 use crate::tree::Conversion;
 use logic4::bits::Bits;
@@ -117,7 +118,7 @@ pub struct Span {
 /// A piece of a line (17.1.1): a byte as it is, or the value of an expression.
 #[derive(Clone, Copy)]
 pub enum Shown {
-    Byte(u8),
+    Byte(Ascii),
     Value { conversion: Conversion, value: Span },
 }
 

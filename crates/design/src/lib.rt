@@ -11,6 +11,7 @@
 //! remainder does (`specs/Meaning.antt`).
 #![tactic(auto)]
 
+mod ascii;
 pub mod code;
 mod control;
 mod design;
@@ -23,6 +24,7 @@ mod sizes;
 pub mod tree;
 mod valued;
 
+pub use ascii::Ascii;
 pub use code::ProcState;
 pub use control::{Control, RegId, Trigger};
 pub use design::Design;

@@ -1,5 +1,6 @@
 //! A design as a tree: names are numbers, and a block is the list of its statements.
 
+use crate::ascii::Ascii;
 use crate::control::{RegId, Trigger};
 use logic4::bits::Bits;
 use model::tree::{BinaryOperator, Task, UnaryOperator};
@@ -27,7 +28,7 @@ pub enum Conversion {
 /// A piece of a display format (17.1.1): a byte as it is, or a place where the next argument is shown.
 #[derive(Clone, Copy, PartialEq, Eq)]
 pub enum Piece {
-    Byte(u8),
+    Byte(Ascii),
     Argument(Conversion),
 }
 

@@ -4,13 +4,13 @@ use Rattle.std.specs.Prelude.{Result, MatchResult}
 use Rattle.logic4.specs.Vector.{Vector}
 use Rattle.design.specs.Compiled.{Compiled}
 use Rattle.turn.specs.Logs.{LogView}
-use Rattle.turn.specs.declared.log.TurnFault.{TurnFault}
+use Rattle.turn.specs.declared.log.FillFault.{FillFault}
 use Rattle.turn.specs.Reads.{GaveAll}
-use Rattle.turn.specs.declared.log.TurnFault.TheVariants as fault
+use Rattle.turn.specs.declared.log.FillFault.TheVariants as fault
 use Rattle.gateparts.specs.Histories.{IsRead}
 
 -- what the reader gave, the seat gave
-pub given_by : (code : Compiled) (s t : List (List Vector)) (log : LogView) (r : Result (Unit {0}) TurnFault) → t ≡ s
+pub given_by : (code : Compiled) (s t : List (List Vector)) (log : LogView) (r : Result (Unit {0}) FillFault) → t ≡ s
     → MatchResult r (λ _. GaveAll (IsRead code s) log.reads) (λ f. f ≡ fault.TooLong → GaveAll (IsRead code s) log.reads)
     → MatchResult r (λ _. GaveAll (IsRead code t) log.reads) (λ f. f ≡ fault.TooLong → GaveAll (IsRead code t) log.reads)
 given_by code s t log r e m =

@@ -19,7 +19,8 @@ pub enum ElabFault {
     TooManyRegisters,
     #[error("E5 more than 256 processes")]
     TooManyProcesses,
-    /// A format with another conversion than `%b`, `%h` and `%0d`, or not as many of them as there are arguments (17.1.1).
+    /// A format with another conversion than `%b`, `%h` and `%0d`, or not as many of them as there are arguments (17.1.1), or
+    /// with a byte that isn't one of ASCII (3.6).
     #[error("E6 format and arguments")]
     BadFormat,
     /// A concatenation whose parts have more than 128 digits together (5.1.14).

@@ -1,9 +1,11 @@
 //! Display formats (17.1.1), read from left to right.
-ghost use Rattle.std.specs.Prelude.{◌≡◌, ◌≤◌, ◌++◌, [], Some, map, option_map, unwrap_or, IfOk, OnOk};
+ghost use Rattle.std.specs.Prelude.{◌≡◌, ◌≤◌, ◌↔◌, ◌++◌, ◌∷◌, [], map, option_map, unwrap_or, IsNone, IfSome, IfOk, OnOk};
+ghost use Rattle.model.specs.Design.{Byte};
 ghost use Rattle.model.specs.Elaboration.{AtByte, AfterPercent, argument_count, pieces_of, read_byte};
 ghost use Rattle.design.specs.Trees.{piece_of};
 ghost use Rattle.elaborate.specs.Formats.{reading_of, step_of, shown};
 
+use design::Ascii;
 use design::tree::{Conversion, Piece};
 use std::alloc::{AllocError, Global};
 
@@ -15,7 +17,8 @@ enum Reading {
     AfterZero,
 }
 
-/// How many arguments a format shows. None where it has another conversion than `%b`, `%h` and `%0d`.
+/// How many arguments a format shows. None where it has another conversion than `%b`, `%h` and `%0d`, or a byte that isn't
+/// one of ASCII.
 pub fn conversions(format: &[u8]) -> Option<usize>
     ensures { result ≡ option_map argument_count (pieces_of format.now) }
 {
@@ -32,7 +35,7 @@ pub fn conversions(format: &[u8]) -> Option<usize>
     }
 }
 
-/// The pieces of a format, or none where it has another conversion.
+/// The pieces of a format, or none where it has another conversion or another byte.
 pub fn pieces(alloc: Global, format: &[u8]) -> Result<Vec<Piece>, AllocError>
     ensures { IfOk result (λ v. map piece_of v.items ≡ unwrap_or (pieces_of format.now) []) }
 {
@@ -56,7 +59,7 @@ fn read(reading: Reading, byte: u8) -> Option<(Reading, Option<Piece>)>
     ensures { option_map step_of result ≡ read_byte (reading_of reading) byte }
 {
     match reading {
-        Reading::AtByte => Some(plain(byte)),
+        Reading::AtByte => plain(byte),
         Reading::AfterPercent => conversion(byte),
         Reading::AfterZero if byte == b'd' => {
             Some((Reading::AtByte, Some(Piece::Argument(Conversion::Decimal))))
@@ -65,21 +68,30 @@ fn read(reading: Reading, byte: u8) -> Option<(Reading, Option<Piece>)>
     }
 }
 
-fn plain(byte: u8) -> (Reading, Option<Piece>)
-    ensures { Some (step_of result) ≡ read_byte AtByte byte }
+fn plain(byte: u8) -> Option<(Reading, Option<Piece>)>
+    ensures { option_map step_of result ≡ read_byte AtByte byte }
 {
     if byte == b'%' {
-        (Reading::AfterPercent, None)
+        Some((Reading::AfterPercent, None))
     } else {
-        (Reading::AtByte, Some(Piece::Byte(byte)))
+        as_it_is(byte)
     }
+}
+
+// A byte that stands for itself. None where it isn't one of ASCII (3.6).
+fn as_it_is(byte: u8) -> Option<(Reading, Option<Piece>)>
+    ensures none { IsNone result ↔ (128 ≤ byte) }
+    ensures some { IfSome result (λ step. step_of step ≡ (AtByte, Byte byte ∷ [])) }
+{
+    let byte = Ascii::new(byte)?;
+    Some((Reading::AtByte, Some(Piece::Byte(byte))))
 }
 
 fn conversion(byte: u8) -> Option<(Reading, Option<Piece>)>
     ensures { option_map step_of result ≡ read_byte AfterPercent byte }
 {
     match byte {
-        b'%' => Some((Reading::AtByte, Some(Piece::Byte(b'%')))),
+        b'%' => as_it_is(byte),
         b'b' => Some((Reading::AtByte, Some(Piece::Argument(Conversion::Binary)))),
         b'h' => Some((Reading::AtByte, Some(Piece::Argument(Conversion::Hex)))),
         b'0' => Some((Reading::AfterZero, None)),

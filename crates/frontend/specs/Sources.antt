@@ -5,8 +5,8 @@ use Rattle.model.specs.Syntax.{Module}
 use Rattle.model.specs.Elaboration.{declared, faults}
 use Rattle.model.specs.Elaboration as model
 use Rattle.vparse.specs.Spells.{Spells, IsUnspelledAt, IsDeepText, IsDeepTextAt}
-use Rattle.vparse.specs.declared.parse.ParseFault.{ParseFault}
-use Rattle.vparse.specs.declared.parse.ParseFault.TheVariants.{Byte, Syntax, Literal, Deep, Unsized, Memory}
+use Rattle.vparse.specs.declared.parser.ParseFault.{ParseFault}
+use Rattle.vparse.specs.declared.parser.ParseFault.TheVariants.{Byte, Syntax, Literal, Deep, Unsized, Memory}
 use Rattle.design.specs.Compiled.{Compiled, design_of}
 use Rattle.elaborate.specs.Faults.{IsFirstFault}
 use Rattle.elaborate.specs.declared.fault.ElabFault.{ElabFault}

@@ -6,7 +6,7 @@ use design::Design;
 use elaborate::{ElabFault, elaborate};
 use std::alloc::Global;
 use thiserror::Error;
-use vparse::parse::{ParseFault, parse};
+use vparse::{ParseFault, parse};
 
 /// Why a source isn't run: its text is no module, or its module has a fault.
 #[derive(Debug, Drop, Error)]

@@ -2,7 +2,7 @@
 ghost use Rattle.std.specs.Prelude.{◌≡◌, ◌≤◌, ◌^◌, length, MatchResult};
 ghost use Rattle.model.specs.Runs.{last_time};
 ghost use Rattle.turn.specs.Answers.{IsTurnLog, IsNoTurn};
-ghost use Rattle.turn.specs.declared.log.TurnFault.TheVariants as fault_of;
+ghost use Rattle.turn.specs.declared.log.FillFault.TheVariants as fault_of;
 ghost use Rattle.turn.specs.Reads.{GaveAll};
 ghost use Rattle.gateparts.specs.Holding.{IsLastIn};
 
@@ -10,7 +10,7 @@ use design::{Design, ProcState, RegId};
 use regcells::{Holder, RegCells};
 use std::marker::{Brand, Model, PhantomData};
 use std::sync::Wait;
-use turn::{RegReader, Seen, TurnFault, TurnLog, run_turn};
+use turn::{FillFault, RegReader, Seen, TurnLog, fill_turn};
 
 /// What the holder has seen, in contracts alone.
 pub trait Holding {
@@ -70,7 +70,7 @@ pub fn held_turn<H: Holding, R: Wait>(
     design: &Design,
     state: &ProcState,
     now: u64,
-) -> (Holder, Result<(), TurnFault>)
+) -> (Holder, Result<(), FillFault>)
     requires cells { cells.now ≡ H.holds.cells }
     requires holder { holder ≡ H.holds }
     requires registers { length design.now.widths ≡ length H.holds.cells }
@@ -85,7 +85,7 @@ pub fn held_turn<H: Holding, R: Wait>(
         holder,
         of: PhantomData,
     };
-    let turn = run_turn(log, design, state, now, &mut reader);
+    let turn = fill_turn(log, design, state, now, &mut reader);
     let HeldReader {
         rt: _,
         cells: _,

@@ -12,7 +12,7 @@ use Rattle.replay.specs.declared.fault.BytesFault.{BytesFault}
 use Rattle.replay.specs.declared.fault.BytesFault.TheVariants as replaying
 use Rattle.replay.specs.declared.fault.Cause.{Cause}
 use Rattle.replay.specs.declared.fault.Cause.TheVariants as cause
-use Rattle.vparse.specs.declared.parse.ParseFault.TheVariants as parsing
+use Rattle.vparse.specs.declared.parser.ParseFault.TheVariants as parsing
 use Rattle.elaborate.specs.declared.fault.ElabFault.TheVariants as elaboration
 use Rattle.program.specs.Program.{ended_status, stop_status, status_of, source_status_of, read_status_of, cause_status_of, replay_status_of}
 

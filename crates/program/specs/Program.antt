@@ -11,7 +11,7 @@ use Rattle.program.specs.declared.fault.Fault.TheVariants as fault
 use Rattle.program.specs.declared.fault.Stop.{Stop}
 use Rattle.program.specs.declared.fault.Stop.TheVariants as stop
 use Rattle.workers.specs.declared.fault.SimFault.{SimFault}
-use Rattle.vparse.specs.declared.parse.ParseFault.TheVariants as parsing
+use Rattle.vparse.specs.declared.parser.ParseFault.TheVariants as parsing
 use Rattle.elaborate.specs.declared.fault.ElabFault.TheVariants as elaboration
 use Rattle.frontend.specs.declared.source.SourceFault.{SourceFault}
 use Rattle.frontend.specs.declared.source.SourceFault.TheVariants as source

@@ -10,7 +10,7 @@ use model::end::{End, Why};
 use replay::{BytesFault, Cause};
 use simulate::SimFault;
 use thiserror::Error;
-use vparse::parse::ParseFault;
+use vparse::ParseFault;
 
 /// A file, output or memory fault, or a fault of a layer.
 #[derive(Debug, Drop, Error)]

@@ -22,3 +22,9 @@ mod StillReads
 mod Clock
 pub mod Evaluated
 pub mod Taken
+pub mod Stepped
+pub mod Given
+pub mod Told
+pub mod Begun
+pub mod Untaken
+pub mod Permitted

@@ -1,12 +1,11 @@
 -- What an entry comes to with its log: its lines, the time, and whether the run is finished.
-use Rattle.std.proofs.Common.{◌≡◌, ℕ, ◌≤◌, ◌<◌, Bool, false, List, [], ◌++◌, length, Option, Some, None, refl, sym, ◌∙◌, ap, subst, inl, inr}
+use Rattle.std.proofs.Common.{◌≡◌, ℕ, ◌≤◌, false, List, [], ◌++◌, length, Option, Some, None, refl, sym, ◌∙◌, ap, subst, inl, inr}
 use Rattle.std.specs.Prelude.{option_map, slice_index_or}
 use Rattle.std.specs.Option.{IsSomeAnd}
 use Rattle.model.specs.declared.entry.Entry.{Entry}
 use Rattle.model.specs.declared.entry.Entry.TheVariants as entries
-use Rattle.model.specs.Design.{Trigger}
 use Rattle.model.specs.States.{State, Evaluate}
-use Rattle.model.specs.Runs.{Effect, silent, action_in, turn_effect, step, refusal, entry_refusal, effect, last_time}
+use Rattle.model.specs.Runs.{Effect, silent, action_in, turn_effect, step, refusal, effect, last_time}
 use Rattle.model.specs.Steps.{IsPermitted}
 use Rattle.model.proofs.RunLaws.{unless_some}
 use Rattle.model.proofs.StepLaws.{step_is_exact}

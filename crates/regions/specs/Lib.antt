@@ -13,3 +13,7 @@ pub mod MadeEvents
 pub mod Evaluations
 pub mod Reader
 pub mod Regions
+pub mod Copies
+pub mod Faults
+pub mod Turns
+pub mod Machine

@@ -16,21 +16,31 @@
 //! 6. A change of region swaps a region into an empty one, and the monitor region is emptied. An advance takes the events of the least time off the
 //!    front of the two lists of future events.
 //!
+//! A `Machine` is a design with its state and a store: it evaluates the turn of an entry, applies the entry, and says which
+//! entries may be next. Replays and tests stand on it; the gate, which evaluates turns elsewhere, on `State::apply`.
+//!
 //! The layer above uses the contract of `State::apply`. After an `Ok`, the state that `State` and `Store` stand for
 //! is the one to which the step of the definitions leads from the state before, and the values that each register had
 //! have grown by those of its own among the step's changes. After an `Err` both are unchanged.
 #![tactic(auto)]
 
 mod apply;
+mod copy;
 mod find;
 mod future;
+mod machine;
+mod next;
 mod queue;
 mod reader;
 mod state;
 mod step;
 mod store;
+mod take;
 mod waiters;
 
+pub use future::Due;
+pub use machine::{Machine, TakeFault};
+pub use queue::{Evaluation, Progress, Update};
 pub use reader::turn_on;
 pub use state::{ApplyFault, Made, MadeEvent, State};
 pub use store::{PlainStore, Store};

@@ -1,7 +1,5 @@
 -- Worked examples (Rows), and lemmas of a replay entry by entry, to its lines.
 pub mod Rows
-pub mod Given
-pub mod Steps
 pub mod Runs
 pub mod Starting
 pub mod Printed

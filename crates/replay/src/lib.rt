@@ -1,8 +1,8 @@
 //! The replayer of a journal, on one thread.
 //!
 //! 1. The start (11.3): every register is all x, and each process has its first event.
-//! 2. Each entry is taken where it stands. A turn that the rules permit is evaluated on the values and at the time of
-//!    the state; then the entry is applied, which appends its lines.
+//! 2. A machine of `regions` takes each entry where it stands: a turn that the rules permit is evaluated on the values and at
+//!    the time of the state; then the entry is applied, which appends its lines.
 //! 3. The first entry that the rules don't permit, or whose turn isn't short, ends the replay with a fault.
 //!
 //! `replay_bytes` does this from the bytes of a source and of a journal, and writes the lines once all are known.
@@ -15,7 +15,6 @@ mod bytes;
 mod fault;
 mod laws;
 mod replayed;
-mod turn_log;
 
 pub use bytes::replay_bytes;
 pub use fault::{BytesFault, Cause, ReplayFault};

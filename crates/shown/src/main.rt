@@ -1,7 +1,7 @@
-//! Runs each command line of standard input as `vsimtx` would, and prints behind each what it leaves: its output, its line on
-//! standard error, and its status. A line `show FILE` prints a file that one of them made, as a journal. The lines are the
-//! commands of docs/tutorial.md, and then worked rows, whose sources and journals stand in data/rows: each tells by its name
-//! what it shows.
+//! Runs each command line of standard input as `vsimtx` would, and prints behind each what it leaves: its output, its lines on
+//! standard error, each with a `!` before it, and its status. A line `show FILE` prints a file that one of them made, as a
+//! journal. The lines are the commands of docs/tutorial.md, and then worked rows, whose sources and journals stand in
+//! data/rows: each tells by its name what it shows.
 #![tactic(auto)]
 
 use journal::Counted;
@@ -21,9 +21,19 @@ fn main(rt: HostRuntime) -> io::Result<()> {
         let words = words_of(alloc, line.as_str())?;
         let mut files = SystemFiles { rt: &rt };
         let mut out = Counted::new(rt.stdout());
-        let mut err = rt.stdout();
+        let mut err = Vec::new(alloc);
         let status = command(&rt, alloc, words.as_slice(), &mut files, &mut out, &mut err);
+        show_errors(&mut rt.stdout(), err.as_slice())?;
         println!(rt; "status {status}")?;
+    }
+    Ok(())
+}
+
+// Writes a text of standard error, each of its lines behind a mark.
+fn show_errors(out: &mut impl io::Write, text: &[u8]) -> io::Result<()> {
+    for line in text.split_inclusive(|byte| *byte == b'\n') {
+        out.write_all(b"!")?;
+        out.write_all(line)?;
     }
     Ok(())
 }

@@ -1,6 +1,6 @@
 // A turn whose reads are of two moments.
 ghost use Rattle.std.specs.Prelude.{◌≡◌, ◌<◌, MatchResult};
-ghost use Rattle.turn.specs.declared.log.TurnFault.TheVariants.{TooLong};
+ghost use Rattle.turn.specs.declared.log.FillFault.TheVariants.{TooLong};
 ghost use Rattle.turn.specs.Answers.{IsTurnLog, IsNoTurn};
 ghost use Rattle.turn.specs.Reads.{GaveAll};
 ghost use Rattle.gateparts.specs.Histories.{IsRead};
@@ -10,7 +10,7 @@ use commitgate::{Naming, Seat, SeatReader, Ticket};
 use design::RegId;
 use std::process::Abort;
 use std::sync::Wait;
-use turn::{RegReader, Seen, TurnFault, TurnLog, run_turn};
+use turn::{FillFault, RegReader, Seen, TurnLog, fill_turn};
 
 // The other seat's turn, if it still waits.
 fn overtake<K: Naming, R: Wait + Abort>(
@@ -60,7 +60,7 @@ fn fill<K: Naming, R: Wait + Abort>(
     ticket: &Ticket<K>,
     other: &mut Seat<K>,
     waits: &mut Option<Ticket<K>>,
-) -> Result<(), TurnFault>
+) -> Result<(), FillFault>
     ensures turn { MatchResult result (λ _. IsTurnLog K.named.code ticket.now.state ticket.now.time log.new) (IsNoTurn K.named.code ticket.now.state ticket.now.time log.new.reads) }
     ensures gave { MatchResult result (λ _. GaveAll (IsRead K.named.code seat.new.fresh) log.new.reads) (λ fault. fault ≡ TooLong → GaveAll (IsRead K.named.code seat.new.fresh) log.new.reads) }
 {
@@ -70,7 +70,7 @@ fn fill<K: Naming, R: Wait + Abort>(
         other,
         waits,
     };
-    let turn = run_turn(
+    let turn = fill_turn(
         log,
         course.design,
         ticket.state(),
@@ -104,7 +104,7 @@ pub fn mixed<K: Naming, R: Wait + Abort>(
     let Err(fault) = fill(course, &mut log, two, late, one, &mut waits) else {
         panic!(course.rt; "a short turn")
     };
-    let TurnFault::TooLong = fault else {
+    let FillFault::TooLong = fault else {
         panic!(course.rt; "memory")
     };
     assert!(course.rt; waits.is_none(), "a turn that still waits");

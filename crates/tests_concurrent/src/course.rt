@@ -1,6 +1,6 @@
 // The steps of a worker at an open gate.
 ghost use Rattle.std.specs.Prelude.{◌≡◌, ◌<◌, ◌∷◌, [], IfSome, MatchResult};
-ghost use Rattle.turn.specs.declared.log.TurnFault.TheVariants.{TooLong};
+ghost use Rattle.turn.specs.declared.log.FillFault.TheVariants.{TooLong};
 ghost use Rattle.turn.specs.Answers.{IsTurnLog, IsNoTurn};
 ghost use Rattle.turn.specs.Reads.{GaveAll, Keeps};
 ghost use Rattle.gateparts.specs.Histories.{IsRead};
@@ -11,7 +11,7 @@ use frontend::read_design;
 use std::alloc::Global;
 use std::process::Abort;
 use std::sync::Wait;
-use turn::{RegReader, Seen, TurnFault, TurnLog, run_turn};
+use turn::{FillFault, RegReader, Seen, TurnLog, fill_turn};
 
 /// An open gate, and its design.
 #[derive(Drop)]
@@ -43,7 +43,7 @@ impl<'g, 'd, K: Naming, R: Wait + Abort> Course<'g, 'd, K, R> {
         match self.fill(&mut log, seat, ticket) {
             Ok(()) => Some(log),
             Err(fault) => {
-                assert!(self.rt; matches!(fault, TurnFault::Memory), "no short turn");
+                assert!(self.rt; matches!(fault, FillFault::Memory), "no short turn");
                 None
             }
         }
@@ -55,13 +55,13 @@ impl<'g, 'd, K: Naming, R: Wait + Abort> Course<'g, 'd, K, R> {
         log: &mut TurnLog,
         seat: &mut Seat<K>,
         ticket: &Ticket<K>,
-    ) -> Result<(), TurnFault>
+    ) -> Result<(), FillFault>
         ensures turn { MatchResult result (λ _. IsTurnLog K.named.code ticket.now.state ticket.now.time log.new) (IsNoTurn K.named.code ticket.now.state ticket.now.time log.new.reads) }
         ensures gave { MatchResult result (λ _. GaveAll (IsRead K.named.code seat.new.fresh) log.new.reads) (λ fault. fault ≡ TooLong → GaveAll (IsRead K.named.code seat.new.fresh) log.new.reads) }
         ensures keeps { Keeps (IsRead K.named.code seat.old.fresh) (IsRead K.named.code seat.new.fresh) }
     {
         let mut reader = self.gate.reader(self.rt, seat);
-        let turn = run_turn(log, self.design, ticket.state(), ticket.time(), &mut reader);
+        let turn = fill_turn(log, self.design, ticket.state(), ticket.time(), &mut reader);
         reader.into_seat();
         turn
     }

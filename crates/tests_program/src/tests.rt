@@ -25,7 +25,9 @@ mod probes;
 mod refused;
 mod replays;
 mod runs;
+mod starved;
 mod threads;
+mod tries;
 mod words;
 
 /// A run of the source, with no journal.

@@ -11,7 +11,7 @@ use elaborate::elaborate;
 use model::tree::{Module, Statement};
 use std::alloc::Global;
 use std::process::Abort;
-use vparse::parse::parse;
+use vparse::parse;
 
 /// Texts, one behind the other.
 fn joined(rt: &impl Abort, alloc: Global, texts: &[&str]) -> String {

@@ -12,7 +12,8 @@
 //! `runs`:
 //! 1. `turns` has what small processes do in a turn, and `worked` whole turns that are known. All are made by `turn` from a
 //!    source.
-//! 2. `event_queue` has journals of small designs: which entries are permitted after each entry, and what is refused.
+//! 2. `event_queue` has journals of small designs: which entries are permitted after each entry, and what is refused. Its `searched` and `keys`
+//!    have what a search of all orders asks: what may be next, copies, and keys of states that two orders of turns lead to.
 //! 3. `journal_text` has texts of journals of both versions with what `journal` reads, what it writes, and readers and writers
 //!    that fail.
 //! 4. `replays` has what a fault prints, and replays from bytes to bytes by readers and writers that fail.

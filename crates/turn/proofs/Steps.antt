@@ -72,7 +72,7 @@ pub record Sound (code : Compiled) (p : ℕ) (s : Status) : Type 0 where
   pub size : length s.known ≡ length code.widths
   pub knows : Knows s.writes s.reads s.known
   pub writes : All (λ w. FitsRegister code.widths w.0 w.1) s.writes
-  pub nbas : All (λ n. FitsRegister code.widths n.register n.value) s.nbas
+  pub nbas : All (λ n. FitsRegister code.widths n.reg n.value) s.nbas
 
 -- the step on a store that agrees
 abbrev pub StepOn : Compiled → ℕ → ℕ → Store → ℕ → Status → Step → Status → Type 0
@@ -230,21 +230,21 @@ module _ (code : Compiled) (p now : ℕ) where
         ∙ over_eq _ _ _ _ _ _ _ _ _ _ false (count + 1) (sym got.continues.uses) (ap (λ x. Set q x ∷ remainder_at (design_of code) to) (got.value store (len ∙ sym sound.size) agree)) (wait_delayed code.controls now delay);
   }
 
-  later_follows : (s : Status) (q to place delay : ℕ) (e : Expression ℕ) (v : Vector) (m : Status) → Sound code p s → Gets s v m (λ values. assigned_value code.widths values q e) (registers_of e) → remainder_of code s.state ≡ At place ∷ remainder_at (design_of code) to → statement_at (design_of code) place ≡ tree.AssignLater q delay e → q < length code.widths → IsPlaceOf (design_of code) p to → Follows code p now s step.Goes (delaying (record s { known = m.known; reads = m.reads }) (record { register = q; value = v; due = now + delay }) to)
+  later_follows : (s : Status) (q to place delay : ℕ) (e : Expression ℕ) (v : Vector) (m : Status) → Sound code p s → Gets s v m (λ values. assigned_value code.widths values q e) (registers_of e) → remainder_of code s.state ≡ At place ∷ remainder_at (design_of code) to → statement_at (design_of code) place ≡ tree.AssignLater q delay e → q < length code.widths → IsPlaceOf (design_of code) p to → Follows code p now s step.Goes (delaying (record s { known = m.known; reads = m.reads }) (record { reg = q; value = v; due = now + delay }) to)
   later_follows s q to place delay e v m sound got left is fits within = record {
     sound = record {
       state = state_at s.state to sound.state within;
       size = got.size ∙ sound.size;
       knows = got.continues.knows;
       writes = sound.writes;
-      nbas = All-push (λ n. FitsRegister code.widths n.register n.value) s.nbas (record { register = q; value = v; due = now + delay }) sound.nbas (fits, length-assigned code.widths q e v got.some);
+      nbas = All-push (λ n. FitsRegister code.widths n.reg n.value) s.nbas (record { reg = q; value = v; due = now + delay }) sound.nbas (fits, length-assigned code.widths q e v got.some);
     };
     agrees = got.continues.agrees;
     goes = λ store count len agree.
         stepping (going_of code store count s) (remainder_of code s.state) (remainder_at (design_of code) to) place (tree.AssignLater q delay e) left is
         ∙ goes_eq (remainder_at (design_of code) to) (remainder_at (design_of code) to) _ _ _ _ _ _ _ _ _ _ _ (count + 1) refl refl (sym got.continues.uses) refl
         (ap (λ x. map later_of s.nbas ++ record { register = q; value = x; due = now + delay } ∷ []) (got.value store (len ∙ sym sound.size) agree)
-        ∙ sym (map-append later_of s.nbas (record { register = q; value = v; due = now + delay } ∷ [])))
+        ∙ sym (map-append later_of s.nbas (record { reg = q; value = v; due = now + delay } ∷ [])))
         refl;
   }
 
@@ -346,7 +346,7 @@ module _ (code : Compiled) (p now : ℕ) where
         rw (er, es') (after_follows s q to place delay e v m sound got (here ∙ left) is fits within)
     node_follows (node.AssignLater q delay span to) s r s' sound here (place, (e, (left, is, c, fits, within))) (er, (v, (m, (val, es)))) =
         let got = gets (piece code.ops span) s v m _ _ (piece_within s span sound) sound.knows c val in
-        let es' = es ∙ ap (λ z. delaying z (record { register = q; value = v; due = now + delay }) to) got.same in
+        let es' = es ∙ ap (λ z. delaying z (record { reg = q; value = v; due = now + delay }) to) got.same in
         rw (er, es') (later_follows s q to place delay e v m sound got (here ∙ left) is fits within)
     node_follows (node.Delay delay to) s r s' sound here (place, (body, (rest, (left, is, there, within)))) (er, es) = rw (er, es) (delay_follows s to place delay body rest sound (here ∙ left) is there within)
     node_follows (node.Await control to) s r s' sound here (place, (body, (rest, (triggers, (left, found, is, there, within))))) (er, es) = rw (er, es) (await_follows s to place control triggers body rest sound (here ∙ left) found is there within)

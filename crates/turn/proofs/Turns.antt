@@ -185,7 +185,7 @@ is_log code state now count s s' suspend finish n log reached ends short l = rec
       record {
         writes = subst (All (λ w. FitsRegister code.widths w.0 w.1)) (sym l.writes) f.writes;
         nets = l.nets ∙ ap nets_of (sym l.writes);
-        nbas = subst (All (λ n. FitsRegister code.widths n.register n.value)) (sym l.nbas) f.nbas;
+        nbas = subst (All (λ n. FitsRegister code.widths n.reg n.value)) (sym l.nbas) f.nbas;
       };
 }
 

@@ -46,7 +46,7 @@ log_of p suspend finish count = record {
 
 -- a nonblocking assignment of the definitions for one of the log
 abbrev pub later_of : Nba → Later
-later_of nba = record { register = nba.register; value = nba.value; due = nba.due }
+later_of nba = record { register = nba.reg; value = nba.value; due = nba.due }
 
 -- what a process waits for, where the triggers of each event control are known
 abbrev pub wait_of : List (List Trigger) → Suspend → Wait
@@ -71,4 +71,4 @@ pub record IsLogOf (rem : ProcState → Remainder) (controls : List (List Trigge
 pub record LogFits (widths : List ℕ) (log : LogView) : Type 0 where
   pub writes : All (λ w. FitsRegister widths w.0 w.1) log.writes
   pub nets : log.nets ≡ nets_of log.writes
-  pub nbas : All (λ n. FitsRegister widths n.register n.value) log.nbas
+  pub nbas : All (λ n. FitsRegister widths n.reg n.value) log.nbas

@@ -26,7 +26,7 @@ AssignsAfter ops span q next s s' = WithValue (piece ops span) s (λ v m. s' ≡
 -- a nonblocking assignment
 abbrev pub AssignsLater : List Op → Span → ℕ → ℕ → ℕ → Status → Status → Type 0
 AssignsLater ops span q due next s s' =
-    WithValue (piece ops span) s (λ v m. s' ≡ delaying m (record { register = q; value = v; due = due }) next)
+    WithValue (piece ops span) s (λ v m. s' ≡ delaying m (record { reg = q; value = v; due = due }) next)
 
 -- a test
 abbrev pub Branches : List Op → Span → ℕ → ℕ → Status → Status → Type 0

@@ -8,6 +8,7 @@ ghost use Rattle.turn.specs.Progress.{status_of, printing, PrintsPiece, Prints};
 
 use crate::memory::RegReader;
 use crate::progress::Progress;
+use design::Ascii;
 use design::code::{Op, Shown};
 use design::tree::Conversion;
 use logic4::bits::Bits;
@@ -25,15 +26,11 @@ fn text_of(alloc: Global, conversion: Conversion, value: Bits) -> Result<String,
 }
 
 impl Progress {
-    // Prints a byte. Strings have ASCII bytes alone (3.6), and a line is UTF-8, so any other byte is refused.
-    fn print_byte(&mut self, byte: u8) -> Result<(), AllocError>
+    // Prints a byte. It is one of ASCII (3.6), so in UTF-8 it is the whole of a character.
+    fn print_byte(&mut self, byte: Ascii) -> Result<(), AllocError>
         ensures { OnOk result (status_of self.new ≡ printing (status_of self.old) (byte ∷ [])) }
     {
-        if byte < 128 {
-            self.lines.push(char::from(byte))
-        } else {
-            Err(AllocError)
-        }
+        self.lines.push(byte.to_char())
     }
 
     // Prints a value by a conversion.

@@ -13,7 +13,7 @@ use std::marker::Model;
 /// A nonblocking assignment that a turn made (9.2.2): its register, its value, and the time at which it is due.
 #[derive(Clone, Copy)]
 pub struct Nba {
-    pub register: RegId,
+    pub reg: RegId,
     pub value: Bits,
     pub due: u64,
 }
@@ -67,6 +67,14 @@ impl TurnLog {
             finish: false,
             count: 0,
         }
+    }
+
+    // The reads alone.
+    pub(crate) fn into_reads(self) -> IndexMap<RegId, Seen>
+        ensures { result.entries ≡ self.reads }
+    {
+        let TurnLog { progress, .. } = self;
+        progress.into_reads()
     }
 
     /// The registers that were read, each with what was seen.
@@ -141,20 +149,28 @@ impl TurnLog {
     }
 }
 
+/// Why there is no log of a turn: it has more counted steps than a turn may have, and these are its reads so far; or memory was
+/// refused.
+#[derive(Drop)]
+pub enum TurnFault {
+    TooLong(IndexMap<RegId, Seen>),
+    Memory,
+}
+
 /// Why a turn isn't over: it has more counted steps than a turn may have, and its log has its reads so far; or memory was
 /// refused.
 #[derive(Clone, Copy, PartialEq, Eq, Debug)]
-pub enum TurnFault {
+pub enum FillFault {
     TooLong,
     Memory,
 }
 
-impl From<AllocError> for TurnFault {
-    ghost use Rattle.turn.specs.declared.log.TurnFault.TheVariants as fault;
+impl From<AllocError> for FillFault {
+    ghost use Rattle.turn.specs.declared.log.FillFault.TheVariants as fault;
 
     ghost from_gives = { λ _ e. e ≡ fault.Memory };
 
     fn from(_: AllocError) -> Self {
-        TurnFault::Memory
+        FillFault::Memory
     }
 }

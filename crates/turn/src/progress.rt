@@ -7,11 +7,12 @@ ghost use Rattle.turn.specs.Progress.{status_of, fresh, at, writing, holding, de
 
 use crate::evaluate::compute;
 use crate::log::Nba;
-use crate::memory::{Memory, RegReader};
+use crate::memory::{Memory, RegReader, Seen};
 use crate::stack::Stack;
 use crate::writes::Writes;
 use design::code::{Op, Span};
 use design::{ProcState, RegId};
+use indexmap::IndexMap;
 use logic4::bits::Bits;
 use std::alloc::{AllocError, Global};
 
@@ -89,6 +90,15 @@ impl Progress {
             strobes: Vec::new(alloc),
             stack: Stack::new(alloc),
         }
+    }
+
+    /// The reads alone.
+    pub fn into_reads(self) -> IndexMap<RegId, Seen>
+        ensures { result ≡ self.memory.reads }
+    {
+        let Progress { memory, .. } = self;
+        let Memory { reads, .. } = memory;
+        reads
     }
 
     /// A turn begins, over this many registers. What the room held counts for nothing.

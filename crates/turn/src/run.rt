@@ -2,11 +2,11 @@
 ghost use Rattle.std.specs.Prelude.{◌≡◌, ◌≤◌, length, MatchResult};
 ghost use Rattle.model.specs.Runs.{last_time};
 ghost use Rattle.turn.specs.Reads.{GaveAll, Keeps};
-ghost use Rattle.turn.specs.declared.log.TurnFault.TheVariants as fault_of;
+ghost use Rattle.turn.specs.declared.log.FillFault.TheVariants as fault_of;
 ghost use Rattle.turn.specs.Logs.{log_of};
 ghost use Rattle.turn.specs.Answers.{IsTurnLog, IsNoTurn};
 
-use crate::log::{Suspend, TurnFault, TurnLog};
+use crate::log::{FillFault, Suspend, TurnLog};
 use crate::machine::Step;
 use crate::memory::RegReader;
 use crate::progress::Progress;
@@ -30,7 +30,7 @@ fn run<R: RegReader>(
     state: &ProcState,
     now: u64,
     reader: &mut R,
-) -> Result<Ending, TurnFault>
+) -> Result<Ending, FillFault>
     requires now { now ≤ last_time }
     requires registers { length design.now.widths ≤ R.registers }
     ensures turn { MatchResult result (λ e. IsTurnLog design.now state.now now (log_of progress.new e.suspend e.finish e.count)) (IsNoTurn design.now state.now now progress.new.memory.reads.entries) }
@@ -68,7 +68,7 @@ fn run<R: RegReader>(
             count: MOST_STEPS,
         })
     } else {
-        Err(TurnFault::TooLong)
+        Err(FillFault::TooLong)
     }
 }
 
@@ -76,13 +76,13 @@ fn run<R: RegReader>(
 /// once, at its first use. Whatever comes of the turn, the reader keeps what it gave before, and what no read changes stays.
 /// `TooLong` where the turn has more than 65,536 counted steps, and then the log has its reads so far; `Memory` where the log
 /// couldn't grow. What the log held before changes nothing but the time that it takes.
-pub fn run_turn<R: RegReader>(
+pub fn fill_turn<R: RegReader>(
     log: &mut TurnLog,
     design: &Design,
     state: &ProcState,
     now: u64,
     reader: &mut R,
-) -> Result<(), TurnFault>
+) -> Result<(), FillFault>
     requires now { now ≤ last_time }
     requires registers { length design.now.widths ≤ R.registers }
     ensures turn { MatchResult result (λ _. IsTurnLog design.now state.now now log.new) (IsNoTurn design.now state.now now log.new.reads) }

@@ -83,7 +83,7 @@ impl Progress {
     {
         self.compute(ops, value, reader)?;
         let nba = Nba {
-            register,
+            reg: register,
             value: self.stack.top,
             due,
         };

@@ -11,7 +11,7 @@ use Rattle.tokens.specs.declared.cut.CutFault.{CutFault}
 use Rattle.tokens.specs.declared.cut.CutFault.TheVariants as cut_fault
 use Rattle.grammar.specs.declared.fault.Fault.{Fault}
 use Rattle.grammar.specs.declared.fault.Fault.TheVariants as fault
-use Rattle.vparse.specs.declared.parse.ParseFault.TheVariants.{Byte, Literal, Syntax, Unsized, Deep, Memory}
+use Rattle.vparse.specs.declared.parser.ParseFault.TheVariants.{Byte, Literal, Syntax, Unsized, Deep, Memory}
 use Rattle.tokens.proofs.Chain.{cut_once, cut_or_stops, stops_once}
 
 pub spells_tokens : (text : List ℕ) (ts : PlainTokens) (m : Module) → Cut text ts → Spells m text → IsModule m ts

@@ -4,8 +4,8 @@ use Rattle.tokens.specs.declared.cut.CutFault.{CutFault}
 use Rattle.tokens.specs.declared.cut.CutFault.TheVariants as cut_fault
 use Rattle.grammar.specs.declared.fault.Fault.{Fault}
 use Rattle.grammar.specs.declared.fault.Fault.TheVariants as fault
-use Rattle.vparse.specs.declared.parse.ParseFault.{ParseFault}
-use Rattle.vparse.specs.declared.parse.ParseFault.TheVariants.{Byte, Literal, Syntax, Unsized, Deep, Memory}
+use Rattle.vparse.specs.declared.parser.ParseFault.{ParseFault}
+use Rattle.vparse.specs.declared.parser.ParseFault.TheVariants.{Byte, Literal, Syntax, Unsized, Deep, Memory}
 
 -- The fault of a text whose cut fails.
 abbrev pub of_cut : CutFault → ParseFault

@@ -11,4 +11,6 @@
 #![tactic(auto)]
 
 mod nesting;
-pub mod parse;
+mod parser;
+
+pub use parser::{ParseFault, parse};

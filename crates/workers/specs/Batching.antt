@@ -5,7 +5,7 @@ use Rattle.commitgate.specs.Named.{Named}
 use Rattle.turn.specs.Logs.{LogView}
 use Rattle.turn.specs.Reads.{GaveAll}
 use Rattle.turn.specs.Answers.{IsNoTurn}
-use Rattle.turn.specs.declared.log.TurnFault.TheVariants.{TooLong}
+use Rattle.turn.specs.declared.log.FillFault.TheVariants.{TooLong}
 use Rattle.gateparts.specs.Histories.{IsRead}
 use Rattle.commitgate.specs.Seats.{SeatView}
 use Rattle.commitgate.specs.Tickets.{TicketView}

@@ -5,7 +5,7 @@ ghost use Rattle.std.specs.List.{All};
 ghost use Rattle.commitgate.specs.Tickets.{most_tries};
 ghost use Rattle.commitgate.specs.Batches.{AreOffered, HadMemory};
 ghost use Rattle.regcells.specs.Meetings.{Rises};
-ghost use Rattle.turn.specs.declared.log.TurnFault.TheVariants.{TooLong};
+ghost use Rattle.turn.specs.declared.log.FillFault.TheVariants.{TooLong};
 ghost use Rattle.workers.specs.Working.{Goes, OverUnless, OnlyPuts, Serves, tickets_of};
 ghost use Rattle.workers.specs.Batching.{most_turns, HasRoom, IsOffered, IsLong, Leads, Fills};
 ghost use Rattle.workers.specs.declared.batch.Next.TheVariants.{Enough, Over};
@@ -20,7 +20,7 @@ use std::alloc::{AllocError, Global};
 use std::collections::VecDeque;
 use std::marker::Brand;
 use std::sync::Wait;
-use turn::{TurnFault, TurnLog};
+use turn::{FillFault, TurnLog};
 
 /// The most turns that a worker commits at once.
 pub(crate) const MOST_TURNS: usize = 16;
@@ -75,7 +75,7 @@ fn add<K: Naming, P: Probe, R: Wait>(
     batch: &mut Batch<K>,
     seat: &mut Seat<K>,
     ticket: Ticket<K>,
-) -> Result<u32, (Ticket<K>, TurnFault)>
+) -> Result<u32, (Ticket<K>, FillFault)>
     requires design { run.now.design.now ≡ K.named.code }
     requires room { HasRoom batch.old }
     requires few { length batch.old.tickets.items < most_turns }
@@ -185,11 +185,11 @@ fn start<K: Naming, P: Probe, R: Wait>(
                 Next::More
             }
         }
-        Err((ticket, TurnFault::TooLong)) => {
+        Err((ticket, FillFault::TooLong)) => {
             pace.stay_alone();
             after(tell_long(run, batch, pace, worker, ticket))
         }
-        Err((_, TurnFault::Memory)) => {
+        Err((_, FillFault::Memory)) => {
             run.gate.stop(run.rt, &mut worker.seat);
             Next::Over
         }

@@ -1,9 +1,9 @@
 //! The change of the regions that is due where nothing is active.
-ghost use Rattle.std.specs.Prelude.{◌≡◌, ◌≤◌, ◌↔◌, true, None, length, IsTrue, IfSome, IfNone, MatchOption};
-ghost use Rattle.model.specs.Runs.{has_any};
+ghost use Rattle.std.specs.Prelude.{◌≡◌, ◌↔◌, length, IsTrue, IfSome, IfNone, MatchOption};
+ghost use Rattle.model.specs.Runs.{IsTimely};
 ghost use Rattle.gateparts.specs.Log.{entries_of};
 ghost use Rattle.gateparts.specs.GateState.{state_in};
-ghost use Rattle.commitgate.specs.Answers.{HasNoUpdate, IsResting, IsTimely, stopped_for_memory};
+ghost use Rattle.commitgate.specs.Answers.{IsResting, MustWait, stopped_for_memory};
 ghost use Rattle.commitgate.specs.Regions.{IsDueChange, IsPassed};
 ghost use Rattle.commitgate.specs.Closing.{IsEndOf};
 ghost use Rattle.commitgate.specs.Replies.{RestAnswered};
@@ -39,7 +39,7 @@ impl<'d, K: Naming> GateState<'d, K> {
     /// Whether a worker without a ticket waits: the run goes on, evaluations alone are active, and the journal has no
     /// entry past those that it has seen.
     pub fn must_wait(&self, seen: u64) -> bool
-        ensures { IsTrue result ↔ ((self.now.end ≡ None) × (has_any self.now.core.active ≡ true) × HasNoUpdate self.now.core × (length self.now.journal ≤ seen)) }
+        ensures { IsTrue result ↔ MustWait self.now seen }
     {
         self.parts.end.is_none()
             & self.parts.regions.is_active()
@@ -97,9 +97,8 @@ impl<'d, K: Naming> GateState<'d, K> {
     ) -> Rest<K>
         requires cells { cells.now ≡ K.named.cells }
         requires mark { mark.now.table.shared.table_id ≡ K.named.mark }
-        requires awake { (self.old.end ≡ None) → (has_any self.old.core.active ≡ true) → HasNoUpdate self.old.core → length self.old.journal ≤ length (entries_of seat.old.seen) → ⊥ }
         ensures state { RestAnswered K.named.code K.named.limits seat.old.worker self.old self.new result }
-        ensures seat { RestAnsweredTo K.named seat.old seat.new result }
+        ensures seat { (MustWait self.old (length (entries_of seat.old.seen)) → ⊥) → RestAnsweredTo K.named seat.old seat.new result }
     {
         self.known();
         self.greet(rt, mark, seat);
@@ -142,9 +141,10 @@ impl<'d, K: Naming> GateState<'d, K> {
     ) -> Option<Rest<K>>
         requires cells { cells.now ≡ K.named.cells }
         requires mark { mark.now.table.shared.table_id ≡ K.named.mark }
+        ensures state { IfSome result (λ rest. RestAnswered K.named.code K.named.limits seat.old.worker self.old self.new rest) }
         ensures some { IfSome result (λ rest. RestAnsweredTo K.named seat.old seat.new rest) }
         ensures none { IfNone result ((seat.new ≡ seat.old) × (self.new ≡ self.old)) }
-        ensures waits { IfNone result ((self.old.end ≡ None) × (has_any self.old.core.active ≡ true) × HasNoUpdate self.old.core × (length self.old.journal ≤ length (entries_of seat.old.seen))) }
+        ensures waits { IfNone result (MustWait self.old (length (entries_of seat.old.seen))) }
     {
         if self.must_wait(seat.seen()) {
             return None;

@@ -14,15 +14,15 @@ use gateparts::MarkCell;
 use regcells::RegCells;
 use std::alloc::Global;
 use std::sync::Wait;
-use turn::{TurnFault, TurnLog};
+use turn::{FillFault, TurnLog};
 
 // Whether memory was refused, and the turn isn't too long.
-fn is_memory(fault: &TurnFault) -> bool
+fn is_memory(fault: &FillFault) -> bool
     ensures { result ≡ is_refused fault.now }
 {
     match fault {
-        TurnFault::TooLong => false,
-        TurnFault::Memory => true,
+        FillFault::TooLong => false,
+        FillFault::Memory => true,
     }
 }
 
@@ -35,7 +35,7 @@ impl<'d, K: Naming> GateState<'d, K> {
         alloc: Global,
         log: &mut TurnLog,
         ticket: &Ticket<K>,
-    ) -> Result<(), TurnFault>
+    ) -> Result<(), FillFault>
         requires cells { cells.now ≡ K.named.cells }
         requires current { IsCurrent self.old.core ticket.now }
         ensures same { self.new ≡ self.old }
@@ -73,10 +73,7 @@ impl<'d, K: Naming> GateState<'d, K> {
             return reply;
         }
         match self.evaluate(rt, cells, alloc, log, &ticket) {
-            Ok(()) => {
-                self.show_reads(rt, cells, seat, log);
-                self.accept(rt, cells, mark, alloc, seat, ticket, log)
-            }
+            Ok(()) => self.accept(rt, cells, mark, alloc, seat, ticket, log),
             Err(fault) => {
                 if is_memory(&fault) {
                     return Reply::NoMemory(ticket);

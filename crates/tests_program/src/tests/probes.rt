@@ -2,11 +2,11 @@
 //! evaluated again.
 
 use super::counts::Count;
-use super::{design_of, outcome_of};
+use super::threads::total;
+use super::{Texts, design_of, outcome_of, replayed};
 use design::{Design, RegId};
 use model::end::End;
-use model::entry::Entry;
-use simulate::{Options, Probe, ReplyKind, simulate};
+use simulate::{Options, Outcome, Probe, ReplyKind, simulate};
 use std::alloc::Global;
 use std::process::Abort;
 use std::sync::Wait;
@@ -18,25 +18,43 @@ const TWO_WORKERS: Options = Options {
     max_entries: 100,
 };
 
-/// A run on two workers. It ends by itself after two entries.
+/// A source, how many entries its runs have and how many evaluations at most, and what they may print.
+#[derive(Clone, Copy)]
+struct Raced<'a> {
+    source: &'a str,
+    entries: usize,
+    evaluations: u64,
+    texts: Texts<'a>,
+}
+
+/// A run ended by itself after so many entries, and printed one of the texts: the one that its journal replays to.
+fn assert_raced(
+    rt: &impl Abort,
+    alloc: Global,
+    design: &Design,
+    raced: &Raced<'_>,
+    outcome: &Outcome,
+) {
+    let closed = &outcome.closed;
+    let evaluations = total(outcome.evaluations.as_slice());
+    assert!(rt; evaluations <= raced.evaluations, "the evaluations");
+    assert!(rt; closed.entries().len() == raced.entries, "the entries");
+    assert!(rt; closed.end() == End::Quiet, "the end");
+    assert!(rt; raced.texts.has(closed.lines().as_bytes()), "the lines");
+    let again = replayed(rt, alloc, design, closed.entries());
+    assert!(rt; again.lines.as_str() == closed.lines(), "the replay");
+}
+
+/// A run on two workers.
 fn run<P: Probe, R: Abort + Threads + Wait + Sync>(
     rt: &R,
     alloc: Global,
-    design: &Design,
+    raced: &Raced<'_>,
     probe: &P,
 ) {
-    let answer = simulate(rt, alloc, design, TWO_WORKERS, probe);
-    let outcome = outcome_of(rt, answer);
-    assert_entries(rt, outcome.closed.entries());
-    assert_end(rt, outcome.closed.end());
-}
-
-fn assert_entries(rt: &impl Abort, entries: &[Entry]) {
-    assert!(rt; entries.len() == 2, "the entries");
-}
-
-fn assert_end(rt: &impl Abort, end: End) {
-    assert!(rt; end == End::Quiet, "the end");
+    let design = design_of(rt, alloc, raced.source);
+    let answer = simulate(rt, alloc, &design, TWO_WORKERS, probe);
+    assert_raced(rt, alloc, &design, raced, &outcome_of(rt, answer));
 }
 
 /// Keeps the first evaluation open until the gate has answered to another ticket.
@@ -61,25 +79,58 @@ impl Probe for HoldsFirst {
     }
 }
 
-/// Each of two processes is evaluated once, though one stays open until the other is over.
-fn assert_overlap<R: Abort + Threads + Wait + Sync>(rt: &R, alloc: Global, design: &Design) {
+/// A run goes on while its first evaluation stays open until another turn is over. The gate answers to each evaluation.
+fn assert_overlap<R: Abort + Threads + Wait + Sync>(rt: &R, alloc: Global, raced: &Raced<'_>) {
     let probe = HoldsFirst {
         evaluations: Count::new(),
         replies: Count::new(),
         given_up: Count::new(),
     };
-    run(rt, alloc, design, &probe);
+    run(rt, alloc, raced, &probe);
     assert!(rt; probe.given_up.get() == 0, "another reply came in time");
-    assert!(rt; probe.evaluations.get() == 2, "the evaluations");
+    assert!(rt;
+        probe.evaluations.get() == probe.replies.get(),
+        "a reply to each evaluation"
+    );
 }
 
-#[test]
-fn evaluations_overlap(rt: HostRuntime) {
-    let source = "module t; initial $display(\"a\"); initial $display(\"b\"); endmodule";
-    let design = design_of(&rt, rt.alloc(), source);
+/// The same comes of each of a hundred runs.
+fn assert_all_overlap<R: Abort + Threads + Wait + Sync>(rt: &R, alloc: Global, raced: &Raced<'_>) {
     for _ in 0..100u32 {
-        assert_overlap(&rt, rt.alloc(), &design);
+        assert_overlap(rt, alloc, raced);
     }
+}
+
+/// Two processes print a line each.
+const DISPLAYS: Raced<'static> = Raced {
+    source: "module t; reg a; initial begin a=1'b1; $display(\"x\"); end initial $display(\"y\"); endmodule",
+    entries: 2,
+    evaluations: 2,
+    texts: Texts {
+        one: "x\ny\n",
+        other: "y\nx\n",
+    },
+};
+
+#[test]
+fn evaluations_of_two_displays_overlap(rt: HostRuntime) {
+    assert_all_overlap(&rt, rt.alloc(), &DISPLAYS);
+}
+
+/// Two processes copy each other's register at one time.
+const COPIES: Raced<'static> = Raced {
+    source: "module t; reg a, b; initial begin a=1'b0; b=1'b1; end initial #1 a=b; initial #1 b=a; initial #2 $display(\"%b %b\",a,b); endmodule",
+    entries: 9,
+    evaluations: 28,
+    texts: Texts {
+        one: "1 1\n",
+        other: "0 0\n",
+    },
+};
+
+#[test]
+fn evaluations_of_two_copies_overlap(rt: HostRuntime) {
+    assert_all_overlap(&rt, rt.alloc(), &COPIES);
 }
 
 /// Keeps the evaluation of event 0 open until the second read has begun, and that read until the gate has answered to
@@ -115,8 +166,16 @@ impl Probe for HoldsRead {
     }
 }
 
+/// A process makes two registers equal, and another one goes round for ever where they differ.
+const MOMENTS: Raced<'static> = Raced {
+    source: "module t; reg a, b; initial begin a=1'b0; b=1'b0; end initial while (a!==b) begin end endmodule",
+    entries: 2,
+    evaluations: 3,
+    texts: Texts { one: "", other: "" },
+};
+
 /// The turn whose two reads are of two moments is evaluated again.
-fn assert_stale<R: Abort + Threads + Wait + Sync>(rt: &R, alloc: Global, design: &Design) {
+fn assert_stale<R: Abort + Threads + Wait + Sync>(rt: &R, alloc: Global) {
     let probe = HoldsRead {
         reads: Count::new(),
         first_replies: Count::new(),
@@ -124,7 +183,7 @@ fn assert_stale<R: Abort + Threads + Wait + Sync>(rt: &R, alloc: Global, design:
         stale_at_first: Count::new(),
         given_up: Count::new(),
     };
-    run(rt, alloc, design, &probe);
+    run(rt, alloc, &MOMENTS, &probe);
     assert!(rt; probe.given_up.get() == 0, "the waits ended");
     assert!(rt;
         probe.stale_at_first.get() == 1,
@@ -135,10 +194,7 @@ fn assert_stale<R: Abort + Threads + Wait + Sync>(rt: &R, alloc: Global, design:
 
 #[test]
 fn a_turn_over_two_moments_is_stale(rt: HostRuntime) {
-    let source =
-        "module t; reg a, b; initial begin a=1'b0; b=1'b0; end initial while (a!==b) begin end endmodule";
-    let design = design_of(&rt, rt.alloc(), source);
     for _ in 0..100u32 {
-        assert_stale(&rt, rt.alloc(), &design);
+        assert_stale(&rt, rt.alloc());
     }
 }

@@ -1,14 +1,15 @@
 //! Runs on several workers, many times over: each prints one of the texts of its design, leaves a journal that one thread
-//! replays to the same text, and evaluates no turn more than four times.
+//! replays to the same text, and evaluates no event more than four times.
 
 ghost use Rattle.std.specs.Prelude.{◌≤◌};
 
+use super::counts::Evaluations;
 use super::{Texts, design_of, either, only, outcome_of, replayed};
 use commitgate::Closed;
 use design::Design;
 use model::entry::Entry;
 use regions::State;
-use simulate::{Options, Outcome, Unobserved, simulate};
+use simulate::{Options, Outcome, simulate};
 use std::alloc::Global;
 use std::process::Abort;
 use std::sync::Wait;
@@ -27,7 +28,7 @@ fn turns_in(entries: &[Entry]) -> u64 {
     turns
 }
 
-fn total(numbers: &[u64]) -> u64 {
+pub(super) fn total(numbers: &[u64]) -> u64 {
     let mut sum = 0u64;
     for number in numbers {
         sum = sum.saturating_add(*number);
@@ -56,7 +57,7 @@ fn active_after(rt: &impl Abort, alloc: Global, design: &Design, closed: &Closed
     active_in(&again.state)
 }
 
-/// There are at most four evaluations of a turn, and of an evaluation that is still active at the end.
+/// There is an evaluation of each turn, and at most four of each turn and of each evaluation that is still active at the end.
 fn assert_evaluations(rt: &impl Abort, turns: u64, active: u64, evaluations: u64) {
     assert!(rt; turns <= evaluations, "evaluations of all turns");
     let most = turns.saturating_add(active).saturating_mul(4);
@@ -69,13 +70,18 @@ fn assert_outcome(
     alloc: Global,
     design: &Design,
     outcome: &Outcome,
+    evaluations: &Evaluations,
     texts: Texts<'_>,
 ) {
     let closed = &outcome.closed;
     assert!(rt; texts.has(closed.lines().as_bytes()), "the lines");
     let active = active_after(rt, alloc, design, closed);
-    let evaluations = total(outcome.evaluations.as_slice());
-    assert_evaluations(rt, turns_in(closed.entries()), active, evaluations);
+    let counted = evaluations.assert_few(rt);
+    assert!(rt;
+        counted == total(outcome.evaluations.as_slice()),
+        "the evaluations"
+    );
+    assert_evaluations(rt, turns_in(closed.entries()), active, counted);
 }
 
 fn assert_run<R: Abort + Threads + Wait + Sync>(
@@ -93,9 +99,10 @@ fn assert_run<R: Abort + Threads + Wait + Sync>(
         until: Some(25),
         max_entries: 1_000,
     };
-    let answer = simulate(rt, alloc, design, options, &Unobserved);
+    let evaluations = Evaluations::new(rt, alloc, EVENTS);
+    let answer = simulate(rt, alloc, design, options, &evaluations);
     let outcome = outcome_of(rt, answer);
-    assert_outcome(rt, alloc, design, &outcome, texts);
+    assert_outcome(rt, alloc, design, &outcome, &evaluations, texts);
 }
 
 /// So many runs on so many workers.

@@ -1,6 +1,6 @@
 //! Command lines and files that give no run.
 
-use super::{assert_cut, assert_line, over, run_line, tells};
+use super::{assert_cut, assert_line, joined, over, prints, tells};
 use std::alloc::Global;
 use std::process::Abort;
 use std::sync::Wait;
@@ -8,59 +8,134 @@ use std::thread::Threads;
 
 const EMPTY: &str = "module t; endmodule";
 
-/// A line is refused: a text tells why, and nothing is printed.
-fn assert_refused<R: Abort + Threads + Wait + Sync>(rt: &R, alloc: Global, line: &str) {
-    let left = run_line(rt, alloc, line, EMPTY);
-    let is_refused = left.status == 2 && left.out.is_empty() && !left.err.is_empty();
-    assert!(rt; is_refused, "{line}");
-}
+/// The help of the program as a whole.
+const WHOLE: &str =
+    "Simulates one Verilog module on several workers\n\nUsage: vsimtx <COMMAND>\n\nCommands:\n  run     Simulates FILE and prints its lines\n  replay  Replays JOURNAL on FILE and prints its lines\n  help    Print this message or the help of the given subcommand(s)\n\nOptions:\n  -h, --help  Print help\n";
 
-const WRONG: &[&str] = &[
-    "vsimtx",
-    "vsimtx run",
-    "vsimtx walk t.v",
-    "vsimtx run t.v u.v",
-    "vsimtx run t.v --walk",
-    "vsimtx run t.v --workers 0",
-    "vsimtx run t.v --workers 17",
-    "vsimtx run t.v --workers two",
-    "vsimtx run t.v --workers 2 --workers 3",
-    "vsimtx run t.v --until 281474976710657",
-    "vsimtx run t.v --max-entries 0",
-    "vsimtx run t.v --max-entries 4294967296",
-    "vsimtx run t.v --journal",
-    "vsimtx replay",
-    "vsimtx replay t.v",
-    "vsimtx replay t.v JOURNAL --workers 2",
-];
+const OF_RUN: &str =
+    "Simulates FILE and prints its lines\n\nUsage: vsimtx run [OPTIONS] <FILE>\n\nArguments:\n  <FILE>  Verilog source\n\nOptions:\n      --workers <N>      Worker threads, 1 to 16 [default: 2]\n      --until <T>        Last time that the run may reach, 0 to 281474976710656 [default: no limit]\n      --max-entries <N>  Most entries of the journal, 1 to 4294967295 [default: 1000000]\n      --journal <OUT>    Where to write the journal\n  -h, --help             Print help\n";
 
-#[test]
-fn refuses_wrong_words(rt: HostRuntime) {
-    for &line in WRONG {
-        assert_refused(&rt, rt.alloc(), line);
-    }
-}
+const OF_REPLAY: &str =
+    "Replays JOURNAL on FILE and prints its lines\n\nUsage: vsimtx replay <FILE> <JOURNAL>\n\nArguments:\n  <FILE>     Verilog source\n  <JOURNAL>  Journal of a run\n\nOptions:\n  -h, --help  Print help\n";
 
-/// A line prints a text, and tells of no fault.
-fn assert_help<R: Abort + Threads + Wait + Sync>(rt: &R, alloc: Global, line: &str) {
-    let left = run_line(rt, alloc, line, EMPTY);
-    let is_shown = left.status == 0 && !left.out.is_empty() && left.err.is_empty();
-    assert!(rt; is_shown, "{line}");
-}
-
-const HELP: &[&str] = &[
-    "vsimtx --help",
-    "vsimtx run --help",
-    "vsimtx replay --help",
-    "vsimtx help run",
+/// Lines that ask for help, and the help.
+const HELP: &[(&str, &str)] = &[
+    ("vsimtx --help", WHOLE),
+    ("vsimtx run --help", OF_RUN),
+    ("vsimtx replay --help", OF_REPLAY),
+    ("vsimtx help run", OF_RUN),
 ];
 
 #[test]
 fn shows_help(rt: HostRuntime) {
-    for &line in HELP {
-        assert_help(&rt, rt.alloc(), line);
+    for &(line, text) in HELP {
+        assert_line(&rt, rt.alloc(), line, EMPTY, prints(text));
     }
     assert_cut(&rt, rt.alloc(), "vsimtx --help", over(EMPTY), "Simul");
+}
+
+const USAGE: &str = "Usage: vsimtx <COMMAND>\n\n";
+
+const USAGE_OF_FILE: &str = "Usage: vsimtx run <FILE>\n\n";
+
+const USAGE_OF_RUN: &str = "Usage: vsimtx run [OPTIONS] <FILE>\n\n";
+
+const USAGE_OF_REPLAY: &str = "Usage: vsimtx replay <FILE> <JOURNAL>\n\n";
+
+/// Lines that are refused, why, and the usage that is told, if any is.
+const WRONG: &[(&str, &str, &str)] = &[
+    (
+        "vsimtx run",
+        "the following required arguments were not provided:\n  <FILE>",
+        USAGE_OF_FILE,
+    ),
+    ("vsimtx walk t.v", "unrecognized subcommand 'walk'", USAGE),
+    (
+        "vsimtx run t.v u.v",
+        "unexpected argument 'u.v' found",
+        USAGE_OF_RUN,
+    ),
+    (
+        "vsimtx run t.v --walk",
+        "unexpected argument '--walk' found\n\n  tip: to pass '--walk' as a value, use '-- --walk'",
+        USAGE_OF_FILE,
+    ),
+    (
+        "vsimtx run t.v --workers 0",
+        "invalid value '0' for '--workers <N>': 0 is not in 1..=16",
+        "",
+    ),
+    (
+        "vsimtx run t.v --workers 17",
+        "invalid value '17' for '--workers <N>': 17 is not in 1..=16",
+        "",
+    ),
+    (
+        "vsimtx run t.v --workers two",
+        "invalid value 'two' for '--workers <N>': invalid digit found in string",
+        "",
+    ),
+    (
+        "vsimtx run t.v --workers 2 --workers 3",
+        "the argument '--workers <N>' cannot be used multiple times",
+        USAGE_OF_RUN,
+    ),
+    (
+        "vsimtx run t.v --until 281474976710657",
+        "invalid value '281474976710657' for '--until <T>': 281474976710657 is not in 0..=281474976710656",
+        "",
+    ),
+    (
+        "vsimtx run t.v --max-entries 0",
+        "invalid value '0' for '--max-entries <N>': 0 is not in 1..=4294967295",
+        "",
+    ),
+    (
+        "vsimtx run t.v --max-entries 4294967296",
+        "invalid value '4294967296' for '--max-entries <N>': 4294967296 is not in 1..=4294967295",
+        "",
+    ),
+    (
+        "vsimtx run t.v --journal",
+        "a value is required for '--journal <OUT>' but none was supplied",
+        "",
+    ),
+    (
+        "vsimtx replay",
+        "the following required arguments were not provided:\n  <FILE>\n  <JOURNAL>",
+        USAGE_OF_REPLAY,
+    ),
+    (
+        "vsimtx replay t.v",
+        "the following required arguments were not provided:\n  <JOURNAL>",
+        USAGE_OF_REPLAY,
+    ),
+    (
+        "vsimtx replay t.v JOURNAL --workers 2",
+        "unexpected argument '--workers' found\n\n  tip: to pass '--workers' as a value, use '-- --workers'",
+        USAGE_OF_REPLAY,
+    ),
+];
+
+/// A line is refused: the whole text tells why, and nothing is printed.
+fn assert_refused<R: Abort + Threads + Wait + Sync>(
+    rt: &R,
+    alloc: Global,
+    line: &str,
+    why: &str,
+    usage: &str,
+) {
+    let more = "For more information, try '--help'.\n";
+    let text = joined(rt, alloc, &["error: ", why, "\n\n", usage, more]);
+    assert_line(rt, alloc, line, EMPTY, tells(2, text.as_str()));
+}
+
+#[test]
+fn refuses_wrong_words(rt: HostRuntime) {
+    for &(line, why, usage) in WRONG {
+        assert_refused(&rt, rt.alloc(), line, why, usage);
+    }
+    assert_line(&rt, rt.alloc(), "vsimtx", EMPTY, tells(2, WHOLE));
 }
 
 const FILE_FAULTS: &[(&str, u8, &str)] = &[

@@ -3,7 +3,7 @@
 use model::tree::Module;
 use std::alloc::Global;
 use std::process::Abort;
-use vparse::parse::{ParseFault, parse};
+use vparse::{ParseFault, parse};
 
 /// A source with each form of the grammar.
 const PAGE: &[u8] =

@@ -3,8 +3,9 @@
 use super::{body, design, joined, module};
 use design::Design;
 use design::code::Node;
-use model::tree::{Statement, Task};
-use std::alloc::Global;
+use elaborate::{ElabFault, elaborate};
+use model::tree::{Module, Process, Statement, Task};
+use std::alloc::{AllocError, Global};
 use std::process::Abort;
 
 const TASKS: &[(&str, Task)] = &[("$display", Task::Display), ("$strobe", Task::Strobe)];
@@ -80,5 +81,38 @@ fn assert_elaborated(rt: &impl Abort, alloc: Global, name: &str, task: Task) {
 fn elaborates_calls(rt: HostRuntime) {
     for &(name, task) in TASKS {
         assert_elaborated(&rt, rt.alloc(), name, task);
+    }
+}
+
+/// A module whose one process shows a line of one byte. A source spells it only where the byte is one of ASCII.
+fn showing(alloc: Global, byte: u8) -> Result<Module, AllocError> {
+    let format = vec![in alloc; byte]?;
+    let body = Statement::Print(Task::Display, format, Vec::new(alloc));
+    let process = Process {
+        repeats: false,
+        body,
+    };
+    Ok(Module {
+        name: String::from_str(alloc, "t")?,
+        regs: Vec::new(alloc),
+        procs: vec![in alloc; process]?,
+    })
+}
+
+/// Whether a format of this byte alone is refused, as the fault that it is.
+fn is_refused(rt: &impl Abort, alloc: Global, byte: u8) -> bool {
+    let module = showing(alloc, byte).expect(rt, "memory");
+    match elaborate(alloc, &module) {
+        Ok(_) => false,
+        Err(ElabFault::BadFormat) => true,
+        Err(_) => panic!(rt; "another fault"),
+    }
+}
+
+#[test]
+fn refuses_bytes_that_are_not_ascii(rt: HostRuntime) {
+    for byte in [0_u8, 37, 127, 128, 200, 255] {
+        let wanted = byte == b'%' || byte >= 128;
+        assert!(rt; is_refused(&rt, rt.alloc(), byte) == wanted, "{byte}");
     }
 }

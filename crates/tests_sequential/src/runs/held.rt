@@ -77,21 +77,19 @@ pub fn assert_read_at(
     assert!(rt; reads.get_index_of(&register) == Some(place), "{register}");
 }
 
-/// The log of the first turn of the first process of a source, at a time below 2 to the 32, and whether it is over.
+/// The first turn of the first process of a source, at a time below 2 to the 32.
 pub fn try_first_turn(
     rt: &impl Abort,
     alloc: Global,
     source: &str,
     now: u32,
     held: &mut Held,
-) -> (TurnLog, Result<(), TurnFault>) {
+) -> Result<TurnLog, TurnFault> {
     let design = design_of(rt, alloc, source.as_bytes());
     let state = beginning(rt, &design);
     // The answer tells that there are at most 1,024, which is what the reader takes.
     let _registers = design.registers();
-    let mut log = TurnLog::new(alloc);
-    let turn = run_turn(&mut log, &design, &state, u64::from(now), held);
-    (log, turn)
+    run_turn(alloc, &design, &state, u64::from(now), held)
 }
 
 /// The turn of a process in a state, at a time below 2 to the 32.
@@ -104,10 +102,8 @@ pub fn turn_from(
     held: &mut Held,
 ) -> TurnLog {
     let _registers = design.registers();
-    let mut log = TurnLog::new(alloc);
-    let turn = run_turn(&mut log, design, &state, u64::from(now), held);
-    assert!(rt; turn.is_ok(), "a short turn");
-    log
+    let turn = run_turn(alloc, design, &state, u64::from(now), held);
+    turn.ok().expect(rt, "a short turn")
 }
 
 /// A turn, and the registers that it read.
@@ -120,7 +116,7 @@ pub struct Taken {
 /// The first turn of the first process of a source, at time 7, where every register has the same value.
 pub fn first_turn(rt: &impl Abort, alloc: Global, source: &str, value: Bits) -> Taken {
     let mut held = Held::all(value);
-    let (log, turn) = try_first_turn(rt, alloc, source, 7, &mut held);
-    assert!(rt; turn.is_ok(), "a short turn");
+    let turn = try_first_turn(rt, alloc, source, 7, &mut held);
+    let log = turn.ok().expect(rt, "a short turn");
     Taken { held, log }
 }

@@ -11,7 +11,7 @@ use model::tree::Module;
 use replay::Cause;
 use std::alloc::Global;
 use std::process::Abort;
-use vparse::parse::{ParseFault, parse};
+use vparse::{ParseFault, parse};
 
 /// How many entries are those of the swap, up to the first that isn't.
 fn lawful(entries: &[Entry]) -> usize {

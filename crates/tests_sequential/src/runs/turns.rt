@@ -15,7 +15,7 @@ use hoard::Hoard;
 use logic4::bits::Bits;
 use std::alloc::Global;
 use std::process::Abort;
-use turn::{Net, Suspend, TurnLog, run_turn};
+use turn::{Net, Suspend, TurnLog, fill_turn};
 
 fn three() -> Held {
     Held::all(Bits::from_u64(4, 3))
@@ -56,7 +56,7 @@ fn turn_in(rt: &impl Abort, alloc: Global, log: &mut TurnLog, source: &str, held
     let design = design_of(rt, alloc, source.as_bytes());
     let state = beginning(rt, &design);
     let _registers = design.registers();
-    let turn = run_turn(log, &design, &state, 7, held);
+    let turn = fill_turn(log, &design, &state, 7, held);
     assert!(rt; turn.is_ok(), "a short turn");
 }
 
@@ -155,7 +155,7 @@ fn is_over_without_memory(
     let _registers = design.registers();
     let mut held = three();
     let _hoard = Hoard::new(alloc, 0, 8).expect(rt, "memory");
-    run_turn(log, design, &state, 7, &mut held).is_ok()
+    fill_turn(log, design, &state, 7, &mut held).is_ok()
 }
 
 // A turn that is refused memory in a new log takes none in one that an earlier turn has grown.

@@ -30,11 +30,17 @@ fn assert_log(rt: &impl Abort, log: &TurnLog, reads: usize, lines: &str, count: 
     assert_number(rt, u64::from(log.count()), u64::from(count));
 }
 
-// The log of the first turn of a process, which is too long.
-fn too_long(rt: &impl Abort, alloc: Global, source: &str, held: &mut Held) -> TurnLog {
-    let (log, turn) = try_first_turn(rt, alloc, source, 3, held);
-    assert!(rt; turn == Err(TurnFault::TooLong), "short");
-    log
+// What the first turn of a process read, which is too long.
+fn too_long(
+    rt: &impl Abort,
+    alloc: Global,
+    source: &str,
+    held: &mut Held,
+) -> IndexMap<RegId, Seen> {
+    match try_first_turn(rt, alloc, source, 3, held) {
+        Err(TurnFault::TooLong(reads)) => reads,
+        _ => panic!(rt; "short"),
+    }
 }
 
 // `initial` and a block of this many empty statements.
@@ -147,18 +153,18 @@ fn unknown_digits_are_the_same(rt: HostRuntime) {
     assert_turn(&rt, rt.alloc(), DIFFER, 2, "", 1);
 }
 
-// A turn read two registers in their order, and this of each.
-fn assert_both_seen(rt: &impl Abort, log: &TurnLog, first: &Seen, second: &Seen) {
-    assert_length(rt, log.reads().len(), 2);
-    assert_seen(rt, log.reads(), 0, 0, first);
-    assert_seen(rt, log.reads(), 1, 1, second);
+// Two registers were read in their order, and this was seen of each.
+fn assert_both_seen(rt: &impl Abort, reads: &IndexMap<RegId, Seen>, first: &Seen, second: &Seen) {
+    assert_length(rt, reads.len(), 2);
+    assert_seen(rt, reads, 0, 0, first);
+    assert_seen(rt, reads, 1, 1, second);
 }
 
 // A turn that loops until two registers are the same, which they aren't, read both.
 fn assert_differ(rt: &impl Abort, alloc: Global, held: &mut Held) {
     let [first, second, _, _] = held.registers;
-    let log = too_long(rt, alloc, DIFFER, held);
-    assert_both_seen(rt, &log, &first, &second);
+    let reads = too_long(rt, alloc, DIFFER, held);
+    assert_both_seen(rt, &reads, &first, &second);
 }
 
 #[test]
@@ -179,8 +185,8 @@ fn reads_before_it_is_too_long(rt: HostRuntime) {
 
 // The first turn of a process is too long, and reads no register.
 fn assert_reads_nothing(rt: &impl Abort, alloc: Global, source: &str) {
-    let log = too_long(rt, alloc, source, &mut Held::all(Bits::unknown(1)));
-    assert_length(rt, log.reads().len(), 0);
+    let reads = too_long(rt, alloc, source, &mut Held::all(Bits::unknown(1)));
+    assert_length(rt, reads.len(), 0);
 }
 
 #[test]

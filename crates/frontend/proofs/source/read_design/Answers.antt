@@ -3,8 +3,8 @@ use Rattle.std.proofs.Common.{◌≡◌, ℕ, List}
 use Rattle.std.specs.Prelude.{Result, Err}
 use Rattle.tokens.specs.Lexing.{Stops, stray, bad_number}
 use Rattle.vparse.specs.Spells.{IsUnspelledAt, IsDeepTextAt}
-use Rattle.vparse.specs.declared.parse.ParseFault.{ParseFault}
-use Rattle.vparse.specs.declared.parse.ParseFault.TheVariants.{Byte, Syntax, Literal, Deep, Unsized, Memory}
+use Rattle.vparse.specs.declared.parser.ParseFault.{ParseFault}
+use Rattle.vparse.specs.declared.parser.ParseFault.TheVariants.{Byte, Syntax, Literal, Deep, Unsized, Memory}
 use Rattle.frontend.specs.Sources.{IsTextFault}
 use Rattle.frontend.proofs.source.read_design.Goals as goal
 

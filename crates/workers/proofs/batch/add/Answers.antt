@@ -3,8 +3,8 @@ use Rattle.std.proofs.Common.{◌≡◌, ℕ, List, length, slice_set, arith, ru
 use Rattle.turn.specs.Logs.{LogView}
 use Rattle.turn.specs.Reads.{GaveAll}
 use Rattle.turn.specs.Answers.{IsNoTurn}
-use Rattle.turn.specs.declared.log.TurnFault.{TurnFault}
-use Rattle.turn.specs.declared.log.TurnFault.TheVariants.{TooLong}
+use Rattle.turn.specs.declared.log.FillFault.{FillFault}
+use Rattle.turn.specs.declared.log.FillFault.TheVariants.{TooLong}
 use Rattle.gateparts.specs.Histories.{IsRead}
 use Rattle.commitgate.specs.Tickets.{TicketView}
 use Rattle.commitgate.specs.Batches.{AreOffered}
@@ -50,6 +50,6 @@ returns-in-Err-clause-long g c too_long =
     let at : c.len-place.result ≡ length tickets = search rules in
     let few = c.requires.few in
     let room = c.requires.room.0 in
-    let turn = subst (λ (fault : TurnFault). IsNoTurn code ticket.state ticket.time new.reads fault) too_long c.in-Err.ensures.turn in
+    let turn = subst (λ (fault : FillFault). IsNoTurn code ticket.state ticket.time new.reads fault) too_long c.in-Err.ensures.turn in
     log_written (λ (log : LogView). IsNoTurn code ticket.state ticket.time log.reads TooLong × GaveAll (IsRead code fresh) log.reads) logs c.len-place.result (length tickets) new at
     (omega (arith, few, room)) (turn, c.in-Err.ensures.gave too_long)

@@ -3,7 +3,7 @@ use Rattle.std.proofs.Common.{◌≡◌, length, ap, refl, arith, rules}
 use Rattle.turn.specs.Logs.{LogView}
 use Rattle.turn.specs.Reads.{GaveAll}
 use Rattle.turn.specs.Answers.{IsNoTurn}
-use Rattle.turn.specs.declared.log.TurnFault.TheVariants.{TooLong}
+use Rattle.turn.specs.declared.log.FillFault.TheVariants.{TooLong}
 use Rattle.gateparts.specs.Histories.{IsRead}
 use Rattle.workers.proofs.Batching.{fills_goes, fills_more, log_found}
 use Rattle.workers.proofs.Seats.{goes_then}

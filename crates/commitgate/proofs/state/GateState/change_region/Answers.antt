@@ -2,11 +2,11 @@
 use Rattle.std.proofs.Common.{◌≡◌, ◌∙◌, ℕ, ap, refl, sym, subst, inl, inr, true, false, Some, ◌++◌, ◌∷◌, [], if◌then◌else◌}
 use Rattle.model.specs.declared.end.Limits.{Limits}
 use Rattle.model.specs.declared.end.Why.TheVariants.{Entries, Finish}
-use Rattle.model.specs.Runs.{has_any, is_quiet}
+use Rattle.model.specs.Runs.{has_any, is_quiet, IsTimely}
 use Rattle.gateparts.specs.GateState.{GateState, state_in}
 use Rattle.regcells.specs.Meetings.{Rises}
 use Rattle.commitgate.specs.Seats.{SeatView}
-use Rattle.commitgate.specs.Answers.{IsResting, FullRest, IsRestStopped, IsGranted, IsTimely}
+use Rattle.commitgate.specs.Answers.{IsResting, FullRest, IsRestStopped, IsGranted}
 use Rattle.commitgate.specs.Regions.{IsPassed}
 use Rattle.commitgate.specs.Told.{RestCauses}
 use Rattle.commitgate.proofs.Rests.{due_stops}
@@ -37,30 +37,30 @@ returns-in-Some-clause-state g c =
     (inr (rests, stops, c.stop-in-Some.ensures.state)))
 
 pub returns-in-Stopped-clause-seat : goal.returns-in-Stopped-clause-seat
-returns-in-Stopped-clause-seat g c =
+returns-in-Stopped-clause-seat g c awake =
     tell_stopped g.K.Naming.named c.args.seat.now c.args.self.now c.known.ensures.guarded c.known.ensures.kept c.greet.ensures.later RestCauses c.in-Stopped.why c.greet.new.seat c.greet.ensures.seat
     (ap (λ (h : GateState). h.end) (sym c.greet.ensures.same) ∙ c.in-Stopped.ensures)
 
 pub returns-in-Quiet-clause-seat : goal.returns-in-Quiet-clause-seat
-returns-in-Quiet-clause-seat g c =
+returns-in-Quiet-clause-seat g c awake =
     tell_quiet g.K.Naming.named c.args.seat.now c.args.self.now c.known.ensures.guarded c.known.ensures.kept c.greet.ensures.later c.greet.new.seat c.greet.ensures.seat
     (ap (λ (h : GateState). h.end) (sym c.greet.ensures.same) ∙ c.in-Quiet.ensures.0)
     (ap (λ (h : GateState). is_quiet (state_in g.K.Naming.named.code h)) (sym c.greet.ensures.same) ∙ c.in-Quiet.ensures.1)
 
 pub returns-then-is_active-clause-seat : goal.returns-then-is_active-clause-seat
-returns-then-is_active-clause-seat g c =
+returns-then-is_active-clause-seat g c awake =
     let same = c.greet.ensures.same in
     let active : has_any c.args.self.now.core.active ≡ true = ap (λ (h : GateState). has_any h.core.active) (sym (c.self.view_is ∙ same)) ∙ sym c.if-is_active.ensures in
     tell_busy g.K.Naming.named c.args.seat.now c.args.self.now c.known.ensures.guarded c.known.ensures.kept c.greet.ensures.later c.greet.new.seat c.greet.ensures.seat
-    (ap (λ (h : GateState). h.end) (sym same) ∙ c.in-Running.ensures.0) active c.requires.awake
+    (ap (λ (h : GateState). h.end) (sym same) ∙ c.in-Running.ensures.0) active awake
 
 pub returns-then-is_full-clause-seat : goal.returns-then-is_full-clause-seat
-returns-then-is_full-clause-seat g c =
+returns-then-is_full-clause-seat g c awake =
     tell_stop g.K.Naming.named RestCauses c.args.seat.now c.greet.new.seat c.stop.new.seat Entries c.args.self.now c.greet.new.self c.stop.new.self
     c.known-then-is_full.ensures.guarded c.known-then-is_full.ensures.kept c.greet.ensures.later c.greet.ensures.same c.greet.ensures.seat c.stop.ensures.state c.stop.ensures.seat (inl refl)
 
 pub returns-in-Some-clause-seat : goal.returns-in-Some-clause-seat
-returns-in-Some-clause-seat g c =
+returns-in-Some-clause-seat g c awake =
     let n = g.K.Naming.named in
     let passed = subst (λ (l : Limits). IsPassed l c.due_change-change.result c.in-Some.why) c.self.invariant.limits_is c.in-Some.ensures in
     tell_stop n RestCauses c.args.seat.now c.greet.new.seat c.stop-in-Some.new.seat c.in-Some.why c.args.self.now c.greet.new.self c.stop-in-Some.new.self
@@ -71,7 +71,7 @@ pub append-requires-clause-timely : goal.append-requires-clause-timely
 append-requires-clause-timely g c = subst (λ (l : Limits). IsTimely l c.due_change-change.result) c.self.invariant.limits_is c.in_default.ensures
 
 pub returns-in-Ok-clause-seat : goal.returns-in-Ok-clause-seat
-returns-in-Ok-clause-seat g c =
+returns-in-Ok-clause-seat g c awake =
     let n = g.K.Naming.named in
     let held = c.args.self.now in
     let old = c.args.seat.now in

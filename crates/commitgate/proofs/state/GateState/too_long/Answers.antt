@@ -9,9 +9,9 @@ use Rattle.design.specs.Compiled.{design_of}
 use Rattle.gateparts.specs.GateState.{GateState}
 use Rattle.regcells.specs.Meetings.{fresh_of, Rises}
 use Rattle.commitgate.specs.Seats.{SeatView}
-use Rattle.gateparts.specs.Histories.{hist, IsRead, IsFirstMovedIn}
+use Rattle.gateparts.specs.Histories.{hist, IsFirstMovedIn}
 use Rattle.gateparts.specs.Evaluated.{turn_at}
-use Rattle.commitgate.specs.Answers.{MayCommit, AreCurrent, stopped}
+use Rattle.commitgate.specs.Answers.{IsRecorded, MayCommit, AreCurrent, stopped}
 use Rattle.commitgate.specs.Told as told
 use Rattle.commitgate.proofs.Barring.{of_none, stopped_for, read_stopped, current_told, barred_long, barred_long_told, tell_stale, long_reads_in, long_by}
 use Rattle.commitgate.proofs.Tellings.{stopped_first}
@@ -32,8 +32,11 @@ stale-requires-clause-declared g c =
 
 pub stale-requires-clause-recorded : goal.stale-requires-clause-recorded
 stale-requires-clause-recorded g c =
+    let code = g.K.Naming.named.code in
+    let same = of_none c.barred.result _ c.barred.ensures.same c.in_default.is in
     let greeted = of_none c.barred.result _ c.barred.ensures.greeted c.in_default.is in
-    subst (λ (v : SeatView). GaveAll (IsRead g.K.Naming.named.code v.fresh) c.args.log.now.reads) (sym greeted) c.requires.recorded
+    subst (λ (h : GateState). GaveAll (IsRecorded code h.histories c.barred.new.seat.fresh) c.args.log.now.reads) (sym same)
+    (subst (λ (v : SeatView). GaveAll (IsRecorded code c.args.self.now.histories v.fresh) c.args.log.now.reads) (sym greeted) c.requires.recorded)
 
 pub returns-in-Some-stale-clause-state : goal.returns-in-Some-stale-clause-state
 returns-in-Some-stale-clause-state g c =

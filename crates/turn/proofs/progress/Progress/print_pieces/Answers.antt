@@ -5,7 +5,7 @@ use Rattle.turn.proofs.progress.Progress.print_pieces.Goals as goal
 
 pub loop-piece-preserved : goal.loop-piece-preserved
 loop-piece-preserved g c = record {
-  prints = λ t. prints_more c.args.ops.now c.args.pieces.now c.loop-piece.piece-index _ (status_of c.args.self.now) (status_of c.loop-piece.self) (status_of c.print_piece.new.self) t c.loop-piece-test.true (c.loop-piece.invariant.prints t) c.in_ok-print_piece.ensures.prints;
+  prints = λ t. prints_more c.args.ops.now c.args.pieces.now c.loop-piece.piece-index c.piece-item.result (status_of c.args.self.now) (status_of c.loop-piece.self) (status_of c.print_piece.new.self) t c.loop-piece-test.true c.piece-item.is (c.loop-piece.invariant.prints t) c.in_ok-print_piece.ensures.prints;
   gave = λ h. c.in_ok-print_piece.ensures.gave (c.loop-piece.invariant.gave h);
   keeps = λ r s h. c.in_ok-print_piece.ensures.keeps r s (c.loop-piece.invariant.keeps r s h);
   lasting = c.in_ok-print_piece.ensures.lasting ∙ c.loop-piece.invariant.lasting;

@@ -1,0 +1,301 @@
+-- How what is kept grows.
+use Rattle.std.proofs.Common.{◌≡◌, ℕ, suc, ◌<◌, ◌≤◌, List, [], ◌∷◌, ◌++◌, length, get_or, Some, refl, sym, ap, ◌∙◌, subst, arith, length-append, ◌⊎◌, inl, inr, Bool, true, false}
+use Rattle.std.specs.Prelude.{slice_get}
+use Rattle.std.specs.List.{All, Any}
+use Rattle.std.proofs.lemmas.List.Elements.{All-push, All-nil, All-pop, All-cons}
+use Rattle.std.proofs.lemmas.List.Quantifiers.{Any-push}
+use Rattle.std.proofs.lemmas.Bool.{cases_lt}
+use Rattle.std.proofs.lemmas.Option.{slice_get-get_or}
+use Rattle.std.proofs.lemmas.List.{get_or_default, get_or_append_left}
+use Rattle.std.proofs.Math.Seq.{get_or-append_seam}
+use Rattle.explore.specs.Grown.{Extends, grown}
+use Rattle.explore.specs.Kept.{IsText, IsVisited, IsPending, AreKept, Grows, Leads}
+use Rattle.explore.specs.Runs.{Runs}
+use Rattle.explore.specs.Search.{IsPrinted, Serves, IsShown, IsFollowed}
+use Rattle.explore.specs.Texts.{texts, IsTexts}
+use Rattle.explore.specs.Trail.{ways, IsTrail}
+use Rattle.explore.specs.Visited.{IsThere}
+use Rattle.explore.specs.declared.Next.{Next}
+use Rattle.explore.specs.declared.Shown.{Shown}
+use Rattle.explore.specs.declared.kept.Kept.{Kept}
+use Rattle.explore.specs.declared.kept.Pending.{Pending}
+use Rattle.explore.specs.declared.kept.Place.{Place}
+use Rattle.explore.specs.declared.visited.Visit.{Visit}
+use Rattle.explore.proofs.Growing.{Extends-itself, Extends-through, length-extends, get_or-extends, length-grown, get_or-grown, slice_get_push}
+use Rattle.explore.proofs.Complete.{Any-extends, Serves-itself, IsFollowed-more, AreFollowed}
+
+-- a run's text stays its text
+pub IsText-more : {M N E : Type 0} (runs : Runs M N E) (old new : List (List M)) (told told' : List (List ℕ)) (place : Place) → Extends old new → Extends told told' → IsText runs old told place → IsText runs new told' place
+IsText-more {M} runs old new told told' place more longer text =
+    record {
+      way = let far = length-extends old new more in let within = text.way in omega (arith, far, within);
+      told = let far = length-extends told told' longer in let within = text.told in omega (arith, far, within);
+      same = get_or-extends told told' place.text [] longer text.told ∙ (text.same ∙ ap runs.text (sym (get_or-extends old new place.number [] more text.way)));
+    }
+
+-- a visit stays one
+IsVisited-more : {M N E : Type 0} (runs : Runs M N E) (key_of : N → List ℕ) (old new : List (List M)) (told told' : List (List ℕ)) (place : Place) (key : List ℕ) → Extends old new → Extends told told' → IsVisited runs key_of old told place key → IsVisited runs key_of new told' place key
+IsVisited-more {M} runs key_of old new told told' place key more longer visit =
+    record {
+      node = visit.node;
+      stands = subst (λ (l : List M). runs.Stands visit.node l) (sym (get_or-extends old new place.number [] more visit.text.way)) visit.stands;
+      keyed = visit.keyed;
+      text = IsText-more runs old new told told' place more longer visit.text;
+    }
+
+-- a pending node stays one
+IsPending-more : {M N E : Type 0} (runs : Runs M N E) (old new : List (List M)) (told told' : List (List ℕ)) (p : Pending N) → Extends old new → Extends told told' → IsPending runs old told p → IsPending runs new told' p
+IsPending-more {M} runs old new told told' p more longer pending =
+    record {
+      stands = subst (λ (l : List M). runs.Stands p.node l) (sym (get_or-extends old new p.place.number [] more pending.text.way)) pending.stands;
+      text = IsText-more runs old new told told' p.place more longer pending.text;
+    }
+
+-- what is kept is good where texts are added
+pub AreKept-texts : {M N E : Type 0} (runs : Runs M N E) (key_of : N → List ℕ) (old new : Kept N M) → AreKept runs key_of old → new.trail ≡ old.trail → IsTexts new.texts → Extends (texts old.texts) (texts new.texts) →
+    new.visited.visits.keys ≡ old.visited.visits.keys → new.pending.items ≡ old.pending.items → AreKept runs key_of new
+AreKept-texts {M} {N} runs key_of old new kept trail ok longer keys pending =
+    let more : Extends (ways old.trail) (ways new.trail) = subst (λ t. Extends (ways old.trail) (ways t)) (sym trail) (Extends-itself (ways old.trail)) in
+    record {
+      trail = subst IsTrail (sym trail) kept.trail;
+      told = ok;
+      count = ap length keys ∙ (kept.count ∙ ap (λ t. length (ways t)) (sym trail));
+      visited = λ k visit e. IsVisited-more runs key_of (ways old.trail) (ways new.trail) (texts old.texts) (texts new.texts) (record { number = k; text = visit.text }) visit.key.items more longer
+          (kept.visited k visit (ap (λ (l : List Visit). slice_get l k) (sym keys) ∙ e));
+      pending = subst (λ (l : List (Pending N)). All (IsPending runs (ways new.trail) (texts new.texts)) l) (sym pending)
+          (λ k d less. IsPending-more runs (ways old.trail) (ways new.trail) (texts old.texts) (texts new.texts) (get_or old.pending.items k d) more longer (kept.pending k d less));
+    }
+
+-- what is kept grows where texts are added
+pub Grows-texts : {M N : Type 0} (old new : Kept N M) → new.trail ≡ old.trail → Extends (texts old.texts) (texts new.texts) → new.pending.items ≡ old.pending.items → Grows old new
+Grows-texts {M} {N} old new trail longer pending =
+    let same : length (ways new.trail) ≡ length (ways old.trail) = ap (λ t. length (ways t)) trail in
+    record {
+      trail = subst (λ t. Extends (ways old.trail) (ways t)) (sym trail) (Extends-itself (ways old.trail));
+      texts = longer;
+      pending = subst (λ (l : List (Pending N)). Extends old.pending.items l) (sym pending) (Extends-itself old.pending.items);
+      count = omega (arith, same, ap length pending);
+      waits = λ k low high. absurd (omega (arith, same));
+    }
+
+-- the place of a run that goes on from another by these moves, whose text goes on by what they print
+pub IsText-next : {M N E : Type 0} (runs : Runs M N E) (old new : List (List M)) (told told' : List (List ℕ)) (from : Place) (text : ℕ) (moves : List M) (printed : List ℕ) → IsText runs old told from → IsPrinted runs (get_or old from.number []) moves printed →
+    new ≡ grown old from.number moves → text < length told' → get_or told' text [] ≡ get_or told from.text [] ++ printed → IsText runs new told' (record { number = length old; text = text })
+IsText-next {M} runs old new told told' from text moves printed at print more within longer =
+    let last : get_or new (length old) [] ≡ get_or old from.number [] ++ moves = ap (λ (l : List (List M)). get_or l (length old) []) more ∙ get_or-grown old from.number moves in
+    let long : length new ≡ suc (length old) = ap length more ∙ length-grown old from.number moves in
+    record {
+      way = omega (arith, long);
+      told = within;
+      same = longer ∙ (ap (λ l. l ++ printed) at.same ∙ (sym print ∙ ap runs.text (sym last)));
+    }
+
+visited_pushed : {M N E : Type 0} (runs : Runs M N E) (key_of : N → List ℕ) (old new : List (List M)) (told told' : List (List ℕ)) (keys : List Visit) (visit v : Visit) (k : ℕ) → Extends old new → Extends told told' → length keys ≡ length old →
+    ((k : ℕ) (v : Visit) → slice_get keys k ≡ Some v → IsVisited runs key_of old told (record { number = k; text = v.text }) v.key.items) → IsVisited runs key_of new told' (record { number = length old; text = visit.text }) visit.key.items →
+    slice_get (keys ++ visit ∷ []) k ≡ Some v → IsVisited runs key_of new told' (record { number = k; text = v.text }) v.key.items
+visited_pushed runs key_of old new told told' keys visit v k more longer count before now e = elim (slice_get_push keys visit v k e) [
+  | inl h ↦ IsVisited-more runs key_of old new told told' (record { number = k; text = v.text }) v.key.items more longer (before k v h.1)
+  | inr h ↦
+      let at : length old ≡ k = sym (h.0 ∙ count) in
+      subst (λ (x : Visit). IsVisited runs key_of new told' (record { number = k; text = x.text }) x.key.items) h.1
+      (subst (λ (n : ℕ). IsVisited runs key_of new told' (record { number = n; text = visit.text }) visit.key.items) at now)
+]
+
+-- what is kept is good where a run is added, with its text, its visit and its node
+pub AreKept-push : {M N E : Type 0} (runs : Runs M N E) (key_of : N → List ℕ) (old new : Kept N M) (from text : ℕ) (moves : List M) (visit : Visit) (p : Pending N) → AreKept runs key_of old →
+    IsTrail new.trail → ways new.trail ≡ grown (ways old.trail) from moves → IsTexts new.texts → Extends (texts old.texts) (texts new.texts) →
+    new.visited.visits.keys ≡ old.visited.visits.keys ++ visit ∷ [] → new.pending.items ≡ old.pending.items ++ p ∷ [] →
+    IsVisited runs key_of (ways new.trail) (texts new.texts) (record { number = length (ways old.trail); text = visit.text }) visit.key.items → IsPending runs (ways new.trail) (texts new.texts) p → AreKept runs key_of new
+AreKept-push {M} {N} runs key_of old new from text moves visit p kept trail added ok longer keys pending seen last =
+    let more : Extends (ways old.trail) (ways new.trail) = (_, added) in
+    record {
+      trail = trail;
+      told = ok;
+      count = omega (arith, ap length keys, length-append old.visited.visits.keys (visit ∷ []), kept.count, ap length added, length-grown (ways old.trail) from moves);
+      visited = λ k v e. visited_pushed runs key_of (ways old.trail) (ways new.trail) (texts old.texts) (texts new.texts) old.visited.visits.keys visit v k more longer kept.count kept.visited seen
+          (ap (λ (l : List Visit). slice_get l k) (sym keys) ∙ e);
+      pending = subst (λ (l : List (Pending N)). All (IsPending runs (ways new.trail) (texts new.texts)) l) (sym pending)
+          (All-push (IsPending runs (ways new.trail) (texts new.texts)) old.pending.items p
+          (λ k d less. IsPending-more runs (ways old.trail) (ways new.trail) (texts old.texts) (texts new.texts) (get_or old.pending.items k d) more longer (kept.pending k d less)) last);
+    }
+
+-- what is kept grows where a run is added, with its node
+pub Grows-push : {M N : Type 0} (old new : Kept N M) (from : ℕ) (moves : List M) (p : Pending N) → ways new.trail ≡ grown (ways old.trail) from moves → Extends (texts old.texts) (texts new.texts) →
+    new.pending.items ≡ old.pending.items ++ p ∷ [] → p.place.number ≡ length (ways old.trail) → Grows old new
+Grows-push {M} {N} old new from moves p added longer pending number =
+    let long : length (ways new.trail) ≡ suc (length (ways old.trail)) = ap length added ∙ length-grown (ways old.trail) from moves in
+    record {
+      trail = (_, added);
+      texts = longer;
+      pending = (p ∷ [], pending);
+      count = omega (arith, long, ap length pending, length-append old.pending.items (p ∷ []));
+      waits = λ k low high.
+          let at : p.place.number ≡ k = omega (arith, number, long) in
+          subst (λ (l : List (Pending N)). Any (λ x. x.place.number ≡ k) l) (sym pending) (Any-push (λ (x : Pending N). x.place.number ≡ k) old.pending.items p at);
+    }
+
+waits_through : {M N : Type 0} (a b c : Kept N M) (k : ℕ) → Grows a b → Grows b c → length (ways a.trail) ≤ k → k < length (ways c.trail) → Any (λ x. x.place.number ≡ k) c.pending.items
+waits_through {M} {N} a b c k first second low high = elim (cases_lt k (length (ways b.trail))) [
+  | inl less ↦ Any-extends (λ (x : Pending N). x.place.number ≡ k) b.pending.items c.pending.items second.pending (first.waits k low less)
+  | inr far ↦ second.waits k far high
+]
+
+-- growth goes on
+pub Grows-through : {M N : Type 0} (a b c : Kept N M) → Grows a b → Grows b c → Grows a c
+Grows-through {M} {N} a b c first second =
+    record {
+      trail = Extends-through (ways a.trail) (ways b.trail) (ways c.trail) first.trail second.trail;
+      texts = Extends-through (texts a.texts) (texts b.texts) (texts c.texts) first.texts second.texts;
+      pending = Extends-through a.pending.items b.pending.items c.pending.items first.pending second.pending;
+      count = omega (arith, first.count, second.count);
+      waits = λ k low high. waits_through a b c k first second low high;
+    }
+
+-- what is kept grows from itself
+pub Grows-itself : {M N : Type 0} (a : Kept N M) → Grows a a
+Grows-itself a = Grows-texts a a refl (Extends-itself (texts a.texts)) refl
+
+-- where a visit of the same key and the same text is there, a run that was reached serves the one that leads to the node
+pub there_leads : {M N E : Type 0} (runs : Runs M N E) (key_of : N → List ℕ) (old : Kept N M) (told : List (List ℕ)) (node : N) (run : List M) (visit : Visit) →
+    ((a b : N) (i j : List M) → key_of a ≡ key_of b → runs.Stands a i → runs.Stands b j → runs.text i ≡ runs.text j → Serves runs i j) →
+    AreKept runs key_of old → Extends (texts old.texts) told → runs.Stands node run → key_of node ≡ visit.key.items → get_or told visit.text [] ≡ runs.text run → IsThere visit old.visited.visits.keys → Leads runs (ways old.trail) run
+there_leads {M} {N} runs key_of old told node run visit law kept longer stands keyed text there =
+    let at : slice_get old.visited.visits.keys there.0 ≡ Some there.1 = slice_get-get_or old.visited.visits.keys there.0 there.1 there.2 ∙ ap (λ x. Some x) there.3 in
+    let seen = kept.visited there.0 there.1 at in
+    let within : there.0 < length (ways old.trail) = seen.text.way in
+    let same : runs.text run ≡ runs.text (get_or (ways old.trail) there.0 []) =
+    sym text ∙ (ap (λ n. get_or told n []) (sym there.4.0) ∙ (get_or-extends (texts old.texts) told there.1.text [] longer seen.text.told ∙ seen.text.same)) in
+    let serves = law node seen.node run (get_or (ways old.trail) there.0 []) (keyed ∙ sym (seen.keyed ∙ there.4.1)) stands seen.stands same in
+    (there.0, get_or (ways old.trail) there.0 [], within, get_or_default (ways old.trail) there.0 (get_or (ways old.trail) there.0 []) [] within, serves)
+
+-- a run that is added serves itself
+pub pushed_leads : {M N E : Type 0} (runs : Runs M N E) (old new : List (List M)) (from : ℕ) (moves : List M) → new ≡ grown old from moves → Leads runs new (get_or old from [] ++ moves)
+pushed_leads {M} runs old new from moves more =
+    subst (λ (l : List (List M)). Leads runs l (get_or old from [] ++ moves)) (sym more)
+    (Any-push (λ (way : List M). Serves runs (get_or old from [] ++ moves) way) old (get_or old from [] ++ moves) (Serves-itself runs (get_or old from [] ++ moves)))
+
+-- the moves of a run that was added
+last_grown : {M : Type 0} (old new : List (List M)) (from : ℕ) (moves : List M) → new ≡ grown old from moves → get_or new (length old) [] ≡ get_or old from [] ++ moves
+last_grown {M} old new from moves more = ap (λ (l : List (List M)). get_or l (length old) []) more ∙ get_or-grown old from moves
+
+-- the visit of a node that is added
+pub IsVisited-next : {M N E : Type 0} (runs : Runs M N E) (key_of : N → List ℕ) (old new : List (List M)) (told : List (List ℕ)) (node : N) (from text : ℕ) (moves : List M) (key : List ℕ) → new ≡ grown old from moves → runs.Stands node (get_or old from [] ++ moves) → key_of node ≡ key →
+    IsText runs new told (record { number = length old; text = text }) → IsVisited runs key_of new told (record { number = length old; text = text }) key
+IsVisited-next {M} runs key_of old new told node from text moves key more stands keyed at =
+    record { node = node; stands = subst (λ (l : List M). runs.Stands node l) (sym (last_grown old new from moves more)) stands; keyed = keyed; text = at }
+
+-- a node that is added is pending
+pub IsPending-next : {M N E : Type 0} (runs : Runs M N E) (old new : List (List M)) (told : List (List ℕ)) (p : Pending N) (from : ℕ) (moves : List M) → new ≡ grown old from moves → runs.Stands p.node (get_or old from [] ++ moves) → p.place.number ≡ length old →
+    IsText runs new told (record { number = length old; text = p.place.text }) → IsPending runs new told p
+IsPending-next {M} runs old new told p from moves more stands number at =
+    record {
+      stands = subst (λ (l : List M). runs.Stands p.node l) (sym (ap (λ (n : ℕ). get_or new n []) number ∙ last_grown old new from moves more)) stands;
+      text = subst (λ (n : ℕ). IsText runs new told (record { number = n; text = p.place.text })) (sym number) at;
+    }
+
+-- what is kept is good without the node that was added last, which is pending
+pub AreKept-pop : {M N E : Type 0} (runs : Runs M N E) (key_of : N → List ℕ) (old new : Kept N M) (p : Pending N) → AreKept runs key_of old → new.trail ≡ old.trail → new.texts ≡ old.texts → new.visited ≡ old.visited → old.pending.items ≡ new.pending.items ++ p ∷ [] → AreKept runs key_of new × IsPending runs (ways old.trail) (texts old.texts) p
+AreKept-pop {M} {N} runs key_of old new p kept trail told visited pending =
+    let parts = All-pop (IsPending runs (ways old.trail) (texts old.texts)) old.pending.items new.pending.items (Some p) pending kept.pending in (
+      record {
+        trail = subst IsTrail (sym trail) kept.trail;
+        told = subst IsTexts (sym told) kept.told;
+        count = ap (λ v. length v.visits.keys) visited ∙ (kept.count ∙ ap (λ t. length (ways t)) (sym trail));
+        visited = λ k v e. subst (λ t. IsVisited runs key_of (ways t) (texts new.texts) (record { number = k; text = v.text }) v.key.items) (sym trail)
+            (subst (λ t. IsVisited runs key_of (ways old.trail) (texts t) (record { number = k; text = v.text }) v.key.items) (sym told) (kept.visited k v (ap (λ s. slice_get s.visits.keys k) (sym visited) ∙ e)));
+        pending = subst (λ t. All (IsPending runs (ways t) (texts new.texts)) new.pending.items) (sym trail) (subst (λ t. All (IsPending runs (ways old.trail) (texts t)) new.pending.items) (sym told) parts.0);
+      },
+      parts.1,
+    )
+
+none_there : (visit : Visit) → IsThere visit [] → ⊥
+none_there visit at = absurd (omega (arith, at.2))
+
+-- the first visit is new
+pub keys_first : (b : Bool) (old new : List Visit) (visit : Visit) → old ≡ [] → (b ≡ false → (new ≡ old) × IsThere visit old) → (b ≡ true → new ≡ old ++ visit ∷ []) → new ≡ visit ∷ []
+keys_first true old new visit none found added = added refl ∙ ap (λ l. l ++ visit ∷ []) none
+keys_first false old new visit none found added = absurd (none_there visit (subst (IsThere visit) none (found refl).1))
+
+only_visit : {M N E : Type 0} (runs : Runs M N E) (key_of : N → List ℕ) (w : List (List M)) (t : List (List ℕ)) (visit v : Visit) (k : ℕ) → IsVisited runs key_of w t (record { number = 0; text = visit.text }) visit.key.items → slice_get (visit ∷ []) k ≡ Some v → IsVisited runs key_of w t (record { number = k; text = v.text }) v.key.items
+only_visit runs key_of w t visit v k first e = elim (slice_get_push [] visit v k e) [
+  | inl h ↦ absurd (omega (arith, h.0))
+  | inr h ↦ subst (λ (x : Visit). IsVisited runs key_of w t (record { number = k; text = x.text }) x.key.items) h.1 (subst (λ (n : ℕ). IsVisited runs key_of w t (record { number = n; text = visit.text }) visit.key.items) (sym h.0) first)
+]
+
+-- what is kept at first
+pub AreKept-first : {M N E : Type 0} (runs : Runs M N E) (key_of : N → List ℕ) (new : Kept N M) (p : Pending N) (visit : Visit) → IsTrail new.trail → ways new.trail ≡ [] ∷ [] → IsTexts new.texts → texts new.texts ≡ [] ∷ [] → new.visited.visits.keys ≡ visit ∷ [] → new.pending.items ≡ [] ++ p ∷ [] →
+    visit.text ≡ 0 → p.place ≡ record { number = 0; text = 0 } → runs.Stands p.node [] → key_of p.node ≡ visit.key.items → runs.text [] ≡ [] → AreKept runs key_of new
+AreKept-first {M} {N} runs key_of new p visit trail one told none keys pending zeroth place stands keyed silent =
+    let first : get_or (ways new.trail) 0 [] ≡ [] = ap (λ (l : List (List M)). get_or l 0 []) one in
+    let at : IsText runs (ways new.trail) (texts new.texts) (record { number = 0; text = 0 }) = record {
+      way = omega (arith, ap length one);
+      told = omega (arith, ap length none);
+      same = ap (λ (l : List (List ℕ)). get_or l 0 []) none ∙ (sym silent ∙ ap runs.text (sym first));
+    } in
+    let standing : runs.Stands p.node (get_or (ways new.trail) 0 []) = subst (λ (l : List M). runs.Stands p.node l) (sym first) stands in
+    let seen : IsVisited runs key_of (ways new.trail) (texts new.texts) (record { number = 0; text = visit.text }) visit.key.items = record {
+      node = p.node;
+      stands = standing;
+      keyed = keyed;
+      text = subst (λ (n : ℕ). IsText runs (ways new.trail) (texts new.texts) (record { number = 0; text = n })) (sym zeroth) at;
+    } in
+    let last : IsPending runs (ways new.trail) (texts new.texts) p = record {
+      stands = subst (λ (x : Place). runs.Stands p.node (get_or (ways new.trail) x.number [])) (sym place) standing;
+      text = subst (λ (x : Place). IsText runs (ways new.trail) (texts new.texts) x) (sym place) at;
+    } in
+    record {
+      trail = trail;
+      told = told;
+      count = omega (arith, ap length keys, ap length one);
+      visited = λ k v e. only_visit runs key_of (ways new.trail) (texts new.texts) visit v k seen (ap (λ (l : List Visit). slice_get l k) (sym keys) ∙ e);
+      pending = subst (λ (l : List (Pending N)). All (IsPending runs (ways new.trail) (texts new.texts)) l) (sym pending)
+          (All-push (IsPending runs (ways new.trail) (texts new.texts)) [] p (All-nil (IsPending runs (ways new.trail) (texts new.texts))) last);
+    }
+
+-- a run that leads somewhere still does where more runs were reached, and one more does
+pub leads_more : {M N E : Type 0} (runs : Runs M N E) (old new : List (List M)) (way : List M) (did : List (Next N M)) (next : Next N M) → Extends old new → All (λ n. Leads runs old (way ++ n.moves.items)) did → Leads runs new (way ++ next.moves.items) →
+    All (λ n. Leads runs new (way ++ n.moves.items)) (next ∷ did)
+leads_more {M} {N} runs old new way did next more before now =
+    All-cons (λ (n : Next N M). Leads runs new (way ++ n.moves.items)) next did now
+    (λ k d h. Any-extends (λ (reached : List M). Serves runs (way ++ (get_or did k d).moves.items) reached) old new more (before k d h))
+
+Any-split : {X : Type 0} (P : X → Type 0) (xs : List X) (x : X) → Any P (xs ++ x ∷ []) → Any P xs ⊎ P x
+Any-split P xs x at = elim (cases_lt at.0 (length xs)) [
+  | inl low ↦ inl (at.0, at.1, low, sym (get_or_append_left xs (x ∷ []) at.1 at.0 low) ∙ at.3, at.4)
+  | inr high ↦
+      let same : at.0 ≡ length xs = omega (arith, at.2, length-append xs (x ∷ [])) in
+      inr (subst P (sym at.3 ∙ (ap (λ n. get_or (xs ++ x ∷ []) n at.1) same ∙ get_or-append_seam xs x [] at.1)) at.4)
+]
+
+-- what is known of the run with a number: its node is pending, or it is followed
+abbrev pub IsKnown : {M N E : Type 0} → Runs M N E → Kept N M → List (Shown M E) → ℕ → Type 0
+IsKnown runs kept shown k = Any (λ p. p.place.number ≡ k) kept.pending.items ⊎ IsFollowed runs (IsShown shown) (Serves runs) (ways kept.trail) (get_or (ways kept.trail) k [])
+
+known_before : {M N E : Type 0} (runs : Runs M N E) (old mid new : Kept N M) (p : Pending N) (shown shown' : List (Shown M E)) (k : ℕ) → mid.trail ≡ old.trail → old.pending.items ≡ mid.pending.items ++ p ∷ [] → Grows mid new → Extends shown shown' →
+    k < length (ways old.trail) → IsFollowed runs (IsShown shown') (Serves runs) (ways new.trail) (get_or (ways old.trail) p.place.number []) → IsKnown runs old shown k → IsKnown runs new shown' k
+known_before {M} {N} {E} runs old mid new p shown shown' k trail popped grows told less now known =
+    let more : Extends (ways old.trail) (ways new.trail) = subst (λ t. Extends (ways t) (ways new.trail)) trail grows.trail in
+    let same : get_or (ways new.trail) k [] ≡ get_or (ways old.trail) k [] = get_or-extends (ways old.trail) (ways new.trail) k [] more less in
+    elim known [
+      | inl at ↦ elim (Any-split (λ (x : Pending N). x.place.number ≡ k) mid.pending.items p (subst (λ (l : List (Pending N)). Any (λ x. x.place.number ≡ k) l) popped at)) [
+        | inl there ↦ inl (Any-extends (λ (x : Pending N). x.place.number ≡ k) mid.pending.items new.pending.items grows.pending there)
+        | inr is ↦ inr (subst (λ (l : List M). IsFollowed runs (IsShown shown') (Serves runs) (ways new.trail) l) (ap (λ (n : ℕ). get_or (ways old.trail) n []) is ∙ sym same) now)
+      ]
+      | inr followed ↦ inr (subst (λ (l : List M). IsFollowed runs (IsShown shown') (Serves runs) (ways new.trail) l) (sym same)
+          (IsFollowed-more runs (ways old.trail) (ways new.trail) shown shown' (get_or (ways old.trail) k []) more told followed))
+    ]
+
+-- what is known of each run, after the node that was added last was expanded
+pub known_more : {M N E : Type 0} (runs : Runs M N E) (old mid new : Kept N M) (p : Pending N) (shown shown' : List (Shown M E)) (k : ℕ) → mid.trail ≡ old.trail → old.pending.items ≡ mid.pending.items ++ p ∷ [] → Grows mid new → Extends shown shown' →
+    IsFollowed runs (IsShown shown') (Serves runs) (ways new.trail) (get_or (ways old.trail) p.place.number []) → ((k : ℕ) → k < length (ways old.trail) → IsKnown runs old shown k) → k < length (ways new.trail) → IsKnown runs new shown' k
+known_more runs old mid new p shown shown' k trail popped grows told now before less = elim (cases_lt k (length (ways old.trail))) [
+  | inl low ↦ known_before runs old mid new p shown shown' k trail popped grows told low now (before k low)
+  | inr high ↦ inl (grows.waits k (let same : length (ways mid.trail) ≡ length (ways old.trail) = ap (λ t. length (ways t)) trail in omega (arith, same, high)) less)
+]
+
+-- where no node is pending, each run is followed
+pub all_followed : {M N E : Type 0} (runs : Runs M N E) (kept : Kept N M) (shown : List (Shown M E)) → length kept.pending.items ≡ 0 → ((k : ℕ) → k < length (ways kept.trail) → IsKnown runs kept shown k) → AreFollowed runs shown (ways kept.trail)
+all_followed runs kept shown none known k less = elim (known k less) [
+  | inl at ↦ absurd (omega (arith, at.2, none))
+  | inr followed ↦ followed
+]

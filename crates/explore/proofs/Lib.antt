@@ -1,0 +1,8 @@
+pub mod Complete
+pub mod Forks
+pub mod Growing
+pub mod Keeping
+pub mod Letters
+pub mod Shows
+pub mod Steps
+pub mod Visits

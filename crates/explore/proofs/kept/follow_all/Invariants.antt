@@ -1,0 +1,23 @@
+use Rattle.std.proofs.Common.{◌≡◌, ◌≤◌, ◌++◌, [], List, length, get_or, IsTrue}
+use Rattle.std.specs.List.{All}
+use Rattle.explore.specs.declared.Next.{Next}
+use Rattle.explore.specs.Kept.{AreKept, Grows, Leads}
+use Rattle.explore.specs.Search.{IsNext}
+use Rattle.explore.specs.Trail.{ways}
+use Rattle.explore.proofs.kept.follow_all.Given as goal
+
+abbrev pub invariant-loop-next : goal.invariant-loop-next
+invariant-loop-next g l =
+    let runs = g.O.Orders.runs l.orders in
+    let way = get_or (ways l.fn.kept.trail) l.from.number [] in
+    record {
+      kept : AreKept runs (g.O.Orders.key_of l.orders) l.kept;
+      grows : Grows l.fn.kept l.kept;
+      room : length (ways l.kept.trail) ≤ l.most;
+      left : All (IsNext runs way) l.left.items;
+      done : (did : List (Next g.row.O-Node.Denot g.row.O-Move.Denot)) × (l.fn.successors.items ≡ l.left.items ++ did)
+          × (IsTrue l.all → All (λ next. Leads runs (ways l.kept.trail) (way ++ next.moves.items)) did);
+    }
+
+abbrev pub decreases-loop-next : goal.decreases-loop-next
+decreases-loop-next g l = length l.left.items

@@ -1,0 +1,12 @@
+use Rattle.std.proofs.Common.{[], get_or}
+use Rattle.explore.specs.Trail.{ways}
+use Rattle.explore.proofs.Complete.{followed_from_covered, both_true}
+use Rattle.explore.proofs.search.turn.Goals as goal
+
+pub returns-clause-followed : goal.returns-clause-followed
+returns-clause-followed g c all =
+    let orders = c.args.orders.now in
+    let way = get_or (ways c.args.kept.now.trail) c.args.at.place.number [] in
+    let both = both_true c.in_ok-successors.field-0.whole c.in_ok-followed.followed all in
+    followed_from_covered (g.O.Orders.runs orders) (g.met.O.Orders.alike orders) c.in_ok-successors.field-0.successors.items c.in_ok-successors.field-0.ended.items (ways c.follow_all.new.kept.trail) c.show_all.new.shown.items way
+    (c.in_ok-successors.ensures.cover both.0 way c.requires.at.stands) (c.in_ok-followed.ensures.leads both.1) (c.in_ok-told.ensures.there c.if-not-told.false)

@@ -1,0 +1,23 @@
+use Rattle.std.proofs.Common.{◌≡◌, ◌++◌, [], List, length, get_or}
+use Rattle.std.specs.List.{All, AllPairs}
+use Rattle.explore.specs.declared.Ended.{Ended}
+use Rattle.explore.specs.Grown.{Extends}
+use Rattle.explore.specs.Search.{IsOfRun, IsEnded, AreDistinct, IsShown}
+use Rattle.explore.specs.Trail.{ways}
+use Rattle.explore.proofs.show.show_all.Given as goal
+
+abbrev pub invariant-loop-one : goal.invariant-loop-one
+invariant-loop-one g l =
+    let runs = g.O.Orders.runs l.orders in
+    let way = get_or (ways l.run.trail.now) l.run.place.number [] in
+    record {
+      sound : All (IsOfRun runs) l.shown.items;
+      distinct : AllPairs AreDistinct l.shown.items;
+      grows : Extends l.fn.shown.items l.shown.items;
+      left : All (IsEnded runs way) l.left.items;
+      done : (did : List (Ended g.row.O-Move.Denot g.row.O-End.Denot)) × (l.fn.ended.items ≡ l.left.items ++ did)
+          × All (λ one. IsShown l.shown.items (runs.text way ++ one.printed.items) one.end) did;
+    }
+
+abbrev pub decreases-loop-one : goal.decreases-loop-one
+decreases-loop-one g l = length l.left.items

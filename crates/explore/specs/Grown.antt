@@ -1,0 +1,15 @@
+-- Lists that grow from one another.
+use Rattle.std.specs.Prelude.{◌≡◌, ℕ, List, [], ◌∷◌, ◌++◌, get_or}
+
+-- the second list is the first one, with more after it
+abbrev pub Extends : {X : Type 0} → List X → List X → Type 0
+Extends {X} old new = (added : List X) × (new ≡ old ++ added)
+
+-- these lists, and one more, which goes on from the one with a number by a piece
+abbrev pub grown : {X : Type 0} → List (List X) → ℕ → List X → List (List X)
+grown lists from piece = lists ++ (get_or lists from [] ++ piece) ∷ []
+
+-- these lists, and one more for each of some numbers and pieces
+abbrev pub grown_all : {X : Type 0} → List (List X) → List (ℕ × List X) → List (List X)
+grown_all lists [] = lists
+grown_all lists (step ∷ steps) = grown_all (grown lists step.0 step.1) steps

@@ -1,0 +1,50 @@
+-- What a search keeps.
+use Rattle.std.specs.Prelude.{◌≡◌, ℕ, ◌+◌, ◌<◌, ◌≤◌, List, [], length, get_or, Some, slice_get}
+use Rattle.std.specs.List.{All, Any}
+use Rattle.explore.specs.Grown.{Extends}
+use Rattle.explore.specs.Runs.{Runs}
+use Rattle.explore.specs.Search.{Serves}
+use Rattle.explore.specs.Texts.{texts, IsTexts}
+use Rattle.explore.specs.Trail.{ways, IsTrail}
+use Rattle.explore.specs.declared.kept.Kept.{Kept}
+use Rattle.explore.specs.declared.kept.Pending.{Pending}
+use Rattle.explore.specs.declared.kept.Place.{Place}
+use Rattle.explore.specs.declared.visited.Visit.{Visit}
+
+-- the text with a place's text number is that of the run with its number
+pub record IsText {Move Node End : Type 0} (runs : Runs Move Node End) (ways : List (List Move)) (texts : List (List ℕ)) (place : Place) : Type 0 where
+  pub way : place.number < length ways
+  pub told : place.text < length texts
+  pub same : get_or texts place.text [] ≡ runs.text (get_or ways place.number [])
+
+-- a node that stands at the run with a place's number has this key
+pub record IsVisited {Move Node End : Type 0} (runs : Runs Move Node End) (key_of : Node → List ℕ) (ways : List (List Move)) (texts : List (List ℕ)) (place : Place) (key : List ℕ) : Type 0 where
+  pub node : Node
+  pub stands : runs.Stands node (get_or ways place.number [])
+  pub keyed : key_of node ≡ key
+  pub text : IsText runs ways texts place
+
+-- the pending node stands at the run of its place
+pub record IsPending {Move Node End : Type 0} (runs : Runs Move Node End) (ways : List (List Move)) (texts : List (List ℕ)) (pending : Pending Node) : Type 0 where
+  pub stands : runs.Stands pending.node (get_or ways pending.place.number [])
+  pub text : IsText runs ways texts pending.place
+
+-- runs, texts and pending nodes belong together, and for each run there is the visit of a node that stands at it
+pub record AreKept {Move Node End : Type 0} (runs : Runs Move Node End) (key_of : Node → List ℕ) (kept : Kept Node Move) : Type 0 where
+  pub trail : IsTrail kept.trail
+  pub told : IsTexts kept.texts
+  pub count : length kept.visited.visits.keys ≡ length (ways kept.trail)
+  pub visited : (k : ℕ) (visit : Visit) → slice_get kept.visited.visits.keys k ≡ Some visit → IsVisited runs key_of (ways kept.trail) (texts kept.texts) (record { number = k; text = visit.text }) visit.key.items
+  pub pending : All (IsPending runs (ways kept.trail) (texts kept.texts)) kept.pending.items
+
+-- runs and texts stay, and for each run that was added there is a node more that is pending
+pub record Grows {Node Move : Type 0} (old new : Kept Node Move) : Type 0 where
+  pub trail : Extends (ways old.trail) (ways new.trail)
+  pub texts : Extends (texts old.texts) (texts new.texts)
+  pub pending : Extends old.pending.items new.pending.items
+  pub count : length new.pending.items + length (ways old.trail) ≡ length old.pending.items + length (ways new.trail)
+  pub waits : (k : ℕ) → length (ways old.trail) ≤ k → k < length (ways new.trail) → Any (λ pending. pending.place.number ≡ k) new.pending.items
+
+-- one of the runs that were reached serves this one
+abbrev pub Leads : {Move Node End : Type 0} → Runs Move Node End → List (List Move) → List Move → Type 0
+Leads runs reached run = Any (λ way. Serves runs run way) reached

@@ -1,0 +1,134 @@
+//! What a search keeps of the nodes that it reached.
+ghost use Rattle.std.specs.Prelude.{◌≡◌, ◌<◌, ◌≤◌, ◌++◌, [], ◌∷◌, length, get_or, IsTrue, IfOk, OnOk};
+ghost use Rattle.std.specs.List.{All, Any};
+ghost use Rattle.explore.specs.Kept.{AreKept, Grows, IsText, Leads};
+ghost use Rattle.explore.specs.Search.{IsNext};
+ghost use Rattle.explore.specs.Texts.{texts};
+ghost use Rattle.explore.specs.Trail.{ways};
+
+use crate::texts::Texts;
+use crate::trail::Trail;
+use crate::visited::{Visit, Visited};
+use crate::{Next, Orders};
+use std::alloc::{AllocError, Global};
+
+/// The number of a run that was reached, and that of its text.
+#[derive(Clone, Copy)]
+pub(crate) struct Place {
+    pub(crate) number: usize,
+    pub(crate) text: usize,
+}
+
+/// A node that is still to be expanded, and the place of its run.
+#[derive(Drop)]
+pub(crate) struct Pending<N> {
+    pub(crate) node: N,
+    pub(crate) place: Place,
+}
+
+/// The runs that were reached, what they printed, a visit for each of them, and the nodes that are still to be expanded.
+#[derive(Drop)]
+pub(crate) struct Kept<N, M> {
+    pub(crate) trail: Trail<M>,
+    pub(crate) texts: Texts,
+    pub(crate) visited: Visited,
+    pub(crate) pending: Vec<Pending<N>>,
+}
+
+/// What is kept at first: the node at which each run starts.
+pub(crate) fn first<O: Orders>(
+    alloc: Global,
+    orders: &O,
+) -> Result<Kept<O::Node, O::Move>, AllocError>
+    ensures kept { IfOk result (λ kept. AreKept (O.runs orders.now) (O.key_of orders.now) kept) }
+    ensures ways { IfOk result (λ kept. ways kept.trail ≡ [] ∷ []) }
+    ensures one { IfOk result (λ kept. length kept.pending.items ≡ 1) }
+    ensures waits { IfOk result (λ kept. Any (λ pending. pending.place.number ≡ 0) kept.pending.items) }
+{
+    let node = orders.start(alloc)?;
+    let key = orders.key(alloc, &node)?;
+    let mut visited = Visited::new(alloc);
+    let _new = visited.add(Visit { text: 0, key })?;
+    let mut pending = Vec::new(alloc);
+    pending.push(Pending {
+        node,
+        place: Place { number: 0, text: 0 },
+    })?;
+    Ok(Kept {
+        trail: Trail::new(alloc),
+        texts: Texts::new(alloc),
+        visited,
+        pending,
+    })
+}
+
+/// Adds the node that a way from a run leads to, unless one that goes on alike was reached. The answer is whether one is
+/// there now: it isn't where the most nodes are kept.
+fn follow<O: Orders>(
+    alloc: Global,
+    orders: &O,
+    kept: &mut Kept<O::Node, O::Move>,
+    from: Place,
+    next: Next<O::Node, O::Move>,
+    most: usize,
+) -> Result<bool, AllocError>
+    requires kept { AreKept (O.runs orders.now) (O.key_of orders.now) kept.old }
+    requires from { IsText (O.runs orders.now) (ways kept.old.trail) (texts kept.old.texts) from }
+    requires next { IsNext (O.runs orders.now) (get_or (ways kept.old.trail) from.number []) next }
+    requires room { length (ways kept.old.trail) ≤ most }
+    ensures kept { OnOk result (AreKept (O.runs orders.now) (O.key_of orders.now) kept.new) }
+    ensures grows { OnOk result (Grows kept.old kept.new) }
+    ensures room { OnOk result (length (ways kept.new.trail) ≤ most) }
+    ensures leads { IfOk result (λ there. IsTrue there → Leads (O.runs orders.now) (ways kept.new.trail) (get_or (ways kept.old.trail) from.number [] ++ next.moves.items)) }
+{
+    let Next {
+        node,
+        printed,
+        moves,
+    } = next;
+    let text = kept.texts.longer(from.text, &printed)?;
+    let key = orders.key(alloc, &node)?;
+    let visit = Visit { text, key };
+    let number = kept.trail.len();
+    if number >= most {
+        return Ok(kept.visited.contains(&visit));
+    }
+    let new = kept.visited.add(visit)?;
+    if !new {
+        return Ok(true);
+    }
+    kept.trail.push(from.number, &moves)?;
+    kept.pending.push(Pending {
+        node,
+        place: Place { number, text },
+    })?;
+    Ok(true)
+}
+
+/// Adds the nodes that these ways from a run lead to, unless ones that go on alike were reached. The answer is whether
+/// for each of them one is there now.
+pub(crate) fn follow_all<O: Orders>(
+    alloc: Global,
+    orders: &O,
+    kept: &mut Kept<O::Node, O::Move>,
+    from: Place,
+    successors: Vec<Next<O::Node, O::Move>>,
+    most: usize,
+) -> Result<bool, AllocError>
+    requires kept { AreKept (O.runs orders.now) (O.key_of orders.now) kept.old }
+    requires from { IsText (O.runs orders.now) (ways kept.old.trail) (texts kept.old.texts) from }
+    requires successors { All (IsNext (O.runs orders.now) (get_or (ways kept.old.trail) from.number [])) successors.items }
+    requires room { length (ways kept.old.trail) ≤ most }
+    ensures kept { OnOk result (AreKept (O.runs orders.now) (O.key_of orders.now) kept.new) }
+    ensures grows { OnOk result (Grows kept.old kept.new) }
+    ensures room { OnOk result (length (ways kept.new.trail) ≤ most) }
+    ensures leads { IfOk result (λ all. IsTrue all → All (λ next. Leads (O.runs orders.now) (ways kept.new.trail) (get_or (ways kept.old.trail) from.number [] ++ next.moves.items)) successors.items) }
+{
+    let mut left = successors;
+    let mut all = true;
+    while let Some(next) = left.pop() {
+        let there = follow(alloc, orders, kept, from, next, most)?;
+        all = all & there;
+    }
+    Ok(all)
+}

@@ -1,0 +1,78 @@
+//! A search of all orders: every text and every end of the runs of what may go on in several ways.
+//!
+//! 1. A node is what a run so far leads to. `Orders` says how the ways from a node are followed, and gives each node a
+//!    key: nodes of one key whose runs printed the same go on alike.
+//! 2. `explore` takes the last node off a stack, follows its ways, and puts the nodes that they lead to on the stack,
+//!    but for those of which one that goes on alike was there before.
+//! 3. The node itself is dropped then. What stays of it is the step that led to it (`trail`), the number of what its run
+//!    printed (`texts`), and its key (`visited`).
+//! 4. Where a way ends, its text and end are shown, with the moves of the whole run, unless they are there already.
+//! 5. The search is over when the stack is empty. If nothing was left out on the way, each text and end of every run is
+//!    shown: that is the contract of `explore`.
+#![tactic(auto)]
+
+mod graph;
+mod kept;
+mod orders;
+mod search;
+mod show;
+mod texts;
+mod trail;
+mod visited;
+
+pub use graph::{Arm, Fork, Graph, walks};
+pub use orders::Orders;
+pub use search::explore;
+
+/// A node, what was printed on the way to it from the one that was expanded, and the moves of that way.
+#[derive(Drop)]
+pub struct Next<N, M> {
+    pub node: N,
+    pub printed: Vec<u8>,
+    pub moves: Vec<M>,
+}
+
+/// A way from a node to an end: what was printed on it, how it ended, and its moves.
+#[derive(Drop)]
+pub struct Ended<M, E> {
+    pub printed: Vec<u8>,
+    pub end: E,
+    pub moves: Vec<M>,
+}
+
+/// What came of expanding a node.
+#[derive(Drop)]
+pub struct Expanded<N, M, E> {
+    /// Where its ways lead.
+    pub successors: Vec<Next<N, M>>,
+    /// Its ways that have come to an end.
+    pub ended: Vec<Ended<M, E>>,
+    /// Whether no way was left out.
+    pub whole: bool,
+}
+
+/// What a run showed: its text, how it ended, and its moves.
+#[derive(Drop)]
+pub struct Shown<M, E> {
+    pub text: Vec<u8>,
+    pub end: E,
+    pub moves: Vec<M>,
+}
+
+/// What came of a search.
+#[derive(Drop)]
+pub struct Explored<M, E> {
+    /// The texts and ends that were found, each with the moves of a run that has them.
+    pub shown: Vec<Shown<M, E>>,
+    /// Whether there are no others.
+    pub covered: bool,
+}
+
+/// How far a search goes.
+#[derive(Clone, Copy)]
+pub struct Bounds {
+    /// The most nodes that are reached, the first one among them.
+    pub nodes: usize,
+    /// The most texts and ends that are shown.
+    pub shown: usize,
+}

@@ -1,0 +1,59 @@
+//! What a search needs of what it searches.
+ghost use Rattle.std.specs.Prelude.{◌≡◌, ◌↔◌, ℕ, List, [], IsTrue, IfOk};
+ghost use Rattle.std.specs.List.{All};
+ghost use Rattle.explore.specs.Search.{IsEnded, IsReached, IsNext, IsCovered, Serves};
+
+use crate::Expanded;
+use std::alloc::{AllocError, Global};
+
+/// What may go on in several ways, and how its ways are followed.
+pub trait Orders {
+    ghost use Rattle.explore.specs.Runs.{Runs};
+
+    /// What a run is made of.
+    type Move: Copy;
+
+    /// What a run so far leads to.
+    type Node: Drop;
+
+    /// How a run ends.
+    type End: Drop;
+
+    /// The runs, and what the nodes stand for.
+    ghost runs: { Self → Runs Self.Move Self.Node Self.End };
+
+    /// The key of a node.
+    ghost key_of: { Self → Self.Node → List ℕ };
+
+    /// The node at which each run starts.
+    fn start(&self, alloc: Global) -> Result<Self::Node, AllocError>
+        ensures { IfOk result (λ node. (runs self.now).Stands node []) };
+
+    /// Follows the ways that go on from a node.
+    fn expand(
+        &self,
+        alloc: Global,
+        node: &Self::Node,
+    ) -> Result<Expanded<Self::Node, Self::Move, Self::End>, AllocError>
+        requires { IsReached (runs self.now) node.now }
+        ensures next { IfOk result (λ x. (run : List Self.Move) → (runs self.now).Stands node.now run → All (IsNext (runs self.now) run) x.successors.items) }
+        ensures sound { IfOk result (λ x. (run : List Self.Move) → (runs self.now).Stands node.now run → All (IsEnded (runs self.now) run) x.ended.items) }
+        ensures cover { IfOk result (λ x. IsTrue x.whole → (run : List Self.Move) → (runs self.now).Stands node.now run → IsCovered (runs self.now) x.successors.items x.ended.items run) };
+
+    /// The key of a node: nodes of one key, whose runs have one text, go on alike.
+    fn key(&self, alloc: Global, node: &Self::Node) -> Result<Vec<u8>, AllocError>
+        ensures { IfOk result (λ key. key.items ≡ key_of self.now node.now) };
+
+    /// Whether two ends are one.
+    fn same_end(&self, a: &Self::End, b: &Self::End) -> bool
+        ensures { IsTrue result ↔ (a.now ≡ b.now) };
+
+    /// No run prints before its first move.
+    ghost silent: { (orders : Self) → (runs orders).text [] ≡ [] };
+
+    /// Runs that go on alike come to the same ends with the same texts, in as many moves.
+    ghost alike: { (orders : Self) (i j : List Self.Move) → (runs orders).Alike i j → Serves (runs orders) i j };
+
+    /// Runs of one text that lead to nodes of one key go on alike.
+    ghost keyed: { (orders : Self) (a b : Self.Node) (i j : List Self.Move) → key_of orders a ≡ key_of orders b → (runs orders).Stands a i → (runs orders).Stands b j → (runs orders).text i ≡ (runs orders).text j → (runs orders).Alike i j };
+}

@@ -1,0 +1,107 @@
+//! The search.
+ghost use Rattle.std.specs.Prelude.{◌≡◌, ◌<◌, ◌≤◌, [], length, get_or, IsTrue, IfOk, OnOk};
+ghost use Rattle.std.specs.List.{All, AllPairs};
+ghost use Rattle.explore.specs.Grown.{Extends};
+ghost use Rattle.explore.specs.Kept.{AreKept, Grows, IsPending};
+ghost use Rattle.explore.specs.Search.{AreAllShown, AreDistinct, IsFollowed, IsOfRun, IsShown, Serves};
+ghost use Rattle.explore.specs.Texts.{texts};
+ghost use Rattle.explore.specs.Trail.{ways};
+
+use crate::kept::{Kept, Pending, first, follow_all};
+use crate::show::{Run, show_all};
+use crate::{Bounds, Expanded, Explored, Orders, Shown};
+use std::alloc::{AllocError, Global};
+
+/// The search goes no further: memory was refused, or the most texts and ends are shown.
+struct Stop;
+
+impl From<AllocError> for Stop {
+    fn from(_: AllocError) -> Stop {
+        Stop
+    }
+}
+
+/// Expands a node: shows its ways that have come to an end, and keeps the nodes that the others lead to. The answer is
+/// whether nothing was left out.
+fn turn<O: Orders>(
+    alloc: Global,
+    orders: &O,
+    kept: &mut Kept<O::Node, O::Move>,
+    shown: &mut Vec<Shown<O::Move, O::End>>,
+    at: Pending<O::Node>,
+    bounds: Bounds,
+) -> Result<bool, Stop>
+    requires kept { AreKept (O.runs orders.now) (O.key_of orders.now) kept.old }
+    requires room { length (ways kept.old.trail) ≤ bounds.nodes }
+    requires sound { All (IsOfRun (O.runs orders.now)) shown.old.items }
+    requires distinct { AllPairs AreDistinct shown.old.items }
+    requires at { IsPending (O.runs orders.now) (ways kept.old.trail) (texts kept.old.texts) at }
+    ensures sound { All (IsOfRun (O.runs orders.now)) shown.new.items }
+    ensures distinct { AllPairs AreDistinct shown.new.items }
+    ensures shown { Extends shown.old.items shown.new.items }
+    ensures kept { OnOk result (AreKept (O.runs orders.now) (O.key_of orders.now) kept.new) }
+    ensures grows { OnOk result (Grows kept.old kept.new) }
+    ensures room { OnOk result (length (ways kept.new.trail) ≤ bounds.nodes) }
+    ensures followed { IfOk result (λ whole. IsTrue whole → IsFollowed (O.runs orders.now) (IsShown shown.new.items) (Serves (O.runs orders.now)) (ways kept.new.trail) (get_or (ways kept.old.trail) at.place.number [])) }
+{
+    let Pending { node, place } = at;
+    let Expanded {
+        successors,
+        ended,
+        whole,
+    } = orders.expand(alloc, &node)?;
+    let run = Run {
+        trail: &kept.trail,
+        texts: &kept.texts,
+        place,
+    };
+    let told = show_all(alloc, orders, run, shown, ended, bounds.shown)?;
+    if !told {
+        return Err(Stop);
+    }
+    let followed = follow_all(alloc, orders, kept, place, successors, bounds.nodes)?;
+    Ok(whole & followed)
+}
+
+/// Shows what the runs print and how they end. The answer is whether there is nothing else.
+fn search<O: Orders>(
+    alloc: Global,
+    orders: &O,
+    shown: &mut Vec<Shown<O::Move, O::End>>,
+    bounds: Bounds,
+) -> Result<bool, Stop>
+    requires room { 0 < bounds.nodes }
+    requires none { shown.old.items ≡ [] }
+    ensures sound { All (IsOfRun (O.runs orders.now)) shown.new.items }
+    ensures distinct { AllPairs AreDistinct shown.new.items }
+    ensures all { IfOk result (λ covered. IsTrue covered → AreAllShown (O.runs orders.now) shown.new.items) }
+{
+    let mut kept = first(alloc, orders)?;
+    let mut covered = true;
+    while let Some(at) = kept.pending.pop() {
+        let whole = turn(alloc, orders, &mut kept, shown, at, bounds)?;
+        covered = covered & whole;
+    }
+    Ok(covered)
+}
+
+/// Searches the runs, depth first. Each text and end that is shown is that of the run of the moves beside it, and no two
+/// that are shown have one text and one end. Where the answer is covered, every run has a text and an end that are shown.
+///
+/// It isn't covered where an expansion wasn't whole, where a node was left out since `bounds.nodes` were reached, where a
+/// text or an end was left out since `bounds.shown` are shown, and where memory was refused. At the most nodes the
+/// search goes on with those that were reached, which may still show more; at the first text too many and at the first
+/// refusal of memory it goes no further, and what was shown until then stays.
+pub fn explore<O: Orders>(alloc: Global, orders: &O, bounds: Bounds) -> Explored<O::Move, O::End>
+    requires room { 0 < bounds.nodes }
+    ensures sound { All (IsOfRun (O.runs orders.now)) result.shown.items }
+    ensures distinct { AllPairs AreDistinct result.shown.items }
+    ensures all { IsTrue result.covered → AreAllShown (O.runs orders.now) result.shown.items }
+{
+    let mut shown = Vec::new(alloc);
+    let covered = match search(alloc, orders, &mut shown, bounds) {
+        Ok(covered) => covered,
+        Err(Stop) => false,
+    };
+    Explored { shown, covered }
+}

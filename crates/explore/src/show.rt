@@ -1,0 +1,124 @@
+//! What is shown.
+ghost use Rattle.std.specs.Prelude.{◌≡◌, ◌<◌, ◌++◌, ◌↔◌, [], false, length, get_or, IsTrue, IfOk, OnOk};
+ghost use Rattle.std.specs.List.{All, AllPairs};
+ghost use Rattle.explore.specs.Grown.{Extends};
+ghost use Rattle.explore.specs.Kept.{IsText};
+ghost use Rattle.explore.specs.Search.{AreDistinct, Differs, IsEnded, IsOfRun, IsShown};
+ghost use Rattle.explore.specs.Texts.{texts, IsTexts};
+ghost use Rattle.explore.specs.Trail.{ways, IsTrail};
+
+use crate::kept::Place;
+use crate::texts::Texts;
+use crate::trail::Trail;
+use crate::{Ended, Orders, Shown};
+use std::alloc::{AllocError, Global};
+
+/// The place of a run, and what holds its moves and its text.
+#[derive(Clone, Copy)]
+pub(crate) struct Run<'a, M> {
+    pub(crate) trail: &'a Trail<M>,
+    pub(crate) texts: &'a Texts,
+    pub(crate) place: Place,
+}
+
+/// Whether this text and this end are those of what is shown.
+fn is_same<O: Orders>(
+    orders: &O,
+    one: &Shown<O::Move, O::End>,
+    text: &Vec<u8>,
+    end: &O::End,
+) -> bool
+    ensures { IsTrue result ↔ ((one.now.text.items ≡ text.now.items) × (one.now.end ≡ end.now)) }
+{
+    if !orders.same_end(&one.end, end) {
+        return false;
+    }
+    one.text.as_slice() == text.as_slice()
+}
+
+/// Whether this text and this end are shown.
+fn is_shown<O: Orders>(
+    orders: &O,
+    shown: &[Shown<O::Move, O::End>],
+    text: &Vec<u8>,
+    end: &O::End,
+) -> bool
+    ensures there { IsTrue result → IsShown shown.now text.now.items end.now }
+    ensures apart { result ≡ false → All (Differs text.now.items end.now) shown.now }
+{
+    for one in shown.iter() {
+        if is_same(orders, one, text, end) {
+            return true;
+        }
+    }
+    false
+}
+
+/// Adds the text and the end of a way that goes on from a run, unless they are there. The answer is whether they are
+/// there now.
+fn show<O: Orders>(
+    alloc: Global,
+    orders: &O,
+    run: Run<'_, O::Move>,
+    shown: &mut Vec<Shown<O::Move, O::End>>,
+    ended: Ended<O::Move, O::End>,
+    most: usize,
+) -> Result<bool, AllocError>
+    requires trail { IsTrail run.trail.now }
+    requires texts { IsTexts run.texts.now }
+    requires run { IsText (O.runs orders.now) (ways run.trail.now) (texts run.texts.now) run.place }
+    requires sound { All (IsOfRun (O.runs orders.now)) shown.old.items }
+    requires distinct { AllPairs AreDistinct shown.old.items }
+    requires ended { IsEnded (O.runs orders.now) (get_or (ways run.trail.now) run.place.number []) ended }
+    ensures sound { All (IsOfRun (O.runs orders.now)) shown.new.items }
+    ensures distinct { AllPairs AreDistinct shown.new.items }
+    ensures grows { Extends shown.old.items shown.new.items }
+    ensures there { IfOk result (λ there. IsTrue there → IsShown shown.new.items ((O.runs orders.now).text (get_or (ways run.entry.trail.now) run.entry.place.number []) ++ ended.printed.items) ended.end) }
+{
+    let Ended {
+        printed,
+        end,
+        moves: last,
+    } = ended;
+    let text = run.texts.read(alloc, run.place.text, &printed)?;
+    if is_shown(orders, shown, &text, &end) {
+        return Ok(true);
+    }
+    if shown.len() >= most {
+        return Ok(false);
+    }
+    let mut moves = run.trail.way(alloc, run.place.number)?;
+    moves.extend_from_slice(&last)?;
+    shown.push(Shown { text, end, moves })?;
+    Ok(true)
+}
+
+/// Adds the texts and the ends of these ways, unless they are there. The answer is whether each of them is there now.
+pub(crate) fn show_all<O: Orders>(
+    alloc: Global,
+    orders: &O,
+    run: Run<'_, O::Move>,
+    shown: &mut Vec<Shown<O::Move, O::End>>,
+    ended: Vec<Ended<O::Move, O::End>>,
+    most: usize,
+) -> Result<bool, AllocError>
+    requires trail { IsTrail run.trail.now }
+    requires texts { IsTexts run.texts.now }
+    requires run { IsText (O.runs orders.now) (ways run.trail.now) (texts run.texts.now) run.place }
+    requires sound { All (IsOfRun (O.runs orders.now)) shown.old.items }
+    requires distinct { AllPairs AreDistinct shown.old.items }
+    requires ended { All (IsEnded (O.runs orders.now) (get_or (ways run.trail.now) run.place.number [])) ended.items }
+    ensures sound { All (IsOfRun (O.runs orders.now)) shown.new.items }
+    ensures distinct { AllPairs AreDistinct shown.new.items }
+    ensures grows { Extends shown.old.items shown.new.items }
+    ensures there { IfOk result (λ all. IsTrue all → All (λ one. IsShown shown.new.items ((O.runs orders.now).text (get_or (ways run.entry.trail.now) run.entry.place.number []) ++ one.printed.items) one.end) ended.items) }
+{
+    let mut left = ended;
+    while let Some(one) = left.pop() {
+        let there = show(alloc, orders, run, shown, one, most)?;
+        if !there {
+            return Ok(false);
+        }
+    }
+    Ok(true)
+}

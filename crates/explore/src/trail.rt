@@ -1,0 +1,100 @@
+//! The moves of the runs that were reached, each told by the run that it goes on from.
+ghost use Rattle.std.specs.Prelude.{◌≡◌, ◌<◌, ◌≤◌, ◌++◌, [], ◌∷◌, length, reverse, get_or, slice_range, IfOk, OnOk};
+ghost use Rattle.explore.specs.Grown.{grown};
+ghost use Rattle.explore.specs.Trail.{ways, IsTrail};
+
+use std::alloc::{AllocError, Global};
+
+/// The number of the run that a run goes on from, and where its further moves begin and end in the one list of moves.
+#[derive(Clone, Copy)]
+pub(crate) struct Step {
+    pub(crate) from: usize,
+    pub(crate) begin: usize,
+    pub(crate) end: usize,
+}
+
+/// Runs by their numbers. The run of number 0 has no moves, and the others have a step each.
+#[derive(Drop)]
+pub(crate) struct Trail<M> {
+    pub(crate) steps: Vec<Step>,
+    pub(crate) moves: Vec<M>,
+}
+
+/// Adds moves, the last of them first.
+fn push_back_to_front<M: Copy>(
+    alloc: Global,
+    back: &mut Vec<M>,
+    moves: &[M],
+) -> Result<(), AllocError>
+    ensures { OnOk result (back.new.items ≡ back.old.items ++ reverse moves.now) }
+{
+    let mut turned = Vec::new(alloc);
+    turned.extend_from_slice(moves)?;
+    turned.reverse();
+    back.extend_from_slice(&turned)?;
+    Ok(())
+}
+
+impl<M: Copy> Trail<M> {
+    /// The run that has no moves, alone.
+    pub(crate) fn new(alloc: Global) -> Self
+        ensures trail { IsTrail result }
+        ensures ways { ways result ≡ [] ∷ [] }
+    {
+        Trail {
+            steps: Vec::new(alloc),
+            moves: Vec::new(alloc),
+        }
+    }
+
+    /// How many runs there are.
+    pub(crate) fn len(&self) -> usize
+        ensures { result ≡ length (ways self.now) }
+    {
+        self.steps.len() + 1
+    }
+
+    /// Adds a run that goes on from another by these moves.
+    pub(crate) fn push(&mut self, from: usize, moves: &[M]) -> Result<(), AllocError>
+        requires trail { IsTrail self.old }
+        requires from { from < length (ways self.old) }
+        ensures trail { OnOk result (IsTrail self.new) }
+        ensures ways { OnOk result (ways self.new ≡ grown (ways self.old) from moves.now) }
+    {
+        let begin = self.moves.len();
+        self.moves.extend_from_slice(moves)?;
+        let end = self.moves.len();
+        self.steps.push(Step { from, begin, end })?;
+        Ok(())
+    }
+
+    /// The step that led to the run with a number.
+    fn last_step(&self, number: usize) -> Step
+        requires trail { IsTrail self.now }
+        requires moved { 0 < number }
+        requires within { number < length (ways self.now) }
+        ensures from { result.from < number }
+        ensures begin { result.begin ≤ result.end }
+        ensures end { result.end ≤ length self.now.moves.items }
+        ensures way { get_or (ways self.now) number [] ≡ get_or (ways self.now) result.from [] ++ slice_range self.now.moves.items result.begin result.end }
+    {
+        self.steps[number - 1]
+    }
+
+    /// The moves of the run with a number.
+    pub(crate) fn way(&self, alloc: Global, number: usize) -> Result<Vec<M>, AllocError>
+        requires trail { IsTrail self.now }
+        requires within { number < length (ways self.now) }
+        ensures { IfOk result (λ moves. moves.items ≡ get_or (ways self.now) number []) }
+    {
+        let mut back = Vec::new(alloc);
+        let mut k = number;
+        while k != 0 {
+            let step = self.last_step(k);
+            push_back_to_front(alloc, &mut back, &self.moves[step.begin..step.end])?;
+            k = step.from;
+        }
+        back.reverse();
+        Ok(back)
+    }
+}

@@ -1,0 +1,24 @@
+-- The proofs of the laws of states that are alike.
+pub mod EventLists
+pub mod FutureLists
+pub mod StatesInOrder
+pub mod TurnFrame
+pub mod Stores
+pub mod QuietTurns
+pub mod Commuting
+pub mod AlikeStates
+pub mod AlikeSteps
+pub mod AlikeEnds
+pub mod TimelyRuns
+pub mod SearchLaws
+pub mod CanonLaws
+pub mod SearchRows
+pub mod SilentUpdates
+pub mod FlatStates
+pub mod FlatRuns
+pub mod OneMaker
+pub mod FlatRows
+pub mod OrderRows
+pub mod MeetingRows
+pub mod RaceRows
+pub mod FlatConditions

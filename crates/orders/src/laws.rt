@@ -1,0 +1,65 @@
+// Laws of the definitions, so that the check asks for their proofs.
+
+ghost use Rattle.orders.specs.OrderLaws.{AlikeIsEquivalence, StartIsInOrder, StepKeepsOrder, RunIsInOrder, AlikeStatesStepAlike, MoveHasOneOutcome, AlikeStatesEndAlike};
+ghost use Rattle.orders.specs.Canon.{CanonTellsAlike};
+ghost use Rattle.orders.specs.Apart.{TurnHasFrame, TurnsCommute};
+ghost use Rattle.orders.specs.Silent.{SilentUpdatesAreTaken, SilentOrderIsForgotten};
+ghost use Rattle.orders.specs.Flat.{FlatTurnsAreOneNode, FlatCovers, FlatTurnsCover};
+ghost use Rattle.orders.specs.Search.{UnlimitedRunIsTimely, OneNodeGoesOn, EachMoveCovers, CompleteShowsAll};
+
+/// States that are alike are so in either direction, and through a third. They are those that have the same form.
+pub fn alike_is_equivalence()
+    ensures equivalence { AlikeIsEquivalence }
+    ensures form { CanonTellsAlike }
+{}
+
+/// The events of each region stand in the order of their numbers, at the start and after each step.
+pub fn events_stay_in_order()
+    ensures start { StartIsInOrder }
+    ensures step { StepKeepsOrder }
+    ensures run { RunIsInOrder }
+{}
+
+/// What one of two alike states does in a step, the other does by an entry of the same move; and one move has one outcome.
+pub fn alike_states_step_alike()
+    ensures step { AlikeStatesStepAlike }
+    ensures moves { MoveHasOneOutcome }
+{}
+
+/// A run may end in one of two alike states as in the other.
+pub fn alike_states_end_alike()
+    ensures { AlikeStatesEndAlike }
+{}
+
+/// From one node runs go on alike. A node that is followed by each of its moves is covered, and where each node is covered
+/// the search has shown whatever a lawful run in time may print. Where no time limit is given, every lawful run is in time.
+pub fn searches_are_complete()
+    ensures goes_on { OneNodeGoesOn }
+    ensures covers { EachMoveCovers }
+    ensures shows { CompleteShowsAll }
+    ensures timely { UnlimitedRunIsTimely }
+{}
+
+/// A short turn is the same on every store that has the same values of the registers that it used.
+pub fn turns_have_a_frame()
+    ensures { TurnHasFrame }
+{}
+
+/// Two turns that are apart may be taken in either order.
+pub fn turns_apart_commute()
+    ensures { TurnsCommute }
+{}
+
+/// Nonblocking updates that wake nobody are all taken before anything else, and their order makes no difference.
+pub fn silent_updates_are_one_way()
+    ensures taken { SilentUpdatesAreTaken }
+    ensures forgotten { SilentOrderIsForgotten }
+{}
+
+/// From a flat state the turns lead to one node, but for the order of updates, and one node after these covers it; where one
+/// process makes updates for now, the node after the turns does.
+pub fn flat_states_are_one_way()
+    ensures node { FlatTurnsAreOneNode }
+    ensures covers { FlatCovers }
+    ensures turns { FlatTurnsCover }
+{}

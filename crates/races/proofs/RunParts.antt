@@ -1,0 +1,75 @@
+-- The parts of lawful journals in time, and what they print.
+use Rattle.std.proofs.Common.{◌≡◌, List, [], ◌∷◌, ◌++◌, Option, Some, refl, sym, ap, ◌∙◌, append_assoc}
+use Rattle.std.specs.Prelude.{option_and_then}
+use Rattle.std.specs.Option.{option_map_or}
+use Rattle.std.proofs.lemmas.List.{append-nil}
+use Rattle.std.proofs.lemmas.List.Elements.{All-append}
+use Rattle.std.proofs.lemmas.Option.{option_and_then_some}
+use Rattle.model.specs.declared.entry.Entry.{Entry}
+use Rattle.model.specs.declared.end.Limits.{Limits}
+use Rattle.model.specs.Design.{Design}
+use Rattle.model.specs.States.{start}
+use Rattle.model.specs.Runs.{Effect, silent, joined, step, run_from, run, IsTimely, AreTimely}
+use Rattle.model.proofs.RunLaws.{run_from-append}
+use Rattle.orders.proofs.SearchLaws.{then_some}
+use Rattle.orders.proofs.TimelyRuns.{timely_after}
+use Rattle.races.specs.Journals.{ComesOf, text_of, TextGoesOn}
+
+-- a journal and what goes on from it are one journal
+pub run_goes_on : (design : Design) (i moves : List Entry) (e f : Effect) → run design i ≡ Some e → run_from design e moves ≡ Some f → run design (i ++ moves) ≡ Some f
+run_goes_on design i moves e f at_e at_f =
+    run_from-append design (silent (start design)) i moves ∙ (ap (option_and_then (λ x. run_from design x moves)) at_e ∙ at_f)
+
+pub run_went_on : (design : Design) (i moves : List Entry) (e f : Effect) → run design i ≡ Some e → run design (i ++ moves) ≡ Some f → run_from design e moves ≡ Some f
+run_went_on design i moves e f at_e at_f =
+    sym (ap (option_and_then (λ x. run_from design x moves)) at_e) ∙ (sym (run_from-append design (silent (start design)) i moves) ∙ at_f)
+
+-- and so in time
+pub comes_on : (design : Design) (limits : Limits) (i moves : List Entry) (e f : Effect) → ComesOf design limits i e → run_from design e moves ≡ Some f → AreTimely limits moves → ComesOf design limits (i ++ moves) f
+comes_on design limits i moves e f (at_e, timely) at_f later =
+    (run_goes_on design i moves e f at_e at_f, All-append (IsTimely limits) i moves timely later)
+
+pub came_on : (design : Design) (limits : Limits) (i moves : List Entry) (e f : Effect) → ComesOf design limits i e → ComesOf design limits (i ++ moves) f → (run_from design e moves ≡ Some f) × AreTimely limits moves
+came_on design limits i moves e f (at_e, timely) (at_f, whole) =
+    (run_went_on design i moves e f at_e at_f, timely_after limits i moves whole)
+
+-- the text of a lawful journal
+pub text_is : (design : Design) (journal : List Entry) (e : Effect) → run design journal ≡ Some e → text_of design journal ≡ e.lines
+text_is design journal e at_e = ap (λ (o : Option Effect). option_map_or (λ x. x.lines) o []) at_e
+
+-- what comes of entries doesn't depend on what was printed and changed before
+joined-alone : (e : Effect) → joined e (silent e.state) ≡ e
+joined-alone e = rw (append-nil e.lines, append-nil e.changes) refl
+
+joined-joined : (d e f : Effect) → joined (joined d e) f ≡ joined d (joined e f)
+joined-joined d e f = rw (append_assoc d.lines e.lines f.lines, append_assoc d.changes e.changes f.changes) refl
+
+runs_alone : (design : Design) (d e f : Effect) (moves : List Entry) → run_from design (joined d e) moves ≡ Some f → (g : Effect) × (run_from design e moves ≡ Some g) × (f ≡ joined d g)
+runs_alone design d e f [] is =
+    let same : f ≡ joined d e = cc in
+    (e, refl, same)
+runs_alone design d e f (entry ∷ entries) is =
+    option_and_then_some (λ x. run_from design (joined (joined d e) x) entries) (step design e.state entry) f is
+    (λ x at_x later.
+    let (g, at_g, same) = runs_alone design d (joined e x) f entries (ap (λ y. run_from design y entries) (sym (joined-joined d e x)) ∙ later) in
+    (g, then_some (λ y. run_from design (joined e y) entries) (step design e.state entry) x g at_x at_g, same))
+
+runs_behind : (design : Design) (d e g : Effect) (moves : List Entry) → run_from design e moves ≡ Some g → run_from design (joined d e) moves ≡ Some (joined d g)
+runs_behind design d e g [] is =
+    let same : e ≡ g = cc in
+    ap (λ x. Some (joined d x)) same
+runs_behind design d e g (entry ∷ entries) is =
+    option_and_then_some (λ x. run_from design (joined e x) entries) (step design e.state entry) g is
+    (λ x at_x later.
+    then_some (λ y. run_from design (joined (joined d e) y) entries) (step design e.state entry) x (joined d g) at_x
+    (ap (λ y. run_from design y entries) (joined-joined d e x) ∙ runs_behind design d (joined e x) g entries later))
+
+pub runs_on : (design : Design) (e g : Effect) (moves : List Entry) → run_from design (silent e.state) moves ≡ Some g → run_from design e moves ≡ Some (joined e g)
+runs_on design e g moves is = ap (λ x. run_from design x moves) (sym (joined-alone e)) ∙ runs_behind design e (silent e.state) g moves is
+
+pub text_goes_on : TextGoesOn
+text_goes_on design journal moves e f at_e at_f =
+    let later : run_from design (joined e (silent e.state)) moves ≡ Some f = ap (λ x. run_from design x moves) (joined-alone e) ∙ run_went_on design journal moves e f at_e at_f in
+    let (g, at_g, same) = runs_alone design e (silent e.state) f moves later in
+    let lines : f.lines ≡ e.lines ++ g.lines = ap (λ x. x.lines) same in
+    (g, at_g, same, text_is design (journal ++ moves) f at_f ∙ (lines ∙ ap (λ t. t ++ g.lines) (sym (text_is design journal e at_e))))

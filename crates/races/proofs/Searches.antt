@@ -1,0 +1,126 @@
+-- What a search of a design's runs says of its lawful journals, and what it has to know of them, whatever its nodes hold.
+use Rattle.std.proofs.Common.{◌≡◌, ℕ, List, [], ◌∷◌, ◌++◌, inl, inr, refl, sym, ap, ◌∙◌, subst}
+use Rattle.std.specs.Prelude.{option_and_then}
+use Rattle.std.specs.List.{All}
+use Rattle.std.proofs.lemmas.List.{append-nil}
+use Rattle.std.proofs.lemmas.List.Elements.{All-nil, All-cons, All-append, All-weaker}
+use Rattle.model.specs.declared.entry.Entry.{Entry}
+use Rattle.model.specs.declared.end.Limits.{Limits}
+use Rattle.model.specs.declared.end.End.{End}
+use Rattle.model.specs.Design.{Design}
+use Rattle.model.specs.Runs.{Effect, silent, joined, step, run_from, IsTimely}
+use Rattle.model.proofs.RunLaws.{run_from-append}
+use Rattle.orders.specs.Search.{IsOneNode, EndsHere}
+use Rattle.orders.proofs.SearchLaws.{then_some}
+use Rattle.explore.specs.declared.Next.{Next}
+use Rattle.explore.specs.declared.Ended.{Ended}
+use Rattle.explore.specs.declared.Shown.{Shown}
+use Rattle.explore.specs.Search.{IsShown, IsOfRun, IsNext, IsEnded, IsCovered, Serves, AreAllShown}
+use Rattle.races.specs.Journals.{ComesOf, text_of, MayEnd, ComeToOneNode, IsLawfulText, AreAllTexts}
+use Rattle.races.specs.Cover.{LeadOn, CoverRuns, FollowMoves}
+use Rattle.races.specs.Runs.{StandsAt, runs_of, AlikeRunsServe, TellAlike, KeyedRunsAreAlike, RunsBeginSilent, ShownIsLawful, AllShownAreAll}
+use Rattle.races.specs.Expanding.{GoesOnTo, StepGoesOn, WaysGoOn, EntriesLeadToNext, EntriesLeadToEnd, ways_to, TellsEnds, CoveringIsCovered, FollowingIsCovered}
+use Rattle.races.proofs.AlikeJournals.{alike_journals_serve}
+use Rattle.races.proofs.Places.{all_map, any_of_map}
+use Rattle.races.proofs.RunParts.{comes_on, runs_on, text_is}
+use Rattle.races.proofs.Covering.{followed_moves_cover, ends_are_the_states}
+use Rattle.races.proofs.LawfulTexts.{ends_are_lawful, all_may_end}
+
+pub alike_serve : {Node : Type 0} (Holds : Node → Effect → Type 0) (design : Design) (limits : Limits) (i j : List Entry) → ComeToOneNode design limits i j → Serves (runs_of Holds design limits) i j
+alike_serve Holds design limits i j alike moves end ends = alike_journals_serve design limits i j moves end alike ends
+
+pub keyed_alike : {Node : Type 0} (Holds : Node → Effect → Type 0) (key_of : Node → List ℕ) (design : Design) (limits : Limits) (a b : Node) (i j : List Entry) → TellAlike Holds key_of → key_of a ≡ key_of b → StandsAt Holds design limits a i → StandsAt Holds design limits b j → text_of design i ≡ text_of design j → ComeToOneNode design limits i j
+keyed_alike Holds key_of design limits a b i j tells key (e, at_e, holds) (f, at_f, holds') text =
+    let lines : e.lines ≡ f.lines = sym (text_is design i e at_e.0) ∙ (text ∙ text_is design j f at_f.0) in
+    (e, f, at_e, at_f, (lines, tells a b e f holds holds' key))
+
+pub shown_of_run : {Node : Type 0} (Holds : Node → Effect → Type 0) (design : Design) (limits : Limits) (shown : Shown Entry End) → IsOfRun (runs_of Holds design limits) shown → IsLawfulText design limits shown.moves.items shown.text.items shown.end
+shown_of_run Holds design limits shown (ends, text) =
+    subst (λ t. IsLawfulText design limits shown.moves.items t shown.end) (sym text) (ends_are_lawful design limits shown.moves.items shown.end ends)
+
+pub all_of_runs : {Node : Type 0} (Holds : Node → Effect → Type 0) (design : Design) (limits : Limits) (shown : List (Shown Entry End)) → AreAllShown (runs_of Holds design limits) shown → AreAllTexts design limits (IsShown shown)
+all_of_runs Holds design limits shown all journal text end is timely ends few memory =
+    let (found, may, same) = all_may_end design limits journal text end is timely ends few memory in
+    subst (λ t. IsShown shown t end) same (all found end may)
+
+-- where entries lead, and what they print
+goes_on : (design : Design) (limits : Limits) (run moves : List Entry) (e g : Effect) → ComesOf design limits run e → GoesOnTo design limits e moves g → ComesOf design limits (run ++ moves) (joined e g)
+goes_on design limits run moves e g at_e (goes, timely) =
+    comes_on design limits run moves e (joined e g) at_e (runs_on design e g moves goes) timely
+
+prints_on : (design : Design) (limits : Limits) (run moves : List Entry) (e g : Effect) (printed : List ℕ) → ComesOf design limits run e → GoesOnTo design limits e moves g → printed ≡ g.lines → text_of design (run ++ moves) ≡ text_of design run ++ printed
+prints_on design limits run moves e g printed at_e goes lines =
+    text_is design (run ++ moves) (joined e g) (goes_on design limits run moves e g at_e goes).0
+    ∙ (ap (λ t. t ++ g.lines) (sym (text_is design run e at_e.0)) ∙ ap (λ t. text_of design run ++ t) (sym lines))
+
+pub step_goes_on : StepGoesOn
+step_goes_on design limits e g entry at_g timely =
+    (then_some (λ x. run_from design (joined (silent e.state) x) []) (step design e.state entry) g g at_g refl, All-cons (IsTimely limits) entry [] timely (All-nil (IsTimely limits)))
+
+pub ways_go_on : WaysGoOn
+ways_go_on design limits e f g moves more (goes, timely) (goes', timely') =
+    (run_from-append design (silent e.state) moves more ∙ (ap (option_and_then (λ x. run_from design x more)) goes ∙ runs_on design f g more goes'), All-append (IsTimely limits) moves more timely timely')
+
+pub leads_to_next : {Node : Type 0} (Holds : Node → Effect → Type 0) (design : Design) (limits : Limits) (run : List Entry) (e g : Effect) (next : Next Node Entry) → ComesOf design limits run e → GoesOnTo design limits e next.moves.items g → next.printed.items ≡ g.lines → Holds next.node (joined e g) → IsNext (runs_of Holds design limits) run next
+leads_to_next Holds design limits run e g next at_e goes lines holds =
+    ((joined e g, goes_on design limits run next.moves.items e g at_e goes, holds), prints_on design limits run next.moves.items e g next.printed.items at_e goes lines)
+
+pub leads_to_end : {Node : Type 0} (Holds : Node → Effect → Type 0) (design : Design) (limits : Limits) (run : List Entry) (e g : Effect) (ended : Ended Entry End) → ComesOf design limits run e → GoesOnTo design limits e ended.moves.items g → ended.printed.items ≡ g.lines → EndsHere design limits g ended.end → IsEnded (runs_of Holds design limits) run ended
+leads_to_end Holds design limits run e g ended at_e goes lines here =
+    ((joined e g, goes_on design limits run ended.moves.items e g at_e goes, here), prints_on design limits run ended.moves.items e g ended.printed.items at_e goes lines)
+
+-- successors stand where their ways lead
+lead_on : {Node : Type 0} (Holds : Node → Effect → Type 0) (design : Design) (limits : Limits) (successors : List (Next Node Entry)) (run : List Entry) → All (IsNext (runs_of Holds design limits) run) successors → LeadOn design limits run (ways_to successors)
+lead_on {Node} Holds design limits successors run nexts =
+    all_map (λ (next : Next Node Entry). next.moves.items) (λ way. (e : Effect) × ComesOf design limits (run ++ way) e) successors
+    (All-weaker (IsNext (runs_of Holds design limits) run) (λ (next : Next Node Entry). (e : Effect) × ComesOf design limits (run ++ next.moves.items) e) (λ next ((e, at_e, holds), printed). (e, at_e)) successors nexts)
+
+pub covered_by : {Node : Type 0} (Holds : Node → Effect → Type 0) (design : Design) (limits : Limits) (successors : List (Next Node Entry)) (ended : List (Ended Entry End)) (run : List Entry) (e : Effect) → ComesOf design limits run e → CoverRuns design limits run (ways_to successors) → TellsEnds design limits ended e → IsCovered (runs_of Holds design limits) successors ended run
+covered_by Holds design limits successors ended run e at_e covers tells [] end ends =
+    let may : MayEnd design limits run end = subst (λ way. MayEnd design limits way end) (append-nil run) ends in
+    let (k, way, within, at, (printed, same)) = tells end (ends_are_the_states design limits run e end at_e may) in
+    let text : text_of design run ++ way.printed.items ≡ text_of design (run ++ []) =
+    ap (λ t. text_of design run ++ t) printed ∙ (append-nil (text_of design run) ∙ ap (text_of design) (sym (append-nil run))) in
+    inl (k, way, within, at, (text, same))
+covered_by {Node} Holds design limits successors ended run e at_e covers tells (entry ∷ entries) end ends =
+    let (part, rest, moved, split, alike) = covers entry entries end ends in
+    inr
+    (record {
+      part = part;
+      rest = rest;
+      moved = moved;
+      split = sym split;
+      leads = any_of_map (λ (next : Next Node Entry). next.moves.items) (λ way. ComeToOneNode design limits (run ++ part) (run ++ way)) successors alike;
+    })
+
+pub followed_by : {Node : Type 0} (Holds : Node → Effect → Type 0) (design : Design) (limits : Limits) (successors : List (Next Node Entry)) (ended : List (Ended Entry End)) (run : List Entry) (e : Effect) → ComesOf design limits run e → All (IsNext (runs_of Holds design limits) run) successors → FollowMoves design limits e (ways_to successors) → TellsEnds design limits ended e → IsCovered (runs_of Holds design limits) successors ended run
+followed_by Holds design limits successors ended run e at_e nexts follow tells =
+    covered_by Holds design limits successors ended run e at_e
+    (followed_moves_cover design limits run e (ways_to successors) at_e (lead_on Holds design limits successors run nexts) follow) tells
+
+pub alike_runs_serve : AlikeRunsServe
+alike_runs_serve = alike_serve IsOneNode
+
+pub keyed_runs_are_alike : KeyedRunsAreAlike
+keyed_runs_are_alike = keyed_alike IsOneNode
+
+pub runs_begin_silent : RunsBeginSilent
+runs_begin_silent design limits = refl
+
+pub shown_is_lawful : ShownIsLawful
+shown_is_lawful = shown_of_run IsOneNode
+
+pub all_shown_are_all : AllShownAreAll
+all_shown_are_all = all_of_runs IsOneNode
+
+pub entries_lead_to_next : EntriesLeadToNext
+entries_lead_to_next = leads_to_next IsOneNode
+
+pub entries_lead_to_end : EntriesLeadToEnd
+entries_lead_to_end = leads_to_end IsOneNode
+
+pub covering_is_covered : CoveringIsCovered
+covering_is_covered = covered_by IsOneNode
+
+pub following_is_covered : FollowingIsCovered
+following_is_covered = followed_by IsOneNode

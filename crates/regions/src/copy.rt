@@ -1,0 +1,55 @@
+//! A copy of the regions, which goes on apart from them.
+ghost use Rattle.std.specs.Prelude.{◌≡◌, IfOk};
+
+use crate::queue::Queue;
+use design::Control;
+use std::alloc::{AllocError, Global};
+use std::collections::VecDeque;
+
+// The same elements.
+fn copy_deque<T: Copy>(alloc: Global, deque: &VecDeque<T>) -> Result<VecDeque<T>, AllocError>
+    ensures { IfOk result (λ copy. copy.items ≡ deque.now.items) }
+{
+    let (front, back) = deque.as_slices();
+    let mut copy = Vec::from_slice(alloc, front)?;
+    copy.extend_from_slice(back)?;
+    Ok(VecDeque::from(copy))
+}
+
+// The same event controls.
+fn copy_controls(alloc: Global, controls: &[Control]) -> Result<Vec<Control>, AllocError>
+    ensures { IfOk result (λ copy. copy.items ≡ controls.now) }
+{
+    let mut copy = Vec::new(alloc);
+    for control in controls {
+        copy.push(Control::new(Vec::from_slice(alloc, control.triggers())?))?;
+    }
+    Ok(copy)
+}
+
+impl Queue {
+    ghost use Rattle.regions.specs.Copies.{IsCopy};
+
+    // The same regions.
+    pub fn copy(&self, alloc: Global) -> Result<Queue, AllocError>
+        ensures { IfOk result (IsCopy self.now) }
+    {
+        Ok(Queue {
+            time: self.time,
+            entries: self.entries,
+            next_event: self.next_event,
+            finished: self.finished,
+            widths: Vec::from_slice(alloc, &self.widths)?,
+            controls: copy_controls(alloc, &self.controls)?,
+            processes: Vec::from_slice(alloc, &self.processes)?,
+            waiters: Vec::from_slice(alloc, &self.waiters)?,
+            updates: copy_deque(alloc, &self.updates)?,
+            evaluations: copy_deque(alloc, &self.evaluations)?,
+            inactive: copy_deque(alloc, &self.inactive)?,
+            nonblocking: copy_deque(alloc, &self.nonblocking)?,
+            monitor: Vec::from_slice(alloc, &self.monitor)?,
+            future_inactive: copy_deque(alloc, &self.future_inactive)?,
+            future_nonblocking: copy_deque(alloc, &self.future_nonblocking)?,
+        })
+    }
+}

@@ -1,0 +1,94 @@
+//! What may be next: the change of the regions that is due, and all entries that the rules permit.
+ghost use Rattle.std.specs.Prelude.{◌≡◌, ◌↔◌, List, map, IfOk, None, Some, false};
+ghost use Rattle.std.specs.List.{Contains};
+ghost use Rattle.logic4.specs.Vector.{Vector};
+ghost use Rattle.model.specs.declared.entry.Entry.{Entry};
+ghost use Rattle.model.specs.Turns.{Remainder};
+ghost use Rattle.model.specs.Runs.{refusal};
+ghost use Rattle.design.specs.declared.code.ProcState.{ProcState};
+ghost use Rattle.regions.specs.Queue.{core_of, state_of};
+ghost use Rattle.regions.specs.Machine.{IsTurn, IsDue, AreInOrder};
+ghost use Rattle.regions.specs.Turns.{turn_of};
+
+use crate::queue::Queue;
+use model::end::LAST_TIME;
+use model::entry::Entry;
+use std::alloc::{AllocError, Global};
+
+impl Queue {
+    ghost use Rattle.regions.specs.Order.{IsOrderedQueue};
+
+    // The change of the regions that the rules permit.
+    pub fn due(&self) -> Option<Entry>
+        requires ordered { IsOrderedQueue self.now }
+        ensures { (rem : ProcState → Remainder) (values : List Vector) → IsDue (state_of rem values (core_of self.now)) result }
+    {
+        if self.finished {
+            return None;
+        }
+        if self.is_active() {
+            return None;
+        }
+        if !self.inactive.is_empty() {
+            return Some(Entry::ActivateInactive);
+        }
+        if !self.nonblocking.is_empty() {
+            return Some(Entry::ActivateNba);
+        }
+        if !self.monitor.is_empty() {
+            return Some(Entry::ActivateMonitor);
+        }
+        match self.next_time() {
+            Some(time) => {
+                if time > LAST_TIME {
+                    None
+                } else {
+                    Some(Entry::Advance(time))
+                }
+            }
+            None => None,
+        }
+    }
+
+    // The turns of the active evaluations, in the order of their numbers.
+    fn turns(&self, alloc: Global) -> Result<Vec<Entry>, AllocError>
+        ensures { IfOk result (λ v. v.items ≡ map turn_of self.now.evaluations.items) }
+    {
+        let mut turns = Vec::new(alloc);
+        for at in 0..self.evaluations.len() {
+            turns.push(Entry::Turn(self.evaluations[at].number))?;
+        }
+        Ok(turns)
+    }
+
+    // The entry that isn't a turn and that the rules permit: that of the first active update, or else a change of the regions.
+    fn next_other(&self) -> Option<Entry>
+        requires ordered { IsOrderedQueue self.now }
+        requires running { self.now.finished ≡ false }
+        ensures { (rem : ProcState → Remainder) (values : List Vector) (entry : Entry) → (result ≡ Some entry) ↔ ((IsTurn entry → ⊥) × (refusal (state_of rem values (core_of self.now)) entry ≡ None)) }
+    {
+        match self.first_update() {
+            Some(number) => Some(Entry::Update(number)),
+            None => self.due(),
+        }
+    }
+
+    // All entries that the rules permit, each once.
+    pub fn next_entries(&self, alloc: Global) -> Result<Vec<Entry>, AllocError>
+        requires ordered { IsOrderedQueue self.now }
+        ensures permitted { IfOk result (λ v. (rem : ProcState → Remainder) (values : List Vector) (entry : Entry) → Contains v.items entry ↔ (refusal (state_of rem values (core_of self.now)) entry ≡ None)) }
+        ensures order { IfOk result (λ v. AreInOrder v.items) }
+    {
+        if self.finished {
+            return Ok(Vec::new(alloc));
+        }
+        let mut entries = self.turns(alloc)?;
+        match self.next_other() {
+            Some(entry) => {
+                entries.push(entry)?;
+                Ok(entries)
+            }
+            None => Ok(entries),
+        }
+    }
+}

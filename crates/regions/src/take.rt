@@ -1,0 +1,96 @@
+//! How a machine takes an entry: its turn, if it is one, is evaluated, and then it is applied.
+ghost use Rattle.std.specs.Prelude.{◌≡◌, ◌+◌, ◌<◌, map, Some, None, if◌then◌else◌, string_bytes, IsOk, IfErr, OnOk, OnErr, Err, MatchResult, option_copied};
+ghost use Rattle.model.specs.declared.entry.Entry.TheVariants as entries;
+ghost use Rattle.design.specs.Standing.{remainder_of};
+ghost use Rattle.regions.specs.Queue.{state_of};
+ghost use Rattle.regions.specs.Logs.{IsTurnGiven, IsTaken};
+ghost use Rattle.regions.specs.MadeEvents.{made_events};
+ghost use Rattle.regions.specs.Evaluations.{made_event};
+ghost use Rattle.regions.specs.Machine.{most_entries, Stands, IsStop};
+ghost use Rattle.regions.specs.Faults.{fault_of};
+
+use crate::machine::TakeFault;
+use crate::reader::turn_on;
+use crate::state::{ApplyFault, Made, State};
+use crate::store::PlainStore;
+use design::Design;
+use model::entry::Entry;
+use turn::{FillFault, TurnLog};
+
+// Fills a log with the turn that takes an event, where the rules permit it. Answers whether they do.
+fn log_event(
+    log: &mut TurnLog,
+    design: &Design,
+    state: &State,
+    store: &PlainStore,
+    number: u64,
+) -> Result<bool, TakeFault>
+    requires stands { Stands design.now state.now store.now }
+    ensures { MatchResult result (λ has. IsTurnGiven design.now (state_of (remainder_of design.now) store.now state.now) (entries.Turn number) (if has then Some log.new else None)) (IsStop design.now (state_of (remainder_of design.now) store.now state.now) (entries.Turn number)) }
+{
+    if !state.legal(&Entry::Turn(number)) {
+        return Ok(false);
+    }
+    match state.evaluation(number) {
+        Some((_, place)) => {
+            let now = state.time();
+            match turn_on(log, design, &place, now, store) {
+                Ok(()) => Ok(true),
+                Err(FillFault::TooLong) => Err(TakeFault::TooLong),
+                Err(FillFault::Memory) => Err(TakeFault::Memory),
+            }
+        }
+        None => Ok(false),
+    }
+}
+
+/// Fills a log with the turn of an entry, where it is a turn that the rules permit. Answers whether it is one.
+pub fn log_entry(
+    log: &mut TurnLog,
+    design: &Design,
+    state: &State,
+    store: &PlainStore,
+    entry: Entry,
+) -> Result<bool, TakeFault>
+    requires stands { Stands design.now state.now store.now }
+    ensures { MatchResult result (λ has. IsTurnGiven design.now (state_of (remainder_of design.now) store.now state.now) entry (if has then Some log.new else None)) (IsStop design.now (state_of (remainder_of design.now) store.now state.now) entry) }
+{
+    match entry {
+        Entry::Turn(number) => log_event(log, design, state, store, number),
+        _ => Ok(false),
+    }
+}
+
+// What is told of an entry that was applied, or wasn't.
+fn told(applied: Result<(), ApplyFault>) -> Result<(), TakeFault>
+    ensures { MatchResult applied (λ nothing. IsOk result) (λ fault. result ≡ Err (fault_of fault)) }
+{
+    match applied {
+        Ok(()) => Ok(()),
+        Err(ApplyFault::Refused(refusal)) => Err(TakeFault::Refused(refusal)),
+        Err(ApplyFault::Memory) => Err(TakeFault::ApplyMemory),
+    }
+}
+
+/// Applies an entry, a turn with its log.
+pub fn apply(
+    design: &Design,
+    state: &mut State,
+    store: &mut PlainStore,
+    made: &mut Made,
+    entry: Entry,
+    log: Option<&TurnLog>,
+) -> Result<(), TakeFault>
+    requires stands { Stands design.now state.old store.old }
+    requires few { state.old.entries < most_entries }
+    requires given { IsTurnGiven design.now (state_of (remainder_of design.now) store.old state.old) entry (option_copied log) }
+    ensures stands { Stands design.now state.new store.new }
+    ensures taken { OnOk result (IsTaken design.now (state_of (remainder_of design.now) store.old state.old) (string_bytes made.old.lines) entry (state_of (remainder_of design.now) store.new state.new) (string_bytes made.new.lines)) }
+    ensures entries { OnOk result (state.new.entries ≡ state.old.entries + 1) }
+    ensures made { OnOk result (map made_event made.new.events.items ≡ made_events state.old state.new) }
+    ensures stop { IfErr result (IsStop design.now (state_of (remainder_of design.now) store.old state.old) entry) }
+    ensures err { OnErr result ((state.new ≡ state.old) × (store.new ≡ store.old) × (string_bytes made.new.lines ≡ string_bytes made.old.lines)) }
+{
+    let applied = state.apply(design, store, entry, log, made);
+    told(applied)
+}

@@ -1,0 +1,10 @@
+use Rattle.std.proofs.lemmas.Result.{on_ok_weaker}
+use Rattle.statekeys.specs.Codes.{nat_code, pair_code}
+use Rattle.statekeys.specs.Keys.{update_code}
+use Rattle.statekeys.specs.Parts.{due_assignment}
+use Rattle.statekeys.proofs.Parts.{put_map}
+use Rattle.statekeys.proofs.keys.put_future_updates.Goals as goal
+
+pub returns : goal.returns
+returns c =
+    on_ok_weaker c.put_deque.result (put_map (pair_code nat_code update_code) due_assignment c.args.future.now.items c.args.bytes.now.items c.put_deque.new.bytes.items) c.put_deque.ensures

@@ -1,0 +1,4 @@
+pub mod Codes
+pub mod Keys
+pub mod Parts
+pub mod KeyLaws

@@ -1,0 +1,139 @@
+//! Values as bytes that tell where they end.
+ghost use Rattle.std.specs.Prelude.{◌≡◌, ◌++◌, OnOk, flat_map};
+ghost use Rattle.statekeys.specs.Codes.{nat_code, list_code};
+
+use logic4::bits::Bits;
+use std::alloc::AllocError;
+use std::collections::VecDeque;
+
+/// A value with a code.
+pub trait Encode {
+    ghost use Rattle.std.specs.Prelude.{ℕ, List};
+
+    /// The bytes of a value.
+    ghost code: { Self → List ℕ };
+
+    /// Appends the value's bytes. Where memory is refused, some of them may stand there.
+    fn encode(&self, bytes: &mut Vec<u8>) -> Result<(), AllocError>
+        ensures { OnOk result (bytes.new.items ≡ bytes.old.items ++ code self.now) };
+}
+
+/// Appends the code of a number: seven bits a byte, the low ones first, and the eighth bit set while more follow. Where
+/// memory is refused, some of its bytes may stand there.
+pub fn put_nat(bytes: &mut Vec<u8>, number: u128) -> Result<(), AllocError>
+    ensures { OnOk result (bytes.new.items ≡ bytes.old.items ++ nat_code number) }
+{
+    let mut left = number;
+    while left >= 128 {
+        bytes.push(128 + (left % 128) as u8)?;
+        left /= 128;
+    }
+    bytes.push(left as u8)?;
+    Ok(())
+}
+
+// Appends the codes of values, one behind the other.
+fn put_each<T: Encode>(bytes: &mut Vec<u8>, items: &[T]) -> Result<(), AllocError>
+    ensures { OnOk result (bytes.new.items ≡ bytes.old.items ++ flat_map T.code items.now) }
+{
+    for item in items {
+        item.encode(bytes)?;
+    }
+    Ok(())
+}
+
+/// Appends the code of a list. Where memory is refused, some of its bytes may stand there.
+pub fn put_slice<T: Encode>(bytes: &mut Vec<u8>, items: &[T]) -> Result<(), AllocError>
+    ensures { OnOk result (bytes.new.items ≡ bytes.old.items ++ list_code T.code items.now) }
+{
+    put_nat(bytes, items.len() as u128)?;
+    put_each(bytes, items)
+}
+
+/// Appends the code of a list, as `put_slice` does.
+pub fn put_deque<T: Encode>(bytes: &mut Vec<u8>, items: &VecDeque<T>) -> Result<(), AllocError>
+    ensures { OnOk result (bytes.new.items ≡ bytes.old.items ++ list_code T.code items.now.items) }
+{
+    put_nat(bytes, items.len() as u128)?;
+    let (first, second) = items.as_slices();
+    put_each(bytes, first)?;
+    put_each(bytes, second)
+}
+
+impl Encode for u32 {
+    ghost code = { nat_code };
+
+    fn encode(&self, bytes: &mut Vec<u8>) -> Result<(), AllocError> {
+        put_nat(bytes, u128::from(*self))
+    }
+}
+
+impl Encode for usize {
+    ghost code = { nat_code };
+
+    fn encode(&self, bytes: &mut Vec<u8>) -> Result<(), AllocError> {
+        put_nat(bytes, *self as u128)
+    }
+}
+
+impl Encode for u64 {
+    ghost code = { nat_code };
+
+    fn encode(&self, bytes: &mut Vec<u8>) -> Result<(), AllocError> {
+        put_nat(bytes, u128::from(*self))
+    }
+}
+
+impl Encode for bool {
+    ghost use Rattle.statekeys.specs.Codes.{bool_code};
+
+    ghost code = { bool_code };
+
+    fn encode(&self, bytes: &mut Vec<u8>) -> Result<(), AllocError> {
+        if *self {
+            put_nat(bytes, 1)
+        } else {
+            put_nat(bytes, 0)
+        }
+    }
+}
+
+impl Encode for Bits {
+    ghost use Rattle.statekeys.specs.Codes.{vector_code};
+
+    ghost code = { vector_code };
+
+    fn encode(&self, bytes: &mut Vec<u8>) -> Result<(), AllocError> {
+        let (first, second) = self.words();
+        put_nat(bytes, u128::from(self.width()))?;
+        put_nat(bytes, first)?;
+        put_nat(bytes, second)
+    }
+}
+
+impl<A: Encode, B: Encode> Encode for (A, B) {
+    ghost use Rattle.statekeys.specs.Codes.{pair_code};
+
+    ghost code = { pair_code A.code B.code };
+
+    fn encode(&self, bytes: &mut Vec<u8>) -> Result<(), AllocError> {
+        self.0.encode(bytes)?;
+        self.1.encode(bytes)
+    }
+}
+
+impl<A: Encode> Encode for Option<A> {
+    ghost use Rattle.statekeys.specs.Codes.{option_code};
+
+    ghost code = { option_code A.code };
+
+    fn encode(&self, bytes: &mut Vec<u8>) -> Result<(), AllocError> {
+        match self {
+            None => put_nat(bytes, 0),
+            Some(value) => {
+                put_nat(bytes, 1)?;
+                value.encode(bytes)
+            }
+        }
+    }
+}

@@ -1,0 +1,17 @@
+//! The bytes by which a search of orders tells states apart.
+//!
+//! 1. `encode` has codes that tell where they end: whatever follows the code of a value, the bytes tell the value. Numbers take
+//!    seven bits a byte, a list its length and then its elements, a vector its width and its two words.
+//! 2. `key` writes a state as such bytes: all but the numbers of its events, with the processes of evaluations in rising order.
+//!
+//! What the layer above uses: `key` ensures `IsKey` (`specs/Keys.antt`), and `keys_tell_states` that states of one design with
+//! one key are alike, so that a search may look at one of them alone.
+#![tactic(auto)]
+
+mod encode;
+mod keys;
+mod laws;
+
+pub use encode::{Encode, put_deque, put_nat, put_slice};
+pub use keys::{Scratch, key};
+pub use laws::keys_tell_states;

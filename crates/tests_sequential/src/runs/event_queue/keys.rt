@@ -1,0 +1,111 @@
+//! Keys of states that two orders of turns lead to.
+
+use super::super::held::design_of;
+use super::{apply_all, start};
+use design::Design;
+use model::entry::Entry;
+use regions::Machine;
+use statekeys::{Scratch, key};
+use std::alloc::{AllocError, Global};
+use std::process::Abort;
+
+/// The turns of two processes, in either order.
+const ORDERS: [[Entry; 2]; 2] = [
+    [Entry::Turn(0), Entry::Turn(1)],
+    [Entry::Turn(1), Entry::Turn(0)],
+];
+
+/// Two processes, and whether both orders of their turns lead to one key.
+const ROWS: [(&str, bool); 11] = [
+    // nothing is left, or evaluations that stand in another order
+    (
+        "module t; reg a, b; initial a = 1'b1; initial b = 1'b0; endmodule",
+        true,
+    ),
+    (
+        "module t; reg a, b; initial begin #0 ; end initial begin #0 ; end endmodule",
+        true,
+    ),
+    (
+        "module t; reg a, b; initial begin #5 ; end initial begin #5 ; end endmodule",
+        true,
+    ),
+    (
+        "module t; reg a, b; initial begin #3 ; end initial begin #5 ; end endmodule",
+        true,
+    ),
+    // another value
+    (
+        "module t; reg a, b; initial a = 1'b1; initial a = 1'b0; endmodule",
+        false,
+    ),
+    // another order of updates, now or later
+    (
+        "module t; reg a, b; initial a <= 1'b1; initial a <= 1'b0; endmodule",
+        false,
+    ),
+    (
+        "module t; reg a, b; initial a <= 1'b1; initial b <= 1'b0; endmodule",
+        false,
+    ),
+    (
+        "module t; reg a, b; initial a <= #5 1'b1; initial a <= #5 1'b0; endmodule",
+        false,
+    ),
+    // a process that waits, or is active
+    (
+        "module t; reg a, b; initial @(a) ; initial a = 1'b1; endmodule",
+        false,
+    ),
+    // another time to come
+    (
+        "module t; reg a, b; initial if (a) begin b <= #5 1'b1; end else begin b <= #6 1'b1; end initial a = 1'b1; endmodule",
+        false,
+    ),
+    // another order of lines
+    (
+        "module t; reg a, b; initial $strobe(\"a\"); initial $strobe(\"b\"); endmodule",
+        false,
+    ),
+];
+
+// The key of a run where it stands.
+fn key_of(alloc: Global, run: &Machine<'_>) -> Result<Vec<u8>, AllocError> {
+    let mut bytes = Vec::new(alloc);
+    let mut scratch = Scratch::new(alloc);
+    key(&mut bytes, &mut scratch, run.state(), run.store())?;
+    Ok(bytes)
+}
+
+// The key after these entries.
+fn key_behind(rt: &impl Abort, alloc: Global, run: &mut Machine<'_>, entries: &[Entry]) -> Vec<u8> {
+    apply_all(rt, run, entries);
+    key_of(alloc, run).expect(rt, "memory")
+}
+
+// The key after these entries of a run of a design.
+fn key_after(rt: &impl Abort, alloc: Global, design: &Design, entries: &[Entry]) -> Vec<u8> {
+    let mut run = start(rt, alloc, design);
+    key_behind(rt, alloc, &mut run, entries)
+}
+
+// Whether both orders lead to one key.
+fn have_one_key(rt: &impl Abort, alloc: Global, design: &Design) -> bool {
+    let [first, second] = &ORDERS;
+    let one = key_after(rt, alloc, design, first);
+    let other = key_after(rt, alloc, design, second);
+    one.as_slice() == other.as_slice()
+}
+
+// What a row says.
+fn assert_keys(rt: &impl Abort, alloc: Global, source: &str, wanted: bool) {
+    let design = design_of(rt, alloc, source.as_bytes());
+    assert!(rt; have_one_key(rt, alloc, &design) == wanted, "{source}");
+}
+
+#[test]
+fn keys_of_two_orders(rt: HostRuntime) {
+    for (source, wanted) in ROWS {
+        assert_keys(&rt, rt.alloc(), source, wanted);
+    }
+}
