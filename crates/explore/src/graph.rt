@@ -81,9 +81,9 @@ impl Orders for Graph {
     fn expand(
         &self,
         alloc: Global,
-        node: &usize,
+        node: usize,
     ) -> Result<Expanded<usize, bool, usize>, AllocError> {
-        let vertex = *node;
+        let vertex = node;
         let mut successors = Vec::new(alloc);
         let mut ended = Vec::new(alloc);
         if vertex >= self.forks.len() {

@@ -66,6 +66,8 @@ pub struct Explored<M, E> {
     pub shown: Vec<Shown<M, E>>,
     /// Whether there are no others.
     pub covered: bool,
+    /// How many nodes were reached, the first one among them, when the last of them was expanded.
+    pub nodes: usize,
 }
 
 /// How far a search goes.

@@ -29,16 +29,16 @@ pub trait Orders {
     fn start(&self, alloc: Global) -> Result<Self::Node, AllocError>
         ensures { IfOk result (λ node. (runs self.now).Stands node []) };
 
-    /// Follows the ways that go on from a node.
+    /// Follows the ways that go on from a node, which may become a node that one of them leads to.
     fn expand(
         &self,
         alloc: Global,
-        node: &Self::Node,
+        node: Self::Node,
     ) -> Result<Expanded<Self::Node, Self::Move, Self::End>, AllocError>
-        requires { IsReached (runs self.now) node.now }
-        ensures next { IfOk result (λ x. (run : List Self.Move) → (runs self.now).Stands node.now run → All (IsNext (runs self.now) run) x.successors.items) }
-        ensures sound { IfOk result (λ x. (run : List Self.Move) → (runs self.now).Stands node.now run → All (IsEnded (runs self.now) run) x.ended.items) }
-        ensures cover { IfOk result (λ x. IsTrue x.whole → (run : List Self.Move) → (runs self.now).Stands node.now run → IsCovered (runs self.now) x.successors.items x.ended.items run) };
+        requires { IsReached (runs self.now) node }
+        ensures next { IfOk result (λ x. (run : List Self.Move) → (runs self.now).Stands node run → All (IsNext (runs self.now) run) x.successors.items) }
+        ensures sound { IfOk result (λ x. (run : List Self.Move) → (runs self.now).Stands node run → All (IsEnded (runs self.now) run) x.ended.items) }
+        ensures cover { IfOk result (λ x. IsTrue x.whole → (run : List Self.Move) → (runs self.now).Stands node run → IsCovered (runs self.now) x.successors.items x.ended.items run) };
 
     /// The key of a node: nodes of one key, whose runs have one text, go on alike.
     fn key(&self, alloc: Global, node: &Self::Node) -> Result<Vec<u8>, AllocError>

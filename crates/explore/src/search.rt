@@ -49,7 +49,7 @@ fn turn<O: Orders>(
         successors,
         ended,
         whole,
-    } = orders.expand(alloc, &node)?;
+    } = orders.expand(alloc, node)?;
     let run = Run {
         trail: &kept.trail,
         texts: &kept.texts,
@@ -63,15 +63,19 @@ fn turn<O: Orders>(
     Ok(whole & followed)
 }
 
-/// Shows what the runs print and how they end. The answer is whether there is nothing else.
+/// Shows what the runs print and how they end, and counts the nodes that were reached. The answer is whether there is nothing
+/// else.
 fn search<O: Orders>(
     alloc: Global,
     orders: &O,
     shown: &mut Vec<Shown<O::Move, O::End>>,
+    nodes: &mut usize,
     bounds: Bounds,
 ) -> Result<bool, Stop>
     requires room { 0 < bounds.nodes }
     requires none { shown.old.items ≡ [] }
+    requires begun { nodes.old ≤ bounds.nodes }
+    ensures few { nodes.new ≤ bounds.nodes }
     ensures sound { All (IsOfRun (O.runs orders.now)) shown.new.items }
     ensures distinct { AllPairs AreDistinct shown.new.items }
     ensures all { IfOk result (λ covered. IsTrue covered → AreAllShown (O.runs orders.now) shown.new.items) }
@@ -79,6 +83,7 @@ fn search<O: Orders>(
     let mut kept = first(alloc, orders)?;
     let mut covered = true;
     while let Some(at) = kept.pending.pop() {
+        *nodes = kept.trail.len();
         let whole = turn(alloc, orders, &mut kept, shown, at, bounds)?;
         covered = covered & whole;
     }
@@ -97,11 +102,17 @@ pub fn explore<O: Orders>(alloc: Global, orders: &O, bounds: Bounds) -> Explored
     ensures sound { All (IsOfRun (O.runs orders.now)) result.shown.items }
     ensures distinct { AllPairs AreDistinct result.shown.items }
     ensures all { IsTrue result.covered → AreAllShown (O.runs orders.now) result.shown.items }
+    ensures few { result.nodes ≤ bounds.nodes }
 {
     let mut shown = Vec::new(alloc);
-    let covered = match search(alloc, orders, &mut shown, bounds) {
+    let mut nodes = 0;
+    let covered = match search(alloc, orders, &mut shown, &mut nodes, bounds) {
         Ok(covered) => covered,
         Err(Stop) => false,
     };
-    Explored { shown, covered }
+    Explored {
+        shown,
+        covered,
+        nodes,
+    }
 }

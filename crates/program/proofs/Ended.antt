@@ -1,18 +1,22 @@
 -- What the requests of the words, the files and the statuses tell of a command that ended.
-use Rattle.std.proofs.Common.{◌≡◌, ◌⊎◌, ◌++◌, ◌∷◌, ◌∙◌, ap, ap₂, sym, subst, inl, inr, refl, ℕ, List, [], Option, Some, None, IfSome, option_map, unwrap_or, codes, drop}
+use Rattle.std.proofs.Common.{◌≡◌, ◌⊎◌, ◌++◌, ◌∙◌, ap, sym, subst, inl, inr, refl, ℕ, List, [], Option, Some, None, IfOk, IfErr, Result, Ok, Err, map, option_map, unwrap_or, codes, drop, arith}
 use Rattle.std.specs.Io.KnownBytes.{Appends}
 use Rattle.model.specs.declared.entry.Entry.{Entry}
 use Rattle.simulate.specs.declared.run.Options.{Options}
-use Rattle.clap.specs.Words.{Text}
+use Rattle.clap.specs.Words.{Text, first_of}
 use Rattle.program.specs.declared.fault.Stop.{Stop}
 use Rattle.program.specs.declared.request.Refusal.{Refusal}
 use Rattle.program.specs.declared.request.Refusal.TheVariants as refusal
 use Rattle.program.specs.declared.request.RunRequest.{RunRequest}
-use Rattle.program.specs.Options.{CanRun}
-use Rattle.program.specs.Program.{IsRefusalStatus, help_text}
-use Rattle.program.specs.Printed.{HasPrinted, HasRun, IsDone, helped}
-use Rattle.program.specs.Saved.{AddsFile, ClosesFile, HoldsNothing, KeepsFiles, Made, SavesWhereAsked}
-use Rattle.program.specs.Words.{AreWrong, AsksRun, IsRefusal, options_of, run_rows}
+use Rattle.program.specs.declared.request.RacesRequest.{RacesRequest}
+use Rattle.program.specs.declared.extent.Extent.{Extent}
+use Rattle.program.specs.declared.finding.Finding.{Finding}
+use Rattle.program.specs.declared.fault.Fault.{Fault}
+use Rattle.program.specs.Options.{CanRun, CanSearch}
+use Rattle.program.specs.Program.{IsRefusalStatus, help_text, status_of}
+use Rattle.program.specs.Printed.{HasPrintedBy, HasRun, HasSearched, HasShown, IsDone, helped}
+use Rattle.program.specs.Saved.{AddsFile, ClosesFile, SavesAllWhereAsked, HoldsNothing, KeepsFiles, Made, SavesWhereAsked}
+use Rattle.program.specs.Words.{AreWrong, AsksRaces, AsksRun, IsRefusal, extent_of, options_of, races_rows, run_rows}
 
 -- files
 
@@ -49,17 +53,63 @@ closed_file (Some fs) b c start end path text empty same grown closes =
     let whole = subst (λ (o : Option (List ℕ)). ClosesFile b c path o) (known_after start end text empty grown) closes in
     added_on (Some fs) b c (record { path = path; bytes = text }) same whole
 
+pub all_saved_on : (a b c : Option (List Made)) (prefix : Option (List ℕ)) (journals : List (List Entry)) → KeepsFiles a b
+    → SavesAllWhereAsked b c prefix journals → SavesAllWhereAsked a c prefix journals
+all_saved_on a b c None journals h k = kept_on a b c h k
+all_saved_on None b c (Some p) journals h k = tt
+all_saved_on (Some fs) b c (Some p) journals h k = subst (λ (o : Option (List Made)). SavesAllWhereAsked o c (Some p) journals) h k
+
 -- requests
 
 pub run_of_words : (words : List Text) (run : RunRequest) (old new : Option (List ℕ)) (files files' : Option (List Made)) (told : Option Stop)
-    → AsksRun words run → HasPrinted run.options (option_map (λ path. path.now) run.journal) old new files files' told
+    → AsksRun words run → HasPrintedBy run.seed run.options (option_map (λ path. path.now) run.journal) old new files files' told
     → HasRun words old new files files' told
 run_of_words words run old new files files' told asks h = record {
   begins = asks.begins;
   can_run = subst CanRun asks.is_run.options asks.is_run.in_range;
-  printed = subst (λ (path : Option (List ℕ)). HasPrinted (options_of (run_rows (drop 1 words))) path old new files files' told) (sym asks.is_run.journal)
-      (subst (λ (options : Options). HasPrinted options (option_map (λ path. path.now) run.journal) old new files files' told) asks.is_run.options h);
+  printed = subst (λ (seed : Option ℕ). HasPrintedBy seed (options_of (run_rows (drop 1 words))) (first_of (codes "journal") (run_rows (drop 1 words))) old new files files' told) asks.is_run.seed
+      (subst (λ (path : Option (List ℕ)). HasPrintedBy run.seed (options_of (run_rows (drop 1 words))) path old new files files' told) (sym asks.is_run.journal)
+      (subst (λ (options : Options). HasPrintedBy run.seed options (option_map (λ path. path.now) run.journal) old new files files' told) asks.is_run.options h));
 }
+
+pub search_of_words : (words : List Text) (races : RacesRequest) (old new : Option (List ℕ)) (files files' : Option (List Made)) (found : Finding)
+    → AsksRaces words races → HasShown races.extent (option_map (λ path. path.now) races.journals) old new files files' found
+    → HasSearched words old new files files' found
+search_of_words words races old new files files' found asks h = record {
+  begins = asks.begins;
+  can_search = subst CanSearch asks.is_races.extent asks.is_races.in_range;
+  shown = subst (λ (path : Option (List ℕ)). HasShown (extent_of (races_rows (drop 1 words))) path old new files files' found) (sym asks.is_races.journals)
+      (subst (λ (extent : Extent). HasShown extent (option_map (λ path. path.now) races.journals) old new files files' found) asks.is_races.extent h);
+}
+
+-- what a search shows, where the files were the same before it
+pub shown_on : (extent : Extent) (prefix : Option (List ℕ)) (old new : Option (List ℕ)) (a b c : Option (List Made)) (r : Result Finding Fault) → KeepsFiles a b
+    → IfOk r (HasShown extent prefix old new b c) → IfOk r (HasShown extent prefix old new a c)
+shown_on extent prefix old new a b c (Ok found) h k = record {
+  source = k.source;
+  design = k.design;
+  is_design = k.is_design;
+  claim = k.claim;
+  shown = k.shown;
+  are_found = k.are_found;
+  ends = k.ends;
+  printed = k.printed;
+  saved = all_saved_on a b c prefix (map (λ s. s.moves.items) k.shown) h k.saved;
+  finding = k.finding;
+}
+shown_on extent prefix old new a b c (Err fault) h k = tt
+
+-- faults of output and of memory are none of a source
+pub output_kept : (K : Type 0) (r : Result Finding Fault) → IfErr r (λ f. (status_of f ≡ 1) ⊎ (status_of f ≡ 6))
+    → IfErr r (λ f. (status_of f ≡ 3) ⊎ (status_of f ≡ 5) → K)
+output_kept K (Ok found) h = tt
+output_kept K (Err fault) h = λ e. absurd (neither (status_of fault) h e)
+  where
+    neither : (n : ℕ) → (n ≡ 1) ⊎ (n ≡ 6) → (n ≡ 3) ⊎ (n ≡ 5) → ⊥
+    neither n (inl a) (inl b) = absurd (omega (arith, a, b))
+    neither n (inl a) (inr b) = absurd (omega (arith, a, b))
+    neither n (inr a) (inl b) = absurd (omega (arith, a, b))
+    neither n (inr a) (inr b) = absurd (omega (arith, a, b))
 
 -- refusals
 
@@ -106,4 +156,22 @@ refused_unstopped (refusal.Usage text) n status e = clash (sym status ∙ e)
 refused_unstopped refusal.Memory n status e = clash (sym status ∙ e)
   where
     clash : ◌≡◌ {A = ℕ} 6 4 → ⊥
+    clash q = cc
+
+pub refused_few : (r : Refusal) (n : ℕ) → IsRefusalStatus r n → n ≡ 7 → ⊥
+refused_few (refusal.Help text) n (inl status) e = clash (sym status ∙ e)
+  where
+    clash : ◌≡◌ {A = ℕ} 0 7 → ⊥
+    clash q = cc
+refused_few (refusal.Help text) n (inr status) e = clash (sym status ∙ e)
+  where
+    clash : ◌≡◌ {A = ℕ} 1 7 → ⊥
+    clash q = cc
+refused_few (refusal.Usage text) n status e = clash (sym status ∙ e)
+  where
+    clash : ◌≡◌ {A = ℕ} 2 7 → ⊥
+    clash q = cc
+refused_few refusal.Memory n status e = clash (sym status ∙ e)
+  where
+    clash : ◌≡◌ {A = ℕ} 6 7 → ⊥
     clash q = cc

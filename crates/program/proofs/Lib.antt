@@ -5,3 +5,6 @@ pub mod SecondWord
 pub mod Statuses
 pub mod Endings
 pub mod Ended
+pub mod Journals
+pub mod Sampled
+pub mod Searched

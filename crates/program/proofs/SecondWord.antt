@@ -1,5 +1,5 @@
 -- The word after the program's name.
-use Rattle.std.proofs.Common.{◌≡◌, ◌<◌, ◌∙◌, sym, ap, subst, List, [], ◌∷◌, ℕ, length, get_or, nat_lt, Option, Some, None, unwrap_or, true, false, Bool, string_bytes, String, arith}
+use Rattle.std.proofs.Common.{◌≡◌, ◌<◌, sym, ap, List, [], ◌∷◌, ℕ, length, get_or, nat_lt, Some, unwrap_or, true, false, Bool, string_bytes, String, arith}
 use Rattle.std.specs.Str.{bytes_eq}
 use Rattle.std.proofs.lemmas.Slice.Eq.{bytes_eq-Decides}
 use Rattle.std.proofs.lemmas.Bool.Decides.{nat_tests}

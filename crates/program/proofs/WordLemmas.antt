@@ -1,7 +1,7 @@
 -- What clap's account of the words gives for a request and for a refusal.
-use Rattle.std.proofs.Common.{◌≡◌, ◌≢◌, ◌⊎◌, ◌^◌, ◌<◌, ◌≤◌, ◌∙◌, ℕ, Bool, true, false, List, [], ◌∷◌, map, drop, slice_get, Option, Some, None, is_some, option_map, unwrap_or, pos, Result, Ok, Err, IfOk, IfErr, refl, sym, subst, ap, ap₂, inl, inr, codes, string_bytes}
+use Rattle.std.proofs.Common.{◌≡◌, ◌⊎◌, ◌^◌, ◌<◌, ◌∙◌, ℕ, true, List, [], ◌∷◌, drop, Option, Some, None, is_some, option_map, pos, Result, Ok, Err, IfOk, IfErr, refl, sym, subst, ap, inl, inr, codes}
 use Rattle.std.specs.Str.Parse.{IsNumeral, ParsesUnsigned, digits_value, without_leading_plus}
-use Rattle.clap.specs.Words.{App, FailsBy, HasKind, HasMatchesOf, IsAmong, Kinds, ReadsOne, Text, one_text, without_minus, fault_of, found_of, is_simple, is_simple_and_free, matches_of, rows_of, kind_of}
+use Rattle.clap.specs.Words.{App, Row, FailsBy, HasKind, HasMatchesOf, IsAmong, Kinds, ReadsOne, Text, one_text, without_minus, fault_of, found_of, is_simple, is_simple_and_free, matches_of, rows_of, kind_of}
 use Rattle.clap.specs.Kinds.{or_else}
 use Rattle.clap.proofs.CallerReads.{signed_reads}
 use Rattle.clap.proofs.WalkLemmas.{one_text-rows}
@@ -9,12 +9,12 @@ use Rattle.clap.specs.declared.parser.matches.Found.{Found}
 use Rattle.clap.specs.declared.builder.value_parser.ValueParser.TheVariants as vp
 use Rattle.clap.specs.declared.error.Error.{Error}
 use Rattle.clap.specs.declared.error.kind.ErrorKind.{ErrorKind}
-use Rattle.clap.specs.declared.error.kind.ErrorKind.TheVariants.{MissingSubcommand, OutOfMemory, DisplayHelp, DisplayVersion}
+use Rattle.clap.specs.declared.error.kind.ErrorKind.TheVariants.{ArgumentConflict, MissingSubcommand, OutOfMemory, DisplayHelp, DisplayVersion}
 use Rattle.clap.specs.declared.parser.matches.ArgMatches.{ArgMatches}
 use Rattle.program.specs.declared.request.Refusal.{Refusal}
 use Rattle.program.specs.declared.request.Refusal.TheVariants as refusal
 use Rattle.program.specs.Arguments.{IsGiven}
-use Rattle.program.specs.Words.{number_given, Begins, FailsAs, IsRefusal, IsRefusalBy, MayFail, of_run, of_replay, of_others, other_faults, replay_app, replay_faults, replay_rows, run_app, run_faults, run_rows, whole_app}
+use Rattle.program.specs.Words.{number_given, Begins, FailsAs, IsRefusal, IsRefusalBy, MayFail, of_run, of_two_orders, of_replay, of_races, of_others, has_two_orders, other_faults, races_app, races_faults, races_rows, replay_app, replay_faults, replay_rows, run_app, run_faults, run_rows, whole_app}
 
 run_is_simple : is_simple run_app ≡ true
 unfolding run_app
@@ -24,6 +24,10 @@ replay_is_simple : is_simple replay_app ≡ true
 unfolding replay_app
 replay_is_simple = refl
 
+races_is_simple : is_simple races_app ≡ true
+unfolding races_app
+races_is_simple = refl
+
 run_is_free : is_simple_and_free run_app ≡ true
 unfolding run_app
 run_is_free = refl
@@ -32,8 +36,12 @@ replay_is_free : is_simple_and_free replay_app ≡ true
 unfolding replay_app
 replay_is_free = refl
 
+races_is_free : is_simple_and_free races_app ≡ true
+unfolding races_app
+races_is_free = refl
+
 whole_is_free : is_simple_and_free whole_app ≡ true
-unfolding whole_app run_app replay_app
+unfolding whole_app run_app replay_app races_app
 whole_is_free = refl
 
 -- what a parse found
@@ -45,6 +53,10 @@ run_found app words m e h = (h (ap is_simple e ∙ run_is_simple)).0 ∙ ap (λ 
 pub replay_found : (app : App) (words : List Text) (m : ArgMatches) → app ≡ replay_app → HasMatchesOf app words m → rows_of (found_of m) ≡ replay_rows words
 unfolding replay_rows
 replay_found app words m e h = (h (ap is_simple e ∙ replay_is_simple)).0 ∙ ap (λ (a : App). matches_of a words) e
+
+pub races_found : (app : App) (words : List Text) (m : ArgMatches) → app ≡ races_app → HasMatchesOf app words m → rows_of (found_of m) ≡ races_rows words
+unfolding races_rows
+races_found app words m e h = (h (ap is_simple e ∙ races_is_simple)).0 ∙ ap (λ (a : App). matches_of a words) e
 
 -- how it failed
 
@@ -59,6 +71,12 @@ pub replay_failed : (app : App) (words : List Text) (r : Result ArgMatches Error
 unfolding replay_faults
 replay_failed app words (Ok m) e h = tt
 replay_failed app words (Err x) e h = subst (λ (a : App). HasKind (fault_of a words) x) e (h (ap is_simple_and_free e ∙ replay_is_free))
+
+pub races_failed : (app : App) (words : List Text) (r : Result ArgMatches Error) → app ≡ races_app
+    → (is_simple_and_free app ≡ true → FailsBy (fault_of app words) r) → IfErr r (HasKind (races_faults words))
+unfolding races_faults
+races_failed app words (Ok m) e h = tt
+races_failed app words (Err x) e h = subst (λ (a : App). HasKind (fault_of a words) x) e (h (ap is_simple_and_free e ∙ races_is_free))
 
 kind_kept : (ks next : Kinds) (x : Error) → HasKind ks x → HasKind (or_else ks next) x
 kind_kept [] next x (inl h) = inl h
@@ -94,16 +112,28 @@ pub replay_fails : (words own : List Text) (e : Error) → Begins words (codes "
 replay_fails words own e begins same (inl h) = inl h
 replay_fails words own e begins same (inr h) = inr (of_replay begins (subst (λ (w : List Text). IsAmong (kind_of e) (replay_faults w)) same h))
 
-pub others_fail : (words : List Text) (e : Error) → (Begins words (codes "run") → ⊥) → (Begins words (codes "replay") → ⊥)
-    → HasKind (other_faults words) e → FailsAs words (kind_of e)
-others_fail words e no_run no_replay (inl h) = inl h
-others_fail words e no_run no_replay (inr h) = inr (of_others no_run no_replay h)
+pub races_fails : (words own : List Text) (e : Error) → Begins words (codes "races") → own ≡ drop 1 words → HasKind (races_faults own) e
+    → FailsAs words (kind_of e)
+races_fails words own e begins same (inl h) = inl h
+races_fails words own e begins same (inr h) = inr (of_races begins (subst (λ (w : List Text). IsAmong (kind_of e) (races_faults w)) same h))
 
-pub missing_fails : (words : List Text) (e : Error) → (Begins words (codes "run") → ⊥) → (Begins words (codes "replay") → ⊥)
+-- a run both by a seed and on workers
+pub two_orders_fail : (words own : List Text) (rows : List Row) (e : Error) → Begins words (codes "run") → own ≡ drop 1 words → rows ≡ run_rows own
+    → has_two_orders rows ≡ true → (kind_of e ≡ OutOfMemory) ⊎ (kind_of e ≡ ArgumentConflict) → FailsAs words (kind_of e)
+two_orders_fail words own rows e begins same found two (inl h) = inl h
+two_orders_fail words own rows e begins same found two (inr h) =
+    inr (of_two_orders begins (subst (λ (w : List Text). has_two_orders (run_rows w) ≡ true) same (subst (λ (r : List Row). has_two_orders r ≡ true) found two)) h)
+
+pub others_fail : (words : List Text) (e : Error) → (Begins words (codes "run") → ⊥) → (Begins words (codes "replay") → ⊥) → (Begins words (codes "races") → ⊥)
+    → HasKind (other_faults words) e → FailsAs words (kind_of e)
+others_fail words e no_run no_replay no_races (inl h) = inl h
+others_fail words e no_run no_replay no_races (inr h) = inr (of_others no_run no_replay no_races h)
+
+pub missing_fails : (words : List Text) (e : Error) → (Begins words (codes "run") → ⊥) → (Begins words (codes "replay") → ⊥) → (Begins words (codes "races") → ⊥)
     → IsAmong MissingSubcommand (other_faults words) → (kind_of e ≡ OutOfMemory) ⊎ (kind_of e ≡ MissingSubcommand) → FailsAs words (kind_of e)
-missing_fails words e no_run no_replay among (inl h) = inl h
-missing_fails words e no_run no_replay among (inr h) =
-    inr (of_others no_run no_replay (subst (λ (k : ErrorKind). IsAmong k (other_faults words)) (sym h) among))
+missing_fails words e no_run no_replay no_races among (inl h) = inl h
+missing_fails words e no_run no_replay no_races among (inr h) =
+    inr (of_others no_run no_replay no_races (subst (λ (k : ErrorKind). IsAmong k (other_faults words)) (sym h) among))
 
 pub refused : (words : List Text) (kind : ErrorKind) (r : Refusal) → FailsAs words kind → IsRefusalBy kind r → IsRefusal words r
 refused words kind (refusal.Help text) (inl h) (inl by) = elim_kind (sym h ∙ by)

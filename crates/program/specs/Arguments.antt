@@ -53,9 +53,13 @@ workers_parser = Signed (pos 1) (pos 16)
 abbrev pub until_parser : ValueParser
 until_parser = Unsigned 0 281474976710656
 
--- a limit of entries is 1 to the greatest number of 32 bits
+-- a limit of entries, as any number of things of which there is at least one, is 1 to the greatest number of 32 bits
 abbrev pub entries_parser : ValueParser
 entries_parser = Signed (pos 1) (pos 4294967295)
+
+-- a seed is 0 to the greatest number of 64 bits
+abbrev pub seed_parser : ValueParser
+seed_parser = Unsigned 0 18446744073709551615
 
 -- the arguments of `run`
 abbrev pub run_rules : List Rule
@@ -65,11 +69,25 @@ run_rules =
     ∷ rule (codes "until") false (Some until_parser)
     ∷ rule (codes "max-entries") false (Some entries_parser)
     ∷ rule (codes "journal") false None
+    ∷ rule (codes "seed") false (Some seed_parser)
     ∷ []
 
 -- the arguments of `replay`
 abbrev pub replay_rules : List Rule
 replay_rules = rule (codes "FILE") true None ∷ rule (codes "JOURNAL") true None ∷ []
+
+-- the arguments of `races`
+abbrev pub races_rules : List Rule
+races_rules =
+    rule (codes "FILE") true None
+    ∷ rule (codes "until") false (Some until_parser)
+    ∷ rule (codes "max-entries") false (Some entries_parser)
+    ∷ rule (codes "max-states") false (Some entries_parser)
+    ∷ rule (codes "max-texts") false (Some entries_parser)
+    ∷ rule (codes "journals") false None
+    ∷ rule (codes "samples") false (Some entries_parser)
+    ∷ rule (codes "seed") false (Some seed_parser)
+    ∷ []
 
 -- the argument has no value, or its value passed the parser
 abbrev pub IsGiven : Found → List ℕ → ValueParser → Type 0
@@ -82,8 +100,19 @@ pub record GivesRun (f : Found) : Type 0 where
   pub workers : IsGiven f (codes "workers") workers_parser
   pub until : IsGiven f (codes "until") until_parser
   pub max_entries : IsGiven f (codes "max-entries") entries_parser
+  pub seed : IsGiven f (codes "seed") seed_parser
 
 -- what a parse of `replay` gives
 pub record GivesReplay (f : Found) : Type 0 where
   pub file : is_some (first_value f (codes "FILE")) ≡ true
   pub journal : is_some (first_value f (codes "JOURNAL")) ≡ true
+
+-- what a parse of `races` gives
+pub record GivesRaces (f : Found) : Type 0 where
+  pub file : is_some (first_value f (codes "FILE")) ≡ true
+  pub until : IsGiven f (codes "until") until_parser
+  pub max_entries : IsGiven f (codes "max-entries") entries_parser
+  pub max_states : IsGiven f (codes "max-states") entries_parser
+  pub max_texts : IsGiven f (codes "max-texts") entries_parser
+  pub samples : IsGiven f (codes "samples") entries_parser
+  pub seed : IsGiven f (codes "seed") seed_parser

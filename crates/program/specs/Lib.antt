@@ -1,4 +1,5 @@
 pub mod Arguments
+pub mod Findings
 pub mod Options
 pub mod Printed
 pub mod Program

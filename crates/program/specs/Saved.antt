@@ -1,5 +1,5 @@
 -- What the program leaves in files, where that is known.
-use Rattle.std.specs.Prelude.{◌≡◌, ℕ, List, [], ◌∷◌, ◌++◌, Option, Some, None, IfSome}
+use Rattle.std.specs.Prelude.{◌≡◌, ℕ, List, [], ◌∷◌, ◌++◌, suc, Option, Some, None, IfSome, codes, decimal}
 use Rattle.model.specs.declared.entry.Entry.{Entry}
 use Rattle.model.specs.declared.entry.Version.TheVariants.{Two}
 use Rattle.model.specs.Journal.{journal_text}
@@ -39,3 +39,22 @@ SavesJournal old new path entries = AddsFile old new (record {
 abbrev pub SavesWhereAsked : Option (List Made) → Option (List Made) → Option (List ℕ) → List Entry → Type 0
 SavesWhereAsked old new None entries = KeepsFiles old new
 SavesWhereAsked old new (Some path) entries = SavesJournal old new path entries
+
+-- the known files grew by these
+abbrev pub AddsFiles : Option (List Made) → Option (List Made) → List Made → Type 0
+AddsFiles old new added = IfSome old (λ files. new ≡ Some (files ++ added))
+
+-- the path of a journal with a number: PREFIX.1.journal and so on
+abbrev pub journal_path : List ℕ → ℕ → List ℕ
+journal_path prefix number = prefix ++ codes "." ++ decimal number ++ codes ".journal"
+
+-- files at such paths, from this number on, hold the texts of these journals
+abbrev pub journals_from : List ℕ → ℕ → List (List Entry) → List Made
+journals_from prefix number [] = []
+journals_from prefix number (entries ∷ others) =
+    record { path = journal_path prefix number; bytes = journal_text Two entries } ∷ journals_from prefix (suc number) others
+
+-- so it is from 1 on where a prefix is given, and else no file was closed
+abbrev pub SavesAllWhereAsked : Option (List Made) → Option (List Made) → Option (List ℕ) → List (List Entry) → Type 0
+SavesAllWhereAsked old new None journals = KeepsFiles old new
+SavesAllWhereAsked old new (Some prefix) journals = AddsFiles old new (journals_from prefix 1 journals)

@@ -5,23 +5,32 @@
 //! arguments `clap` promises that a required one has a value, and that each value passed its
 //! parser. So reading a path can't fail, and the options of a request are those of a run.
 
-ghost use Rattle.std.specs.Prelude.{◌≡◌, ◌⊎◌, ◌≤◌, ◌^◌, ◌∷◌, IfErr, IfOk, IfSome, None, Some, true, false, codes, drop, unwrap_or};
-ghost use Rattle.clap.specs.Words.{HasKind, IsAmong, app_of, found_of, kind_of, rows_of, rule_of};
-ghost use Rattle.clap.specs.declared.error.kind.ErrorKind.TheVariants.{MissingSubcommand, OutOfMemory};
+ghost use Rattle.std.specs.Prelude.{◌≡◌, ◌⊎◌, ◌≤◌, ◌^◌, ◌∷◌, IfErr, IfOk, IfSome, None, Some, true, false, codes, drop, is_some, unwrap_or};
+ghost use Rattle.clap.specs.Words.{HasKind, IsAmong, app_of, first_of, found_of, kind_of, rows_of, rule_of};
+ghost use Rattle.clap.specs.declared.error.kind.ErrorKind.TheVariants.{ArgumentConflict, MissingSubcommand, OutOfMemory};
 ghost use Rattle.model.specs.Runs.{last_time};
-ghost use Rattle.program.specs.Arguments.{Takes, HasRules, IsGiven, GivesRun, GivesReplay, run_rules, replay_rules, rule, workers_parser, until_parser, entries_parser};
-ghost use Rattle.program.specs.Options.{CanRun};
-ghost use Rattle.program.specs.Words.{Asks, AsksReplay, AsksRun, Begins, FailsAs, IsRefusal, IsRefusalBy, IsReplayOf, IsRunOf, choice, number_given, options_of, other_faults, place, replay_app, replay_faults, replay_rows, run_app, run_faults, run_rows, texts_of, whole_app};
+ghost use Rattle.program.specs.Arguments.{Takes, HasRules, IsGiven, GivesRun, GivesReplay, GivesRaces, run_rules, replay_rules, races_rules, rule, workers_parser, until_parser, entries_parser, seed_parser};
+ghost use Rattle.program.specs.Options.{CanRun, CanSearch};
+ghost use Rattle.program.specs.Words.{Asks, AsksRaces, AsksReplay, AsksRun, Begins, FailsAs, IsRacesOf, IsRefusal, IsRefusalBy, IsReplayOf, IsRunOf, choice, extent_of, has_two_orders, number_given, options_of, other_faults, place, races_app, races_faults, races_rows, replay_app, replay_faults, replay_rows, run_app, run_faults, run_rows, texts_of, whole_app};
 
-use crate::request::{Refusal, ReplayRequest, Request, RunRequest};
+use crate::extent::Extent;
+use crate::request::{RacesRequest, Refusal, ReplayRequest, Request, RunRequest};
 use clap::error::ErrorKind;
 use clap::{Arg, ArgAction, ArgMatches, Command, Error, value_parser};
 use simulate::Options;
 use std::alloc::{AllocError, Global};
 
+const TWO_ORDERS: &str = "the argument '--seed <S>' cannot be used with '--workers <N>'";
+
 const DEFAULT_WORKERS: u32 = 2;
 
 const DEFAULT_MAX_ENTRIES: u32 = 1_000_000;
+
+const DEFAULT_MAX_STATES: u32 = 1_000_000;
+
+const DEFAULT_MAX_TEXTS: u32 = 8;
+
+const DEFAULT_SEED: u64 = 0;
 
 /// The request that the words make. The first word is the program's name.
 pub fn read_request<'a>(alloc: Global, words: &'a [String]) -> Result<Request<'a>, Refusal>
@@ -64,6 +73,12 @@ fn parse<'a>(alloc: Global, words: &'a [String]) -> Result<Request<'a>, Error>
             Err(error) => Err(error),
         };
     }
+    if is_subcommand(words, "races") {
+        return match parse_races(alloc, words) {
+            Ok(races) => Ok(Request::Races(races)),
+            Err(error) => Err(error),
+        };
+    }
     Err(no_subcommand(alloc, words))
 }
 
@@ -95,9 +110,47 @@ fn parse_run<'a>(alloc: Global, words: &'a [String]) -> Result<RunRequest<'a>, E
 {
     let own = own_words(words);
     match run_matches(alloc, own) {
-        Ok(matches) => Ok(run_request(&matches)),
+        Ok(matches) => {
+            if gives_two_orders(&matches) {
+                return Err(two_orders(alloc));
+            }
+            Ok(run_request(&matches))
+        }
         Err(error) => Err(error),
     }
+}
+
+/// Whether both a seed and a number of workers are given.
+fn gives_two_orders(matches: &ArgMatches<'_>) -> bool
+    ensures { result ≡ has_two_orders (rows_of (found_of matches.now)) }
+{
+    gives(matches, "seed") & gives(matches, "workers")
+}
+
+/// Whether something is given under this name.
+fn gives(matches: &ArgMatches<'_>, name: &str) -> bool
+    ensures { result ≡ is_some (first_of name.now (rows_of (found_of matches.now))) }
+{
+    match matches.get_str(name) {
+        Some(_) => true,
+        None => false,
+    }
+}
+
+/// What to say of a seed beside a number of workers.
+fn two_orders(alloc: Global) -> Error
+    ensures { (kind_of result ≡ OutOfMemory) ⊎ (kind_of result ≡ ArgumentConflict) }
+{
+    match conflict(alloc) {
+        Ok(error) => error,
+        Err(error) => Error::from(error),
+    }
+}
+
+fn conflict(alloc: Global) -> Result<Error, AllocError>
+    ensures { IfOk result (λ e. kind_of e ≡ ArgumentConflict) }
+{
+    run_command(alloc)?.error(ErrorKind::ArgumentConflict, TWO_ORDERS)
 }
 
 fn parse_replay<'a>(alloc: Global, words: &'a [String]) -> Result<ReplayRequest<'a>, Error>
@@ -112,10 +165,23 @@ fn parse_replay<'a>(alloc: Global, words: &'a [String]) -> Result<ReplayRequest<
     }
 }
 
+fn parse_races<'a>(alloc: Global, words: &'a [String]) -> Result<RacesRequest<'a>, Error>
+    requires { Begins (texts_of words.now) (codes "races") }
+    ensures asked { IfOk result (AsksRaces (texts_of words.now)) }
+    ensures failed { IfErr result (λ e. FailsAs (texts_of words.now) (kind_of e)) }
+{
+    let own = own_words(words);
+    match races_matches(alloc, own) {
+        Ok(matches) => Ok(races_request(&matches)),
+        Err(error) => Err(error),
+    }
+}
+
 /// What to say of words that begin with no subcommand of the program.
 fn no_subcommand(alloc: Global, words: &[String]) -> Error
     requires no_run { Begins (texts_of words.now) (codes "run") → ⊥ }
     requires no_replay { Begins (texts_of words.now) (codes "replay") → ⊥ }
+    requires no_races { Begins (texts_of words.now) (codes "races") → ⊥ }
     ensures { FailsAs (texts_of words.now) (kind_of result) }
 {
     match whole_matches(alloc, words) {
@@ -155,7 +221,8 @@ fn program<'a>(alloc: Global) -> Result<Command<'a>, AllocError>
         .subcommand_required(true)
         .arg_required_else_help(true)
         .subcommand(run_command(alloc)?)?
-        .subcommand(replay_command(alloc)?)
+        .subcommand(replay_command(alloc)?)?
+        .subcommand(races_command(alloc)?)
 }
 
 fn run_matches<'a>(alloc: Global, words: &'a [String]) -> Result<ArgMatches<'a>, Error>
@@ -174,6 +241,14 @@ fn replay_matches<'a>(alloc: Global, words: &'a [String]) -> Result<ArgMatches<'
     replay_command(alloc)?.try_get_matches_from(words)
 }
 
+fn races_matches<'a>(alloc: Global, words: &'a [String]) -> Result<ArgMatches<'a>, Error>
+    ensures given { IfOk result (λ m. GivesRaces (found_of m)) }
+    ensures found { IfOk result (λ m. rows_of (found_of m) ≡ races_rows (texts_of words.now)) }
+    ensures failed { IfErr result (HasKind (races_faults (texts_of words.now))) }
+{
+    races_command(alloc)?.try_get_matches_from(words)
+}
+
 fn run_command<'a>(alloc: Global) -> Result<Command<'a>, AllocError>
     ensures rules { IfOk result (λ c. HasRules c run_rules) }
     ensures app { IfOk result (λ c. app_of c ≡ run_app) }
@@ -185,7 +260,8 @@ fn run_command<'a>(alloc: Global) -> Result<Command<'a>, AllocError>
         .arg(workers(alloc))?
         .arg(until(alloc))?
         .arg(max_entries(alloc))?
-        .arg(journal(alloc))
+        .arg(journal(alloc))?
+        .arg(seed(alloc))
 }
 
 fn replay_command<'a>(alloc: Global) -> Result<Command<'a>, AllocError>
@@ -197,6 +273,23 @@ fn replay_command<'a>(alloc: Global) -> Result<Command<'a>, AllocError>
         .bin_name("vsimtx replay")?
         .arg(positional(alloc, "FILE", "Verilog source"))?
         .arg(positional(alloc, "JOURNAL", "Journal of a run"))
+}
+
+fn races_command<'a>(alloc: Global) -> Result<Command<'a>, AllocError>
+    ensures rules { IfOk result (λ c. HasRules c races_rules) }
+    ensures app { IfOk result (λ c. app_of c ≡ races_app) }
+{
+    Command::new(alloc, "races")
+        .about("Searches the lawful orders of FILE and shows where its runs differ")
+        .bin_name("vsimtx races")?
+        .arg(positional(alloc, "FILE", "Verilog source"))?
+        .arg(until(alloc))?
+        .arg(max_entries(alloc))?
+        .arg(max_states(alloc))?
+        .arg(max_texts(alloc))?
+        .arg(journals(alloc))?
+        .arg(samples(alloc))?
+        .arg(seed(alloc))
 }
 
 fn positional<'a>(alloc: Global, name: &'a str, help: &'a str) -> Arg<'a>
@@ -233,16 +326,61 @@ fn until<'a>(alloc: Global) -> Arg<'a>
         .help("Last time that the run may reach, 0 to 281474976710656 [default: no limit]")
 }
 
+/// An option for a number from 1 on.
+fn count<'a>(alloc: Global, name: &'a str, help: &'a str) -> Arg<'a>
+    ensures takes { Takes result (rule name.entry.now false (Some entries_parser)) }
+    ensures rule { rule_of result ≡ choice name.entry.now (Some entries_parser) }
+{
+    Arg::new(alloc, name)
+        .long(name)
+        .value_name("N")
+        .action(ArgAction::Set)
+        .value_parser(value_parser!(u32).range(1..))
+        .help(help)
+}
+
 fn max_entries<'a>(alloc: Global) -> Arg<'a>
     ensures takes { Takes result (rule (codes "max-entries") false (Some entries_parser)) }
     ensures rule { rule_of result ≡ choice (codes "max-entries") (Some entries_parser) }
 {
-    Arg::new(alloc, "max-entries")
-        .long("max-entries")
-        .value_name("N")
+    let help = "Most entries of a journal, 1 to 4294967295 [default: 1000000]";
+    count(alloc, "max-entries", help)
+}
+
+fn max_states<'a>(alloc: Global) -> Arg<'a>
+    ensures takes { Takes result (rule (codes "max-states") false (Some entries_parser)) }
+    ensures rule { rule_of result ≡ choice (codes "max-states") (Some entries_parser) }
+{
+    let help = "Most states of the search, 1 to 4294967295 [default: 1000000]";
+    count(alloc, "max-states", help)
+}
+
+fn max_texts<'a>(alloc: Global) -> Arg<'a>
+    ensures takes { Takes result (rule (codes "max-texts") false (Some entries_parser)) }
+    ensures rule { rule_of result ≡ choice (codes "max-texts") (Some entries_parser) }
+{
+    let help = "Most different texts that are shown, 1 to 4294967295 [default: 8]";
+    count(alloc, "max-texts", help)
+}
+
+fn samples<'a>(alloc: Global) -> Arg<'a>
+    ensures takes { Takes result (rule (codes "samples") false (Some entries_parser)) }
+    ensures rule { rule_of result ≡ choice (codes "samples") (Some entries_parser) }
+{
+    let help = "Tries N random lawful orders in place of the search, 1 to 4294967295";
+    count(alloc, "samples", help)
+}
+
+fn seed<'a>(alloc: Global) -> Arg<'a>
+    ensures takes { Takes result (rule (codes "seed") false (Some seed_parser)) }
+    ensures rule { rule_of result ≡ choice (codes "seed") (Some seed_parser) }
+{
+    Arg::new(alloc, "seed")
+        .long("seed")
+        .value_name("S")
         .action(ArgAction::Set)
-        .value_parser(value_parser!(u32).range(1..))
-        .help("Most entries of the journal, 1 to 4294967295 [default: 1000000]")
+        .value_parser(value_parser!(u64))
+        .help("Takes random choices from S, 0 to 18446744073709551615, on one thread")
 }
 
 fn journal<'a>(alloc: Global) -> Arg<'a>
@@ -256,13 +394,26 @@ fn journal<'a>(alloc: Global) -> Arg<'a>
         .help("Where to write the journal")
 }
 
+fn journals<'a>(alloc: Global) -> Arg<'a>
+    ensures takes { Takes result (rule (codes "journals") false None) }
+    ensures rule { rule_of result ≡ choice (codes "journals") None }
+{
+    Arg::new(alloc, "journals")
+        .long("journals")
+        .value_name("PREFIX")
+        .action(ArgAction::Set)
+        .help("Where to write a journal of each text: PREFIX.1.journal, ..")
+}
+
 fn run_request<'a>(matches: &ArgMatches<'a>) -> RunRequest<'a>
-    requires { GivesRun (found_of matches.now) }
+    requires given { GivesRun (found_of matches.now) }
+    requires one_order { has_two_orders (rows_of (found_of matches.now)) ≡ false }
     ensures { IsRunOf (rows_of (found_of matches.now)) result }
 {
     RunRequest {
         file: matches.get_str("FILE").unwrap(),
         options: options(matches),
+        seed: given_seed(matches),
         journal: matches.get_str("journal"),
     }
 }
@@ -277,6 +428,32 @@ fn replay_request<'a>(matches: &ArgMatches<'a>) -> ReplayRequest<'a>
     }
 }
 
+fn races_request<'a>(matches: &ArgMatches<'a>) -> RacesRequest<'a>
+    requires { GivesRaces (found_of matches.now) }
+    ensures { IsRacesOf (rows_of (found_of matches.now)) result }
+{
+    RacesRequest {
+        file: matches.get_str("FILE").unwrap(),
+        extent: extent(matches),
+        journals: matches.get_str("journals"),
+    }
+}
+
+fn extent(matches: &ArgMatches<'_>) -> Extent
+    requires { GivesRaces (found_of matches.now) }
+    ensures fit { CanSearch result }
+    ensures given { result ≡ extent_of (rows_of (found_of matches.now)) }
+{
+    Extent {
+        until: given_until(matches),
+        max_entries: given_count(matches, "max-entries", DEFAULT_MAX_ENTRIES),
+        max_states: given_count(matches, "max-states", DEFAULT_MAX_STATES),
+        max_texts: given_count(matches, "max-texts", DEFAULT_MAX_TEXTS),
+        samples: given_number(matches, "samples"),
+        seed: given_seed(matches).unwrap_or(DEFAULT_SEED),
+    }
+}
+
 fn options(matches: &ArgMatches<'_>) -> Options
     requires { GivesRun (found_of matches.now) }
     ensures fit { CanRun result }
@@ -285,7 +462,7 @@ fn options(matches: &ArgMatches<'_>) -> Options
     Options {
         workers: given_workers(matches),
         until: given_until(matches),
-        max_entries: given_max_entries(matches),
+        max_entries: given_count(matches, "max-entries", DEFAULT_MAX_ENTRIES),
     }
 }
 
@@ -306,12 +483,27 @@ fn given_until(matches: &ArgMatches<'_>) -> Option<u64>
     matches.get_one::<u64>("until")
 }
 
-fn given_max_entries(matches: &ArgMatches<'_>) -> u32
-    requires { IsGiven (found_of matches.now) (codes "max-entries") entries_parser }
-    ensures least { 1 ≤ result }
-    ensures given { result ≡ unwrap_or (number_given (codes "max-entries") (rows_of (found_of matches.now))) 1000000 }
+fn given_seed(matches: &ArgMatches<'_>) -> Option<u64>
+    requires { IsGiven (found_of matches.now) (codes "seed") seed_parser }
+    ensures { result ≡ number_given (codes "seed") (rows_of (found_of matches.now)) }
 {
-    matches
-        .get_one::<u32>("max-entries")
-        .unwrap_or(DEFAULT_MAX_ENTRIES)
+    matches.get_one::<u64>("seed")
+}
+
+/// The number that is given under this name, from 1 on, or this one.
+fn given_count(matches: &ArgMatches<'_>, name: &str, default: u32) -> u32
+    requires given { IsGiven (found_of matches.now) name.now entries_parser }
+    requires some { 1 ≤ default }
+    ensures least { 1 ≤ result }
+    ensures given { result ≡ unwrap_or (number_given name.now (rows_of (found_of matches.now))) default }
+{
+    given_number(matches, name).unwrap_or(default)
+}
+
+fn given_number(matches: &ArgMatches<'_>, name: &str) -> Option<u32>
+    requires { IsGiven (found_of matches.now) name.now entries_parser }
+    ensures least { IfSome result (λ n. 1 ≤ n) }
+    ensures given { result ≡ number_given name.now (rows_of (found_of matches.now)) }
+{
+    matches.get_one::<u32>(name)
 }

@@ -9,6 +9,7 @@ use journal::ReadFault;
 use model::end::{End, Why};
 use replay::{BytesFault, Cause};
 use simulate::SimFault;
+use std::alloc::AllocError;
 use thiserror::Error;
 use vparse::ParseFault;
 
@@ -27,6 +28,16 @@ pub enum Fault<'a> {
     Simulate(#[from] SimFault),
     #[error(transparent)]
     Replay(BytesFault),
+}
+
+impl From<AllocError> for Fault<'_> {
+    ghost use Rattle.program.specs.declared.fault.Fault.TheVariants.{Memory};
+
+    ghost from_gives = { λ _ fault. fault ≡ Memory };
+
+    fn from(_refused: AllocError) -> Self {
+        Fault::Memory
+    }
 }
 
 /// The reason of a stop, as it is told.

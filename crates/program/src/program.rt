@@ -8,16 +8,20 @@ ghost use Rattle.clap.specs.Words.{Text};
 ghost use Rattle.std.specs.Io.KnownBytes.{Appends, Keeps};
 ghost use Rattle.journal.specs.Counted.{held};
 ghost use Rattle.program.specs.Program.{ended_status, IsRefusalStatus, help_text};
-ghost use Rattle.program.specs.Printed.{HasReplayed, HasRun, HasStopped, IsDone};
+ghost use Rattle.program.specs.declared.finding.Finding.TheVariants as finding;
+ghost use Rattle.program.specs.Findings.{searched_status};
+ghost use Rattle.program.specs.Printed.{HasReplayed, HasRun, HasSearched, HasStopped, IsDone, IsUnfinished};
 ghost use Rattle.program.specs.Saved.{KeepsFiles};
-ghost use Rattle.program.specs.Words.{AreWrong, Asks, AsksReplay, AsksRun, texts_of};
+ghost use Rattle.program.specs.Words.{AreWrong, Asks, AsksRaces, AsksReplay, AsksRun, texts_of};
 
 use crate::arguments::read_request;
 use crate::fault::{Fault, Stop};
 use crate::files::Files;
+use crate::finding::Finding;
 use crate::replaying::replay_journal;
-use crate::request::{Refusal, ReplayRequest, Request, RunRequest};
+use crate::request::{RacesRequest, Refusal, ReplayRequest, Request, RunRequest};
 use crate::running::run;
+use crate::searching::search_races;
 use crate::writing::show;
 use journal::Counted;
 use std::alloc::Global;
@@ -36,11 +40,12 @@ pub fn command<R: Threads + Wait + Sync, F: Files, O: Write, E: Write>(
     out: &mut Counted<O>,
     err: &mut E,
 ) -> u8
-    ensures range { result ≤ 6 }
+    ensures range { result ≤ 7 }
     ensures silent { result ≡ 0 → Keeps (E.contents err.old) (E.contents err.new) }
     ensures done { result ≡ 0 → IsDone (texts_of words.now) (O.contents (held out.old)) (O.contents (held out.new)) (F.made files.old) (F.made files.new) }
     ensures wrong { result ≡ 2 → AreWrong (texts_of words.now) }
-    ensures stopped { result ≡ 4 → HasStopped (texts_of words.now) (O.contents (held out.old)) (O.contents (held out.new)) (F.made files.old) (F.made files.new) }
+    ensures stopped { result ≡ 4 → IsUnfinished (texts_of words.now) (O.contents (held out.old)) (O.contents (held out.new)) (F.made files.old) (F.made files.new) }
+    ensures several { result ≡ 7 → HasSearched (texts_of words.now) (O.contents (held out.old)) (O.contents (held out.new)) (F.made files.old) (F.made files.new) finding.Several }
     ensures nothing { (result ≡ 2) ⊎ ((result ≡ 3) ⊎ (result ≡ 5)) → Keeps (O.contents (held out.old)) (O.contents (held out.new)) }
     ensures unsaved { (result ≡ 2) ⊎ ((result ≡ 3) ⊎ (result ≡ 5)) → KeepsFiles (F.made files.old) (F.made files.new) }
 {
@@ -59,17 +64,19 @@ fn answer<R: Threads + Wait + Sync, F: Files, O: Write, E: Write>(
     out: &mut Counted<O>,
     err: &mut E,
 ) -> u8
-    ensures range { result ≤ 6 }
+    ensures range { result ≤ 7 }
     ensures silent { result ≡ 0 → Keeps (E.contents err.old) (E.contents err.new) }
     ensures done { (words : List Text) → Asks words request.now → result ≡ 0 → IsDone words (O.contents (held out.old)) (O.contents (held out.new)) (F.made files.old) (F.made files.new) }
     ensures right { result ≡ 2 → ⊥ }
-    ensures stopped { (words : List Text) → Asks words request.now → result ≡ 4 → HasStopped words (O.contents (held out.old)) (O.contents (held out.new)) (F.made files.old) (F.made files.new) }
+    ensures stopped { (words : List Text) → Asks words request.now → result ≡ 4 → IsUnfinished words (O.contents (held out.old)) (O.contents (held out.new)) (F.made files.old) (F.made files.new) }
+    ensures several { (words : List Text) → Asks words request.now → result ≡ 7 → HasSearched words (O.contents (held out.old)) (O.contents (held out.new)) (F.made files.old) (F.made files.new) finding.Several }
     ensures nothing { (result ≡ 3) ⊎ (result ≡ 5) → Keeps (O.contents (held out.old)) (O.contents (held out.new)) }
     ensures unsaved { (result ≡ 3) ⊎ (result ≡ 5) → KeepsFiles (F.made files.old) (F.made files.new) }
 {
     match request {
         Request::Run(request) => answer_run(rt, alloc, request, files, out, err),
         Request::Replay(request) => answer_replay(alloc, request, files, out, err),
+        Request::Races(request) => answer_races(alloc, request, files, out, err),
     }
 }
 
@@ -121,7 +128,7 @@ pub fn without_words<R: Threads + Wait + Sync, F: Files, O: Write, E: Write>(
     out: &mut Counted<O>,
     err: &mut E,
 ) -> u8
-    ensures range { result ≤ 6 }
+    ensures range { result ≤ 7 }
     ensures silent { result ≡ 0 → Keeps (E.contents err.old) (E.contents err.new) }
     ensures done { result ≡ 0 → IsDone [] (O.contents (held out.old)) (O.contents (held out.new)) (F.made files.old) (F.made files.new) }
     ensures nothing { (result ≡ 2) ⊎ ((result ≡ 3) ⊎ (result ≡ 5)) → Keeps (O.contents (held out.old)) (O.contents (held out.new)) }
@@ -133,6 +140,42 @@ pub fn without_words<R: Threads + Wait + Sync, F: Files, O: Write, E: Write>(
             6
         }
         _ => command(rt, alloc, &[], files, out, err),
+    }
+}
+
+fn answer_races<F: Files, O: Write, E: Write>(
+    alloc: Global,
+    request: &RacesRequest<'_>,
+    files: &mut F,
+    out: &mut Counted<O>,
+    err: &mut E,
+) -> u8
+    ensures range { result ≤ 7 }
+    ensures silent { result ≡ 0 → Keeps (E.contents err.old) (E.contents err.new) }
+    ensures done { (words : List Text) → AsksRaces words request.now → result ≡ 0 → HasSearched words (O.contents (held out.old)) (O.contents (held out.new)) (F.made files.old) (F.made files.new) finding.One }
+    ensures right { result ≡ 2 → ⊥ }
+    ensures unfinished { (words : List Text) → AsksRaces words request.now → result ≡ 4 → HasSearched words (O.contents (held out.old)) (O.contents (held out.new)) (F.made files.old) (F.made files.new) finding.Unfinished }
+    ensures several { (words : List Text) → AsksRaces words request.now → result ≡ 7 → HasSearched words (O.contents (held out.old)) (O.contents (held out.new)) (F.made files.old) (F.made files.new) finding.Several }
+    ensures nothing { (result ≡ 3) ⊎ (result ≡ 5) → Keeps (O.contents (held out.old)) (O.contents (held out.new)) }
+    ensures unsaved { (result ≡ 3) ⊎ (result ≡ 5) → KeepsFiles (F.made files.old) (F.made files.new) }
+{
+    let searched = search_races(alloc, request, files, out);
+    finish_search(searched, err)
+}
+
+/// Tells the fault of a search, and answers the status.
+fn finish_search<E: Write>(searched: Result<Finding, Fault<'_>>, err: &mut E) -> u8
+    ensures range { result ≤ 7 }
+    ensures silent { result ≡ 0 → Keeps (E.contents err.old) (E.contents err.new) }
+    ensures status { result ≡ searched_status searched.entry }
+{
+    match searched {
+        Ok(finding) => finding.status(),
+        Err(fault) => {
+            let status = fault.status();
+            tell(err, fault);
+            status
+        }
     }
 }
 

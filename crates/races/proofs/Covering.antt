@@ -15,7 +15,7 @@ use Rattle.orders.proofs.SearchLaws.{each_move_covers}
 use Rattle.races.specs.Journals.{ComesOf, ComeToOneNode}
 use Rattle.races.specs.Cover.{after_moves, nodes_after, LeadOn, FollowMoves, CoveringNodesCover, FollowedMovesCover, EndsAreTheStates, NodesOfWays, PermittedAreFollowed}
 use Rattle.races.proofs.Places.{from_map, to_map, any_with, some_length}
-use Rattle.races.proofs.RunParts.{comes_on, came_on}
+use Rattle.races.specs.Serving.{comes_on, came_on}
 use Rattle.races.proofs.LongTurns.{step_is_permitted}
 
 -- one journal has one outcome

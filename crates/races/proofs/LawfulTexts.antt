@@ -13,7 +13,7 @@ use Rattle.orders.proofs.StatesInOrder.{run_is_in_order}
 use Rattle.orders.proofs.AlikeStates.{alike_states-same}
 use Rattle.orders.proofs.AlikeEnds.{alike_states_end_alike}
 use Rattle.races.specs.Journals.{EndsAreLawful, AllMayEnd}
-use Rattle.races.proofs.RunParts.{text_is}
+use Rattle.races.specs.Serving.{text_is}
 
 -- the end of a journal, as that of the state after it
 ends_by : (design : Design) (limits : Limits) (journal : List Entry) (e : Effect) (end : End) → run design journal ≡ Some e → EndsIn design limits (length journal) e.state end → Ends design limits journal end

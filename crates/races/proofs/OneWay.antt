@@ -13,7 +13,7 @@ use Rattle.orders.proofs.OneMaker.{flat_turns_cover}
 use Rattle.races.specs.Journals.{ComesOf}
 use Rattle.races.specs.Cover.{nodes_after, LeadOn, CoverRuns}
 use Rattle.races.specs.FlatWays.{FlatWayCovers, SettledWayCovers}
-use Rattle.races.proofs.RunParts.{comes_on}
+use Rattle.races.specs.Serving.{comes_on}
 use Rattle.races.proofs.Covering.{covering_nodes_cover, nodes_of_ways}
 
 one_leads_on : (design : Design) (limits : Limits) (journal way : List Entry) (e f : Effect) → ComesOf design limits journal e → run_from design e way ≡ Some f → AreTimely limits way → LeadOn design limits journal (way ∷ [])

@@ -1,41 +1,13 @@
 -- The parts of lawful journals in time, and what they print.
-use Rattle.std.proofs.Common.{◌≡◌, List, [], ◌∷◌, ◌++◌, Option, Some, refl, sym, ap, ◌∙◌, append_assoc}
-use Rattle.std.specs.Prelude.{option_and_then}
-use Rattle.std.specs.Option.{option_map_or}
+use Rattle.std.proofs.Common.{◌≡◌, List, [], ◌∷◌, ◌++◌, Some, refl, sym, ap, ◌∙◌, append_assoc}
 use Rattle.std.proofs.lemmas.List.{append-nil}
-use Rattle.std.proofs.lemmas.List.Elements.{All-append}
 use Rattle.std.proofs.lemmas.Option.{option_and_then_some}
 use Rattle.model.specs.declared.entry.Entry.{Entry}
-use Rattle.model.specs.declared.end.Limits.{Limits}
 use Rattle.model.specs.Design.{Design}
-use Rattle.model.specs.States.{start}
-use Rattle.model.specs.Runs.{Effect, silent, joined, step, run_from, run, IsTimely, AreTimely}
-use Rattle.model.proofs.RunLaws.{run_from-append}
+use Rattle.model.specs.Runs.{Effect, silent, joined, step, run_from}
 use Rattle.orders.proofs.SearchLaws.{then_some}
-use Rattle.orders.proofs.TimelyRuns.{timely_after}
-use Rattle.races.specs.Journals.{ComesOf, text_of, TextGoesOn}
-
--- a journal and what goes on from it are one journal
-pub run_goes_on : (design : Design) (i moves : List Entry) (e f : Effect) → run design i ≡ Some e → run_from design e moves ≡ Some f → run design (i ++ moves) ≡ Some f
-run_goes_on design i moves e f at_e at_f =
-    run_from-append design (silent (start design)) i moves ∙ (ap (option_and_then (λ x. run_from design x moves)) at_e ∙ at_f)
-
-pub run_went_on : (design : Design) (i moves : List Entry) (e f : Effect) → run design i ≡ Some e → run design (i ++ moves) ≡ Some f → run_from design e moves ≡ Some f
-run_went_on design i moves e f at_e at_f =
-    sym (ap (option_and_then (λ x. run_from design x moves)) at_e) ∙ (sym (run_from-append design (silent (start design)) i moves) ∙ at_f)
-
--- and so in time
-pub comes_on : (design : Design) (limits : Limits) (i moves : List Entry) (e f : Effect) → ComesOf design limits i e → run_from design e moves ≡ Some f → AreTimely limits moves → ComesOf design limits (i ++ moves) f
-comes_on design limits i moves e f (at_e, timely) at_f later =
-    (run_goes_on design i moves e f at_e at_f, All-append (IsTimely limits) i moves timely later)
-
-pub came_on : (design : Design) (limits : Limits) (i moves : List Entry) (e f : Effect) → ComesOf design limits i e → ComesOf design limits (i ++ moves) f → (run_from design e moves ≡ Some f) × AreTimely limits moves
-came_on design limits i moves e f (at_e, timely) (at_f, whole) =
-    (run_went_on design i moves e f at_e at_f, timely_after limits i moves whole)
-
--- the text of a lawful journal
-pub text_is : (design : Design) (journal : List Entry) (e : Effect) → run design journal ≡ Some e → text_of design journal ≡ e.lines
-text_is design journal e at_e = ap (λ (o : Option Effect). option_map_or (λ x. x.lines) o []) at_e
+use Rattle.races.specs.Journals.{TextGoesOn}
+use Rattle.races.specs.Serving.{run_went_on, text_is}
 
 -- what comes of entries doesn't depend on what was printed and changed before
 joined-alone : (e : Effect) → joined e (silent e.state) ≡ e

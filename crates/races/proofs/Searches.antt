@@ -15,24 +15,16 @@ use Rattle.orders.proofs.SearchLaws.{then_some}
 use Rattle.explore.specs.declared.Next.{Next}
 use Rattle.explore.specs.declared.Ended.{Ended}
 use Rattle.explore.specs.declared.Shown.{Shown}
-use Rattle.explore.specs.Search.{IsShown, IsOfRun, IsNext, IsEnded, IsCovered, Serves, AreAllShown}
+use Rattle.explore.specs.Search.{IsShown, IsOfRun, IsNext, IsEnded, IsCovered, AreAllShown}
 use Rattle.races.specs.Journals.{ComesOf, text_of, MayEnd, ComeToOneNode, IsLawfulText, AreAllTexts}
 use Rattle.races.specs.Cover.{LeadOn, CoverRuns, FollowMoves}
-use Rattle.races.specs.Runs.{StandsAt, runs_of, AlikeRunsServe, TellAlike, KeyedRunsAreAlike, RunsBeginSilent, ShownIsLawful, AllShownAreAll}
+use Rattle.races.specs.Runs.{runs_of, AlikeRunsServe, KeyedRunsAreAlike, RunsBeginSilent, ShownIsLawful, AllShownAreAll}
 use Rattle.races.specs.Expanding.{GoesOnTo, StepGoesOn, WaysGoOn, EntriesLeadToNext, EntriesLeadToEnd, ways_to, TellsEnds, CoveringIsCovered, FollowingIsCovered}
-use Rattle.races.proofs.AlikeJournals.{alike_journals_serve}
 use Rattle.races.proofs.Places.{all_map, any_of_map}
-use Rattle.races.proofs.RunParts.{comes_on, runs_on, text_is}
+use Rattle.races.proofs.RunParts.{runs_on}
+use Rattle.races.specs.Serving.{alike_serve, keyed_alike, comes_on, text_is}
 use Rattle.races.proofs.Covering.{followed_moves_cover, ends_are_the_states}
 use Rattle.races.proofs.LawfulTexts.{ends_are_lawful, all_may_end}
-
-pub alike_serve : {Node : Type 0} (Holds : Node → Effect → Type 0) (design : Design) (limits : Limits) (i j : List Entry) → ComeToOneNode design limits i j → Serves (runs_of Holds design limits) i j
-alike_serve Holds design limits i j alike moves end ends = alike_journals_serve design limits i j moves end alike ends
-
-pub keyed_alike : {Node : Type 0} (Holds : Node → Effect → Type 0) (key_of : Node → List ℕ) (design : Design) (limits : Limits) (a b : Node) (i j : List Entry) → TellAlike Holds key_of → key_of a ≡ key_of b → StandsAt Holds design limits a i → StandsAt Holds design limits b j → text_of design i ≡ text_of design j → ComeToOneNode design limits i j
-keyed_alike Holds key_of design limits a b i j tells key (e, at_e, holds) (f, at_f, holds') text =
-    let lines : e.lines ≡ f.lines = sym (text_is design i e at_e.0) ∙ (text ∙ text_is design j f at_f.0) in
-    (e, f, at_e, at_f, (lines, tells a b e f holds holds' key))
 
 pub shown_of_run : {Node : Type 0} (Holds : Node → Effect → Type 0) (design : Design) (limits : Limits) (shown : Shown Entry End) → IsOfRun (runs_of Holds design limits) shown → IsLawfulText design limits shown.moves.items shown.text.items shown.end
 shown_of_run Holds design limits shown (ends, text) =
@@ -70,7 +62,7 @@ leads_to_end Holds design limits run e g ended at_e goes lines here =
     ((joined e g, goes_on design limits run ended.moves.items e g at_e goes, here), prints_on design limits run ended.moves.items e g ended.printed.items at_e goes lines)
 
 -- successors stand where their ways lead
-lead_on : {Node : Type 0} (Holds : Node → Effect → Type 0) (design : Design) (limits : Limits) (successors : List (Next Node Entry)) (run : List Entry) → All (IsNext (runs_of Holds design limits) run) successors → LeadOn design limits run (ways_to successors)
+pub lead_on : {Node : Type 0} (Holds : Node → Effect → Type 0) (design : Design) (limits : Limits) (successors : List (Next Node Entry)) (run : List Entry) → All (IsNext (runs_of Holds design limits) run) successors → LeadOn design limits run (ways_to successors)
 lead_on {Node} Holds design limits successors run nexts =
     all_map (λ (next : Next Node Entry). next.moves.items) (λ way. (e : Effect) × ComesOf design limits (run ++ way) e) successors
     (All-weaker (IsNext (runs_of Holds design limits) run) (λ (next : Next Node Entry). (e : Effect) × ComesOf design limits (run ++ next.moves.items) e) (λ next ((e, at_e, holds), printed). (e, at_e)) successors nexts)

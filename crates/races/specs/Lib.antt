@@ -3,3 +3,8 @@ pub mod Cover
 pub mod FlatWays
 pub mod Runs
 pub mod Expanding
+pub mod Places
+pub mod Following
+pub mod Serving
+pub mod OnlyWay
+pub mod Walking

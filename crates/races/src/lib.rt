@@ -1,6 +1,20 @@
-//! The races of a design: its lawful orders, searched. The definitions stand in `specs/`: what the runs of a design are to a
-//! search, and what it says of the lawful journals that a search has shown texts and ends, and all of them. `laws` carries
-//! what is proved of them.
+//! The races of a design: its lawful orders, searched.
+//!
+//! 1. A `Place` is where a journal has come to: the machine that took its entries, and the key of its state.
+//! 2. `expand` follows each entry that the rules permit from a place, and tells the ends that a run may have there. Where the rules
+//!    leave no choice, `walk` goes on to the next choice.
+//! 3. `lawful_orders` gives that to the search of `explore`. What it shows are texts and ends of lawful journals, and where it
+//!    answers that all is covered, those of every lawful journal in time.
+//!
+//! The definitions stand in `specs/`: what the runs of a design are to a search, and what it says of the lawful journals that a
+//! search has shown texts and ends, and all of them. `laws` carries what is proved of them besides.
 #![tactic(auto)]
 
+mod expand;
+mod lawful;
 pub mod laws;
+mod place;
+mod walk;
+
+pub use lawful::lawful_orders;
+pub use place::Place;

@@ -107,7 +107,7 @@ impl<'g, 'd, K: Naming, R: Wait + Abort> Course<'g, 'd, K, R> {
         requires gave { GaveAll (IsRead K.named.code seat.old.fresh) log.now.reads }
     {
         assert!(self.rt; ticket.tries() < 3, "refused three times");
-        self.gate.too_long(self.rt, seat, ticket, log)
+        self.gate.too_long(self.rt, seat, ticket, log.reads())
     }
 
     /// Evaluates under the lock, and commits, the turn of a ticket that was refused three times.

@@ -122,7 +122,7 @@ impl<K: Naming> Batch<K> {
     }
 }
 
-// Tells the gate of a turn that is too long, by the log behind those of the batch. The turns before it are committed first.
+// Tells the gate of a turn that is too long, by the reads of the log behind those of the batch. The turns before it are committed first.
 // Answers whether the worker goes on, and then the batch is empty.
 fn tell_long<K: Naming, P: Probe, R: Wait>(
     run: &Shared<'_, '_, K, P, R>,
@@ -148,7 +148,8 @@ fn tell_long<K: Naming, P: Probe, R: Wait>(
     }
     let event = ticket.event();
     let (seat, owner) = (&mut worker.seat, &mut worker.owner);
-    let reply = run.gate.too_long(run.rt, seat, ticket, &batch.logs[place]);
+    let reads = batch.logs[place].reads();
+    let reply = run.gate.too_long(run.rt, seat, ticket, reads);
     finish(run, seat, owner, event, reply)
 }
 

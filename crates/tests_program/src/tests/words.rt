@@ -10,13 +10,16 @@ const EMPTY: &str = "module t; endmodule";
 
 /// The help of the program as a whole.
 const WHOLE: &str =
-    "Simulates one Verilog module on several workers\n\nUsage: vsimtx <COMMAND>\n\nCommands:\n  run     Simulates FILE and prints its lines\n  replay  Replays JOURNAL on FILE and prints its lines\n  help    Print this message or the help of the given subcommand(s)\n\nOptions:\n  -h, --help  Print help\n";
+    "Simulates one Verilog module on several workers\n\nUsage: vsimtx <COMMAND>\n\nCommands:\n  run     Simulates FILE and prints its lines\n  replay  Replays JOURNAL on FILE and prints its lines\n  races   Searches the lawful orders of FILE and shows where its runs differ\n  help    Print this message or the help of the given subcommand(s)\n\nOptions:\n  -h, --help  Print help\n";
 
 const OF_RUN: &str =
-    "Simulates FILE and prints its lines\n\nUsage: vsimtx run [OPTIONS] <FILE>\n\nArguments:\n  <FILE>  Verilog source\n\nOptions:\n      --workers <N>      Worker threads, 1 to 16 [default: 2]\n      --until <T>        Last time that the run may reach, 0 to 281474976710656 [default: no limit]\n      --max-entries <N>  Most entries of the journal, 1 to 4294967295 [default: 1000000]\n      --journal <OUT>    Where to write the journal\n  -h, --help             Print help\n";
+    "Simulates FILE and prints its lines\n\nUsage: vsimtx run [OPTIONS] <FILE>\n\nArguments:\n  <FILE>  Verilog source\n\nOptions:\n      --workers <N>      Worker threads, 1 to 16 [default: 2]\n      --until <T>        Last time that the run may reach, 0 to 281474976710656 [default: no limit]\n      --max-entries <N>  Most entries of a journal, 1 to 4294967295 [default: 1000000]\n      --journal <OUT>    Where to write the journal\n      --seed <S>         Takes random choices from S, 0 to 18446744073709551615, on one thread\n  -h, --help             Print help\n";
 
 const OF_REPLAY: &str =
     "Replays JOURNAL on FILE and prints its lines\n\nUsage: vsimtx replay <FILE> <JOURNAL>\n\nArguments:\n  <FILE>     Verilog source\n  <JOURNAL>  Journal of a run\n\nOptions:\n  -h, --help  Print help\n";
+
+const OF_RACES: &str =
+    "Searches the lawful orders of FILE and shows where its runs differ\n\nUsage: vsimtx races [OPTIONS] <FILE>\n\nArguments:\n  <FILE>  Verilog source\n\nOptions:\n      --until <T>          Last time that the run may reach, 0 to 281474976710656 [default: no limit]\n      --max-entries <N>    Most entries of a journal, 1 to 4294967295 [default: 1000000]\n      --max-states <N>     Most states of the search, 1 to 4294967295 [default: 1000000]\n      --max-texts <N>      Most different texts that are shown, 1 to 4294967295 [default: 8]\n      --journals <PREFIX>  Where to write a journal of each text: PREFIX.1.journal, ..\n      --samples <N>        Tries N random lawful orders in place of the search, 1 to 4294967295\n      --seed <S>           Takes random choices from S, 0 to 18446744073709551615, on one thread\n  -h, --help               Print help\n";
 
 /// Lines that ask for help, and the help.
 const HELP: &[(&str, &str)] = &[
@@ -24,6 +27,7 @@ const HELP: &[(&str, &str)] = &[
     ("vsimtx run --help", OF_RUN),
     ("vsimtx replay --help", OF_REPLAY),
     ("vsimtx help run", OF_RUN),
+    ("vsimtx races --help", OF_RACES),
 ];
 
 #[test]
@@ -39,6 +43,8 @@ const USAGE: &str = "Usage: vsimtx <COMMAND>\n\n";
 const USAGE_OF_FILE: &str = "Usage: vsimtx run <FILE>\n\n";
 
 const USAGE_OF_RUN: &str = "Usage: vsimtx run [OPTIONS] <FILE>\n\n";
+
+const USAGE_OF_RACES: &str = "Usage: vsimtx races <FILE>\n\n";
 
 const USAGE_OF_REPLAY: &str = "Usage: vsimtx replay <FILE> <JOURNAL>\n\n";
 
@@ -114,6 +120,26 @@ const WRONG: &[(&str, &str, &str)] = &[
         "vsimtx replay t.v JOURNAL --workers 2",
         "unexpected argument '--workers' found\n\n  tip: to pass '--workers' as a value, use '-- --workers'",
         USAGE_OF_REPLAY,
+    ),
+    (
+        "vsimtx run t.v --seed 1 --workers 2",
+        "the argument '--seed <S>' cannot be used with '--workers <N>'",
+        USAGE_OF_RUN,
+    ),
+    (
+        "vsimtx run t.v --seed 18446744073709551616",
+        "invalid value '18446744073709551616' for '--seed <S>': number too large to fit in target type",
+        "",
+    ),
+    (
+        "vsimtx races t.v --max-texts 0",
+        "invalid value '0' for '--max-texts <N>': 0 is not in 1..=4294967295",
+        "",
+    ),
+    (
+        "vsimtx races t.v --workers 2",
+        "unexpected argument '--workers' found\n\n  tip: to pass '--workers' as a value, use '-- --workers'",
+        USAGE_OF_RACES,
     ),
 ];
 

@@ -14,6 +14,7 @@ invariant-loop-at g l =
       some : 0 < length reached;
       starts : get_or reached 0 [] ≡ [];
       room : length reached ≤ l.bounds.nodes;
+      few : l.nodes ≤ l.bounds.nodes;
       sound : All (IsOfRun runs) l.shown.items;
       distinct : AllPairs AreDistinct l.shown.items;
       followed : IsTrue l.covered → (k : ℕ) → k < length reached → Any (λ p. p.place.number ≡ k) l.kept.pending.items ⊎ IsFollowed runs (IsShown l.shown.items) (Serves runs) reached (get_or reached k []);

@@ -1,4 +1,4 @@
-use Rattle.std.proofs.Common.{◌≡◌, ◌∙◌, sym, ap, List, ℕ, Some, true, string_bytes}
+use Rattle.std.proofs.Common.{◌∙◌, sym, ap, Some}
 use Rattle.std.proofs.lemmas.Slice.Eq.{bytes_eq-Decides}
 use Rattle.program.proofs.SecondWord.{second_text, no_second_text, unlike}
 use Rattle.program.proofs.arguments.is_subcommand.Goals as goal

@@ -1,7 +1,7 @@
 use Rattle.std.proofs.Common.{◌≡◌, ◌∙◌, ap, ap₂, true, codes}
 use Rattle.clap.specs.Built.{AddsSubcommand}
 use Rattle.clap.specs.Simple.{App, Shape, app_of, app_of_fields, new_app, on_top, with_subcommand}
-use Rattle.program.specs.Words.{run_app, replay_app, whole_app}
+use Rattle.program.specs.Words.{run_app, whole_app}
 use Rattle.program.proofs.GivenLemmas.{if_ok}
 use Rattle.program.proofs.arguments.program.Goals as goal
 
@@ -15,5 +15,6 @@ returns c =
     ap app_of_fields c.arg_required_else_help.ensures ∙ (ap asks_help (ap app_of_fields c.subcommand_required.ensures) ∙ ap asks_both begun) in
     let with_run : app_of c.in_ok-subcommand.field-0 ≡ with_subcommand (asks_both (new_app (codes "vsimtx"))) run_app.top =
     c.in_ok-subcommand.ensures.shape c.in_ok-run_command.ensures.rules.local ∙ ap₂ with_subcommand asked (ap (λ (a : App). a.top) c.in_ok-run_command.ensures.app) in
-    if_ok (AddsSubcommand c.in_ok-subcommand.field-0 c.in_ok-replay_command.field-0) (λ d. app_of d ≡ whole_app) c.subcommand-2.result
-    (λ d added. added.shape c.in_ok-replay_command.ensures.rules.local ∙ ap₂ with_subcommand with_run (ap (λ (a : App). a.top) c.in_ok-replay_command.ensures.app)) c.subcommand-2.ensures
+    let with_replay = c.in_ok-subcommand-2.ensures.shape c.in_ok-replay_command.ensures.rules.local ∙ ap₂ with_subcommand with_run (ap (λ (a : App). a.top) c.in_ok-replay_command.ensures.app) in
+    if_ok (AddsSubcommand c.in_ok-subcommand-2.field-0 c.in_ok-races_command.field-0) (λ d. app_of d ≡ whole_app) c.subcommand-3.result
+    (λ d added. added.shape c.in_ok-races_command.ensures.rules.local ∙ ap₂ with_subcommand with_replay (ap (λ (a : App). a.top) c.in_ok-races_command.ensures.app)) c.subcommand-3.ensures

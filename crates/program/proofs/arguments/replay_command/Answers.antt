@@ -1,6 +1,6 @@
 use Rattle.std.proofs.Common.{◌≡◌, ◌∙◌, ap, ap₂, codes}
 use Rattle.clap.specs.Built.{AddsArg}
-use Rattle.clap.specs.Simple.{App, app_of, app_of_fields, new_app, with_rule}
+use Rattle.clap.specs.Simple.{app_of, app_of_fields, new_app, with_rule}
 use Rattle.program.specs.Words.{place, replay_app}
 use Rattle.program.proofs.GivenLemmas.{if_ok}
 use Rattle.program.proofs.arguments.replay_command.Goals as goal

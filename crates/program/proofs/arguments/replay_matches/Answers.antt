@@ -1,6 +1,6 @@
-use Rattle.std.proofs.Common.{◌≡◌, map, string_bytes, refl, None, true, codes}
+use Rattle.std.proofs.Common.{◌≡◌, refl, None, true, codes}
 use Rattle.clap.specs.Built.{IsParsedFrom}
-use Rattle.clap.specs.Words.{HasMatchesOf, Text, app_of, found_of, rows_of}
+use Rattle.clap.specs.Words.{HasMatchesOf, app_of, found_of, rows_of}
 use Rattle.program.specs.Arguments.{GivesReplay, replay_rules, rule}
 use Rattle.program.specs.Words.{replay_rows, texts_of}
 use Rattle.program.proofs.WordLemmas.{replay_found, replay_failed}

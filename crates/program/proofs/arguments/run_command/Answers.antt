@@ -1,8 +1,8 @@
-use Rattle.std.proofs.Common.{◌≡◌, ◌∙◌, ap, ap₂, rules, [], None, Some, true, codes}
+use Rattle.std.proofs.Common.{◌≡◌, ◌∙◌, ap, ap₂, rules, [], None, true, codes}
 use Rattle.clap.specs.Built.{AddsArg}
-use Rattle.clap.specs.Simple.{App, app_of, app_of_fields, new_app, with_rule}
-use Rattle.program.specs.Arguments.{HasRules, run_rules, rule, workers_parser, until_parser, entries_parser}
-use Rattle.program.specs.Words.{choice, place, run_app}
+use Rattle.clap.specs.Simple.{app_of, app_of_fields, new_app, with_rule}
+use Rattle.program.specs.Arguments.{HasRules, run_rules, rule}
+use Rattle.program.specs.Words.{place, run_app}
 use Rattle.program.proofs.GivenLemmas.{if_ok, none_yet, one_more}
 use Rattle.program.proofs.arguments.run_command.Goals as goal
 
@@ -15,14 +15,16 @@ returns c =
     let with_workers = c.in_ok-arg-2.ensures.shape c.workers.ensures.takes.local ∙ ap₂ with_rule with_file c.workers.ensures.rule in
     let with_until = c.in_ok-arg-3.ensures.shape c.until.ensures.takes.local ∙ ap₂ with_rule with_workers c.until.ensures.rule in
     let with_entries = c.in_ok-arg-4.ensures.shape c.max_entries.ensures.takes.local ∙ ap₂ with_rule with_until c.max_entries.ensures.rule in
+    let with_journal = c.in_ok-arg-5.ensures.shape c.journal.ensures.takes.local ∙ ap₂ with_rule with_entries c.journal.ensures.rule in
     let start = none_yet c.in_ok-bin_name.field-0 (search rules) (search rules) (search rules) (search rules) in
     let one = one_more c.in_ok-bin_name.field-0 c.in_ok-arg.field-0 c.positional.result [] (rule (codes "FILE") true None) start c.positional.ensures.takes c.in_ok-arg.ensures in
     let two = one_more c.in_ok-arg.field-0 c.in_ok-arg-2.field-0 c.workers.result _ _ one c.workers.ensures.takes c.in_ok-arg-2.ensures in
     let three = one_more c.in_ok-arg-2.field-0 c.in_ok-arg-3.field-0 c.until.result _ _ two c.until.ensures.takes c.in_ok-arg-3.ensures in
     let four = one_more c.in_ok-arg-3.field-0 c.in_ok-arg-4.field-0 c.max_entries.result _ _ three c.max_entries.ensures.takes c.in_ok-arg-4.ensures in
+    let five = one_more c.in_ok-arg-4.field-0 c.in_ok-arg-5.field-0 c.journal.result _ _ four c.journal.ensures.takes c.in_ok-arg-5.ensures in
     record {
-      rules = if_ok (AddsArg c.in_ok-arg-4.field-0 c.journal.result) (λ d. HasRules d run_rules) c.arg-5.result
-          (λ d added. one_more c.in_ok-arg-4.field-0 d c.journal.result _ _ four c.journal.ensures.takes added) c.arg-5.ensures;
-      app = if_ok (AddsArg c.in_ok-arg-4.field-0 c.journal.result) (λ d. app_of d ≡ run_app) c.arg-5.result
-          (λ d added. added.shape c.journal.ensures.takes.local ∙ ap₂ with_rule with_entries c.journal.ensures.rule) c.arg-5.ensures;
+      rules = if_ok (AddsArg c.in_ok-arg-5.field-0 c.seed.result) (λ d. HasRules d run_rules) c.arg-6.result
+          (λ d added. one_more c.in_ok-arg-5.field-0 d c.seed.result _ _ five c.seed.ensures.takes added) c.arg-6.ensures;
+      app = if_ok (AddsArg c.in_ok-arg-5.field-0 c.seed.result) (λ d. app_of d ≡ run_app) c.arg-6.result
+          (λ d added. added.shape c.seed.ensures.takes.local ∙ ap₂ with_rule with_journal c.seed.ensures.rule) c.arg-6.ensures;
     }

@@ -1,7 +1,7 @@
-use Rattle.std.proofs.Common.{◌≡◌, map, string_bytes, refl, Some, None, true, false, codes}
+use Rattle.std.proofs.Common.{◌≡◌, refl, Some, None, true, false, codes}
 use Rattle.clap.specs.Built.{IsParsedFrom}
-use Rattle.clap.specs.Words.{HasMatchesOf, Text, app_of, found_of, rows_of}
-use Rattle.program.specs.Arguments.{GivesRun, run_rules, rule, workers_parser, until_parser, entries_parser}
+use Rattle.clap.specs.Words.{HasMatchesOf, app_of, found_of, rows_of}
+use Rattle.program.specs.Arguments.{GivesRun, run_rules, rule, workers_parser, until_parser, entries_parser, seed_parser}
 use Rattle.program.specs.Words.{run_rows, texts_of}
 use Rattle.program.proofs.WordLemmas.{run_found, run_failed}
 use Rattle.program.proofs.GivenLemmas.{given, if_ok, required_text}
@@ -19,6 +19,7 @@ returns c =
             workers = given cmd m run_rules 1 (rule (codes "workers") false (Some workers_parser)) workers_parser p h refl refl refl refl;
             until = given cmd m run_rules 2 (rule (codes "until") false (Some until_parser)) until_parser p h refl refl refl refl;
             max_entries = given cmd m run_rules 3 (rule (codes "max-entries") false (Some entries_parser)) entries_parser p h refl refl refl refl;
+            seed = given cmd m run_rules 5 (rule (codes "seed") false (Some seed_parser)) seed_parser p h refl refl refl refl;
           }) c.try_get_matches_from.ensures.parsed;
       found = if_ok (HasMatchesOf (app_of cmd) words) (λ m. rows_of (found_of m) ≡ run_rows words) c.try_get_matches_from.result
           (λ m p. run_found (app_of cmd) words m c.in_ok-run_command.ensures.app p) c.try_get_matches_from.ensures.matches;

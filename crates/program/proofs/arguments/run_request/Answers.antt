@@ -1,4 +1,4 @@
-use Rattle.std.proofs.Common.{◌≡◌, ◌∙◌, ap, sym, ℕ, List, Option, Some, option_map, codes, rules}
+use Rattle.std.proofs.Common.{◌≡◌, ◌∙◌, ap, sym, ℕ, List, Some, option_map, codes, rules}
 use Rattle.std.specs.Borrow.{Bor}
 use Rattle.clap.specs.Words.{found_of}
 use Rattle.clap.proofs.WalkLemmas.{first_value-rows}
@@ -12,5 +12,7 @@ returns c =
       in_range = c.options.ensures.fit;
       file = sym (first_value-rows found (codes "FILE")) ∙ (sym c.get_str.ensures ∙ ap (option_map (λ (s : Bor (List ℕ)). s.now)) file);
       options = c.options.ensures.given;
+      seed = c.given_seed.ensures;
+      one_order = c.requires.one_order;
       journal = sym (first_value-rows found (codes "journal")) ∙ sym c.get_str-2.ensures;
     }

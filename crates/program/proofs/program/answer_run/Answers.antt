@@ -2,7 +2,7 @@ use Rattle.std.proofs.Common.{◌≡◌, ◌⊎◌, ◌∙◌, sym, subst, ℕ, 
 use Rattle.std.specs.Io.KnownBytes.{Keeps}
 use Rattle.journal.specs.Counted.{held}
 use Rattle.program.specs.declared.fault.Stop.{Stop}
-use Rattle.program.specs.Printed.{HasPrinted}
+use Rattle.program.specs.Printed.{HasPrintedBy}
 use Rattle.program.specs.Saved.{KeepsFiles}
 use Rattle.program.proofs.Ended.{run_of_words}
 use Rattle.program.proofs.Statuses.{done_by_status, stopped_by_status, not_two, kept_by_status}
@@ -15,7 +15,7 @@ returns-clause-done g c =
     let files = g.F.Files.made c.args.files.now in
     let after = g.F.Files.made c.run-ended.new.files in
     let run = c.args.request.now in
-    let printed : Option Stop → Type 0 = λ told. HasPrinted run.options (option_map (λ path. path.now) run.journal) old new files after told in
+    let printed : Option Stop → Type 0 = λ told. HasPrintedBy run.seed run.options (option_map (λ path. path.now) run.journal) old new files after told in
     λ words asks e. run_of_words words run old new files after _ asks (done_by_status printed c.run-ended.result c.run-ended.ensures.printed (sym c.finish.ensures.status ∙ e))
 
 pub returns-clause-right : goal.returns-clause-right
@@ -28,7 +28,7 @@ returns-clause-stopped g c =
     let files = g.F.Files.made c.args.files.now in
     let after = g.F.Files.made c.run-ended.new.files in
     let run = c.args.request.now in
-    let printed : Option Stop → Type 0 = λ told. HasPrinted run.options (option_map (λ path. path.now) run.journal) old new files after told in
+    let printed : Option Stop → Type 0 = λ told. HasPrintedBy run.seed run.options (option_map (λ path. path.now) run.journal) old new files after told in
     λ words asks e.
     let s = stopped_by_status printed c.run-ended.result c.run-ended.ensures.printed (sym c.finish.ensures.status ∙ e) in
     record { stop = s.0; has_run = run_of_words words run old new files after _ asks s.1 }

@@ -1,4 +1,3 @@
-use Rattle.std.proofs.Common.{◌≡◌}
 use Rattle.journal.specs.Counted.{held}
 use Rattle.program.specs.Words.{texts_of}
 use Rattle.program.proofs.Ended.{refused_done}

@@ -1,5 +1,5 @@
 -- Journals that come to one node go on alike.
-use Rattle.races.proofs.AlikeJournals as journals
+use Rattle.races.specs.Serving as journals
 use Rattle.races.proofs.Searches.{alike_runs_serve, keyed_runs_are_alike}
 use Rattle.races.proofs.laws.alike_journals_serve.Goals as goal
 

@@ -1,5 +1,5 @@
 -- The turns of the batch are appended, and the one that is too long isn't.
-use Rattle.std.proofs.Common.{◌≡◌, length, ap, refl, arith, rules}
+use Rattle.std.proofs.Common.{◌≡◌, length, ap, subst, sym, refl, arith, rules}
 use Rattle.turn.specs.Logs.{LogView}
 use Rattle.turn.specs.Reads.{GaveAll}
 use Rattle.turn.specs.Answers.{IsNoTurn}
@@ -28,8 +28,9 @@ too_long-reply-requires-clause-turn g c =
     let after = c.commit.new.batch.logs.items in
     let log = c.index.result.now in
     let at : c.len-place.result ≡ length tickets = search rules in
-    log_found (λ (l : LogView). IsNoTurn code ticket.state ticket.time l.reads TooLong) before after (length tickets) c.len-place.result log
-    (ap (λ logs. logs.items) c.commit.ensures.logs) at (λ l is. (c.requires.long l is).0) c.index.ensures
+    subst (λ rs. IsNoTurn code ticket.state ticket.time rs TooLong) (sym c.reads-reads.ensures)
+    (log_found (λ (l : LogView). IsNoTurn code ticket.state ticket.time l.reads TooLong) before after (length tickets) c.len-place.result log
+    (ap (λ logs. logs.items) c.commit.ensures.logs) at (λ l is. (c.requires.long l is).0) c.index.ensures)
 
 pub too_long-reply-requires-clause-recorded : goal.too_long-reply-requires-clause-recorded
 too_long-reply-requires-clause-recorded g c =
@@ -42,4 +43,5 @@ too_long-reply-requires-clause-recorded g c =
     let at : c.len-place.result ≡ length tickets = search rules in
     let gave = log_found (λ (l : LogView). GaveAll (IsRead code fresh) l.reads) before after (length tickets) c.len-place.result log
     (ap (λ logs. logs.items) c.commit.ensures.logs) at (λ l is. (c.requires.long l is).1) c.index.ensures in
-    gave_later code fresh c.commit.new.worker.seat.fresh log.reads (c.commit.ensures.rises c.if-not-commit.false) gave
+    subst (λ rs. GaveAll (IsRead code c.commit.new.worker.seat.fresh) rs) (sym c.reads-reads.ensures)
+    (gave_later code fresh c.commit.new.worker.seat.fresh log.reads (c.commit.ensures.rises c.if-not-commit.false) gave)

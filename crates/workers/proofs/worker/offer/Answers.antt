@@ -1,4 +1,7 @@
-use Rattle.std.proofs.Common.{arith}
+use Rattle.std.proofs.Common.{sym, subst, arith}
+use Rattle.turn.specs.Answers.{IsNoTurn}
+use Rattle.turn.specs.declared.log.FillFault.{FillFault}
+use Rattle.turn.specs.declared.log.FillFault.TheVariants.{TooLong}
 use Rattle.workers.proofs.Seats.{goes_read, told}
 use Rattle.workers.proofs.Told.{answered, long_answered, first_on, on_then}
 use Rattle.workers.proofs.worker.offer.Goals as goal
@@ -18,3 +21,10 @@ returns-in-Err-TooLong-clause-goes g c =
 pub returns-in-Err-Memory-clause-goes : goal.returns-in-Err-Memory-clause-goes
 returns-in-Err-Memory-clause-goes g c =
     first_on _ _ _ (goes_read _ _ c.evaluate.ensures.reads_on) (0, omega arith, (told g.K.Naming.named _ _ c.stop.ensures).0)
+
+pub too_long-reply-requires-clause-turn : goal.too_long-reply-requires-clause-turn
+too_long-reply-requires-clause-turn g c =
+    let code = g.K.Naming.named.code in
+    let ticket = c.args.ticket in
+    let turn = subst (λ (fault : FillFault). IsNoTurn code ticket.state ticket.time c.evaluate.new.log.reads fault) c.in-Err-TooLong.field-0-is c.in-Err-TooLong.ensures.turn in
+    subst (λ reads. IsNoTurn code ticket.state ticket.time reads TooLong) (sym c.reads.ensures) turn

@@ -20,23 +20,23 @@ use Rattle.commitgate.proofs.state.GateState.too_long.Goals as goal
 pub returns-in-Some-clause-state : goal.returns-in-Some-clause-state
 returns-in-Some-clause-state g c =
     let n = g.K.Naming.named in
-    barred_long n.code n.limits c.args.seat.now.worker c.args.self.now c.args.ticket c.args.log.now.reads c.barred.new.self c.in-Some.reply c.in-Some.ensures.state
+    barred_long n.code n.limits c.args.seat.now.worker c.args.self.now c.args.ticket c.args.reads.now.entries c.barred.new.self c.in-Some.reply c.in-Some.ensures.state
 
 pub returns-in-Some-clause-seat : goal.returns-in-Some-clause-seat
 returns-in-Some-clause-seat g c =
-    barred_long_told g.K.Naming.named c.args.seat.now c.args.ticket c.args.log.now.reads c.barred.new.seat c.in-Some.reply c.in-Some.ensures.seat
+    barred_long_told g.K.Naming.named c.args.seat.now c.args.ticket c.args.reads.now.entries c.barred.new.seat c.in-Some.reply c.in-Some.ensures.seat
 
 pub stale-requires-clause-declared : goal.stale-requires-clause-declared
 stale-requires-clause-declared g c =
-    long_reads_in g.K.Naming.named.code (length g.K.Naming.named.cells) c.args.ticket c.args.log.now.reads c.known.ensures.widths c.known-2.ensures.own c.requires.turn
+    long_reads_in g.K.Naming.named.code (length g.K.Naming.named.cells) c.args.ticket c.args.reads.now.entries c.known.ensures.widths c.known-2.ensures.own c.requires.turn
 
 pub stale-requires-clause-recorded : goal.stale-requires-clause-recorded
 stale-requires-clause-recorded g c =
     let code = g.K.Naming.named.code in
     let same = of_none c.barred.result _ c.barred.ensures.same c.in_default.is in
     let greeted = of_none c.barred.result _ c.barred.ensures.greeted c.in_default.is in
-    subst (λ (h : GateState). GaveAll (IsRecorded code h.histories c.barred.new.seat.fresh) c.args.log.now.reads) (sym same)
-    (subst (λ (v : SeatView). GaveAll (IsRecorded code c.args.self.now.histories v.fresh) c.args.log.now.reads) (sym greeted) c.requires.recorded)
+    subst (λ (h : GateState). GaveAll (IsRecorded code h.histories c.barred.new.seat.fresh) c.args.reads.now.entries) (sym same)
+    (subst (λ (v : SeatView). GaveAll (IsRecorded code c.args.self.now.histories v.fresh) c.args.reads.now.entries) (sym greeted) c.requires.recorded)
 
 pub returns-in-Some-stale-clause-state : goal.returns-in-Some-stale-clause-state
 returns-in-Some-stale-clause-state g c =
@@ -44,7 +44,7 @@ returns-in-Some-stale-clause-state g c =
     let same = of_none c.barred.result _ c.barred.ensures.same c.in_default.is in
     record {
       may = of_none c.barred.result _ c.barred.ensures.may c.in_default.is;
-      moved = subst (λ (h : GateState). IsFirstMovedIn (design_of n.code) h.journal c.args.log.now.reads c.in-Some-stale.register) same c.in-Some-stale.ensures.moved;
+      moved = subst (λ (h : GateState). IsFirstMovedIn (design_of n.code) h.journal c.args.reads.now.entries c.in-Some-stale.register) same c.in-Some-stale.ensures.moved;
       back_is = c.again.ensures;
       same = c.stale.ensures.same ∙ same;
     }
@@ -57,17 +57,17 @@ returns-in-Some-stale-clause-seat g c =
     let greeted = of_none c.barred.result _ c.barred.ensures.greeted c.in_default.is in
     let may = of_none c.barred.result _ c.barred.ensures.may c.in_default.is in
     let new = c.stale.new.seat in
-    tell_stale n c.args.seat.now c.args.self.now c.known.ensures.guarded c.known.ensures.kept c.barred.ensures.later c.args.ticket c.again.result c.args.log.now.reads r new
+    tell_stale n c.args.seat.now c.args.self.now c.known.ensures.guarded c.known.ensures.kept c.barred.ensures.later c.args.ticket c.again.result c.args.reads.now.entries r new
     (c.stale.ensures.seat ∙ ap (λ (v : SeatView). record v { fresh = new.fresh }) greeted)
     (subst (λ (v : SeatView). Rises v.fresh new.fresh) greeted c.stale.ensures.rises)
     may.running
     c.again.ensures
-    (subst (λ (h : GateState). IsFirstMovedIn (design_of n.code) h.journal c.args.log.now.reads r) same c.in-Some-stale.ensures.moved)
+    (subst (λ (h : GateState). IsFirstMovedIn (design_of n.code) h.journal c.args.reads.now.entries r) same c.in-Some-stale.ensures.moved)
     (subst (λ (h : GateState). fresh_of new.fresh r ≡ hist (design_of n.code) h.journal r) same c.in-Some-stale.ensures.met)
 
 pub show_reads-requires-clause-reads : goal.show_reads-requires-clause-reads
 show_reads-requires-clause-reads g c =
-    long_reads_in g.K.Naming.named.code (length g.K.Naming.named.cells) c.args.ticket c.args.log.now.reads c.known.ensures.widths c.known-2.ensures.own c.requires.turn
+    long_reads_in g.K.Naming.named.code (length g.K.Naming.named.cells) c.args.ticket c.args.reads.now.entries c.known.ensures.widths c.known-2.ensures.own c.requires.turn
 
 pub stop_long-requires-clause-seen : goal.stop_long-requires-clause-seen
 stop_long-requires-clause-seen g c =
@@ -89,11 +89,11 @@ stop_long-requires-clause-long g c =
     let same = c.show_reads.ensures.same ∙ c.stale.ensures.same ∙ barred in
     let may = of_none c.barred.result _ c.barred.ensures.may c.in_default.is in
     let seat = of_none c.stale.result _ c.stale.ensures.kept c.in_default-stale.is ∙ of_none c.barred.result _ c.barred.ensures.greeted c.in_default.is in
-    let current = subst (λ (h : GateState). AreCurrent n.code h c.args.log.now.reads) barred (of_none c.stale.result _ c.stale.ensures.none c.in_default-stale.is) in
-    let begins = subst (λ (v : SeatView). (k : ℕ) (d : ℕ × Seen) → slice_get c.args.log.now.reads k ≡ Some d → IsPrefix (fresh_of v.fresh d.0) (fresh_of held.histories d.0)) seat
-    (subst (λ (h : GateState). (k : ℕ) (d : ℕ × Seen) → slice_get c.args.log.now.reads k ≡ Some d → IsPrefix (fresh_of c.stale.new.seat.fresh d.0) (fresh_of h.histories d.0)) (c.stale.ensures.same ∙ barred) c.show_reads.ensures.begins) in
+    let current = subst (λ (h : GateState). AreCurrent n.code h c.args.reads.now.entries) barred (of_none c.stale.result _ c.stale.ensures.none c.in_default-stale.is) in
+    let begins = subst (λ (v : SeatView). (k : ℕ) (d : ℕ × Seen) → slice_get c.args.reads.now.entries k ≡ Some d → IsPrefix (fresh_of v.fresh d.0) (fresh_of held.histories d.0)) seat
+    (subst (λ (h : GateState). (k : ℕ) (d : ℕ × Seen) → slice_get c.args.reads.now.entries k ≡ Some d → IsPrefix (fresh_of c.stale.new.seat.fresh d.0) (fresh_of h.histories d.0)) (c.stale.ensures.same ∙ barred) c.show_reads.ensures.begins) in
     subst (λ (h : GateState). turn_at n.code h c.args.ticket.process c.args.ticket.state ≡ None) (sym same)
-    (long_by n held c.args.ticket c.args.log.now.reads c.args.seat.now.fresh c.known.ensures.kept may.current c.known-2.ensures.own c.requires.turn c.requires.recorded current (sym (length-map held.values length) ∙ ap length c.known.ensures.guarded.store) begins)
+    (long_by n held c.args.ticket c.args.reads.now.entries c.args.seat.now.fresh c.known.ensures.kept may.current c.known-2.ensures.own c.requires.turn c.requires.recorded current (sym (length-map held.values length) ∙ ap length c.known.ensures.guarded.store) begins)
 
 pub returns-clause-state : goal.returns-clause-state
 returns-clause-state g c =
@@ -102,14 +102,14 @@ returns-clause-state g c =
     let barred = of_none c.barred.result _ c.barred.ensures.same c.in_default.is in
     let same = c.show_reads.ensures.same ∙ c.stale.ensures.same ∙ barred in
     let may = of_none c.barred.result _ c.barred.ensures.may c.in_default.is in
-    let current = subst (λ (h : GateState). AreCurrent n.code h c.args.log.now.reads) barred (of_none c.stale.result _ c.stale.ensures.none c.in_default-stale.is) in
+    let current = subst (λ (h : GateState). AreCurrent n.code h c.args.reads.now.entries) barred (of_none c.stale.result _ c.stale.ensures.none c.in_default-stale.is) in
     let seat = of_none c.stale.result _ c.stale.ensures.kept c.in_default-stale.is ∙ of_none c.barred.result _ c.barred.ensures.greeted c.in_default.is in
     let worker = ap (λ (v : SeatView). v.worker) c.show_reads.ensures.seat ∙ ap (λ (v : SeatView). v.worker) seat in
-    let begins = subst (λ (v : SeatView). (k : ℕ) (d : ℕ × Seen) → slice_get c.args.log.now.reads k ≡ Some d → IsPrefix (fresh_of v.fresh d.0) (fresh_of held.histories d.0)) seat
-    (subst (λ (h : GateState). (k : ℕ) (d : ℕ × Seen) → slice_get c.args.log.now.reads k ≡ Some d → IsPrefix (fresh_of c.stale.new.seat.fresh d.0) (fresh_of h.histories d.0)) (c.stale.ensures.same ∙ barred) c.show_reads.ensures.begins) in
-    read_stopped n.code n.limits c.args.seat.now.worker c.args.self.now c.args.ticket c.args.log.now.reads c.stop_long.result c.stop_long.new.self c.stop_long.ensures.why
+    let begins = subst (λ (v : SeatView). (k : ℕ) (d : ℕ × Seen) → slice_get c.args.reads.now.entries k ≡ Some d → IsPrefix (fresh_of v.fresh d.0) (fresh_of held.histories d.0)) seat
+    (subst (λ (h : GateState). (k : ℕ) (d : ℕ × Seen) → slice_get c.args.reads.now.entries k ≡ Some d → IsPrefix (fresh_of c.stale.new.seat.fresh d.0) (fresh_of h.histories d.0)) (c.stale.ensures.same ∙ barred) c.show_reads.ensures.begins) in
+    read_stopped n.code n.limits c.args.seat.now.worker c.args.self.now c.args.ticket c.args.reads.now.entries c.stop_long.result c.stop_long.new.self c.stop_long.ensures.why
     may current
-    (long_by n held c.args.ticket c.args.log.now.reads c.args.seat.now.fresh c.known.ensures.kept may.current c.known-2.ensures.own c.requires.turn c.requires.recorded current (sym (length-map held.values length) ∙ ap length c.known.ensures.guarded.store) begins)
+    (long_by n held c.args.ticket c.args.reads.now.entries c.args.seat.now.fresh c.known.ensures.kept may.current c.known-2.ensures.own c.requires.turn c.requires.recorded current (sym (length-map held.values length) ∙ ap length c.known.ensures.guarded.store) begins)
     (c.stop_long.ensures.state ∙ (λ i. stopped (worker i) c.stop_long.result (same i)))
 
 pub returns-clause-seat : goal.returns-clause-seat
@@ -119,7 +119,7 @@ returns-clause-seat g c =
     let fresh = c.show_reads.new.seat.fresh in
     let kept = of_none c.stale.result _ c.stale.ensures.kept c.in_default-stale.is ∙ of_none c.barred.result _ c.barred.ensures.greeted c.in_default.is in
     let seat = c.show_reads.ensures.seat ∙ ap (λ (v : SeatView). record v { fresh = fresh }) kept in
-    let reads = c.args.log.now.reads in
+    let reads = c.args.reads.now.entries in
     let new = c.stop_long.new.seat in
     let causes = told.ReadCauses n c.args.ticket.process reads new in
     let barred = of_none c.barred.result _ c.barred.ensures.same c.in_default.is in

@@ -13,25 +13,25 @@ use Rattle.explore.proofs.graph.GraphOrders.expand.Goals as goal
 pub returns-then-vertex-len-clause-sound : goal.returns-then-vertex-len-clause-sound
 returns-then-vertex-len-clause-sound c run stands =
     let forks = c.args.self.now.forks.items in
-    let past : length forks ≤ c.args.node.now = omega arith in
-    let one : Ended Bool ℕ = record { printed = c.new-printed.result; end = c.args.node.now; moves = c.new-moves.result } in
+    let past : length forks ≤ c.args.node = omega arith in
+    let one : Ended Bool ℕ = record { printed = c.new-printed.result; end = c.args.node; moves = c.new-moves.result } in
     let all : c.push.new.self.items ≡ [] ++ one ∷ [] = c.in_ok-push.ensures.items ∙ ap (λ (l : List (Ended Bool ℕ)). l ++ one ∷ []) c.new-ended.ensures.items in
     subst (λ (l : List (Ended Bool ℕ)). All (IsEnded (runs_of forks) run) l) (sym all)
-    (All-push (IsEnded (runs_of forks) run) [] one (All-nil (IsEnded (runs_of forks) run)) (ended_past forks c.args.node.now run one stands past c.new-printed.ensures.items c.new-moves.ensures.items refl))
+    (All-push (IsEnded (runs_of forks) run) [] one (All-nil (IsEnded (runs_of forks) run)) (ended_past forks c.args.node run one stands past c.new-printed.ensures.items c.new-moves.ensures.items refl))
 
 pub returns-then-vertex-len-clause-cover : goal.returns-then-vertex-len-clause-cover
 returns-then-vertex-len-clause-cover c _ run stands =
     let forks = c.args.self.now.forks.items in
-    let past : length forks ≤ c.args.node.now = omega arith in
-    let one : Ended Bool ℕ = record { printed = c.new-printed.result; end = c.args.node.now; moves = c.new-moves.result } in
+    let past : length forks ≤ c.args.node = omega arith in
+    let one : Ended Bool ℕ = record { printed = c.new-printed.result; end = c.args.node; moves = c.new-moves.result } in
     let all : c.push.new.self.items ≡ [] ++ one ∷ [] = c.in_ok-push.ensures.items ∙ ap (λ (l : List (Ended Bool ℕ)). l ++ one ∷ []) c.new-ended.ensures.items in
     subst (λ (l : List (Ended Bool ℕ)). IsCovered (runs_of forks) c.new-successors.result.items l run) (sym all)
-    (covered_past forks c.args.node.now run c.new-successors.result.items one stands past c.new-printed.ensures.items refl)
+    (covered_past forks c.args.node run c.new-successors.result.items one stands past c.new-printed.ensures.items refl)
 
 pub returns-clause-next : goal.returns-clause-next
 returns-clause-next c run stands =
     let forks = c.args.self.now.forks.items in
-    let vertex = c.args.node.now in
+    let vertex = c.args.node in
     let less : vertex < length forks = omega arith in
     let is : slice_get forks vertex ≡ Some c.index-fork.result.now = slice_get_read forks (length forks) vertex c.index-fork.result.now refl less c.index-fork.ensures in
     let both : c.push-3.new.self.items ≡ ([] ++ c.in_ok-low.low ∷ []) ++ c.in_ok-high.high ∷ [] =
@@ -44,7 +44,7 @@ returns-clause-next c run stands =
 pub returns-clause-cover : goal.returns-clause-cover
 returns-clause-cover c _ run stands =
     let forks = c.args.self.now.forks.items in
-    let vertex = c.args.node.now in
+    let vertex = c.args.node in
     let less : vertex < length forks = omega arith in
     let is : slice_get forks vertex ≡ Some c.index-fork.result.now = slice_get_read forks (length forks) vertex c.index-fork.result.now refl less c.index-fork.ensures in
     let both : c.push-3.new.self.items ≡ ([] ++ c.in_ok-low.low ∷ []) ++ c.in_ok-high.high ∷ [] =

@@ -1,0 +1,9 @@
+pub mod Lines
+pub mod Spots
+pub mod PlainSpots
+pub mod Places
+pub mod Told
+pub mod Lexemes
+pub mod PlainLexemes
+pub mod Words
+pub mod Notes

@@ -1,0 +1,21 @@
+//! What is wrong with a source, for people.
+//!
+//! 1. `lines` has the line and the column of a byte, as a terminal shows them.
+//! 2. `skipping` passes the white space and the comments before a token, and `spots` has each token with its byte.
+//! 3. `places` answers where a byte, a token or a process stands.
+//! 4. `wanted` finds the token that a fault of a module tells.
+//! 5. `lexemes` takes any text as words, numbers, strings and signs; `words` is the table of what the language lacks, and `notes`
+//!    goes once over a source with it.
+//! 6. `diagnose` joins the fault of a source with its place and the notes, and `render` writes them as text.
+#![tactic(auto)]
+
+pub mod diagnose;
+mod lexemes;
+mod lines;
+pub mod notes;
+pub mod places;
+pub mod render;
+mod skipping;
+mod spots;
+mod wanted;
+pub mod words;

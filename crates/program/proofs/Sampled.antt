@@ -1,0 +1,69 @@
+-- The runs of seeds as texts that were found.
+use Rattle.std.proofs.Common.{◌≡◌, ◌∙◌, sym, ℕ, zero, suc, ◌<◌, List, [], ◌∷◌, ◌++◌, length, get_or, arith, ap}
+use Rattle.std.specs.List.{All, AllPairs}
+use Rattle.std.proofs.lemmas.List.Elements.{All-nil, All-cons, All-head, All-tail}
+use Rattle.model.specs.declared.entry.Entry.{Entry}
+use Rattle.model.specs.declared.end.End.{End}
+use Rattle.model.specs.declared.end.Limits.{Limits}
+use Rattle.design.specs.Compiled.{Compiled}
+use Rattle.explore.specs.declared.Shown.{Shown}
+use Rattle.explore.specs.Search.{AreDistinct}
+use Rattle.seeded.specs.Runs.{IsRun}
+use Rattle.seeded.specs.Samples as seeded
+use Rattle.seeded.specs.declared.run.SeededRun.{SeededRun}
+use Rattle.verdict.specs.declared.claim.Claim.TheVariants.{Sampled}
+use Rattle.program.specs.declared.extent.Extent.{Extent}
+use Rattle.program.specs.Findings.{AreFound, AreOf, IsFound, IsOf, limits_in}
+
+-- one more run, and its text
+pub of_more : (rs : List SeededRun) (ss : List (Shown Entry End)) (r : SeededRun) (s : Shown Entry End) → AreOf rs ss → IsOf r s
+    → AreOf (rs ++ r ∷ []) (ss ++ s ∷ [])
+of_more [] [] r s h o = (o, tt)
+of_more [] (t ∷ ss) r s h o = absurd h
+of_more (q ∷ rs) [] r s h o = absurd h
+of_more (q ∷ rs) (t ∷ ss) r s h o = (h.0, of_more rs ss r s h.1 o)
+
+all_found : (n : ℕ) (code : Compiled) (limits : Limits) (rs : List SeededRun) (ss : List (Shown Entry End)) → AreOf rs ss
+    → All (IsRun code limits) rs → All (IsFound (Sampled n) code limits) ss
+all_found n code limits [] [] h all = All-nil (IsFound (Sampled n) code limits)
+all_found n code limits [] (s ∷ ss) h all = absurd h
+all_found n code limits (r ∷ rs) [] h all = absurd h
+all_found n code limits (r ∷ rs) (s ∷ ss) h all =
+    All-cons (IsFound (Sampled n) code limits) s ss (r, h.0, All-head (IsRun code limits) r rs all)
+    (all_found n code limits rs ss h.1 (All-tail (IsRun code limits) r rs all))
+
+-- as many, and each at its place
+same_length : (rs : List SeededRun) (ss : List (Shown Entry End)) → AreOf rs ss → length rs ≡ length ss
+same_length [] [] h = omega arith
+same_length [] (s ∷ ss) h = absurd h
+same_length (r ∷ rs) [] h = absurd h
+same_length (r ∷ rs) (s ∷ ss) h = ap suc (same_length rs ss h.1)
+
+at_place : (rs : List SeededRun) (ss : List (Shown Entry End)) (i : ℕ) (c : SeededRun) (d : Shown Entry End) → AreOf rs ss → i < length ss
+    → IsOf (get_or rs i c) (get_or ss i d)
+at_place [] [] i c d h lt = absurd (omega (arith, lt))
+at_place [] (s ∷ ss) i c d h lt = absurd h
+at_place (r ∷ rs) [] i c d h lt = absurd h
+at_place (r ∷ rs) (s ∷ ss) zero c d h lt = h.0
+at_place (r ∷ rs) (s ∷ ss) (suc i) c d h lt = at_place rs ss i c d h.1 (omega (arith, lt))
+
+some_run : (rs : List SeededRun) (ss : List (Shown Entry End)) (j : ℕ) → AreOf rs ss → j < length ss → SeededRun
+some_run [] [] j h lt = absurd (omega (arith, lt))
+some_run [] (s ∷ ss) j h lt = absurd h
+some_run (r ∷ rs) ss j h lt = r
+
+all_apart : (rs : List SeededRun) (ss : List (Shown Entry End)) → AreOf rs ss → AllPairs seeded.AreDistinct rs → AllPairs AreDistinct ss
+all_apart rs ss h apart i j d lt in_range text end =
+    let c = some_run rs ss j h in_range in
+    let one = at_place rs ss i c d h (omega (arith, lt, in_range)) in
+    let other = at_place rs ss j c d h in_range in
+    let there : j < length rs = omega (arith, in_range, same_length rs ss h) in
+    apart i j c lt there (sym one.0 ∙ (text ∙ other.0)) (sym one.1 ∙ (end ∙ other.1))
+
+pub samples_found : (n : ℕ) (code : Compiled) (extent : Extent) (rs : List SeededRun) (ss : List (Shown Entry End)) → AreOf rs ss
+    → All (IsRun code (limits_in extent)) rs → AllPairs seeded.AreDistinct rs → AreFound code extent (Sampled n) ss
+samples_found n code extent rs ss h all apart = record {
+  sound = all_found n code (limits_in extent) rs ss h all;
+  distinct = all_apart rs ss h apart;
+  all = tt;
+}

@@ -1,0 +1,11 @@
+-- Reading a file leaves the files that were saved.
+use Rattle.program.specs.Saved.{KeepsFiles}
+use Rattle.program.proofs.Ended.{shown_on, output_kept}
+use Rattle.program.proofs.searching.search_races.Goals as goal
+
+pub returns-clause-shown : goal.returns-clause-shown
+returns-clause-shown g c =
+    shown_on c.args.request.now.extent _ (g.O.Write.contents c.args.out.now) (g.O.Write.contents c.search_design.new.out) (g.F.Files.made c.args.files.now) (g.F.Files.made c.read_file.new.files) (g.F.Files.made c.search_design.new.files) c.search_design.result c.read_file.ensures c.search_design.ensures.shown
+
+pub returns-clause-unsaved : goal.returns-clause-unsaved
+returns-clause-unsaved g c = output_kept (KeepsFiles (g.F.Files.made c.args.files.now) (g.F.Files.made c.search_design.new.files)) c.search_design.result c.search_design.ensures.fault

@@ -1,0 +1,64 @@
+//! Random lawful orders in place of the search of all of them.
+
+ghost use Rattle.std.specs.Prelude.{◌≡◌, IfOk};
+ghost use Rattle.program.specs.Findings.{AreFound, AreOf, IsOf};
+ghost use Rattle.program.specs.Options.{CanSearch};
+
+use crate::extent::Extent;
+use crate::texts::Texts;
+use design::Design;
+use explore::Shown;
+use model::end::{End, Limits};
+use model::entry::Entry;
+use seeded::run::SeededRun;
+use seeded::samples::sample;
+use std::alloc::{AllocError, Global};
+use verdict::Claim;
+
+/// The texts of some random lawful orders.
+pub fn sampled(
+    alloc: Global,
+    design: &Design,
+    extent: Extent,
+    count: u32,
+) -> Result<Texts, AllocError>
+    requires { CanSearch extent }
+    ensures { IfOk result (λ texts. AreFound design.now extent texts.claim texts.shown.items) }
+{
+    let limits = Limits {
+        until: extent.until,
+        max_entries: extent.max_entries,
+    };
+    let most = extent.max_texts as usize;
+    let samples = sample(alloc, design, limits, extent.seed, count, most);
+    let claim = Claim::Sampled(samples.made);
+    let shown = shown_of(alloc, samples.kept)?;
+    Ok(Texts { claim, shown })
+}
+
+/// Runs as texts that are shown.
+#[tactic(auto, using(crate::proofs::Sampled::of_more))]
+fn shown_of(alloc: Global, runs: Vec<SeededRun>) -> Result<Vec<Shown<Entry, End>>, AllocError>
+    ensures { IfOk result (λ shown. AreOf runs.items shown.items) }
+{
+    let mut shown = Vec::new(alloc);
+    for run in runs {
+        shown.push(shown_as(run))?;
+    }
+    Ok(shown)
+}
+
+fn shown_as(run: SeededRun) -> Shown<Entry, End>
+    ensures { IsOf run result }
+{
+    let SeededRun {
+        lines,
+        journal,
+        end,
+    } = run;
+    Shown {
+        text: lines.into_bytes(),
+        end,
+        moves: journal,
+    }
+}

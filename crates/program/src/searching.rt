@@ -1,0 +1,160 @@
+//! `races FILE`: the file is read and its lawful orders are searched, or random ones tried. Then journals are written where they
+//! are wanted, and then what is said of the texts.
+
+ghost use Rattle.std.specs.Prelude.{◌≡◌, ◌≢◌, ◌⊎◌, ◌++◌, IfErr, IfOk, IsTrue, ℕ, List, Bool, length, option_map};
+ghost use Rattle.std.specs.Io.KnownBytes.{Keeps};
+ghost use Rattle.frontend.specs.Sources.{IsDesignOf};
+ghost use Rattle.verdict.specs.Verdicts.{verdict_text};
+ghost use Rattle.program.specs.Findings.{AreFound, IsOfSearch, OnEvery, first_text};
+ghost use Rattle.program.specs.Options.{CanSearch};
+ghost use Rattle.program.specs.Program.{status_of};
+ghost use Rattle.program.specs.Printed.{HasShown};
+ghost use Rattle.program.specs.Saved.{KeepsFiles};
+
+use crate::extent::Extent;
+use crate::fault::Fault;
+use crate::files::Files;
+use crate::finding::Finding;
+use crate::reading::read_file;
+use crate::request::RacesRequest;
+use crate::sampling::sampled;
+use crate::saving::{save_all, try_first};
+use crate::texts::Texts;
+use crate::writing::show_bytes;
+use design::Design;
+use explore::{Bounds, Explored, Shown};
+use frontend::read_design;
+use model::end::{End, Limits};
+use model::entry::Entry;
+use races::lawful_orders;
+use std::alloc::{AllocError, Global};
+use std::io::Write;
+use verdict::{Claim, Met, Verdict, push_verdict};
+
+/// Searches for races of FILE and writes what came of it.
+pub fn search_races<'a, F: Files, O: Write>(
+    alloc: Global,
+    request: &RacesRequest<'a>,
+    files: &mut F,
+    out: &mut O,
+) -> Result<Finding, Fault<'a>>
+    ensures shown { IfOk result (HasShown request.now.extent (option_map (λ path. path.now) request.now.journals)
+        (O.contents out.old) (O.contents out.new) (F.made files.old) (F.made files.new)) }
+    ensures nothing { IfErr result (λ fault. status_of fault ≢ 1 → Keeps (O.contents out.old) (O.contents out.new)) }
+    ensures unsaved { IfErr result (λ fault. (status_of fault ≡ 3) ⊎ (status_of fault ≡ 5) → KeepsFiles (F.made files.old) (F.made files.new)) }
+{
+    let source = read_file(alloc, request.file, files)?;
+    let design = read_design(alloc, source.as_slice())?;
+    search_design(alloc, &design, request, files, out)
+}
+
+/// Searches for races of the design of a source.
+fn search_design<F: Files, O: Write>(
+    alloc: Global,
+    design: &Design,
+    request: &RacesRequest<'_>,
+    files: &mut F,
+    out: &mut O,
+) -> Result<Finding, Fault<'static>>
+    requires { (source : List ℕ) × IsDesignOf source design.now }
+    ensures shown { IfOk result (HasShown request.now.extent (option_map (λ path. path.now) request.now.journals)
+        (O.contents out.old) (O.contents out.new) (F.made files.old) (F.made files.new)) }
+    ensures nothing { IfErr result (λ fault. status_of fault ≢ 1 → Keeps (O.contents out.old) (O.contents out.new)) }
+    ensures fault { IfErr result (λ fault. (status_of fault ≡ 1) ⊎ (status_of fault ≡ 6)) }
+{
+    try_first(alloc, request.journals, files)?;
+    let texts = find_texts(alloc, design, request.extent)?;
+    let shown = texts.shown.as_slice();
+    let report = report(alloc, texts.claim, request.extent.until, shown)?;
+    save_all(alloc, texts.shown.as_slice(), request.journals, files)?;
+    show_bytes(out, report.as_slice())?;
+    Ok(Finding::of(texts.claim, texts.shown.len()))
+}
+
+/// The texts of all lawful orders, as far as they are searched, or those of random ones where so many are to be tried.
+fn find_texts(alloc: Global, design: &Design, extent: Extent) -> Result<Texts, AllocError>
+    requires { CanSearch extent }
+    ensures { IfOk result (λ texts. AreFound design.now extent texts.claim texts.shown.items) }
+{
+    match extent.samples {
+        Some(count) => sampled(alloc, design, extent, count),
+        None => Ok(searched(alloc, design, extent)),
+    }
+}
+
+/// The texts of all lawful orders, as far as they are searched.
+fn searched(alloc: Global, design: &Design, extent: Extent) -> Texts
+    requires { CanSearch extent }
+    ensures { AreFound design.now extent result.claim result.shown.items }
+{
+    let limits = Limits {
+        until: extent.until,
+        max_entries: extent.max_entries,
+    };
+    let bounds = Bounds {
+        nodes: extent.max_states as usize,
+        shown: extent.max_texts as usize,
+    };
+    let explored = lawful_orders(alloc, design, limits, bounds);
+    let claim = claim_of(extent, &explored);
+    Texts {
+        claim,
+        shown: explored.shown,
+    }
+}
+
+/// What is claimed of the texts of a search.
+fn claim_of(extent: Extent, explored: &Explored<Entry, End>) -> Claim
+    ensures every { OnEvery result (IsTrue explored.now.covered) }
+    ensures searched { IsOfSearch result }
+{
+    if explored.covered {
+        return Claim::Every(explored.nodes as u64);
+    }
+    if explored.nodes >= extent.max_states as usize {
+        return Claim::SoFar(Met::States(extent.max_states));
+    }
+    if explored.shown.len() >= extent.max_texts as usize {
+        return Claim::SoFar(Met::Texts(extent.max_texts));
+    }
+    Claim::SoFar(Met::Entries(extent.max_entries))
+}
+
+/// Whether some of the texts have another end than the first.
+fn ends_differ(shown: &[Shown<Entry, End>]) -> bool {
+    match shown.split_first() {
+        Some((first, others)) => others.iter().any(|one| one.end != first.end),
+        None => false,
+    }
+}
+
+/// What is said of the texts.
+fn report(
+    alloc: Global,
+    claim: Claim,
+    until: Option<u64>,
+    shown: &[Shown<Entry, End>],
+) -> Result<Vec<u8>, AllocError>
+    ensures { IfOk result (λ report. (ends : Bool) × (report.items ≡ verdict_text claim until (length shown.now) ends (first_text shown.now))) }
+{
+    let mut report = Vec::new(alloc);
+    let verdict = Verdict {
+        claim,
+        until,
+        count: shown.len(),
+        ends: ends_differ(shown),
+        first: first_of(shown),
+    };
+    push_verdict(&mut report, &verdict)?;
+    Ok(report)
+}
+
+/// The first text, if there is one.
+fn first_of(shown: &[Shown<Entry, End>]) -> &[u8]
+    ensures { result.now ≡ first_text shown.now }
+{
+    match shown.split_first() {
+        Some((first, _)) => first.text.as_slice(),
+        None => &[],
+    }
+}

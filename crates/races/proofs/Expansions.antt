@@ -1,0 +1,103 @@
+-- What an expansion comes to where a run rests, where it branches, and where a walk leads on.
+use Rattle.std.proofs.Common.{Vec, Global, vec_len, ◌==◌, Bool, true, false, ◌≡◌, ◌≢◌, ◌<◌, List, [], ◌∷◌, length, Result, Ok, Err, inl, refl, sym, ap, ◌∙◌, subst, arith}
+use Rattle.std.specs.Prelude.{IfOk}
+use Rattle.std.specs.List.{All}
+use Rattle.std.proofs.lemmas.Grind.{common_steps}
+use Rattle.std.proofs.lemmas.List.Elements.{All-nil, All-cons}
+use Rattle.model.specs.declared.entry.Entry.{Entry}
+use Rattle.model.specs.declared.end.Limits.{Limits}
+use Rattle.model.specs.declared.end.End.{End}
+use Rattle.model.specs.States.{State}
+use Rattle.model.specs.Runs.{silent, IsTimely}
+use Rattle.orders.specs.Search.{EndsHere}
+use Rattle.design.specs.Compiled.{Compiled, design_of}
+use Rattle.seeded.specs.Resting.{RestsAt}
+use Rattle.explore.specs.declared.Next.{Next}
+use Rattle.explore.specs.declared.Ended.{Ended}
+use Rattle.races.specs.Expanding.{GoesOnTo}
+use Rattle.regions.specs.Machine.{state_at}
+use Rattle.races.specs.Places.{IsReady, IsWayOn, IsWayToEnd, AreAllWays}
+use Rattle.races.specs.Walking.{HasWalked}
+use Rattle.races.specs.declared.place.Place.{Place}
+use Rattle.races.specs.declared.walk.Walk.{Walk}
+use Rattle.races.proofs.Ways.{nothing_followed}
+use Rattle.races.proofs.Walks.{walk_is_way, walk_is_all}
+
+-- the one end of a run that rests
+pub rest_sound : (code : Compiled) (limits : Limits) (s : State) (end : End) (xs : List (Ended Entry End)) (one : Ended Entry End) → 0 < limits.max_entries → RestsAt (design_of code) limits s end
+    → xs ≡ one ∷ [] → one.end ≡ end → one.printed.items ≡ [] → one.moves.items ≡ [] → All (IsWayToEnd code limits s) xs
+rest_sound code limits s end xs one few rests is end_is printed moves =
+    let none : GoesOnTo (design_of code) limits (silent s) [] (silent s) = (refl, All-nil (IsTimely limits)) in
+    let way : IsWayToEnd code limits s one =
+    record {
+      effect = silent s;
+      goes = subst (λ (l : List Entry). GoesOnTo (design_of code) limits (silent s) l (silent s)) (sym moves) none;
+      printed = printed;
+      here = subst (λ (x : End). EndsHere (design_of code) limits (silent s) x) (sym end_is) (rests.ends (inl few));
+    } in
+    subst (All (IsWayToEnd code limits s)) (sym is) (All-cons (IsWayToEnd code limits s) one [] way (All-nil (IsWayToEnd code limits s)))
+
+pub rest_all : (code : Compiled) (limits : Limits) (s : State) (end : End) (successors : List (Next Place Entry)) (xs : List (Ended Entry End)) (one : Ended Entry End) → RestsAt (design_of code) limits s end
+    → successors ≡ [] → xs ≡ one ∷ [] → one.end ≡ end → one.printed.items ≡ [] → AreAllWays code limits s successors xs
+rest_all code limits s end successors xs one rests none is end_is printed =
+    subst (λ (l : List (Next Place Entry)). AreAllWays code limits s l xs) (sym none)
+    (subst (λ (l : List (Ended Entry End)). AreAllWays code limits s [] l) (sym is)
+    (nothing_followed code limits s (one ∷ []) (λ entry free timely. rests.nothing entry (free, timely))
+    (λ other here. (0, one, omega arith, refl, (printed, end_is ∙ sym (rests.only other here))))))
+
+pub both_ok : {T E : Type 0} (r : Result T E) (P Q : T → Type 0) → IfOk r P → IfOk r Q → IfOk r (λ x. P x × Q x)
+both_ok (Ok x) P Q p q = (p, q)
+both_ok (Err e) P Q p q = tt
+
+pub no_elements : {X : Type 0} (xs : List X) → length xs ≡ 0 → xs ≡ []
+no_elements [] none = refl
+no_elements (x ∷ xs) none = absurd (omega (arith, none))
+
+pub some_elements : {X : Type 0} (xs : List X) → 0 < length xs → xs ≢ []
+some_elements xs some = λ e. omega (arith, some, ap length e)
+
+-- what comes of a branching where a walk that took no entry stands
+pub branched_next : (code other : Compiled) (limits : Limits) (s t : State) (xs : List (Next Place Entry)) → other ≡ code → t ≡ s → All (IsWayOn other limits t) xs → All (IsWayOn code limits s) xs
+branched_next code other limits s t xs same alike on =
+    subst (λ (x : State). All (IsWayOn code limits x) xs) alike (subst (λ (k : Compiled). All (IsWayOn k limits t) xs) same on)
+
+pub branched_sound : (code other : Compiled) (limits : Limits) (s t : State) (xs : List (Ended Entry End)) → other ≡ code → t ≡ s → All (IsWayToEnd other limits t) xs → All (IsWayToEnd code limits s) xs
+branched_sound code other limits s t xs same alike to =
+    subst (λ (x : State). All (IsWayToEnd code limits x) xs) alike (subst (λ (k : Compiled). All (IsWayToEnd k limits t) xs) same to)
+
+pub branched_all : (code other : Compiled) (limits : Limits) (s t : State) (xs : List (Next Place Entry)) (ys : List (Ended Entry End)) → other ≡ code → t ≡ s → AreAllWays other limits t xs ys → AreAllWays code limits s xs ys
+branched_all code other limits s t xs ys same alike all =
+    subst (λ (x : State). AreAllWays code limits x xs ys) alike (subst (λ (k : Compiled). AreAllWays k limits t xs ys) same all)
+
+-- what comes of a walk of one entry or more
+abbrev pub IsArrived : Walk → List (Next Place Entry) → Type 0
+IsArrived walk xs =
+    (next : Next Place Entry) × (xs ≡ next ∷ []) × (next.moves.items ≡ walk.moves.items) × (next.printed.items ≡ walk.machine.lines) × IsReady walk.machine.code next.node
+    × (state_at next.node.machine ≡ state_at walk.machine)
+
+pub arrived_next : (code : Compiled) (limits : Limits) (s : State) (walk : Walk) (xs : List (Next Place Entry)) → walk.machine.code ≡ code → HasWalked limits s walk → IsArrived walk xs → All (IsWayOn code limits s) xs
+arrived_next code limits s walk xs same walked (next, is, moves, printed, ready, state) =
+    subst (All (IsWayOn code limits s)) (sym is)
+    (All-cons (IsWayOn code limits s) next [] (walk_is_way code limits s walk next same walked moves printed ready state) (All-nil (IsWayOn code limits s)))
+
+pub arrived_all : (code : Compiled) (limits : Limits) (s : State) (walk : Walk) (xs : List (Next Place Entry)) (ys : List (Ended Entry End)) → walk.machine.code ≡ code → HasWalked limits s walk → 0 < length walk.moves.items → IsArrived walk xs → AreAllWays code limits s xs ys
+arrived_all code limits s walk xs ys same walked some (next, is, moves, printed, ready, state) =
+    subst (λ (l : List (Next Place Entry)). AreAllWays code limits s l ys) (sym is)
+    (walk_is_all code limits s walk next ys same walked (some_elements walk.moves.items some) moves)
+
+-- the end of a run that rests, as what an expansion tells
+abbrev pub IsRested : End → List (Ended Entry End) → Type 0
+IsRested end xs = (one : Ended Entry End) × (xs ≡ one ∷ []) × (one.end ≡ end) × (one.printed.items ≡ []) × (one.moves.items ≡ [])
+
+pub rested_sound : (code : Compiled) (limits : Limits) (s : State) (end : End) (xs : List (Ended Entry End)) → 0 < limits.max_entries → RestsAt (design_of code) limits s end → IsRested end xs → All (IsWayToEnd code limits s) xs
+rested_sound code limits s end xs few rests (one, is, end_is, printed, moves) = rest_sound code limits s end xs one few rests is end_is printed moves
+
+pub rested_all : (code : Compiled) (limits : Limits) (s : State) (end : End) (successors : List (Next Place Entry)) (xs : List (Ended Entry End)) → RestsAt (design_of code) limits s end → IsRested end xs → successors ≡ [] → AreAllWays code limits s successors xs
+rested_all code limits s end successors xs rests (one, is, end_is, printed, moves) none = rest_all code limits s end successors xs one rests none is end_is printed
+
+-- what an answer of `is_empty` says of the elements
+pub empty_is_none : (v : Vec Entry Global) (b : Bool) → b ≡ (vec_len v == 0) → b ≡ true → length v.items ≡ 0
+empty_is_none v b is yes_it_is = grind (arith, common_steps)
+
+pub not_empty_is_some : (v : Vec Entry Global) (b : Bool) → b ≡ (vec_len v == 0) → b ≡ false → 0 < length v.items
+not_empty_is_some v b is not_it = grind (arith, common_steps)

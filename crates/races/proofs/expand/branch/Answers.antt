@@ -1,0 +1,20 @@
+-- Each entry that is permitted is among those that are followed.
+use Rattle.std.proofs.Common.{◌≡◌, List, None, sym, subst}
+use Rattle.std.specs.List.{Contains}
+use Rattle.model.specs.declared.entry.Entry.{Entry}
+use Rattle.model.specs.Runs.{refusal}
+use Rattle.regions.specs.Machine.{state_at}
+use Rattle.races.proofs.Ways.{all_contained, all_followed, only_long_ends}
+use Rattle.races.proofs.expand.branch.Goals as goal
+
+pub follow_each-requires-clause-permitted : goal.follow_each-requires-clause-permitted
+follow_each-requires-clause-permitted c =
+    all_contained (λ entry. refusal (state_at c.args.machine.now) entry ≡ None) c.deref.result.now
+    (λ entry there. (c.in_ok-entries.ensures.permitted entry).0 (subst (λ (l : List Entry). Contains l entry) c.deref.ensures.value there))
+
+pub returns-clause-all : goal.returns-clause-all
+returns-clause-all c =
+    let s = state_at c.args.machine.now in
+    all_followed c.args.machine.now.code c.args.limits s c.deref.result.now c.in_ok-successors.field-0.successors.items c.in_ok-successors.field-0.ended.items
+    (λ entry free. subst (λ (l : List Entry). Contains l entry) (sym c.deref.ensures.value) ((c.in_ok-entries.ensures.permitted entry).1 free))
+    (only_long_ends c.args.machine.now.code c.args.limits s c.requires.goes_on) c.in_ok-successors.ensures

@@ -1,0 +1,7 @@
+use Rattle.std.proofs.Common.{take}
+use Rattle.regions.specs.Machine.{state_at}
+use Rattle.races.specs.Places.{AreWaysFor}
+use Rattle.races.proofs.expand.follow_each.Given as goal
+
+abbrev pub invariant-loop-entry : goal.invariant-loop-entry
+invariant-loop-entry l = AreWaysFor l.machine.code l.limits (state_at l.machine) (take l.entry-index l.entries) l.ways.successors.items l.ways.ended.items

@@ -1,0 +1,92 @@
+//! The lawful orders of a design, as a search follows them.
+ghost use Rattle.std.specs.Prelude.{◌<◌, ◌≤◌, IfSome, IsTrue};
+ghost use Rattle.std.specs.List.{All, AllPairs};
+ghost use Rattle.model.specs.Runs.{last_time};
+ghost use Rattle.design.specs.Compiled.{design_of};
+ghost use Rattle.explore.specs.Search.{AreDistinct, IsShown};
+ghost use Rattle.races.specs.Journals.{AreAllTexts, IsLawfulText};
+ghost use Rattle.races.specs.Places.{AreBounded};
+
+use crate::expand::expand;
+use crate::place::{Place, place_of};
+use design::Design;
+use explore::{Bounds, Expanded, Explored, Orders, explore};
+use model::end::{End, Limits};
+use model::entry::Entry;
+use regions::Machine;
+use std::alloc::{AllocError, Global};
+
+// The lawful journals of a design in time.
+#[derive(Drop)]
+struct Lawful<'d> {
+    design: &'d Design,
+    limits: Limits,
+    ghost bounded: { AreBounded limits },
+}
+
+impl<'d> Orders for Lawful<'d> {
+    ghost use Rattle.std.specs.Prelude.{refl};
+    ghost use Rattle.races.specs.Places.{lawful_runs};
+    ghost use Rattle.races.specs.Serving.{lawful_alike, lawful_keyed};
+
+    type Move = Entry;
+
+    type Node = Place<'d>;
+
+    type End = End;
+
+    ghost runs = { λ o. lawful_runs o.design.now o.limits };
+
+    ghost key_of = { λ _ place. place.key.items };
+
+    fn start(&self, alloc: Global) -> Result<Place<'d>, AllocError> {
+        let machine = Machine::start(alloc, self.design)?;
+        machine.stands();
+        place_of(alloc, machine)
+    }
+
+    fn expand(
+        &self,
+        alloc: Global,
+        node: Place<'d>,
+    ) -> Result<Expanded<Place<'d>, Entry, End>, AllocError> {
+        let expanded = expand(alloc, self.limits, node.machine)?;
+        Ok(expanded)
+    }
+
+    fn key(&self, alloc: Global, node: &Place<'d>) -> Result<Vec<u8>, AllocError> {
+        let mut key = Vec::new(alloc);
+        key.extend_from_slice(&node.key)?;
+        Ok(key)
+    }
+
+    fn same_end(&self, a: &End, b: &End) -> bool {
+        *a == *b
+    }
+
+    ghost silent = { λ _. refl };
+
+    ghost alike = { λ o i j a. lawful_alike o.design.now o.limits i j a };
+
+    ghost keyed = { λ o a b i j e at bt text. lawful_keyed o.design.now o.limits a b i j e at bt text };
+}
+
+/// Searches all lawful orders of a design within these limits (11.4), on one thread. Each text that is shown is that of the lawful
+/// journal beside it, and so is its end; no two have one text and one end; and where the answer is covered, every lawful journal in
+/// time that ends, but by the most entries or for want of memory, has a text and an end that are shown.
+pub fn lawful_orders(
+    alloc: Global,
+    design: &Design,
+    limits: Limits,
+    bounds: Bounds,
+) -> Explored<Entry, End>
+    requires room { 0 < bounds.nodes }
+    requires some_entry { 0 < limits.max_entries }
+    requires until { IfSome limits.until (λ until. until ≤ last_time) }
+    ensures sound { All (λ s. IsLawfulText (design_of design.now) limits s.moves.items s.text.items s.end) result.shown.items }
+    ensures distinct { AllPairs AreDistinct result.shown.items }
+    ensures all { IsTrue result.covered → AreAllTexts (design_of design.now) limits (IsShown result.shown.items) }
+    ensures few { result.nodes ≤ bounds.nodes }
+{
+    explore(alloc, &Lawful { design, limits }, bounds)
+}

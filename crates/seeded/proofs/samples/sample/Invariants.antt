@@ -1,0 +1,15 @@
+-- What is kept so far.
+use Rattle.std.proofs.Common.{◌≤◌, vec_len}
+use Rattle.std.specs.List.{All, AllPairs}
+use Rattle.seeded.specs.Runs.{IsRun}
+use Rattle.seeded.specs.Samples.{AreDistinct, WantsNoMemory}
+use Rattle.seeded.proofs.samples.sample.Given as goal
+
+abbrev pub invariant-loop-made : goal.invariant-loop-made
+invariant-loop-made l = record {
+  runs : All (IsRun l.design l.limits) l.kept.items;
+  distinct : AllPairs AreDistinct l.kept.items;
+  ended : All WantsNoMemory l.kept.items;
+  most : vec_len l.kept ≤ l.most;
+  kept : vec_len l.kept ≤ l.made;
+}

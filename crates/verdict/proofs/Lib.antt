@@ -1,0 +1,2 @@
+-- Lemmas of texts.
+pub mod Pieces

@@ -1,0 +1,142 @@
+//! Parts of the lines on texts.
+
+ghost use Rattle.std.specs.Prelude.{◌≡◌, ◌<◌, ◌++◌, OnOk, decimal};
+ghost use Rattle.verdict.specs.Verdicts.{count_text, group, grouped, limit_text, lines_in, lines_text, met_text, several_text, states_text, these_lines, thousands, up_to, up_to_time};
+
+use crate::claim::Met;
+use itoa::Buffer;
+use std::alloc::AllocError;
+
+pub(crate) fn push_number(text: &mut Vec<u8>, number: u64) -> Result<(), AllocError>
+    ensures { OnOk result (text.new.items ≡ text.old.items ++ decimal number) }
+{
+    let mut digits = Buffer::new();
+    text.extend_from_slice(digits.format(number).as_bytes())
+}
+
+/// Puts a comma and three digits behind a text.
+fn push_group(text: &mut Vec<u8>, number: u64) -> Result<(), AllocError>
+    requires { number < 1000 }
+    ensures { OnOk result (text.new.items ≡ text.old.items ++ group number) }
+{
+    text.push(b',')?;
+    text.push(48 + (number / 100) as u8)?;
+    text.push(48 + (number / 10 % 10) as u8)?;
+    text.push(48 + (number % 10) as u8)?;
+    Ok(())
+}
+
+/// Puts a number behind a text, with a comma before each three digits of its last nine.
+pub(crate) fn push_grouped(text: &mut Vec<u8>, number: u64) -> Result<(), AllocError>
+    ensures { OnOk result (text.new.items ≡ text.old.items ++ grouped number) }
+{
+    if number < 1000 {
+        return push_number(text, number);
+    }
+    push_thousands(text, number / 1000)?;
+    push_group(text, number % 1000)
+}
+
+fn push_thousands(text: &mut Vec<u8>, number: u64) -> Result<(), AllocError>
+    ensures { OnOk result (text.new.items ≡ text.old.items ++ thousands number) }
+{
+    if number < 1000 {
+        return push_number(text, number);
+    }
+    push_number(text, number / 1000)?;
+    push_group(text, number % 1000)
+}
+
+/// How many texts there are, and whether they are told apart by their ends too.
+pub(crate) fn push_count(text: &mut Vec<u8>, count: usize, ends: bool) -> Result<(), AllocError>
+    ensures { OnOk result (text.new.items ≡ text.old.items ++ count_text count ends) }
+{
+    match count {
+        0 => text.extend_from_slice(b"no text"),
+        1 => text.extend_from_slice(b"one text"),
+        _ => push_several(text, count, ends),
+    }
+}
+
+fn push_several(text: &mut Vec<u8>, count: usize, ends: bool) -> Result<(), AllocError>
+    ensures { OnOk result (text.new.items ≡ text.old.items ++ several_text count ends) }
+{
+    push_number(text, count as u64)?;
+    match ends {
+        true => text.extend_from_slice(b" texts and ends"),
+        false => text.extend_from_slice(b" texts"),
+    }
+}
+
+/// Up to which time.
+pub(crate) fn push_up_to(text: &mut Vec<u8>, until: Option<u64>) -> Result<(), AllocError>
+    ensures { OnOk result (text.new.items ≡ text.old.items ++ up_to until) }
+{
+    match until {
+        Some(time) => push_time(text, time),
+        None => Ok(()),
+    }
+}
+
+fn push_time(text: &mut Vec<u8>, time: u64) -> Result<(), AllocError>
+    ensures { OnOk result (text.new.items ≡ text.old.items ++ up_to_time time) }
+{
+    text.extend_from_slice(b" up to time ")?;
+    push_number(text, time)
+}
+
+/// How many lines a text has.
+fn lines_in(text: &[u8]) -> usize
+    ensures { result ≡ lines_in text.now }
+{
+    text.iter().filter(|byte| **byte == 10).count()
+}
+
+pub(crate) fn push_these_lines(text: &mut Vec<u8>, printed: &[u8]) -> Result<(), AllocError>
+    ensures { OnOk result (text.new.items ≡ text.old.items ++ these_lines (lines_in printed.now)) }
+{
+    match lines_in(printed) {
+        0 => text.extend_from_slice(b"no line\n"),
+        1 => text.extend_from_slice(b"this line\n"),
+        count => push_lines(text, count),
+    }
+}
+
+fn push_lines(text: &mut Vec<u8>, count: usize) -> Result<(), AllocError>
+    ensures { OnOk result (text.new.items ≡ text.old.items ++ lines_text count) }
+{
+    text.extend_from_slice(b"these ")?;
+    push_grouped(text, count as u64)?;
+    text.extend_from_slice(b" lines\n")
+}
+
+/// How many states were reached where nothing was left out.
+pub(crate) fn push_states(text: &mut Vec<u8>, states: u64) -> Result<(), AllocError>
+    ensures { OnOk result (text.new.items ≡ text.old.items ++ states_text states) }
+{
+    text.extend_from_slice(b"(")?;
+    push_grouped(text, states)?;
+    match states {
+        1 => text.extend_from_slice(b" state, no choice left open)\n"),
+        _ => text.extend_from_slice(b" states, no choice left open)\n"),
+    }
+}
+
+/// Which limit was met.
+pub(crate) fn push_met(text: &mut Vec<u8>, met: Met) -> Result<(), AllocError>
+    ensures { OnOk result (text.new.items ≡ text.old.items ++ met_text met) }
+{
+    match met {
+        Met::States(most) => push_limit(text, most, b" states)\n"),
+        Met::Texts(most) => push_limit(text, most, b" texts)\n"),
+        Met::Entries(most) => push_limit(text, most, b" entries, or memory)\n"),
+    }
+}
+
+fn push_limit(text: &mut Vec<u8>, most: u32, what: &[u8]) -> Result<(), AllocError>
+    ensures { OnOk result (text.new.items ≡ text.old.items ++ limit_text most what.now) }
+{
+    text.extend_from_slice(b" so far: a limit was met (")?;
+    push_grouped(text, most as u64)?;
+    text.extend_from_slice(what)
+}

@@ -1,0 +1,138 @@
+//! The lines on a race. No clause says what they are: a run is lawful and its text is right whatever the race is called.
+
+use crate::phrases::push_number;
+use crate::source::Process;
+use std::alloc::AllocError;
+
+/// What two processes race for: a register, the order of the lines that they print, or that of their strobes' lines.
+#[derive(Clone, Copy, Debug)]
+pub enum Site<'a> {
+    Register(&'a str),
+    Printing,
+    Strobing,
+}
+
+/// A process that races: its number, where it begins, if that is known, and what it does.
+#[derive(Clone, Copy, Debug)]
+pub struct Role<'a> {
+    pub number: u32,
+    pub begins: Option<Process>,
+    pub does: &'a str,
+}
+
+/// One of the two runs of a race: the number of its journal, where that is saved, and the line in which the two differ
+/// first, with its newline, or nothing where its text has ended before.
+#[derive(Clone, Copy, Debug)]
+pub struct Run<'a> {
+    pub journal: Option<usize>,
+    pub line: &'a [u8],
+}
+
+/// A race: for what, at which time, of whom, where journals are saved, in which line the two runs differ, if not only in
+/// their ends, and the runs in which the first or the second comes first.
+#[derive(Clone, Copy, Debug)]
+pub struct Race<'a> {
+    pub number: usize,
+    pub site: Site<'a>,
+    pub time: u64,
+    pub first: Role<'a>,
+    pub second: Role<'a>,
+    pub prefix: Option<&'a str>,
+    pub line: Option<usize>,
+    pub original: Run<'a>,
+    pub exchanged: Run<'a>,
+}
+
+/// Puts the lines on a race behind a text.
+pub fn push_race(text: &mut Vec<u8>, race: &Race<'_>) -> Result<(), AllocError> {
+    text.extend_from_slice(b"race ")?;
+    push_number(text, race.number as u64)?;
+    push_site(text, race.site)?;
+    push_number(text, race.time)?;
+    text.extend_from_slice(b"\n")?;
+    push_role(text, race.first)?;
+    push_role(text, race.second)?;
+    push_run(text, race, b"  the first before the second", race.original)?;
+    push_run(text, race, b"  the second before the first", race.exchanged)
+}
+
+fn push_site(text: &mut Vec<u8>, site: Site<'_>) -> Result<(), AllocError> {
+    match site {
+        Site::Register(name) => {
+            text.extend_from_slice(b": register ")?;
+            text.extend_from_slice(name.as_bytes())?;
+            text.extend_from_slice(b", time ")
+        }
+        Site::Printing => text.extend_from_slice(b": the order of lines, time "),
+        Site::Strobing => text.extend_from_slice(b": the order of strobes, time "),
+    }
+}
+
+fn push_role(text: &mut Vec<u8>, role: Role<'_>) -> Result<(), AllocError> {
+    text.extend_from_slice(b"  process ")?;
+    push_number(text, u64::from(role.number))?;
+    if let Some(process) = role.begins {
+        push_begin(text, process)?;
+    }
+    text.extend_from_slice(b", ")?;
+    text.extend_from_slice(role.does.as_bytes())?;
+    text.extend_from_slice(b"\n")
+}
+
+fn push_begin(text: &mut Vec<u8>, process: Process) -> Result<(), AllocError> {
+    let word: &[u8] = match process.always {
+        true => b", always at line ",
+        false => b", initial at line ",
+    };
+    text.extend_from_slice(word)?;
+    push_number(text, process.line)
+}
+
+fn push_run(
+    text: &mut Vec<u8>,
+    race: &Race<'_>,
+    order: &[u8],
+    run: Run<'_>,
+) -> Result<(), AllocError> {
+    text.extend_from_slice(order)?;
+    push_journal(text, race.prefix, run.journal)?;
+    match race.line {
+        Some(number) => push_line(text, number, run.line),
+        None => text.extend_from_slice(b": the same lines, and another end\n"),
+    }
+}
+
+fn push_journal(
+    text: &mut Vec<u8>,
+    prefix: Option<&str>,
+    journal: Option<usize>,
+) -> Result<(), AllocError> {
+    match (prefix, journal) {
+        (Some(prefix), Some(number)) => push_path(text, prefix, number),
+        _ => Ok(()),
+    }
+}
+
+fn push_path(text: &mut Vec<u8>, prefix: &str, number: usize) -> Result<(), AllocError> {
+    text.extend_from_slice(b" (")?;
+    text.extend_from_slice(prefix.as_bytes())?;
+    text.extend_from_slice(b".")?;
+    push_number(text, number as u64)?;
+    text.extend_from_slice(b".journal)")
+}
+
+fn push_line(text: &mut Vec<u8>, number: usize, line: &[u8]) -> Result<(), AllocError> {
+    text.extend_from_slice(b": line ")?;
+    push_number(text, number as u64)?;
+    match line.split_last() {
+        Some((last, before)) if *last == b'\n' => push_quoted(text, before),
+        Some(_) => push_quoted(text, line),
+        None => text.extend_from_slice(b" is missing\n"),
+    }
+}
+
+fn push_quoted(text: &mut Vec<u8>, line: &[u8]) -> Result<(), AllocError> {
+    text.extend_from_slice(b" is `")?;
+    text.extend_from_slice(line)?;
+    text.extend_from_slice(b"`\n")
+}

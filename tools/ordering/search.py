@@ -1,0 +1,68 @@
+"""All lawful orders of a design: one journal after another, and with states merged that differ only in the numbers of events."""
+from collections import namedtuple
+
+from ordering.model import ends, entries, is_evaluation, start, step
+
+# `found` has a journal for each pair of a text and an end; `steps` counts the entries that were taken; `states` those that were kept.
+Found = namedtuple("Found", "found steps states")
+
+
+def journal_to(way):
+    """The journal that a way leads back on."""
+    entries = []
+    while way:
+        way, entry = way
+        entries.append(entry)
+    return entries[::-1]
+
+
+def search(design, until, most_steps, most_entries, key_of=None):
+    """Every lawful journal in time, but for those that come to a state with a key that was there, with the same text. None where there are
+    more steps than these, or a journal has more entries."""
+    first = start(design)
+    found, steps, seen = {}, 0, {(key_of(first), "")} if key_of else set()
+    waiting = [(first, "", None, 0)]
+    while waiting:
+        s, text, way, length = waiting.pop()
+        for end in ends(design, s, until):
+            found.setdefault((text, end), way)
+        for entry in entries(design, s, until):
+            steps += 1
+            if steps > most_steps or length == most_entries:
+                return None
+            after, more = step(design, s, entry)
+            if key_of:
+                key = (key_of(after), text + more)
+                if key in seen:
+                    continue
+                seen.add(key)
+            waiting.append((after, text + more, (way, entry), length + 1))
+    return Found({pair: journal_to(way) for pair, way in found.items()}, steps, len(seen))
+
+
+def updates_of(events):
+    return tuple(it for number, it in sorted(events, key=lambda event: event[0]) if not is_evaluation(it))
+
+
+def processes_of(events):
+    return frozenset(it for number, it in events if is_evaluation(it))
+
+
+def key_of(s):
+    """A state without the numbers of its events: evaluations as sets, updates in order."""
+    if s.finished:
+        return "finished"
+    return (
+        s.time, s.store, s.rests, s.triggers, processes_of(s.active), updates_of(s.active), processes_of(s.inactive), updates_of(s.nonblocking), s.monitor,
+        frozenset((time, event[1]) for time, event in s.future_inactive), tuple((time, event[1]) for time, event in s.future_nonblocking),
+    )
+
+
+def brute(design, until, most_steps=15000, most_entries=400):
+    """Every lawful journal in time, each on its own."""
+    return search(design, until, most_steps, most_entries)
+
+
+def merging(design, until, most_steps=60000, most_entries=1000):
+    """The same with equal states taken once."""
+    return search(design, until, most_steps, most_entries, key_of)
