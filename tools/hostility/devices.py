@@ -2,6 +2,7 @@
 import os
 import resource
 import signal
+import stat
 import subprocess
 from collections import Counter
 
@@ -11,6 +12,7 @@ from hostility.sources import SWAP, SWAP_LINES
 CANNOT_WRITE = Answer(1, b"", b"vsimtx: cannot write\n")
 REFUSED = b"module t; initial a=1'b0; endmodule\n"
 REFUSED_TOLD = b"vsimtx: E1 undeclared a\n"
+OLD = b"an old OUT\n"
 
 
 def most(size):
@@ -28,6 +30,17 @@ def read(path):
         return None
     with open(path, "rb") as file:
         return file.read()
+
+
+def put(path, text, mode=0o644):
+    with open(path, "wb") as file:
+        file.write(text)
+    os.chmod(path, mode)
+
+
+def parts(room):
+    """The files that were begun and are still there."""
+    return [it for it in os.listdir(room) if it.startswith(".vsimtx-")]
 
 
 class Cases:
@@ -89,18 +102,56 @@ def outputs(cases, program, room, source, journal):
 
 
 def lengths(cases, program, room, source, journal):
-    """Files that take so many bytes: OUT has the beginning of its text and no line is printed, and output has the beginning of the lines."""
+    """Files that take so many bytes: OUT is as it was and no line is printed, and output has the beginning of the lines."""
     whole, out, lines = read(journal), f"{room}/out", f"{room}/lines"
     for size in range(len(whole) + 1):
+        put(out, OLD, 0o640)
         answer = called(program, "run", source, "--journal", out, before=most(size))
-        wanted = CANNOT_WRITE if size < len(whole) else Answer(0, SWAP_LINES, b"")
-        cases.want(f"OUT of {size} bytes", answer, wanted, read(out) == whole[:size])
+        is_short = size < len(whole)
+        wanted = CANNOT_WRITE if is_short else Answer(0, SWAP_LINES, b"")
+        left = read(out) == (OLD if is_short else whole) and stat.S_IMODE(os.stat(out).st_mode) == 0o640
+        cases.want(f"OUT of {size} bytes", answer, wanted, left and not parts(room))
     for words in (["run", source], ["replay", source, journal]):
         for size in range(len(SWAP_LINES) + 1):
             with open(lines, "wb") as file:
                 answer = called(program, *words, before=most(size), stdout=file)
             wanted = CANNOT_WRITE if size < len(SWAP_LINES) else Answer(0, b"", b"")
             cases.want(f"{words[0]} onto {size} bytes", answer, wanted, read(lines) == SWAP_LINES[:size])
+
+
+def spared(cases, program, room, source, journal):
+    """An OUT that is FILE is refused, by each path and link; a link is followed, and what it leads to is replaced."""
+    hard, soft, far, out = (f"{room}/{it}" for it in ("hard", "soft", "far", "out"))
+    os.link(source, hard)
+    os.symlink("swap", soft)
+    os.symlink("soft", far)
+    for path in (source, f"{room}/./swap", f"{room}/../{os.path.basename(room)}/swap", hard, soft, far):
+        for file in (source, hard, far):
+            answer = called(program, "run", file, "--journal", path)
+            cases.want(f"OUT {path!r} of FILE {file!r}", answer, CANNOT_WRITE, read(source) == SWAP)
+    os.symlink("swap", f"{room}/all.1.journal")
+    cases.want("the first journal of a search is FILE", called(program, "races", source, "--journals", f"{room}/all"), CANNOT_WRITE, read(source) == SWAP)
+    put(out, OLD, 0o444)
+    if os.getuid():
+        cases.want("OUT that may not be written", called(program, "run", source, "--journal", out), CANNOT_WRITE, read(out) == OLD)
+    put(out, OLD, 0o604)
+    os.symlink("out", f"{room}/to_out")
+    answer = called(program, "run", source, "--workers", "1", "--journal", f"{room}/to_out")
+    left = os.path.islink(f"{room}/to_out") and read(out) == read(journal) and stat.S_IMODE(os.stat(out).st_mode) == 0o604
+    cases.want("OUT by a link", answer, Answer(0, SWAP_LINES, b""), left)
+    os.symlink("nowhere", f"{room}/to_nowhere")
+    answer = called(program, "run", source, "--workers", "1", "--journal", f"{room}/to_nowhere")
+    cases.want("OUT by a link that leads nowhere", answer, Answer(0, SWAP_LINES, b""), read(f"{room}/nowhere") == read(journal))
+    for path in ("/dev/stdout", f"{room}/lines"):
+        with open(f"{room}/lines", "wb") as file:
+            answer = called(program, "run", source, "--workers", "1", "--journal", path, stdout=file)
+        cases.want(f"OUT {path!r} that is standard output", answer, Answer(0, b"", b""), read(f"{room}/lines") == read(journal) + SWAP_LINES)
+    with open(source, "rb") as file:
+        answer = called(program, "run", "-", "--journal", source, stdin=file)
+    cases.want("OUT that is standard input", answer, CANNOT_WRITE, read(source) == SWAP)
+    with open(source, "rb") as file:
+        cases.want("FILE that is standard input", called(program, "run", "-", stdin=file), Answer(0, SWAP_LINES, b""))
+    cases.want("nothing is left of what was begun", Answer(0, b"", b""), Answer(0, b"", b""), not parts(room))
 
 
 def pipes(cases, program, room, source, journal):
@@ -124,7 +175,7 @@ def run(hostile):
     with open(source, "wb") as file:
         file.write(SWAP)
     cases.want("the swap", called(program, "run", source, "--workers", "1", "--journal", journal), Answer(0, SWAP_LINES, b""))
-    for part in (paths, outputs, lengths, pipes):
+    for part in (paths, outputs, lengths, spared, pipes):
         part(cases, program, room, source, journal)
     hostile.say("failing files and outputs", cases.came)
     return cases.tried, cases.wrong

@@ -1,6 +1,6 @@
 -- A text as lexemes, whatever it is: words, numbers, strings, and else single bytes.
-use Rattle.std.specs.Prelude.{◌≡◌, ℕ, suc, ◌+◌, ◌-◌, ◌<◌, List, [], ◌∷◌, ◌++◌, length, Bool, false, not, ◌&&◌, ◌||◌, ◌==◌, if◌then◌else◌}
-use Rattle.tokens.specs.Bytes.{is_letter, is_digit, in_word, in_literal, in_line, span}
+use Rattle.std.specs.Prelude.{◌≡◌, ℕ, suc, ◌+◌, ◌-◌, ◌<◌, List, [], ◌∷◌, ◌++◌, length, Bool, true, false, not, ◌&&◌, ◌||◌, ◌==◌, if◌then◌else◌}
+use Rattle.tokens.specs.Bytes.{is_letter, is_digit, in_line, span}
 use Rattle.diagnosis.specs.Spots.{skip_len, Skips}
 
 -- A lexeme, its first byte, and the one behind its last, counted from 0.
@@ -17,15 +17,15 @@ begins_word b = is_letter b || b == 36
 abbrev pub begins_number : ℕ → Bool
 begins_number b = is_digit b || b == 39
 
--- Stands inside a number: what stands inside a literal, or '.
-abbrev pub in_number : ℕ → Bool
-in_number b = in_literal b || b == 39
+-- Goes on with a word: a letter, _, a digit or $; and with a number, which may have ? and ' too.
+abbrev pub goes_on : Bool → ℕ → Bool
+goes_on number b = is_letter b || is_digit b || b == 36 || (number && (b == 63 || b == 39))
 
 -- n and the length of a string behind its first `"`: up to the next one that isn't escaped, that included, or to the end of
 -- its line.
-abbrev pub string_span : ℕ → Bool → List ℕ → ℕ
-string_span n after [] = n
-string_span n after (b ∷ bs) = if b == 10 then n else (if not after && b == 34 then suc n else string_span (suc n) (not after && b == 92) bs)
+abbrev pub string_len : ℕ → Bool → List ℕ → ℕ
+string_len n after [] = n
+string_len n after (b ∷ bs) = if b == 10 then n else (if not after && b == 34 then suc n else string_len (suc n) (not after && b == 92) bs)
 
 -- The length of a lexeme that is no word, number or string: a comment that isn't finished goes to the end.
 abbrev pub sign_len : ℕ → List ℕ → ℕ
@@ -36,9 +36,9 @@ sign_len b (c ∷ cs) = if b == 47 && c == 42 then suc (suc (length cs)) else 1
 unfoldable pub lexeme_len : List ℕ → ℕ
 lexeme_len [] = 0
 lexeme_len (b ∷ bs) =
-    if begins_word b then suc (span in_word bs)
-    else (if begins_number b then suc (span in_number bs)
-    else (if b == 34 then suc (string_span 0 false bs)
+    if begins_word b then suc (span (goes_on false) bs)
+    else (if begins_number b then suc (span (goes_on true) bs)
+    else (if b == 34 then suc (string_len 0 false bs)
     else (if b == 96 then suc (span in_line bs)
     else sign_len b bs)))
 

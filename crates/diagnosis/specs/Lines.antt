@@ -26,18 +26,12 @@ last_line text = last_line_or text text
 abbrev pub most : ℕ
 most = 2 ^ 64 - 1
 
--- A tab goes to the next multiple of eight.
-abbrev pub after_tab : ℕ → ℕ
-after_tab columns = min (columns - columns % 8 + 8) most
-
--- The columns after a character: a tab's, or its width in a terminal, where a control character is shown in one column.
+-- The columns after a character: a tab goes to the next multiple of eight, and the others take their width in a terminal, where
+-- a control character is shown in one column.
 abbrev pub after_char : ℕ → ℕ → ℕ
-after_char columns c = if c == 9 then after_tab columns else min (columns + unwrap_or (char_width false c) 1) most
+after_char columns c = if c == 9 then min (columns - columns % 8 + 8) most else min (columns + unwrap_or (char_width false c) 1) most
 
--- The columns after a byte of what is no text.
-abbrev pub after_byte : ℕ → ℕ → ℕ
-after_byte columns b = if b == 9 then after_tab columns else min (columns + 1) most
-
--- The columns that a text takes from the beginning of a line on, by its characters where it is UTF-8, else by its bytes.
+-- The columns that a text takes from the beginning of a line on: by its characters where it is UTF-8, else each byte is a
+-- character of its own.
 abbrev pub columns_of : List ℕ → ℕ
-columns_of text = if is_utf8 text then fold after_char 0 (chars text) else fold after_byte 0 text
+columns_of text = if is_utf8 text then fold after_char 0 (chars text) else fold after_char 0 text

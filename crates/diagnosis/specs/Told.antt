@@ -1,6 +1,8 @@
 -- The tokens that faults tell, and where a fault stands.
 use Rattle.std.specs.Prelude.{◌≡◌, ℕ, List, ◌∷◌, Bool, true, false, nat_lt, Option, Some, None, string_bytes}
 use Rattle.std.specs.Str.{bytes_eq}
+use Rattle.tokens.specs.declared.token.Kind.{Kind}
+use Rattle.tokens.specs.declared.token.Kind.TheVariants as k
 use Rattle.vparse.specs.declared.parser.ParseFault.{ParseFault}
 use Rattle.vparse.specs.declared.parser.ParseFault.TheVariants as text
 use Rattle.elaborate.specs.declared.fault.ElabFault.{ElabFault}
@@ -21,20 +23,36 @@ is_named name s = bytes_eq s.token.text name
 abbrev pub is_long : PlainSpot → Bool
 is_long s = nat_lt 4294967295 s.token.value
 
+-- A name.
+abbrev pub is_name : Kind → Bool
+is_name k.Name = true
+is_name kind = false
+
+-- A word of a call with a format.
+abbrev pub is_call : Kind → Bool
+is_call k.Display = true
+is_call k.Strobe = true
+is_call kind = false
+
 -- A token that a search may stop at.
 abbrev pub wants : Wanted → PlainSpot → Bool
 wants (wanted.Use name) s = is_named name.now s
+wants (wanted.Select name width) s = is_named name.now s
 wants (wanted.Declaration name) s = is_named name.now s
+wants wanted.Register s = is_name s.token.kind
 wants wanted.Process s = is_process s.token.kind
+wants wanted.Call s = is_call s.token.kind
 wants wanted.LongDelay s = is_long s
 
--- A token that a fault of a module tells: of its name, or its process, or its delay; the others tell none.
+-- A token that a fault of a module tells: its name, or a register, a process, a call or a delay; the others tell none.
 abbrev pub tells : ElabFault → PlainSpot → Bool
 tells (module_fault.Undeclared name) s = is_named (string_bytes name) s
 tells (module_fault.DeclaredTwice name) s = is_named (string_bytes name) s
 tells (module_fault.BadRange name) s = is_named (string_bytes name) s
 tells (module_fault.BadIndex name) s = is_named (string_bytes name) s
+tells module_fault.TooManyRegisters s = is_name s.token.kind
 tells module_fault.TooManyProcesses s = is_process s.token.kind
+tells module_fault.BadFormat s = is_call s.token.kind
 tells module_fault.LongDelay s = is_long s
 tells _ s = false
 

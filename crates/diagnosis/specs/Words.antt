@@ -6,103 +6,48 @@ use Rattle.diagnosis.specs.Lexemes.{begins_number}
 use Rattle.diagnosis.specs.declared.words.Advice.{Advice}
 use Rattle.diagnosis.specs.declared.words.Advice.TheVariants as advice
 
--- One of the words of a case statement.
-unfoldable pub is_choice_word : List ℕ → Bool
-is_choice_word w =
-    bytes_eq w (codes "case")
-    || bytes_eq w (codes "casex")
-    || bytes_eq w (codes "casez")
-    || bytes_eq w (codes "endcase")
-    || bytes_eq w (codes "default")
+-- Words, each with what is written instead.
+abbrev pub Table : Type 0
+Table = List (List ℕ × Advice)
 
--- One of the loops but `while`.
-unfoldable pub is_loop_word : List ℕ → Bool
-is_loop_word w =
-    bytes_eq w (codes "for")
-    || bytes_eq w (codes "repeat")
-    || bytes_eq w (codes "forever")
+-- The words that the language lacks.
+unfoldable pub words : Table
+words =
+    (codes "case", advice.Choice) ∷ (codes "casex", advice.Choice) ∷ (codes "casez", advice.Choice) ∷ (codes "endcase", advice.Choice) ∷ (codes "default", advice.Choice) ∷
+    (codes "for", advice.Loop) ∷ (codes "repeat", advice.Loop) ∷ (codes "forever", advice.Loop) ∷
+    (codes "input", advice.OneModule) ∷ (codes "output", advice.OneModule) ∷ (codes "inout", advice.OneModule) ∷ (codes "parameter", advice.OneModule) ∷ (codes "localparam", advice.OneModule) ∷
+    (codes "defparam", advice.OneModule) ∷ (codes "generate", advice.OneModule) ∷ (codes "endgenerate", advice.OneModule) ∷ (codes "genvar", advice.OneModule) ∷ (codes "macromodule", advice.OneModule) ∷
+    (codes "primitive", advice.OneModule) ∷ (codes "endprimitive", advice.OneModule) ∷ (codes "specify", advice.OneModule) ∷ (codes "endspecify", advice.OneModule) ∷
+    (codes "wire", advice.Net) ∷ (codes "wand", advice.Net) ∷ (codes "wor", advice.Net) ∷ (codes "tri", advice.Net) ∷ (codes "tri0", advice.Net) ∷
+    (codes "tri1", advice.Net) ∷ (codes "triand", advice.Net) ∷ (codes "trior", advice.Net) ∷ (codes "trireg", advice.Net) ∷ (codes "uwire", advice.Net) ∷
+    (codes "supply0", advice.Net) ∷ (codes "supply1", advice.Net) ∷ (codes "assign", advice.Net) ∷ (codes "deassign", advice.Net) ∷ (codes "force", advice.Net) ∷
+    (codes "release", advice.Net) ∷
+    (codes "and", advice.Gate) ∷ (codes "nand", advice.Gate) ∷ (codes "nor", advice.Gate) ∷ (codes "xor", advice.Gate) ∷ (codes "xnor", advice.Gate) ∷
+    (codes "not", advice.Gate) ∷ (codes "buf", advice.Gate) ∷
+    (codes "integer", advice.Register) ∷ (codes "real", advice.Register) ∷ (codes "realtime", advice.Register) ∷ (codes "time", advice.Register) ∷
+    (codes "task", advice.Subroutine) ∷ (codes "endtask", advice.Subroutine) ∷ (codes "function", advice.Subroutine) ∷ (codes "endfunction", advice.Subroutine) ∷ (codes "automatic", advice.Subroutine) ∷
+    (codes "event", advice.Subroutine) ∷
+    (codes "fork", advice.Parallel) ∷ (codes "join", advice.Parallel) ∷ (codes "wait", advice.Parallel) ∷ (codes "disable", advice.Parallel) ∷
+    (codes "signed", advice.Unsigned) ∷ []
 
--- One of the words of ports, parameters and generated items.
-unfoldable pub is_structure_word : List ℕ → Bool
-is_structure_word w =
-    bytes_eq w (codes "input")
-    || bytes_eq w (codes "output")
-    || bytes_eq w (codes "inout")
-    || bytes_eq w (codes "parameter")
-    || bytes_eq w (codes "localparam")
-    || bytes_eq w (codes "defparam")
-    || bytes_eq w (codes "generate")
-    || bytes_eq w (codes "endgenerate")
-    || bytes_eq w (codes "genvar")
-
--- One of the words of nets and continuous assignments.
-unfoldable pub is_net_word : List ℕ → Bool
-is_net_word w =
-    bytes_eq w (codes "wire")
-    || bytes_eq w (codes "wand")
-    || bytes_eq w (codes "wor")
-    || bytes_eq w (codes "tri")
-    || bytes_eq w (codes "supply0")
-    || bytes_eq w (codes "supply1")
-    || bytes_eq w (codes "assign")
-    || bytes_eq w (codes "deassign")
-    || bytes_eq w (codes "force")
-
--- One of the variables but `reg`.
-unfoldable pub is_variable_word : List ℕ → Bool
-is_variable_word w =
-    bytes_eq w (codes "integer")
-    || bytes_eq w (codes "real")
-    || bytes_eq w (codes "realtime")
-    || bytes_eq w (codes "time")
-
--- One of the words of tasks, functions and events.
-unfoldable pub is_subroutine_word : List ℕ → Bool
-is_subroutine_word w =
-    bytes_eq w (codes "task")
-    || bytes_eq w (codes "endtask")
-    || bytes_eq w (codes "function")
-    || bytes_eq w (codes "endfunction")
-    || bytes_eq w (codes "event")
-
--- One of the words of parallel blocks and of other waits.
-unfoldable pub is_parallel_word : List ℕ → Bool
-is_parallel_word w =
-    bytes_eq w (codes "fork")
-    || bytes_eq w (codes "join")
-    || bytes_eq w (codes "wait")
-    || bytes_eq w (codes "disable")
-
--- A system name that the language lacks: a `$`, and what is none of its three names.
-unfoldable pub is_system_word : List ℕ → Bool
-is_system_word [] = false
-is_system_word (b ∷ bs) =
-    b == 36 && not (bytes_eq (b ∷ bs) (codes "$display") || bytes_eq (b ∷ bs) (codes "$strobe") || bytes_eq (b ∷ bs) (codes "$finish"))
-
--- A directive: a backquote, and what follows it.
-abbrev pub is_directive : List ℕ → Bool
-is_directive [] = false
-is_directive (b ∷ bs) = b == 96
-
--- What is written instead of a word that the language lacks; none for every other text.
-unfoldable pub advice_of : List ℕ → Option Advice
-advice_of w =
-    if is_choice_word w then Some advice.Choice
-    else (if is_loop_word w then Some advice.Loop
-    else (if is_structure_word w then Some advice.OneModule
-    else (if is_net_word w then Some advice.Net
-    else (if is_variable_word w then Some advice.Register
-    else (if is_subroutine_word w then Some advice.Subroutine
-    else (if is_parallel_word w then Some advice.Parallel
-    else (if bytes_eq w (codes "signed") then Some advice.Unsigned
-    else (if is_system_word w then Some advice.SystemName
-    else (if is_directive w then Some advice.Directive
-    else None)))))))))
+-- What a table has for a word.
+abbrev pub advice_in : Table → List ℕ → Option Advice
+advice_in [] w = None
+advice_in (row ∷ rows) w = if bytes_eq w row.0 then Some row.1 else advice_in rows w
 
 -- The first byte of a text, 0 where it has none.
 abbrev pub first : List ℕ → ℕ
 first [] = 0
 first (b ∷ bs) = b
+
+-- A system name that the language lacks: a `$`, and what is none of its three names.
+abbrev pub is_system_word : List ℕ → Bool
+is_system_word w = first w == 36 && not (bytes_eq w (codes "$display") || bytes_eq w (codes "$strobe") || bytes_eq w (codes "$finish"))
+
+-- What is written instead of a word that the language lacks, of another system name, or of a directive, which a backquote
+-- begins; none for every other text.
+unfoldable pub advice_of : List ℕ → Option Advice
+advice_of w = if first w == 96 then Some advice.Directive else (if is_system_word w then Some advice.SystemName else advice_in words w)
 
 -- What may have a note with an advice by what stands before it, and is no word of the table: any lexeme where a block lacks, a
 -- number, a string, a sign, a word in square brackets, and the word `module`.

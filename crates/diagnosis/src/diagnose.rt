@@ -18,13 +18,6 @@ use std::alloc::Global;
 use tokens::cut::CutFault;
 use vparse::ParseFault;
 
-/// A fault, and where it stands, if that is known.
-#[derive(Debug, Drop)]
-pub struct Located {
-    pub fault: SourceFault,
-    pub place: Option<Place>,
-}
-
 fn text_place(alloc: Global, source: &[u8], fault: ParseFault) -> Result<Option<Place>, CutFault>
     ensures { IfOk result (λ place. IsTextPlace source.now fault place) }
 {
@@ -57,77 +50,59 @@ fn fault_place(alloc: Global, source: &[u8], fault: &SourceFault) -> Result<Opti
     }
 }
 
-fn with_place(alloc: Global, source: &[u8], fault: SourceFault) -> Located
-    requires { IsSourceFault source.now fault }
-    ensures fault { IsSourceFault source.now result.fault }
-    ensures place { IsFaultPlace source.now result.fault result.place }
-{
-    match fault_place(alloc, source, &fault) {
-        Ok(place) => Located { fault, place },
-        Err(_) => Located {
-            fault: SourceFault::Parse(ParseFault::Memory),
-            place: None,
-        },
-    }
-}
-
-/// The fault for which `read_design` refuses a source, and its place; none where it answers a design. Where memory is refused,
-/// that is the fault.
-pub fn source_fault(alloc: Global, source: &[u8]) -> Option<Located>
-    ensures none { IfNone result ((d : Compiled) × IsDesignOf source.now d) }
-    ensures fault { IfSome result (λ located. IsSourceFault source.now located.fault) }
-    ensures place { IfSome result (λ located. IsFaultPlace source.now located.fault located.place) }
-{
-    match read_design(alloc, source) {
-        Ok(_) => None,
-        Err(fault) => Some(with_place(alloc, source, fault)),
-    }
-}
-
-/// What is wrong with a source: why `read_design` refuses it, if it does, and what the source has of Verilog that the language
-/// lacks.
-#[derive(Debug, Drop)]
+/// What is wrong with a source: why `read_design` refuses it, if it does; where that fault stands, if that is known; and what the
+/// source has of Verilog that the language lacks.
+#[derive(Drop)]
 pub struct Diagnosis {
-    pub fault: Option<Located>,
+    pub fault: Option<SourceFault>,
+    pub place: Option<Place>,
     pub notes: Vec<Note>,
 }
 
-fn with_notes(alloc: Global, source: &[u8], located: Located) -> Diagnosis
-    requires fault { IsSourceFault source.now located.fault }
-    requires place { IsFaultPlace source.now located.fault located.place }
-    ensures fault { IfSome result.fault (λ told. IsSourceFault source.now told.fault) }
-    ensures place { IfSome result.fault (λ told. IsFaultPlace source.now told.fault told.place) }
-    ensures some { IfNone result.fault ⊥ }
-    ensures notes { IfSome result.fault (λ told. (told.fault ≡ Parse Memory) ⊎ HasNotes source.now result.notes.items) }
+/// A diagnosis with no notes and no place.
+fn plain(alloc: Global, fault: Option<SourceFault>) -> Diagnosis
+    ensures fault { result.fault ≡ fault }
+    ensures place { result.place ≡ None }
+    ensures notes { result.notes.items ≡ [] }
 {
-    match notes(alloc, source) {
-        Ok(notes) => Diagnosis {
-            fault: Some(located),
-            notes,
-        },
-        Err(_) => Diagnosis {
-            fault: Some(Located {
-                fault: SourceFault::Parse(ParseFault::Memory),
-                place: None,
-            }),
-            notes: Vec::new(alloc),
-        },
+    Diagnosis {
+        fault,
+        place: None,
+        notes: Vec::new(alloc),
     }
 }
 
-/// What is wrong with a source. It has no notes where it has no fault. Where memory is refused, that is the fault.
+fn of_fault(alloc: Global, source: &[u8], fault: SourceFault) -> Diagnosis
+    requires { IsSourceFault source.now fault }
+    ensures fault { IfSome result.fault (λ told. IsSourceFault source.now told) }
+    ensures place { IfSome result.fault (λ told. IsFaultPlace source.now told result.place) }
+    ensures some { IfNone result.fault ⊥ }
+    ensures notes { IfSome result.fault (λ told. (told ≡ Parse Memory) ⊎ HasNotes source.now result.notes.items) }
+{
+    match fault_place(alloc, source, &fault) {
+        Ok(place) => match notes(alloc, source) {
+            Ok(notes) => Diagnosis {
+                fault: Some(fault),
+                place,
+                notes,
+            },
+            Err(_) => plain(alloc, Some(SourceFault::Parse(ParseFault::Memory))),
+        },
+        Err(_) => plain(alloc, Some(SourceFault::Parse(ParseFault::Memory))),
+    }
+}
+
+/// What is wrong with a source. No fault is told only where `read_design` answers a design, and else the fault that it answers.
+/// Where memory is refused, that is the fault. A source without a fault has no notes.
 pub fn diagnose(alloc: Global, source: &[u8]) -> Diagnosis
     ensures none { IfNone result.fault ((d : Compiled) × IsDesignOf source.now d) }
-    ensures fault { IfSome result.fault (λ told. IsSourceFault source.now told.fault) }
-    ensures place { IfSome result.fault (λ told. IsFaultPlace source.now told.fault told.place) }
+    ensures fault { IfSome result.fault (λ told. IsSourceFault source.now told) }
+    ensures place { IfSome result.fault (λ told. IsFaultPlace source.now told result.place) }
     ensures silent { IfNone result.fault (result.notes.items ≡ []) }
-    ensures notes { IfSome result.fault (λ told. (told.fault ≡ Parse Memory) ⊎ HasNotes source.now result.notes.items) }
+    ensures notes { IfSome result.fault (λ told. (told ≡ Parse Memory) ⊎ HasNotes source.now result.notes.items) }
 {
-    match source_fault(alloc, source) {
-        None => Diagnosis {
-            fault: None,
-            notes: Vec::new(alloc),
-        },
-        Some(located) => with_notes(alloc, source, located),
+    match read_design(alloc, source) {
+        Ok(_) => plain(alloc, None),
+        Err(fault) => of_fault(alloc, source, fault),
     }
 }

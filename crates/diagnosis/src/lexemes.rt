@@ -1,13 +1,13 @@
 //! A text as words, numbers, strings and signs, whatever it is. Unlike the cut into tokens this doesn't stop: what begins no
 //! token is a lexeme of one byte.
 
-ghost use Rattle.std.specs.Prelude.{false, ◌≡◌, ◌≤◌, ◌<◌, ◌+◌, ◌++◌, [], ◌∷◌, length, map, IfOk, OnOk};
-ghost use Rattle.tokens.specs.Bytes.{is_digit, is_letter, in_word, span};
+ghost use Rattle.std.specs.Prelude.{false, ◌≡◌, ◌≤◌, ◌<◌, ◌++◌, [], ◌∷◌, length, map, IfOk, OnOk};
+ghost use Rattle.tokens.specs.Bytes.{is_letter, span};
 ghost use Rattle.diagnosis.specs.Lexemes as spec;
 ghost use Rattle.diagnosis.specs.Lexemes.{AreLexemes};
 ghost use Rattle.diagnosis.specs.PlainLexemes.{plain_lexeme};
 
-use crate::skipping::{behind_skipped, line_span};
+use crate::spots::{behind_skipped, line_span};
 use std::alloc::{AllocError, Global};
 
 /// A lexeme, its first byte, and the one behind its last, counted from 0.
@@ -18,54 +18,40 @@ pub struct Lexeme<'a> {
     pub end: usize,
 }
 
-pub fn is_digit(b: u8) -> bool
-    ensures { result ≡ is_digit b }
-{
-    b >= b'0' && b <= b'9'
-}
-
 pub fn is_letter(b: u8) -> bool
     ensures { result ≡ is_letter b }
 {
     (b >= b'A' && b <= b'Z') || (b >= b'a' && b <= b'z') || b == b'_'
 }
 
-fn in_word(b: u8) -> bool
-    ensures { result ≡ in_word b }
+fn begins_word(b: u8) -> bool
+    ensures { result ≡ spec.begins_word b }
 {
-    is_letter(b) || is_digit(b) || b == b'$'
+    is_letter(b) || b == b'$'
 }
 
-fn in_number(b: u8) -> bool
-    ensures { result ≡ spec.in_number b }
+/// Whether a byte begins a number: a digit, or a `'` where a size lacks.
+pub fn begins_number(b: u8) -> bool
+    ensures { result ≡ spec.begins_number b }
 {
-    is_letter(b) || is_digit(b) || b == b'$' || b == b'?' || b == b'\''
+    (b >= b'0' && b <= b'9') || b == b'\''
 }
 
-fn word_span(text: &[u8]) -> usize
-    ensures value { result ≡ span in_word text.now }
+/// Whether a byte goes on with a word, or with a number, which may have a `?` and a `'` too.
+fn goes_on(number: bool, b: u8) -> bool
+    ensures { result ≡ spec.goes_on number b }
+{
+    is_letter(b) || (b >= b'0' && b <= b'9') || b == b'$' || (number && (b == b'?' || b == b'\''))
+}
+
+fn run_len(number: bool, text: &[u8]) -> usize
+    ensures value { result ≡ span (spec.goes_on number) text.now }
     ensures within { result ≤ length text.now }
 {
     let mut left = text;
     let mut n = 0;
     while let [b, rest @ ..] = left {
-        if !in_word(*b) {
-            break;
-        }
-        n += 1;
-        left = rest;
-    }
-    n
-}
-
-fn number_span(text: &[u8]) -> usize
-    ensures value { result ≡ span spec.in_number text.now }
-    ensures within { result ≤ length text.now }
-{
-    let mut left = text;
-    let mut n = 0;
-    while let [b, rest @ ..] = left {
-        if !in_number(*b) {
+        if !goes_on(number, *b) {
             break;
         }
         n += 1;
@@ -75,8 +61,8 @@ fn number_span(text: &[u8]) -> usize
 }
 
 /// The length of a string behind its first `"`: up to the next one that isn't escaped, that included, or to the end of its line.
-fn string_span(text: &[u8]) -> usize
-    ensures value { result ≡ spec.string_span 0 false text.now }
+fn string_len(text: &[u8]) -> usize
+    ensures value { result ≡ spec.string_len 0 false text.now }
     ensures within { result ≤ length text.now }
 {
     let mut left = text;
@@ -96,18 +82,6 @@ fn string_span(text: &[u8]) -> usize
     n
 }
 
-fn begins_word(b: u8) -> bool
-    ensures { result ≡ spec.begins_word b }
-{
-    is_letter(b) || b == b'$'
-}
-
-pub fn begins_number(b: u8) -> bool
-    ensures { result ≡ spec.begins_number b }
-{
-    is_digit(b) || b == b'\''
-}
-
 /// The length of the lexeme at the front of a text, which has one. A directive goes to the end of its line, and a comment that
 /// isn't finished to the end.
 #[tactic(auto, unfolding(crate::specs::Lexemes::lexeme_len))]
@@ -118,9 +92,9 @@ fn lexeme_len(text: &[u8]) -> usize
     ensures within { result ≤ length text.now }
 {
     match text {
-        [b, rest @ ..] if begins_word(*b) => word_span(rest) + 1,
-        [b, rest @ ..] if begins_number(*b) => number_span(rest) + 1,
-        [b'"', rest @ ..] => string_span(rest) + 1,
+        [b, rest @ ..] if begins_word(*b) => run_len(false, rest) + 1,
+        [b, rest @ ..] if begins_number(*b) => run_len(true, rest) + 1,
+        [b'"', rest @ ..] => string_len(rest) + 1,
         [b'`', rest @ ..] => line_span(rest) + 1,
         [b'/', b'*', ..] => text.len(),
         _ => 1,
@@ -147,12 +121,8 @@ pub fn lexemes<'a>(alloc: Global, source: &'a [u8]) -> Result<Vec<Lexeme<'a>>, A
     let mut left = behind_skipped(source);
     while !left.is_empty() {
         let (text, rest) = left.split_at(lexeme_len(left));
-        add(
-            &mut found,
-            text,
-            source.len() - left.len(),
-            source.len() - rest.len(),
-        )?;
+        let begin = source.len() - left.len();
+        add(&mut found, text, begin, source.len() - rest.len())?;
         left = behind_skipped(rest);
     }
     Ok(found)

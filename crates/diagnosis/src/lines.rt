@@ -39,31 +39,21 @@ pub fn last_line(text: &[u8]) -> &[u8]
     line
 }
 
-/// The columns taken after a tab: the next multiple of eight.
-fn after_tab(columns: usize) -> usize
-    ensures { result ≡ spec.after_tab columns }
-{
-    (columns - columns % 8).saturating_add(8)
-}
-
+/// The columns that are taken behind a character. A tab goes to the next multiple of eight, and a control character takes one.
 fn after_char(columns: usize, c: char) -> usize
     ensures { result ≡ spec.after_char columns c }
 {
     if c == '\t' {
-        after_tab(columns)
+        (columns - columns % 8).saturating_add(8)
     } else {
         columns.saturating_add(c.width().unwrap_or(1))
     }
 }
 
 fn after_byte(columns: usize, b: u8) -> usize
-    ensures { result ≡ spec.after_byte columns b }
+    ensures { result ≡ spec.after_char columns b }
 {
-    if b == b'\t' {
-        after_tab(columns)
-    } else {
-        columns.saturating_add(1)
-    }
+    after_char(columns, char::from(b))
 }
 
 fn char_columns(text: &str) -> usize
@@ -73,12 +63,13 @@ fn char_columns(text: &str) -> usize
 }
 
 fn byte_columns(text: &[u8]) -> usize
-    ensures { result ≡ fold spec.after_byte 0 text.now }
+    ensures { result ≡ fold spec.after_char 0 text.now }
 {
     text.iter().copied().fold(0, after_byte)
 }
 
-/// The columns that a text takes from the beginning of a line on, by its characters where it is UTF-8, else by its bytes.
+/// The columns that a text takes from the beginning of a line on: by its characters where it is UTF-8, else each byte is a
+/// character of its own.
 pub fn columns(text: &[u8]) -> usize
     ensures { result ≡ spec.columns_of text.now }
 {

@@ -1,88 +1,49 @@
 //! Every word and sign of Verilog that a source has and the language lacks, in one pass.
 
-ghost use Rattle.std.specs.Prelude.{◌≡◌, ◌<◌, ◌≤◌, ◌+◌, ◌++◌, true, None, length, option_to_list, codes, IfOk, IfSome, OnOk, MatchOption};
+ghost use Rattle.std.specs.Prelude.{◌≡◌, ◌≤◌, ◌+◌, ◌++◌, true, None, length, option_to_list, codes, IfOk, IfSome, OnOk, MatchOption};
 ghost use Rattle.std.specs.Str.{bytes_eq};
-ghost use Rattle.diagnosis.specs.Places.{place_of};
 ghost use Rattle.diagnosis.specs.PlainLexemes.{plain_lexeme};
 ghost use Rattle.diagnosis.specs.Words.{advice_of, suits};
 ghost use Rattle.diagnosis.specs.Notes.{IsNoteOf, HasNotes};
 
 use crate::lexemes::{Lexeme, begins_number, is_letter, lexemes};
-use crate::places::{Place, place_of_byte};
 use crate::words::{Advice, advice_of, is_same};
 use std::alloc::{AllocError, Global};
 
 /// What a source has from its byte `begin` to before its byte `end`, counted from 0, and what to write instead.
-#[derive(Clone, Copy, Debug)]
+#[derive(Clone, Copy)]
 pub struct Note {
     pub begin: usize,
     pub end: usize,
     pub advice: Advice,
 }
 
-impl Note {
-    /// Where it stands.
-    pub fn place(&self, source: &[u8]) -> Place
-        ensures { result ≡ place_of source.now self.now.begin }
-    {
-        place_of_byte(source, self.begin)
-    }
-}
-
-/// The sign before a lexeme, as far as that matters.
-#[derive(Clone, Copy)]
-enum Last {
-    Hash,
-    At,
-    /// A ( behind an @.
-    Events,
-    Other,
-}
-
 /// Whether a body is to follow.
 #[derive(Clone, Copy)]
 enum Body {
     None,
-    /// Behind a condition, in which so many parentheses are open.
+    /// Behind an `if` or a `while`, in whose condition so many parentheses are open.
     Condition(usize),
     Next,
 }
 
 /// What stands before a lexeme.
 #[derive(Clone, Copy)]
-struct Before {
-    squares: usize,
-    last: Last,
+struct Before<'a> {
+    last: &'a [u8],
     body: Body,
+    /// Whether square brackets are open.
+    index: bool,
+    /// Whether a module has begun.
     module: bool,
 }
 
-const NOTHING: Before = Before {
-    squares: 0,
-    last: Last::Other,
+const NOTHING: Before<'static> = Before {
+    last: b"",
     body: Body::None,
+    index: false,
     module: false,
 };
-
-fn squares_after(squares: usize, text: &[u8]) -> usize {
-    match text {
-        [b'['] => squares.saturating_add(1),
-        [b']'] => squares.saturating_sub(1),
-        _ => squares,
-    }
-}
-
-fn last_after(last: Last, text: &[u8]) -> Last {
-    match text {
-        [b'#'] => Last::Hash,
-        [b'@'] => Last::At,
-        [b'('] => match last {
-            Last::At => Last::Events,
-            _ => Last::Other,
-        },
-        _ => Last::Other,
-    }
-}
 
 fn condition_after(open: usize, text: &[u8]) -> Body {
     match text {
@@ -95,28 +56,31 @@ fn condition_after(open: usize, text: &[u8]) -> Body {
 }
 
 fn body_after(body: Body, text: &[u8]) -> Body {
-    if is_same(text, b"if") || is_same(text, b"while") {
-        return Body::Condition(0);
-    }
-    if is_same(text, b"else") {
-        return Body::Next;
-    }
-    match body {
-        Body::Condition(open) => condition_after(open, text),
-        _ => Body::None,
+    match text {
+        b"if" | b"while" => Body::Condition(0),
+        b"else" => Body::Next,
+        _ => match body {
+            Body::Condition(open) => condition_after(open, text),
+            _ => Body::None,
+        },
     }
 }
 
-impl Before {
-    fn after(self, text: &[u8]) -> Before {
+impl<'a> Before<'a> {
+    fn after(self, text: &'a [u8]) -> Before<'a> {
         Before {
-            squares: squares_after(self.squares, text),
-            last: last_after(self.last, text),
+            last: text,
             body: body_after(self.body, text),
+            index: match text {
+                [b'['] => true,
+                [b']'] => false,
+                _ => self.index,
+            },
             module: self.module || is_same(text, b"module"),
         }
     }
 
+    /// Whether `begin` has to come, and doesn't.
     fn lacks_block(self, text: &[u8]) -> bool {
         match self.body {
             Body::Next => !is_same(text, b"begin"),
@@ -124,19 +88,14 @@ impl Before {
         }
     }
 
+    /// Whether a `*` stands for all registers here. Behind a parenthesis it can be no operator.
     fn takes_events(self) -> bool {
-        match self.last {
-            Last::At | Last::Events => true,
-            _ => false,
-        }
+        is_same(self.last, b"@") || is_same(self.last, b"(")
     }
 
-    /// Whether a plain decimal may come.
-    fn takes_decimal(self) -> bool {
-        match self.last {
-            Last::Hash => true,
-            _ => self.squares > 0,
-        }
+    /// Whether a number that begins with these bytes is one that can't stand here.
+    fn lacks_size(self, b: u8, rest: &[u8]) -> bool {
+        b == b'\'' || !(rest.contains(&b'\'') || is_same(self.last, b"#") || self.index)
     }
 }
 
@@ -154,30 +113,31 @@ fn conversion_len(b: u8, rest: &[u8]) -> usize
     }
 }
 
-fn has_other_conversion(format: &[u8]) -> bool {
+/// How many arguments a format has conversions for; none where it has another conversion.
+pub fn conversions(format: &[u8]) -> Option<usize> {
     let mut left = format;
+    let mut n = 0_usize;
     while let [b, rest @ ..] = left {
-        let len = conversion_len(*b, rest);
-        if len == 0 {
-            return true;
+        match conversion_len(*b, rest) {
+            0 => return None,
+            1 => left = rest,
+            len => {
+                n = n.saturating_add(usize::from(rest.first() != Some(&b'%')));
+                left = left.split_at(len).1;
+            }
         }
-        left = left.split_at(len).1;
     }
-    false
+    Some(n)
 }
 
-fn lacks_size(before: Before, b: u8, rest: &[u8]) -> bool {
-    b == b'\'' || (!rest.contains(&b'\'') && !before.takes_decimal())
-}
-
-fn is_second_module(before: Before, text: &[u8]) -> bool
+fn is_second_module(before: Before<'_>, text: &[u8]) -> bool
     ensures { result ≡ true → bytes_eq text.now (codes "module") ≡ true }
 {
     before.module && is_same(text, b"module")
 }
 
 /// The advice on a lexeme that is no word of the table, by what stands before it.
-fn advice_behind(before: Before, text: &[u8]) -> Option<Advice>
+fn advice_behind(before: Before<'_>, text: &[u8]) -> Option<Advice>
     ensures { IfSome result (λ advice. suits advice text.now ≡ true) }
 {
     if before.lacks_block(text) {
@@ -187,14 +147,14 @@ fn advice_behind(before: Before, text: &[u8]) -> Option<Advice>
         return Some(Advice::OneModule);
     }
     match text {
-        [b'"', ..] if has_other_conversion(text) => Some(Advice::Conversion),
+        [b'"', ..] if conversions(text).is_none() => Some(Advice::Conversion),
         [b'*'] if before.takes_events() => Some(Advice::Triggers),
         [b'*'] => Some(Advice::Operator),
         [b'/'] => Some(Advice::Operator),
         [b'%'] => Some(Advice::Operator),
         [b'.'] => Some(Advice::OneModule),
-        [b, rest @ ..] if begins_number(*b) && lacks_size(before, *b, rest) => Some(Advice::Size),
-        [b, ..] if is_letter(*b) && before.squares > 0 => Some(Advice::Index),
+        [b, rest @ ..] if begins_number(*b) && before.lacks_size(*b, rest) => Some(Advice::Size),
+        [b, ..] if is_letter(*b) && before.index => Some(Advice::Index),
         _ => None,
     }
 }
@@ -209,7 +169,7 @@ fn note_on(lexeme: &Lexeme<'_>, advice: Advice) -> Note
     }
 }
 
-fn note_of(before: Before, lexeme: &Lexeme<'_>) -> Option<Note>
+fn note_of(before: Before<'_>, lexeme: &Lexeme<'_>) -> Option<Note>
     ensures { MatchOption result (advice_of (plain_lexeme lexeme.now).text ≡ None) (IsNoteOf (plain_lexeme lexeme.now)) }
 {
     match advice_of(lexeme.text) {

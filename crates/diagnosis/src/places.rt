@@ -12,7 +12,7 @@ use tokens::token::Kind;
 
 /// A place in a source. `line` and `column` are counted from 1, `byte` from 0. A column is one of a terminal: a tab goes to
 /// the next multiple of eight columns, and a character may be two columns wide.
-#[derive(Clone, Copy, Debug, PartialEq, Eq)]
+#[derive(Clone, Copy)]
 pub struct Place {
     pub line: usize,
     pub column: usize,
@@ -20,7 +20,7 @@ pub struct Place {
 }
 
 /// The bytes before this one; all where there are no more.
-pub fn before(source: &[u8], byte: usize) -> &[u8]
+pub(crate) fn before(source: &[u8], byte: usize) -> &[u8]
     ensures { result.now ≡ take byte source.now }
 {
     if byte <= source.len() {
@@ -43,7 +43,7 @@ pub fn place_of_byte(source: &[u8], byte: usize) -> Place
 }
 
 /// The byte at which the token of this number begins, counted from 1. What comes behind the last token is the end.
-pub fn byte_of(spots: &[Spot<'_>], end: usize, number: usize) -> usize
+fn byte_of(spots: &[Spot<'_>], end: usize, number: usize) -> usize
     ensures { result ≡ byte_of (map plain_spot spots.now) end number }
 {
     let mut left = spots;
@@ -64,7 +64,7 @@ pub fn byte_of(spots: &[Spot<'_>], end: usize, number: usize) -> usize
 /// # Errors
 ///
 /// Why the source isn't cut into tokens.
-pub fn place_of_token(alloc: Global, source: &[u8], number: usize) -> Result<Place, CutFault>
+pub(crate) fn place_of_token(alloc: Global, source: &[u8], number: usize) -> Result<Place, CutFault>
     ensures { IfOk result (λ place. IsTokenPlace source.now number place) }
 {
     let spots = spots(alloc, source)?;
@@ -72,7 +72,7 @@ pub fn place_of_token(alloc: Global, source: &[u8], number: usize) -> Result<Pla
     Ok(place_of_byte(source, byte))
 }
 
-pub fn is_process(kind: Kind) -> bool
+pub(crate) fn is_process(kind: Kind) -> bool
     ensures { result ≡ is_process kind }
 {
     match kind {

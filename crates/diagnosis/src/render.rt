@@ -2,46 +2,46 @@
 
 use crate::diagnose::Diagnosis;
 use crate::lines::last_line;
-use crate::places::{Place, before};
-use crate::skipping::line_span;
+use crate::notes::Note;
+use crate::places::{Place, before, place_of_byte};
+use crate::spots::line_span;
+use elaborate::ElabFault;
+use frontend::SourceFault;
 use std::alloc::{AllocError, Global};
 use std::{fmt, str};
+use unicode_width::UnicodeWidthChar;
+use vparse::ParseFault;
 
-/// The longest line that is shown, in bytes.
+/// The longest part of a line that is shown, in bytes.
 const LONGEST: usize = 1000;
 
 /// How many notes are shown.
 const MOST_NOTES: usize = 100;
 
-/// Adds a text as it is shown: a control character but a tab in one column.
-fn add_text(lines: &mut String, text: &str) -> Result<(), AllocError> {
-    for c in text.chars() {
-        lines.push(if c.is_control() && c != '\t' {
-            '\u{fffd}'
-        } else {
-            c
-        })?;
+/// Adds a character as it is shown: a control character by its escape, but a tab as it is in a line of a source.
+fn push_shown(text: &mut String, c: char, in_source: bool) -> Result<(), AllocError> {
+    if c.is_control() && !(in_source && c == '\t') {
+        write!(text, "{}", c.escape_default())
+    } else {
+        text.push(c)
     }
-    Ok(())
 }
 
-fn add_bytes(lines: &mut String, bytes: &[u8]) -> Result<(), AllocError> {
-    for b in bytes {
-        lines.push(if (*b >= b' ' && *b <= b'~') || *b == b'\t' {
-            char::from(*b)
-        } else {
-            '\u{fffd}'
-        })?;
+/// Adds a part of a line: by its characters where it is UTF-8, else each byte is a character of its own.
+fn push_part(text: &mut String, part: &[u8]) -> Result<(), AllocError> {
+    match str::from_utf8(part) {
+        Ok(part) => {
+            for c in part.chars() {
+                push_shown(text, c, true)?;
+            }
+        }
+        Err(_) => {
+            for b in part {
+                push_shown(text, char::from(*b), true)?;
+            }
+        }
     }
     Ok(())
-}
-
-/// Adds bytes as `columns` counts them: as a text where they are one.
-fn add_shown(lines: &mut String, bytes: &[u8]) -> Result<(), AllocError> {
-    match str::from_utf8(bytes) {
-        Ok(text) => add_text(lines, text),
-        Err(_) => add_bytes(lines, bytes),
-    }
 }
 
 /// The line of a source from a byte on.
@@ -50,77 +50,151 @@ fn rest_of_line(source: &[u8], byte: usize) -> &[u8] {
         return &[];
     }
     let rest = source.split_at(byte).1;
-    let line = rest.split_at(line_span(rest)).0;
-    match line {
-        [text @ .., b'\r'] => text,
-        _ => line,
+    match rest.split_at(line_span(rest)).0 {
+        [line @ .., b'\r'] => line,
+        line => line,
     }
 }
 
-/// Adds the line of a place, and a caret below the place's column. A very long line isn't shown.
-fn add_line(lines: &mut String, source: &[u8], place: Place) -> Result<(), AllocError> {
-    let front = last_line(before(source, place.byte));
-    let back = rest_of_line(source, place.byte);
-    if front.len() > LONGEST || back.len() > LONGEST {
-        return Ok(());
+/// Adds what stands above a caret's line: a tab as it is, and else a space for each column.
+fn push_blank(text: &mut String, c: char) -> Result<(), AllocError> {
+    if c == '\t' {
+        return text.push(c);
     }
-    add_shown(lines, front)?;
-    add_shown(lines, back)?;
-    lines.push('\n')?;
-    for _ in 1..place.column {
-        lines.push(' ')?;
-    }
-    lines.push_str("^\n")
-}
-
-/// Adds a message with its place and its line.
-fn add_message(
-    lines: &mut String,
-    file: &str,
-    source: &[u8],
-    place: Place,
-    message: &impl fmt::Display,
-) -> Result<(), AllocError> {
-    let Place { line, column, .. } = place;
-    write!(lines, "{file}:{line}:{column}: {message}\n")?;
-    add_line(lines, source, place)
-}
-
-fn add_notes(
-    lines: &mut String,
-    file: &str,
-    source: &[u8],
-    diagnosis: &Diagnosis,
-) -> Result<(), AllocError> {
-    for note in diagnosis.notes.iter().take(MOST_NOTES) {
-        add_message(lines, file, source, note.place(source), &note.advice)?;
-    }
-    let more = diagnosis.notes.len().saturating_sub(MOST_NOTES);
-    if more > 0 {
-        write!(lines, "{file}: {more} more\n")?;
+    for _ in 0..c.width().unwrap_or(0) {
+        text.push(' ')?;
     }
     Ok(())
 }
 
-/// The text of a diagnosis: for each note, and then for the fault, a line of file, line, column and message, the line of the
-/// source, and a caret. At most a hundred notes are shown, and the others counted. It is empty where the source has no fault.
-pub fn render(
+/// Adds the line of a place, and a caret below the place. A very long line isn't shown.
+fn push_line(
     alloc: Global,
+    text: &mut String,
+    source: &[u8],
+    byte: usize,
+) -> Result<(), AllocError> {
+    let front = last_line(before(source, byte));
+    let back = rest_of_line(source, byte);
+    if front.len() > LONGEST || back.len() > LONGEST {
+        return Ok(());
+    }
+    let mut shown = String::new(alloc);
+    push_part(&mut shown, front)?;
+    text.push_str(&shown)?;
+    push_part(text, back)?;
+    text.push('\n')?;
+    for c in shown.chars() {
+        push_blank(text, c)?;
+    }
+    text.push_str("^\n")
+}
+
+/// Where a message stands: in a file, and at which line and column, if that is known.
+#[derive(Clone, Copy)]
+struct Head<'a> {
+    file: &'a str,
+    place: Option<Place>,
+}
+
+impl fmt::Display for Head<'_> {
+    fn fmt<W: fmt::Write>(&self, f: &mut fmt::Formatter<W>) -> fmt::Result {
+        match self.place {
+            Some(place) => write!(f, "{}:{}:{}", self.file, place.line, place.column),
+            None => f.write_str(self.file),
+        }
+    }
+}
+
+fn push_notes(
+    alloc: Global,
+    text: &mut String,
+    file: &str,
+    source: &[u8],
+    notes: &[Note],
+) -> Result<(), AllocError> {
+    for note in notes.iter().take(MOST_NOTES) {
+        let place = Some(place_of_byte(source, note.begin));
+        let head = Head { file, place };
+        write!(text, "{head}: note: {}\n", note.advice)?;
+        push_line(alloc, text, source, note.begin)?;
+    }
+    let more = notes.len().saturating_sub(MOST_NOTES);
+    if more > 0 {
+        write!(text, "{file}: note: and {more} more\n")?;
+    }
+    Ok(())
+}
+
+/// What more is said of a fault than its own words.
+fn help(fault: &SourceFault) -> Option<&'static str> {
+    match fault {
+        SourceFault::Parse(fault) => match fault {
+            ParseFault::Byte(_) => Some(
+                "no token begins here, or a string or comment isn't finished",
+            ),
+            ParseFault::Syntax(_) => Some("this can't come next in a module"),
+            ParseFault::Literal(_) => {
+                Some(
+                    "a literal is a size of 1 to 128, `'`, `b`, `h` or `d`, and digits that fit it",
+                )
+            }
+            ParseFault::Deep(_) => {
+                Some(
+                    "at most 64 blocks, parentheses and braces may be open, and 64 operators in a statement",
+                )
+            }
+            _ => None,
+        },
+        SourceFault::Elaborate(fault) => match fault {
+            ElabFault::BadRange(_) => Some("a range is `[m:0]`, where m is at most 127"),
+            ElabFault::BadFormat => Some("a format has one `%b`, `%h` or `%0d` for each argument"),
+            ElabFault::BadIndex(_) => Some(
+                "an index is below the width, and of a register with a range",
+            ),
+            _ => None,
+        },
+    }
+}
+
+fn push_fault(
+    alloc: Global,
+    text: &mut String,
     file: &str,
     source: &[u8],
     diagnosis: &Diagnosis,
-) -> Result<String, AllocError> {
-    let mut lines = String::new(alloc);
-    add_notes(&mut lines, file, source, diagnosis)?;
-    match &diagnosis.fault {
-        None => {}
-        Some(located) => match located.place {
-            Some(place) => add_message(&mut lines, file, source, place, &located.fault)?,
-            None => {
-                let fault = &located.fault;
-                write!(&mut lines, "{file}: {fault}\n")?;
-            }
-        },
+) -> Result<(), AllocError> {
+    let Some(fault) = &diagnosis.fault else {
+        return write!(text, "{file}: no fault\n");
+    };
+    let place = diagnosis.place;
+    let head = Head { file, place };
+    write!(text, "{head}: {fault}\n")?;
+    if let Some(place) = place {
+        push_line(alloc, text, source, place.byte)?;
     }
-    Ok(lines)
+    match help(fault) {
+        Some(help) => write!(text, "{head}: note: {help}\n"),
+        None => Ok(()),
+    }
+}
+
+/// The text of a diagnosis of this source: for each note, and then for the fault, a line of path, line, column and message, the
+/// line of the source, and a caret; behind the fault a line with more on it, where there is more to say. At most a hundred notes
+/// are shown, and the others counted. Where there is no fault, that is the text. Control characters of path and source are shown
+/// as escapes.
+pub fn render(
+    alloc: Global,
+    path: &str,
+    source: &[u8],
+    diagnosis: &Diagnosis,
+) -> Result<String, AllocError> {
+    let mut file = String::new(alloc);
+    for c in path.chars() {
+        push_shown(&mut file, c, false)?;
+    }
+    let mut text = String::new(alloc);
+    push_notes(alloc, &mut text, &file, source, &diagnosis.notes)?;
+    push_fault(alloc, &mut text, &file, source, diagnosis)?;
+    Ok(text)
 }

@@ -7,7 +7,7 @@ ghost use Rattle.diagnosis.specs.Words as spec;
 use std::fmt;
 
 /// What to write instead of what the language lacks.
-#[derive(Clone, Copy, Debug, PartialEq, Eq)]
+#[derive(Clone, Copy)]
 pub enum Advice {
     /// For `case` (IEEE 1364-2005, 9.5).
     Choice,
@@ -17,6 +17,8 @@ pub enum Advice {
     OneModule,
     /// For nets and continuous assignments (4.2, 6.1).
     Net,
+    /// For gates (7).
+    Gate,
     /// For other variables than `reg` (4.8).
     Register,
     /// For tasks, functions and named events (9.7.3, 10).
@@ -43,25 +45,20 @@ pub enum Advice {
     Index,
 }
 
-impl Advice {
-    /// The advice in words.
-    pub fn text(self) -> &'static str {
-        match self {
+impl fmt::Display for Advice {
+    fn fmt<W: fmt::Write>(&self, f: &mut fmt::Formatter<W>) -> fmt::Result {
+        f.write_str(match self {
             Advice::Choice => "no `case`: write `if` and `else`",
             Advice::Loop => "this loop is not in the language: write `while`",
             Advice::OneModule => "no ports, parameters or instances: write one module of `reg`s",
             Advice::Net => "no nets: write a `reg` and `always @(a or b) y = a & b;`",
+            Advice::Gate => "no gates: write `~`, `&`, `|` and `^`",
             Advice::Register => "no such variable: write `reg [31:0]`",
-            Advice::Subroutine =>
-                "no tasks, functions or events: write the statements where they are used",
+            Advice::Subroutine => {
+                "no tasks, functions or events: write the statements where they are used"
+            }
             Advice::Parallel => "not in the language: write a process for each, and `@(..)`",
             Advice::SystemName => "not in the language: write `$display`, `$strobe` or `$finish`",
-            _ => self.rest(),
-        }
-    }
-
-    fn rest(self) -> &'static str {
-        match self {
             Advice::Directive => "no directives: delays are in units of the simulation time",
             Advice::Unsigned => "all values are unsigned",
             Advice::Triggers => "write the registers by their names, as in `@(a or b)`",
@@ -69,157 +66,106 @@ impl Advice {
             Advice::Size => "a number has a size: write it as in `32'd1`",
             Advice::Conversion => "a format has `%b`, `%h`, `%0d` and `%%`",
             Advice::Operator => "no `*`, `/` or `%`: write shifts and sums",
-            _ => "an index is a plain number: write shifts and concatenations",
+            Advice::Index => "an index is a plain number: write shifts and concatenations",
+        })
+    }
+}
+
+/// The words that the language lacks.
+const WORDS: &[(&[u8], Advice)] = &[
+    (b"case", Advice::Choice),
+    (b"casex", Advice::Choice),
+    (b"casez", Advice::Choice),
+    (b"endcase", Advice::Choice),
+    (b"default", Advice::Choice),
+    (b"for", Advice::Loop),
+    (b"repeat", Advice::Loop),
+    (b"forever", Advice::Loop),
+    (b"input", Advice::OneModule),
+    (b"output", Advice::OneModule),
+    (b"inout", Advice::OneModule),
+    (b"parameter", Advice::OneModule),
+    (b"localparam", Advice::OneModule),
+    (b"defparam", Advice::OneModule),
+    (b"generate", Advice::OneModule),
+    (b"endgenerate", Advice::OneModule),
+    (b"genvar", Advice::OneModule),
+    (b"macromodule", Advice::OneModule),
+    (b"primitive", Advice::OneModule),
+    (b"endprimitive", Advice::OneModule),
+    (b"specify", Advice::OneModule),
+    (b"endspecify", Advice::OneModule),
+    (b"wire", Advice::Net),
+    (b"wand", Advice::Net),
+    (b"wor", Advice::Net),
+    (b"tri", Advice::Net),
+    (b"tri0", Advice::Net),
+    (b"tri1", Advice::Net),
+    (b"triand", Advice::Net),
+    (b"trior", Advice::Net),
+    (b"trireg", Advice::Net),
+    (b"uwire", Advice::Net),
+    (b"supply0", Advice::Net),
+    (b"supply1", Advice::Net),
+    (b"assign", Advice::Net),
+    (b"deassign", Advice::Net),
+    (b"force", Advice::Net),
+    (b"release", Advice::Net),
+    (b"and", Advice::Gate),
+    (b"nand", Advice::Gate),
+    (b"nor", Advice::Gate),
+    (b"xor", Advice::Gate),
+    (b"xnor", Advice::Gate),
+    (b"not", Advice::Gate),
+    (b"buf", Advice::Gate),
+    (b"integer", Advice::Register),
+    (b"real", Advice::Register),
+    (b"realtime", Advice::Register),
+    (b"time", Advice::Register),
+    (b"task", Advice::Subroutine),
+    (b"endtask", Advice::Subroutine),
+    (b"function", Advice::Subroutine),
+    (b"endfunction", Advice::Subroutine),
+    (b"automatic", Advice::Subroutine),
+    (b"event", Advice::Subroutine),
+    (b"fork", Advice::Parallel),
+    (b"join", Advice::Parallel),
+    (b"wait", Advice::Parallel),
+    (b"disable", Advice::Parallel),
+    (b"signed", Advice::Unsigned),
+];
+
+/// The advice on a word of the table.
+fn advice_in_table(text: &[u8]) -> Option<Advice>
+    ensures { result ≡ spec.advice_in spec.words text.now }
+{
+    let mut left = WORDS;
+    while let [(word, advice), rest @ ..] = left {
+        if text == *word {
+            return Some(*advice);
         }
+        left = rest;
     }
+    None
 }
 
-impl fmt::Display for Advice {
-    fn fmt<W: fmt::Write>(&self, f: &mut fmt::Formatter<W>) -> fmt::Result {
-        f.write_str(self.text())
-    }
-}
-
-pub fn is_same(text: &[u8], word: &[u8]) -> bool
+pub(crate) fn is_same(text: &[u8], word: &[u8]) -> bool
     ensures { result ≡ bytes_eq text.now word.now }
 {
     text == word
 }
 
-#[tactic(auto, unfolding(crate::specs::Words::is_choice_word))]
-fn is_choice_word(text: &[u8]) -> bool
-    ensures { result ≡ spec.is_choice_word text.now }
-{
-    is_same(text, b"case")
-        || is_same(text, b"casex")
-        || is_same(text, b"casez")
-        || is_same(text, b"endcase")
-        || is_same(text, b"default")
-}
-
-#[tactic(auto, unfolding(crate::specs::Words::is_loop_word))]
-fn is_loop_word(text: &[u8]) -> bool
-    ensures { result ≡ spec.is_loop_word text.now }
-{
-    is_same(text, b"for") || is_same(text, b"repeat") || is_same(text, b"forever")
-}
-
-#[tactic(auto, unfolding(crate::specs::Words::is_structure_word))]
-fn is_structure_word(text: &[u8]) -> bool
-    ensures { result ≡ spec.is_structure_word text.now }
-{
-    is_same(text, b"input")
-        || is_same(text, b"output")
-        || is_same(text, b"inout")
-        || is_same(text, b"parameter")
-        || is_same(text, b"localparam")
-        || is_same(text, b"defparam")
-        || is_same(text, b"generate")
-        || is_same(text, b"endgenerate")
-        || is_same(text, b"genvar")
-}
-
-#[tactic(auto, unfolding(crate::specs::Words::is_net_word))]
-fn is_net_word(text: &[u8]) -> bool
-    ensures { result ≡ spec.is_net_word text.now }
-{
-    is_same(text, b"wire")
-        || is_same(text, b"wand")
-        || is_same(text, b"wor")
-        || is_same(text, b"tri")
-        || is_same(text, b"supply0")
-        || is_same(text, b"supply1")
-        || is_same(text, b"assign")
-        || is_same(text, b"deassign")
-        || is_same(text, b"force")
-}
-
-#[tactic(auto, unfolding(crate::specs::Words::is_variable_word))]
-fn is_variable_word(text: &[u8]) -> bool
-    ensures { result ≡ spec.is_variable_word text.now }
-{
-    is_same(text, b"integer")
-        || is_same(text, b"real")
-        || is_same(text, b"realtime")
-        || is_same(text, b"time")
-}
-
-#[tactic(auto, unfolding(crate::specs::Words::is_subroutine_word))]
-fn is_subroutine_word(text: &[u8]) -> bool
-    ensures { result ≡ spec.is_subroutine_word text.now }
-{
-    is_same(text, b"task")
-        || is_same(text, b"endtask")
-        || is_same(text, b"function")
-        || is_same(text, b"endfunction")
-        || is_same(text, b"event")
-}
-
-#[tactic(auto, unfolding(crate::specs::Words::is_parallel_word))]
-fn is_parallel_word(text: &[u8]) -> bool
-    ensures { result ≡ spec.is_parallel_word text.now }
-{
-    is_same(text, b"fork")
-        || is_same(text, b"join")
-        || is_same(text, b"wait")
-        || is_same(text, b"disable")
-}
-
-#[tactic(auto, unfolding(crate::specs::Words::is_system_word))]
-fn is_system_word(text: &[u8]) -> bool
-    ensures { result ≡ spec.is_system_word text.now }
-{
-    match text {
-        [b'$', ..] => {
-            !(is_same(text, b"$display") || is_same(text, b"$strobe") || is_same(text, b"$finish"))
-        }
-        _ => false,
-    }
-}
-
-fn is_directive(text: &[u8]) -> bool
-    ensures { result ≡ spec.is_directive text.now }
-{
-    match text {
-        [b, ..] => *b == b'`',
-        [] => false,
-    }
-}
-
 /// What to write instead of a word, where the language lacks it.
 #[tactic(auto, unfolding(crate::specs::Words::advice_of))]
-pub fn advice_of(text: &[u8]) -> Option<Advice>
+pub(crate) fn advice_of(text: &[u8]) -> Option<Advice>
     ensures { result ≡ spec.advice_of text.now }
 {
-    if is_choice_word(text) {
-        return Some(Advice::Choice);
+    match text {
+        [b'`', ..] => Some(Advice::Directive),
+        [b'$', ..]
+            if !(is_same(text, b"$display")
+                || is_same(text, b"$strobe")
+                || is_same(text, b"$finish")) => Some(Advice::SystemName),
+        _ => advice_in_table(text),
     }
-    if is_loop_word(text) {
-        return Some(Advice::Loop);
-    }
-    if is_structure_word(text) {
-        return Some(Advice::OneModule);
-    }
-    if is_net_word(text) {
-        return Some(Advice::Net);
-    }
-    if is_variable_word(text) {
-        return Some(Advice::Register);
-    }
-    if is_subroutine_word(text) {
-        return Some(Advice::Subroutine);
-    }
-    if is_parallel_word(text) {
-        return Some(Advice::Parallel);
-    }
-    if is_same(text, b"signed") {
-        return Some(Advice::Unsigned);
-    }
-    if is_system_word(text) {
-        return Some(Advice::SystemName);
-    }
-    if is_directive(text) {
-        return Some(Advice::Directive);
-    }
-    None
 }

@@ -1,5 +1,4 @@
 pub mod Complete
-pub mod Forks
 pub mod Growing
 pub mod Keeping
 pub mod Letters

@@ -1,4 +1,3 @@
-pub mod Graph
 pub mod Grown
 pub mod Kept
 pub mod Runs

@@ -11,7 +11,6 @@
 //!    shown: that is the contract of `explore`.
 #![tactic(auto)]
 
-mod graph;
 mod kept;
 mod orders;
 mod search;
@@ -20,7 +19,6 @@ mod texts;
 mod trail;
 mod visited;
 
-pub use graph::{Arm, Fork, Graph, walks};
 pub use orders::Orders;
 pub use search::explore;
 

@@ -1,22 +1,32 @@
 -- What the requests of the words, the files and the statuses tell of a command that ended.
-use Rattle.std.proofs.Common.{◌≡◌, ◌⊎◌, ◌++◌, ◌∙◌, ap, sym, subst, inl, inr, refl, ℕ, List, [], Option, Some, None, IfOk, IfErr, Result, Ok, Err, map, option_map, unwrap_or, codes, drop, arith}
-use Rattle.std.specs.Io.KnownBytes.{Appends}
+use Rattle.std.proofs.Common.{◌≡◌, ◌≢◌, ◌⊎◌, ◌==◌, ◌||◌, Bool, true, false, string_bytes, ◌++◌, ◌∙◌, ap, append_assoc, sym, subst, inl, inr, refl, ℕ, List, [], Option, Some, None, IfOk, IfErr, OnOk, Result, Ok, Err, map, option_map, unwrap_or, codes, drop, arith}
+use Rattle.std.specs.Io.KnownBytes.{Appends, Keeps}
 use Rattle.model.specs.declared.entry.Entry.{Entry}
-use Rattle.simulate.specs.declared.run.Options.{Options}
+use Rattle.arguments.specs.declared.options.Options.{Options}
 use Rattle.clap.specs.Words.{Text, first_of}
 use Rattle.program.specs.declared.fault.Stop.{Stop}
-use Rattle.program.specs.declared.request.Refusal.{Refusal}
-use Rattle.program.specs.declared.request.Refusal.TheVariants as refusal
-use Rattle.program.specs.declared.request.RunRequest.{RunRequest}
-use Rattle.program.specs.declared.request.RacesRequest.{RacesRequest}
-use Rattle.program.specs.declared.extent.Extent.{Extent}
+use Rattle.arguments.specs.declared.request.Refusal.{Refusal}
+use Rattle.arguments.specs.declared.request.Refusal.TheVariants as refusal
+use Rattle.arguments.specs.declared.request.Request.{Request}
+use Rattle.arguments.specs.declared.request.Request.TheVariants as request
+use Rattle.arguments.specs.declared.request.RunRequest.{RunRequest}
+use Rattle.arguments.proofs.SecondWord.{unlike}
+use Rattle.arguments.specs.declared.request.CheckRequest.{CheckRequest}
+use Rattle.arguments.specs.declared.request.RacesRequest.{RacesRequest}
+use Rattle.arguments.specs.declared.extent.Extent.{Extent}
 use Rattle.program.specs.declared.finding.Finding.{Finding}
 use Rattle.program.specs.declared.fault.Fault.{Fault}
-use Rattle.program.specs.Options.{CanRun, CanSearch}
-use Rattle.program.specs.Program.{IsRefusalStatus, help_text, status_of}
-use Rattle.program.specs.Printed.{HasPrintedBy, HasRun, HasSearched, HasShown, IsDone, helped}
-use Rattle.program.specs.Saved.{AddsFile, ClosesFile, SavesAllWhereAsked, HoldsNothing, KeepsFiles, Made, SavesWhereAsked}
-use Rattle.program.specs.Words.{AreWrong, AsksRaces, AsksRun, IsRefusal, extent_of, options_of, races_rows, run_rows}
+use Rattle.arguments.specs.Options.{CanRun, CanSearch}
+use Rattle.program.specs.declared.ending.Ending.{Ending}
+use Rattle.program.specs.declared.ending.Ending.TheVariants as ending
+use Rattle.program.specs.declared.finding.Finding.TheVariants as finding
+use Rattle.program.specs.Program.{IsRefusalStatus, ended_status, ending_of, finding_status, help_text, right_text, status_of, stop_status, version_text}
+use Rattle.program.specs.Printed.{HasEnded, HasPrintedBy, HasRefused, HasRun, HasSearched, HasChecked, HasShown, IsDone, IsRight, IsWrong, checked, helped, ran, searched, versioned}
+use Rattle.program.specs.Told.{IsEndTold, IsTold, IsUnfinished, nothing, of_fault, of_source, of_stop}
+use Rattle.program.proofs.Statuses.{not_of_fault, not_of_stop}
+use Rattle.journal.specs.declared.counted.Counted.{Counted}
+use Rattle.files.specs.Saved.{AddsFile, SavesAllWhereAsked, KeepsFiles, Made, SavesWhereAsked}
+use Rattle.arguments.specs.Words.{AreWrong, Asks, Begins, AsksCheck, AsksRaces, AsksRun, IsRefusal, extent_of, options_of, races_rows, run_rows}
 
 -- files
 
@@ -36,22 +46,6 @@ pub saved_on : (a b c : Option (List Made)) (path : Option (List ℕ)) (entries 
     → SavesWhereAsked b c path entries → SavesWhereAsked a c path entries
 saved_on a b c None entries h k = kept_on a b c h k
 saved_on a b c (Some p) entries h k = added_on a b c _ h k
-
-known_after : (start end : Option (List ℕ)) (text : List ℕ) → start ≡ Some [] → Appends start end text → end ≡ Some text
-known_after None end text e h = cc
-known_after (Some xs) None text e h = absurd h
-known_after (Some xs) (Some ys) text e h = ap Some (h ∙ ap (λ zs. zs ++ text) (some_is e))
-  where
-    some_is : Some xs ≡ Some [] → xs ≡ []
-    some_is q = ap (λ o. unwrap_or o xs) q
-
--- a file that was made, written and closed
-pub closed_file : (a b c : Option (List Made)) (start end : Option (List ℕ)) (path text : List ℕ) → HoldsNothing a start → KeepsFiles a b
-    → Appends start end text → ClosesFile b c path end → AddsFile a c (record { path = path; bytes = text })
-closed_file None b c start end path text empty same grown closes = tt
-closed_file (Some fs) b c start end path text empty same grown closes =
-    let whole = subst (λ (o : Option (List ℕ)). ClosesFile b c path o) (known_after start end text empty grown) closes in
-    added_on (Some fs) b c (record { path = path; bytes = text }) same whole
 
 pub all_saved_on : (a b c : Option (List Made)) (prefix : Option (List ℕ)) (journals : List (List Entry)) → KeepsFiles a b
     → SavesAllWhereAsked b c prefix journals → SavesAllWhereAsked a c prefix journals
@@ -92,7 +86,8 @@ shown_on extent prefix old new a b c (Ok found) h k = record {
   claim = k.claim;
   shown = k.shown;
   are_found = k.are_found;
-  ends = k.ends;
+  report = k.report;
+  is_report = k.is_report;
   printed = k.printed;
   saved = all_saved_on a b c prefix (map (λ s. s.moves.items) k.shown) h k.saved;
   finding = k.finding;
@@ -140,38 +135,225 @@ refused_wrong words refusal.Memory n is status e = absurd (clash (sym status ∙
     clash : ◌≡◌ {A = ℕ} 6 2 → ⊥
     clash q = cc
 
-pub refused_unstopped : (r : Refusal) (n : ℕ) → IsRefusalStatus r n → n ≡ 4 → ⊥
-refused_unstopped (refusal.Help text) n (inl status) e = clash (sym status ∙ e)
-  where
-    clash : ◌≡◌ {A = ℕ} 0 4 → ⊥
-    clash q = cc
-refused_unstopped (refusal.Help text) n (inr status) e = clash (sym status ∙ e)
-  where
-    clash : ◌≡◌ {A = ℕ} 1 4 → ⊥
-    clash q = cc
-refused_unstopped (refusal.Usage text) n status e = clash (sym status ∙ e)
-  where
-    clash : ◌≡◌ {A = ℕ} 2 4 → ⊥
-    clash q = cc
-refused_unstopped refusal.Memory n status e = clash (sym status ∙ e)
-  where
-    clash : ◌≡◌ {A = ℕ} 6 4 → ⊥
-    clash q = cc
+-- a status that no refusal has
+abbrev pub is_refusal_status : ℕ → Bool
+is_refusal_status n = n == 0 || (n == 1 || (n == 2 || n == 6))
 
-pub refused_few : (r : Refusal) (n : ℕ) → IsRefusalStatus r n → n ≡ 7 → ⊥
-refused_few (refusal.Help text) n (inl status) e = clash (sym status ∙ e)
-  where
-    clash : ◌≡◌ {A = ℕ} 0 7 → ⊥
-    clash q = cc
-refused_few (refusal.Help text) n (inr status) e = clash (sym status ∙ e)
-  where
-    clash : ◌≡◌ {A = ℕ} 1 7 → ⊥
-    clash q = cc
-refused_few (refusal.Usage text) n status e = clash (sym status ∙ e)
-  where
-    clash : ◌≡◌ {A = ℕ} 2 7 → ⊥
-    clash q = cc
-refused_few refusal.Memory n status e = clash (sym status ∙ e)
-  where
-    clash : ◌≡◌ {A = ℕ} 6 7 → ⊥
-    clash q = cc
+wrong_one : (b : Bool) → b ≡ true → b ≡ false → ⊥
+wrong_one true h e = cc
+wrong_one false h e = cc
+
+refusal_has : (r : Refusal) (n : ℕ) → IsRefusalStatus r n → is_refusal_status n ≡ true
+refusal_has (refusal.Help text) n (inl e) = ap is_refusal_status e
+refusal_has (refusal.Help text) n (inr e) = ap is_refusal_status e
+refusal_has (refusal.Usage text) n e = ap is_refusal_status e
+refusal_has refusal.Memory n e = ap is_refusal_status e
+
+pub not_of_refusal : (r : Refusal) (n k : ℕ) → IsRefusalStatus r n → is_refusal_status k ≡ false → n ≡ k → ⊥
+not_of_refusal r n k is h e = wrong_one (is_refusal_status k) (subst (λ (m : ℕ). is_refusal_status m ≡ true) e (refusal_has r n is)) h
+
+-- what a status tells of how a command ended
+
+pub done_by_status : (words : List Text) (old new : Option (List ℕ)) (files files' : Option (List Made)) (ended : Result Ending Fault)
+    → IfOk ended (HasEnded words old new files files') → ended_status ended ≡ 0 → IsDone words old new files files'
+done_by_status words old new files files' (Ok ending.Done) h e = h
+done_by_status words old new files files' (Ok (ending.Stopped s)) h e = absurd (not_of_stop s 0 refl e)
+done_by_status words old new files files' (Ok (ending.Found finding.One)) h e = searched h
+done_by_status words old new files files' (Ok (ending.Found finding.Unfinished)) h e = cc
+done_by_status words old new files files' (Ok (ending.Found finding.Several)) h e = cc
+done_by_status words old new files files' (Ok (ending.Wrong text)) h e = cc
+done_by_status words old new files files' (Err f) h e = absurd (not_of_fault f 0 refl e)
+
+pub right_by_status : (ended : Result Ending Fault) → ended_status ended ≡ 2 → ⊥
+right_by_status (Ok ending.Done) e = cc
+right_by_status (Ok (ending.Stopped s)) e = not_of_stop s 2 refl e
+right_by_status (Ok (ending.Found finding.One)) e = cc
+right_by_status (Ok (ending.Found finding.Unfinished)) e = cc
+right_by_status (Ok (ending.Found finding.Several)) e = cc
+right_by_status (Ok (ending.Wrong text)) e = cc
+right_by_status (Err f) e = not_of_fault f 2 refl e
+
+pub refused_by_status : (words : List Text) (old new : Option (List ℕ)) (files files' : Option (List Made)) (ended : Result Ending Fault)
+    → IfOk ended (HasEnded words old new files files') → IfErr ended (λ f. (status_of f ≡ 1) ⊎ (status_of f ≡ 6)) → ended_status ended ≡ 3
+    → HasRefused words old new files files'
+refused_by_status words old new files files' (Ok ending.Done) h k e = cc
+refused_by_status words old new files files' (Ok (ending.Stopped s)) h k e = absurd (not_of_stop s 3 refl e)
+refused_by_status words old new files files' (Ok (ending.Found finding.One)) h k e = cc
+refused_by_status words old new files files' (Ok (ending.Found finding.Unfinished)) h k e = cc
+refused_by_status words old new files files' (Ok (ending.Found finding.Several)) h k e = cc
+refused_by_status words old new files files' (Ok (ending.Wrong text)) h k e = h
+refused_by_status words old new files files' (Err f) h (inl one) e = absurd (omega (arith, one, e))
+refused_by_status words old new files files' (Err f) h (inr six) e = absurd (omega (arith, six, e))
+
+pub stopped_by_status : {E : Type 0} (words : List Text) (old new : Option (List ℕ)) (files files' : Option (List Made)) (contents : E → Option (List ℕ))
+    (err err' : Counted E) (ended : Result Ending Fault) → IfOk ended (HasEnded words old new files files') → IsEndTold contents err err' ended
+    → ended_status ended ≡ 4 → IsUnfinished words old new files files' contents err err'
+stopped_by_status words old new files files' contents err err' (Ok ending.Done) h t e = cc
+stopped_by_status words old new files files' contents err err' (Ok (ending.Stopped s)) h t e = inl (record { stop = s; has_run = h; told = t })
+stopped_by_status words old new files files' contents err err' (Ok (ending.Found finding.One)) h t e = cc
+stopped_by_status words old new files files' contents err err' (Ok (ending.Found finding.Unfinished)) h t e = inr (h, t)
+stopped_by_status words old new files files' contents err err' (Ok (ending.Found finding.Several)) h t e = cc
+stopped_by_status words old new files files' contents err err' (Ok (ending.Wrong text)) h t e = cc
+stopped_by_status words old new files files' contents err err' (Err f) h t e = absurd (not_of_fault f 4 refl e)
+
+pub several_by_status : (words : List Text) (old new : Option (List ℕ)) (files files' : Option (List Made)) (ended : Result Ending Fault)
+    → IfOk ended (HasEnded words old new files files') → ended_status ended ≡ 7 → HasSearched words old new files files' finding.Several
+several_by_status words old new files files' (Ok ending.Done) h e = cc
+several_by_status words old new files files' (Ok (ending.Stopped s)) h e = absurd (not_of_stop s 7 refl e)
+several_by_status words old new files files' (Ok (ending.Found finding.One)) h e = cc
+several_by_status words old new files files' (Ok (ending.Found finding.Unfinished)) h e = cc
+several_by_status words old new files files' (Ok (ending.Found finding.Several)) h e = h
+several_by_status words old new files files' (Ok (ending.Wrong text)) h e = cc
+several_by_status words old new files files' (Err f) h e = absurd (not_of_fault f 7 refl e)
+
+-- statuses 2, 3 and 5
+abbrev pub IsSourceStatus : ℕ → Type 0
+IsSourceStatus n = (n ≡ 2) ⊎ ((n ≡ 3) ⊎ (n ≡ 5))
+
+no_stop : (s : Stop) → IsSourceStatus (stop_status s) → ⊥
+no_stop s (inl e) = not_of_stop s 2 refl e
+no_stop s (inr (inl e)) = not_of_stop s 3 refl e
+no_stop s (inr (inr e)) = not_of_stop s 5 refl e
+
+no_finding : (found : Finding) → IsSourceStatus (finding_status found) → ⊥
+no_finding finding.One (inl e) = cc
+no_finding finding.One (inr (inl e)) = cc
+no_finding finding.One (inr (inr e)) = cc
+no_finding finding.Unfinished (inl e) = cc
+no_finding finding.Unfinished (inr (inl e)) = cc
+no_finding finding.Unfinished (inr (inr e)) = cc
+no_finding finding.Several (inl e) = cc
+no_finding finding.Several (inr (inl e)) = cc
+no_finding finding.Several (inr (inr e)) = cc
+
+no_zero : ◌≡◌ {A = ℕ} 0 2 ⊎ (◌≡◌ {A = ℕ} 0 3 ⊎ ◌≡◌ {A = ℕ} 0 5) → ⊥
+no_zero (inl e) = cc
+no_zero (inr (inl e)) = cc
+no_zero (inr (inr e)) = cc
+
+not_one : (n : ℕ) → (n ≡ 3) ⊎ (n ≡ 5) → n ≢ 1
+not_one n (inl e) one = omega (arith, e, one)
+not_one n (inr e) one = omega (arith, e, one)
+
+of_source_or_journal : (f : Fault) → IsSourceStatus (status_of f) → (status_of f ≡ 3) ⊎ (status_of f ≡ 5)
+of_source_or_journal f (inl e) = absurd (not_of_fault f 2 refl e)
+of_source_or_journal f (inr h) = h
+
+pub nothing_by_status : (words : List Text) (old new : Option (List ℕ)) (files files' : Option (List Made)) (ended : Result Ending Fault)
+    → IfOk ended (HasEnded words old new files files') → IfErr ended (λ f. status_of f ≢ 1 → Keeps old new) → IsSourceStatus (ended_status ended)
+    → Keeps old new
+nothing_by_status words old new files files' (Ok ending.Done) h k e = absurd (no_zero e)
+nothing_by_status words old new files files' (Ok (ending.Stopped s)) h k e = absurd (no_stop s e)
+nothing_by_status words old new files files' (Ok (ending.Found found)) h k e = absurd (no_finding found e)
+nothing_by_status words old new files files' (Ok (ending.Wrong text)) h k e = h.unprinted
+nothing_by_status words old new files files' (Err f) h k e = k (not_one (status_of f) (of_source_or_journal f e))
+
+pub unsaved_by_status : (words : List Text) (old new : Option (List ℕ)) (files files' : Option (List Made)) (ended : Result Ending Fault)
+    → IfOk ended (HasEnded words old new files files') → IfErr ended (λ f. (status_of f ≡ 3) ⊎ (status_of f ≡ 5) → KeepsFiles files files')
+    → IsSourceStatus (ended_status ended) → KeepsFiles files files'
+unsaved_by_status words old new files files' (Ok ending.Done) h k e = absurd (no_zero e)
+unsaved_by_status words old new files files' (Ok (ending.Stopped s)) h k e = absurd (no_stop s e)
+unsaved_by_status words old new files files' (Ok (ending.Found found)) h k e = absurd (no_finding found e)
+unsaved_by_status words old new files files' (Ok (ending.Wrong text)) h k e = h.unsaved
+unsaved_by_status words old new files files' (Err f) h k e = k (of_source_or_journal f e)
+
+pub silent_by_status : {E : Type 0} (contents : E → Option (List ℕ)) (err err' : Counted E) (ended : Result Ending Fault) → IsEndTold contents err err' ended
+    → (ended_status ended ≡ 0) ⊎ (ended_status ended ≡ 7) → err' ≡ err
+silent_by_status contents err err' (Ok ending.Done) t e = t
+silent_by_status contents err err' (Ok (ending.Stopped s)) t (inl e) = absurd (not_of_stop s 0 refl e)
+silent_by_status contents err err' (Ok (ending.Stopped s)) t (inr e) = absurd (not_of_stop s 7 refl e)
+silent_by_status contents err err' (Ok (ending.Found found)) t e = t
+silent_by_status contents err err' (Ok (ending.Wrong text)) t (inl e) = cc
+silent_by_status contents err err' (Ok (ending.Wrong text)) t (inr e) = cc
+silent_by_status contents err err' (Err f) t (inl e) = absurd (not_of_fault f 0 refl e)
+silent_by_status contents err err' (Err f) t (inr e) = absurd (not_of_fault f 7 refl e)
+
+pub told_by_status : {E : Type 0} (contents : E → Option (List ℕ)) (err err' : Counted E) (words : List Text) (old new : Option (List ℕ)) (files files' : Option (List Made)) (ended : Result Ending Fault)
+    → IfOk ended (HasEnded words old new files files') → IsEndTold contents err err' ended → IsTold contents err err' words (ended_status ended)
+told_by_status contents err err' words old new files files' (Ok ending.Done) h t = nothing (inl refl) t
+told_by_status contents err err' words old new files files' (Ok (ending.Stopped s)) h t = of_stop s refl t
+told_by_status contents err err' words old new files files' (Ok (ending.Found finding.One)) h t = nothing (inl refl) t
+told_by_status contents err err' words old new files files' (Ok (ending.Found finding.Unfinished)) h t = nothing (inr (inl refl)) t
+told_by_status contents err err' words old new files files' (Ok (ending.Found finding.Several)) h t = nothing (inr (inr refl)) t
+told_by_status contents err err' words old new files files' (Ok (ending.Wrong text)) h t = of_source h.begins refl (string_bytes text) t
+told_by_status contents err err' words old new files files' (Err f) h t = of_fault f refl t
+
+-- output that nothing was written to
+pub output_same : (known : Option (List ℕ)) → Keeps known known
+output_same None = tt
+output_same (Some xs) = refl
+
+-- requests, performed
+
+pub run_performed : (words : List Text) (run : RunRequest) (old new : Option (List ℕ)) (files files' : Option (List Made)) (told : Option Stop)
+    → AsksRun words run → HasPrintedBy run.seed run.options (option_map (λ path. path.now) run.journal) old new files files' told
+    → HasEnded words old new files files' (ending_of told)
+run_performed words run old new files files' None asks h = ran (run_of_words words run old new files files' None asks h)
+run_performed words run old new files files' (Some s) asks h = run_of_words words run old new files files' (Some s) asks h
+
+pub version_performed : (words : List Text) (old new : Option (List ℕ)) (files : Option (List Made)) (r : Result Ending Fault) → Begins words (codes "--version")
+    → OnOk r (Appends old new version_text) → IfOk r (λ e. e ≡ ending.Done) → IfOk r (HasEnded words old new files files)
+version_performed words old new files (Ok ending.Done) begins shown is = versioned begins shown (kept files)
+version_performed words old new files (Ok (ending.Stopped s)) begins shown is = cc
+version_performed words old new files (Ok (ending.Found found)) begins shown is = cc
+version_performed words old new files (Ok (ending.Wrong text)) begins shown is = cc
+version_performed words old new files (Err f) begins shown is = tt
+
+-- whatever the fault
+pub if_err : {T E : Type 0} (P : E → Type 0) (r : Result T E) → ((e : E) → P e) → IfErr r P
+if_err P (Ok x) h = tt
+if_err P (Err e) h = h e
+
+pub one_only : (K : Type 0) (r : Result Ending Fault) → IfErr r (λ f. status_of f ≡ 1) → IfErr r (λ f. status_of f ≢ 1 → K)
+one_only K (Ok e) h = tt
+one_only K (Err f) h = λ other. absurd (other h)
+
+pub check_performed : (words : List Text) (check : CheckRequest) (old new : Option (List ℕ)) (files files' : Option (List Made)) (r : Result Ending Fault)
+    → AsksCheck words check → IsRight → KeepsFiles files files' → OnOk r (Appends old new (right_text check.file.now)) → IfOk r (λ e. e ≡ ending.Done)
+    → IfOk r (HasEnded words old new files files')
+check_performed words check old new files files' (Ok ending.Done) asks right keeps shown is = checked (record {
+  begins = asks.begins;
+  is_right = right;
+  path = check.file.now;
+  file = asks.is_check.file;
+  shown = shown;
+  unsaved = keeps;
+})
+check_performed words check old new files files' (Ok (ending.Stopped s)) asks right keeps shown is = cc
+check_performed words check old new files files' (Ok (ending.Found found)) asks right keeps shown is = cc
+check_performed words check old new files files' (Ok (ending.Wrong text)) asks right keeps shown is = cc
+check_performed words check old new files files' (Err f) asks right keeps shown is = tt
+
+-- a text, and then another
+pub appends_then : (a b c : Option (List ℕ)) (xs ys : List ℕ) → Appends a b xs → Appends b c ys → Appends a c (xs ++ ys)
+appends_then None b c xs ys h g = tt
+appends_then (Some a) None c xs ys h g = absurd h
+appends_then (Some a) (Some b) None xs ys h g = absurd g
+appends_then (Some a) (Some b) (Some c) xs ys h g = g ∙ ap (λ t. t ++ ys) h ∙ append_assoc a xs ys
+
+-- what a check has told
+
+pub right_if : {T : Type 0} (told : Option T) → told ≡ None → HasChecked told → IsRight
+right_if None e h = h
+right_if (Some x) e h = cc
+
+pub wrong_if : {T : Type 0} (told : Option T) (x : T) → told ≡ Some x → HasChecked told → IsWrong
+wrong_if None x e h = cc
+wrong_if (Some y) x e h = h
+
+-- words that make no request, and are no call for help
+pub wrong_usage : (words : List Text) (r : Refusal) (text : _) → r ≡ refusal.Usage text → IsRefusal words r → AreWrong words
+wrong_usage words r text e h = subst (IsRefusal words) e h
+
+-- a request for a check
+abbrev pub is_check : Request → Bool
+is_check (request.Check c) = true
+is_check r = false
+
+-- words that begin as those of a check ask for nothing else
+pub check_alone : (words : List Text) (r : Request) → is_check r ≡ false → Asks words r → Begins words (codes "check") → ⊥
+check_alone words (request.Run run) e asks begins = unlike (codes "run") (codes "check") refl (sym asks.begins ∙ begins)
+check_alone words (request.Replay replay) e asks begins = unlike (codes "replay") (codes "check") refl (sym asks.begins ∙ begins)
+check_alone words (request.Races races) e asks begins = unlike (codes "races") (codes "check") refl (sym asks.begins ∙ begins)
+check_alone words (request.Check check) e asks begins = cc
+check_alone words request.Version e asks begins = unlike (codes "--version") (codes "check") refl (sym asks ∙ begins)

@@ -1,10 +1,6 @@
--- Lemmas of words, options, statuses, ends and files.
-pub mod GivenLemmas
-pub mod WordLemmas
-pub mod SecondWord
+-- Lemmas of statuses, ends and searches.
 pub mod Statuses
 pub mod Endings
 pub mod Ended
-pub mod Journals
 pub mod Sampled
 pub mod Searched

@@ -12,7 +12,7 @@ use Rattle.seeded.specs.Runs.{IsRun}
 use Rattle.seeded.specs.Samples as seeded
 use Rattle.seeded.specs.declared.run.SeededRun.{SeededRun}
 use Rattle.verdict.specs.declared.claim.Claim.TheVariants.{Sampled}
-use Rattle.program.specs.declared.extent.Extent.{Extent}
+use Rattle.arguments.specs.declared.extent.Extent.{Extent}
 use Rattle.program.specs.Findings.{AreFound, AreOf, IsFound, IsOf, limits_in}
 
 -- one more run, and its text

@@ -1,5 +1,5 @@
 -- What a search of lawful orders finds, what it claims, and how its exit status tells it.
-use Rattle.std.specs.Prelude.{◌≡◌, ℕ, ◌==◌, nat_lt, if◌then◌else◌, List, [], ◌∷◌, string_bytes, Result, Ok, Err}
+use Rattle.std.specs.Prelude.{◌≡◌, ℕ, ◌==◌, nat_lt, if◌then◌else◌, List, [], ◌∷◌, string_bytes}
 use Rattle.std.specs.List.{All, AllPairs}
 use Rattle.model.specs.declared.entry.Entry.{Entry}
 use Rattle.model.specs.declared.end.End.{End}
@@ -12,11 +12,9 @@ use Rattle.seeded.specs.declared.run.SeededRun.{SeededRun}
 use Rattle.races.specs.Journals.{AreAllTexts, IsLawfulText}
 use Rattle.verdict.specs.declared.claim.Claim.{Claim}
 use Rattle.verdict.specs.declared.claim.Claim.TheVariants.{Every, SoFar, Sampled}
-use Rattle.program.specs.declared.extent.Extent.{Extent}
-use Rattle.program.specs.declared.fault.Fault.{Fault}
+use Rattle.arguments.specs.declared.extent.Extent.{Extent}
 use Rattle.program.specs.declared.finding.Finding.{Finding}
 use Rattle.program.specs.declared.finding.Finding.TheVariants as finding
-use Rattle.program.specs.Program.{status_of}
 
 -- no limit was met, so that one text is the only one
 abbrev pub lone_of : Claim → Finding
@@ -27,17 +25,6 @@ lone_of (Sampled orders) = finding.Unfinished
 -- what so many texts are, of which this is claimed
 abbrev pub finding_of : Claim → ℕ → Finding
 finding_of claim count = if nat_lt 1 count then finding.Several else if count == 1 then lone_of claim else finding.Unfinished
-
--- 0 for one text and no other, 4 where others may be possible, 7 for several texts
-abbrev pub finding_status : Finding → ℕ
-finding_status finding.One = 0
-finding_status finding.Unfinished = 4
-finding_status finding.Several = 7
-
--- a search that was made, or that met a fault
-abbrev pub searched_status : Result Finding Fault → ℕ
-searched_status (Ok f) = finding_status f
-searched_status (Err f) = status_of f
 
 -- P, where it is claimed that the texts are all
 abbrev pub OnEvery : Claim → Type 0 → Type 0

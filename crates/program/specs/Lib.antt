@@ -1,7 +1,5 @@
-pub mod Arguments
 pub mod Findings
-pub mod Options
+pub mod Lines
 pub mod Printed
 pub mod Program
-pub mod Saved
-pub mod Words
+pub mod Told

@@ -1,30 +1,40 @@
 -- What a run, a replay or a search for races leaves on standard output.
-use Rattle.std.specs.Prelude.{◌≡◌, ◌⊎◌, ℕ, Bool, List, Option, Some, None, codes, drop, length, map, string_bytes}
-use Rattle.std.specs.Io.KnownBytes.{Appends}
+use Rattle.std.specs.Prelude.{◌≡◌, ◌⊎◌, ◌++◌, ℕ, Bool, List, Option, Some, None, codes, drop, length, map, string_bytes}
+use Rattle.std.specs.Io.KnownBytes.{Appends, Keeps}
 use Rattle.design.specs.Compiled.{Compiled}
-use Rattle.frontend.specs.Sources.{IsDesignOf}
+use Rattle.frontend.specs.Sources.{IsDesignOf, IsSourceFault}
+use Rattle.frontend.specs.declared.source.SourceFault.{SourceFault}
 use Rattle.commitgate.specs.Closing.{ClosedView}
 use Rattle.eventpool.specs.Pools.{Counts}
-use Rattle.simulate.specs.declared.run.Options.{Options}
-use Rattle.simulate.specs.Outcomes.{IsOutcome, limits_of}
+use Rattle.simulate.specs.Outcomes.{IsOutcome}
+use Rattle.model.specs.declared.end.Limits.{Limits}
+use Rattle.arguments.specs.declared.options.Options.{Options}
 use Rattle.replay.specs.Bytes.{Prints}
 use Rattle.seeded.specs.Runs as seeded
 use Rattle.seeded.specs.declared.run.SeededRun.{SeededRun}
 use Rattle.model.specs.declared.entry.Entry.{Entry}
 use Rattle.model.specs.declared.end.End.{End}
+use Rattle.model.specs.declared.end.Limits.{Limits}
 use Rattle.explore.specs.declared.Shown.{Shown}
 use Rattle.verdict.specs.declared.claim.Claim.{Claim}
 use Rattle.verdict.specs.Verdicts.{verdict_text}
-use Rattle.program.specs.declared.extent.Extent.{Extent}
+use Rattle.naming.specs.Naming.{TellsRaces}
+use Rattle.arguments.specs.declared.extent.Extent.{Extent}
 use Rattle.program.specs.declared.finding.Finding.{Finding}
 use Rattle.program.specs.declared.finding.Finding.TheVariants as finding
-use Rattle.program.specs.Findings.{AreFound, finding_of, first_text}
+use Rattle.program.specs.Findings.{AreFound, finding_of, first_text, limits_in}
 use Rattle.program.specs.declared.fault.Stop.{Stop}
 use Rattle.clap.specs.Words.{Text, first_of}
-use Rattle.program.specs.Options.{CanRun, CanSearch}
-use Rattle.program.specs.Program.{stop_of}
-use Rattle.program.specs.Saved.{Made, KeepsFiles, SavesAllWhereAsked, SavesWhereAsked}
-use Rattle.program.specs.Words.{AsksHelp, Begins, extent_of, number_given, options_of, races_rows, run_rows}
+use Rattle.arguments.specs.Options.{CanRun, CanSearch}
+use Rattle.program.specs.declared.ending.Ending.{Ending}
+use Rattle.program.specs.declared.ending.Ending.TheVariants as ending
+use Rattle.program.specs.Program.{right_text, source_status_of, stop_of, version_text}
+use Rattle.files.specs.Saved.{Made, KeepsFiles, SavesAllWhereAsked, SavesWhereAsked}
+use Rattle.arguments.specs.Words.{AsksHelp, Begins, check_rows, extent_of, number_given, options_of, races_rows, run_rows}
+
+-- the limits of a run
+abbrev pub limits_of : Options → Limits
+limits_of options = record { until = options.until; max_entries = options.max_entries }
 
 -- a run, by these options, of the design that some source describes, with its tickets and the evaluations of its workers
 pub record IsRun (options : Options) (closed : ClosedView) : Type 0 where
@@ -71,13 +81,15 @@ pub record HasRun (words : List Text) (old new : Option (List ℕ)) (files files
   pub can_run : CanRun (options_of (run_rows (drop 1 words)))
   pub printed : HasPrintedBy (number_given (codes "seed") (run_rows (drop 1 words))) (options_of (run_rows (drop 1 words))) (first_of (codes "journal") (run_rows (drop 1 words))) old new files files' told
 
--- so they are, and the run was stopped
-pub record HasStopped (words : List Text) (old new : Option (List ℕ)) (files files' : Option (List Made)) : Type 0 where
-  pub stop : Stop
-  pub has_run : HasRun words old new files files' (Some stop)
+-- What is said of a search: races of the design that are so in lawful runs, in lines; and then what the texts are that were found.
+pub record IsReport (design : Compiled) (limits : Limits) (claim : Claim) (shown : List (Shown Entry End)) (prefix : Option (List ℕ)) (text : List ℕ) : Type 0 where
+  pub races : List ℕ
+  pub tells : TellsRaces design limits shown prefix races
+  pub ends : Bool
+  pub text_is : text ≡ races ++ verdict_text claim limits.until (length shown) ends (first_text shown)
 
--- Of the design that some source describes texts were found, so far as this says. Output grew by what is said of
--- these texts, their journals were saved where a prefix is given, and this was found.
+-- Of the design that some source describes texts were found, so far as this says. Output grew by what is said of this search, their
+-- journals were saved where a prefix is given, and this was found.
 pub record HasShown (extent : Extent) (prefix : Option (List ℕ)) (old new : Option (List ℕ)) (files files' : Option (List Made)) (found : Finding) : Type 0 where
   pub source : List ℕ
   pub design : Compiled
@@ -85,8 +97,9 @@ pub record HasShown (extent : Extent) (prefix : Option (List ℕ)) (old new : Op
   pub claim : Claim
   pub shown : List (Shown Entry End)
   pub are_found : AreFound design extent claim shown
-  pub ends : Bool
-  pub printed : Appends old new (verdict_text claim extent.until (length shown) ends (first_text shown))
+  pub report : List ℕ
+  pub is_report : IsReport design (limits_in extent) claim shown prefix report
+  pub printed : Appends old new report
   pub saved : SavesAllWhereAsked files files' prefix (map (λ s. s.moves.items) shown)
   pub finding : found ≡ finding_of claim (length shown)
 
@@ -97,10 +110,6 @@ pub record HasSearched (words : List Text) (old new : Option (List ℕ)) (files 
   pub can_search : CanSearch (extent_of (races_rows (drop 1 words)))
   pub shown : HasShown (extent_of (races_rows (drop 1 words))) (first_of (codes "journals") (races_rows (drop 1 words))) old new files files' found
 
--- a run was stopped, or a search met a limit and found no second text
-abbrev pub IsUnfinished : List Text → Option (List ℕ) → Option (List ℕ) → Option (List Made) → Option (List Made) → Type 0
-IsUnfinished words old new files files' = HasStopped words old new files files' ⊎ HasSearched words old new files files' finding.Unfinished
-
 -- output grew by the lines of a journal that is lawful for the design that some source describes, and what was left to
 -- read, where that is known, is the text of this journal
 pub record HasReplayed (old new : Option (List ℕ)) : Type 0 where
@@ -108,11 +117,54 @@ pub record HasReplayed (old new : Option (List ℕ)) : Type 0 where
   pub left : Option (List ℕ)
   pub prints : Prints source left old new
 
--- The words ask for help, and output grew by some text; or they ask for a run, which left its lines and its journal and wasn't
--- stopped by a limit; or they ask for a replay, which left its lines; or for a search for races, which found one text and no
--- other possible one.
+-- a source that was checked describes a design
+pub record IsRight : Type 0 where
+  pub source : List ℕ
+  pub design : Compiled
+  pub is_design : IsDesignOf source design
+
+-- a source that was checked has a fault, which isn't want of memory
+pub record IsWrong : Type 0 where
+  pub source : List ℕ
+  pub fault : SourceFault
+  pub is_fault : IsSourceFault source fault
+  pub of_source : source_status_of fault ≡ 3
+
+-- a source was checked, and this is told of what is wrong with it
+abbrev pub HasChecked : {T : Type 0} → Option T → Type 0
+HasChecked None = IsRight
+HasChecked (Some text) = IsWrong
+
+-- The words ask for a check of a source, which is right, and output grew by a line that says so of the FILE of these words.
+pub record HasConfirmed (words : List Text) (old new : Option (List ℕ)) (files files' : Option (List Made)) : Type 0 where
+  pub begins : Begins words (codes "check")
+  pub is_right : IsRight
+  pub path : List ℕ
+  pub file : first_of (codes "FILE") (check_rows (drop 1 words)) ≡ Some path
+  pub shown : Appends old new (right_text path)
+  pub unsaved : KeepsFiles files files'
+
+-- The words ask for help, and output grew by some text; or for the version, which output grew by; or they ask for a run, which
+-- left its lines and its journal and wasn't stopped by a limit; or they ask for a replay, which left its lines; or for a search
+-- for races, which found one text and no other possible one; or for a check of a source, which is right.
 pub data IsDone (words : List Text) (old new : Option (List ℕ)) (files files' : Option (List Made)) : Type 0 where
   helped : AsksHelp words → (text : List ℕ) → Appends old new text → KeepsFiles files files' → IsDone words old new files files'
+  versioned : Begins words (codes "--version") → Appends old new version_text → KeepsFiles files files' → IsDone words old new files files'
   ran : HasRun words old new files files' None → IsDone words old new files files'
   replayed : Begins words (codes "replay") → HasReplayed old new → KeepsFiles files files' → IsDone words old new files files'
   searched : HasSearched words old new files files' finding.One → IsDone words old new files files'
+  checked : HasConfirmed words old new files files' → IsDone words old new files files'
+
+-- The words ask for a check of a source, which is wrong, and nothing was left on output.
+pub record HasRefused (words : List Text) (old new : Option (List ℕ)) (files files' : Option (List Made)) : Type 0 where
+  pub begins : Begins words (codes "check")
+  pub is_wrong : IsWrong
+  pub unprinted : Keeps old new
+  pub unsaved : KeepsFiles files files'
+
+-- What a command that ended so has done.
+abbrev pub HasEnded : List Text → Option (List ℕ) → Option (List ℕ) → Option (List Made) → Option (List Made) → Ending → Type 0
+HasEnded words old new files files' ending.Done = IsDone words old new files files'
+HasEnded words old new files files' (ending.Stopped stop) = HasRun words old new files files' (Some stop)
+HasEnded words old new files files' (ending.Found found) = HasSearched words old new files files' found
+HasEnded words old new files files' (ending.Wrong text) = HasRefused words old new files files'

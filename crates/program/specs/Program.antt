@@ -1,15 +1,21 @@
 -- The exit statuses of the program.
-use Rattle.std.specs.Prelude.{◌≡◌, ◌⊎◌, ℕ, List, [], Option, Some, None, Result, Ok, Err, string_bytes}
+use Rattle.std.specs.Prelude.{◌≡◌, ◌⊎◌, ℕ, List, [], Option, Some, None, Result, Ok, Err, string_bytes, codes, ◌∷◌, ◌++◌}
 use Rattle.model.specs.declared.end.End.{End}
 use Rattle.model.specs.declared.end.End.TheVariants as end
 use Rattle.model.specs.declared.end.Why.{Why}
 use Rattle.model.specs.declared.end.Why.TheVariants as why
-use Rattle.program.specs.declared.request.Refusal.{Refusal}
-use Rattle.program.specs.declared.request.Refusal.TheVariants as refusal
+use Rattle.arguments.specs.declared.request.Refusal.{Refusal}
+use Rattle.arguments.specs.declared.request.Refusal.TheVariants as refusal
 use Rattle.program.specs.declared.fault.Fault.{Fault}
 use Rattle.program.specs.declared.fault.Fault.TheVariants as fault
+use Rattle.program.specs.declared.ending.Ending.{Ending}
+use Rattle.program.specs.declared.ending.Ending.TheVariants as ending
+use Rattle.program.specs.declared.finding.Finding.{Finding}
+use Rattle.program.specs.declared.finding.Finding.TheVariants as finding
 use Rattle.program.specs.declared.fault.Stop.{Stop}
 use Rattle.program.specs.declared.fault.Stop.TheVariants as stop
+use Rattle.files.specs.Faults.{file_status}
+use Rattle.telling.specs.Told.{shown_path}
 use Rattle.workers.specs.declared.fault.SimFault.{SimFault}
 use Rattle.vparse.specs.declared.parser.ParseFault.TheVariants as parsing
 use Rattle.elaborate.specs.declared.fault.ElabFault.TheVariants as elaboration
@@ -53,8 +59,7 @@ replay_status_of replaying.CannotWrite = 1
 
 -- 1 files and output, 3 a source, 5 a journal, 6 memory or a worker that couldn't be started
 abbrev pub status_of : Fault → ℕ
-status_of (fault.CannotRead path) = 1
-status_of fault.CannotWrite = 1
+status_of (fault.Files f) = file_status f
 status_of fault.Memory = 6
 status_of (fault.Source f) = source_status_of f
 status_of (fault.Simulate f) = simulate_status_of f
@@ -86,10 +91,27 @@ abbrev pub stop_status : Stop → ℕ
 stop_status stop.Memory = 6
 stop_status s = 4
 
--- a run that came to its end, was stopped, or met a fault
-abbrev pub ended_status : Result (Option Stop) Fault → ℕ
-ended_status (Ok None) = 0
-ended_status (Ok (Some s)) = stop_status s
+-- how a run ended of which this is told
+abbrev pub ending_of : Option Stop → Ending
+ending_of (Some s) = ending.Stopped s
+ending_of None = ending.Done
+
+-- 0 for one text and no other, 4 where others may be possible, 7 for several texts
+abbrev pub finding_status : Finding → ℕ
+finding_status finding.One = 0
+finding_status finding.Unfinished = 4
+finding_status finding.Several = 7
+
+-- 0 for what was done, 3 for a source with a fault
+abbrev pub ending_status : Ending → ℕ
+ending_status ending.Done = 0
+ending_status (ending.Stopped s) = stop_status s
+ending_status (ending.Found f) = finding_status f
+ending_status (ending.Wrong text) = 3
+
+-- a command that came to its end, or that met a fault
+abbrev pub ended_status : Result Ending Fault → ℕ
+ended_status (Ok e) = ending_status e
 ended_status (Err f) = status_of f
 
 -- words that make no request: 2 for wrong ones, and 1 for help that can't be shown
@@ -102,3 +124,11 @@ IsRefusalStatus refusal.Memory n = n ≡ 6
 abbrev pub help_text : Refusal → List ℕ
 help_text (refusal.Help text) = string_bytes text
 help_text r = []
+
+-- a source without a fault, as it is shown
+abbrev pub right_text : List ℕ → List ℕ
+right_text path = shown_path path ++ (codes ": no fault" ++ 10 ∷ [])
+
+-- the version, as it is shown
+abbrev pub version_text : List ℕ
+version_text = codes "vsimtx 0.1.0" ++ 10 ∷ []

@@ -1,33 +1,36 @@
-//! What can go wrong in a command, with its line on standard error and its exit status.
+//! What can go wrong in a command, with its exit status.
 
 ghost use Rattle.std.specs.Prelude.{◌≡◌};
 ghost use Rattle.program.specs.Program.{status_of, IsEnded, stop_of, stop_for, stop_status, source_status_of, simulate_status_of, read_status_of, cause_status_of, replay_status_of};
 
 use elaborate::ElabFault;
+use files::FileFault;
 use frontend::SourceFault;
 use journal::ReadFault;
 use model::end::{End, Why};
 use replay::{BytesFault, Cause};
 use simulate::SimFault;
 use std::alloc::AllocError;
-use thiserror::Error;
 use vparse::ParseFault;
 
-/// A file, output or memory fault, or a fault of a layer.
-#[derive(Debug, Drop, Error)]
+/// A fault of files or output, want of memory, or a fault of a layer.
+#[derive(Drop)]
 pub enum Fault<'a> {
-    #[error("cannot read {0}")]
-    CannotRead(&'a str),
-    #[error("cannot write")]
-    CannotWrite,
-    #[error("memory")]
+    Files(FileFault<'a>),
     Memory,
-    #[error(transparent)]
-    Source(#[from] SourceFault),
-    #[error(transparent)]
-    Simulate(#[from] SimFault),
-    #[error(transparent)]
+    Source(SourceFault),
+    Simulate(SimFault),
     Replay(BytesFault),
+}
+
+impl<'a> From<FileFault<'a>> for Fault<'a> {
+    ghost use Rattle.program.specs.declared.fault.Fault.TheVariants.{Files};
+
+    ghost from_gives = { λ files fault. fault ≡ Files files };
+
+    fn from(files: FileFault<'a>) -> Self {
+        Fault::Files(files)
+    }
 }
 
 impl From<AllocError> for Fault<'_> {
@@ -40,18 +43,33 @@ impl From<AllocError> for Fault<'_> {
     }
 }
 
+impl From<SourceFault> for Fault<'_> {
+    ghost use Rattle.program.specs.declared.fault.Fault.TheVariants.{Source};
+
+    ghost from_gives = { λ found fault. fault ≡ Source found };
+
+    fn from(found: SourceFault) -> Self {
+        Fault::Source(found)
+    }
+}
+
+impl From<SimFault> for Fault<'_> {
+    ghost use Rattle.program.specs.declared.fault.Fault.TheVariants.{Simulate};
+
+    ghost from_gives = { λ found fault. fault ≡ Simulate found };
+
+    fn from(found: SimFault) -> Self {
+        Fault::Simulate(found)
+    }
+}
+
 /// The reason of a stop, as it is told.
-#[derive(Debug, Drop, Error)]
+#[derive(Clone, Copy, Drop)]
 pub enum Stop {
-    #[error("stopped: until")]
     Until,
-    #[error("stopped: entries")]
     Entries,
-    #[error("stopped: process {0} too long")]
     TooLong(u32),
-    #[error("stopped: time")]
     Time,
-    #[error("stopped: memory")]
     Memory,
 }
 
@@ -99,7 +117,7 @@ impl Fault<'_> {
         ensures { result ≡ status_of self.now }
     {
         match self {
-            Fault::CannotRead(_) | Fault::CannotWrite => 1,
+            Fault::Files(fault) => fault.status(),
             Fault::Memory => 6,
             Fault::Source(fault) => source_status(fault),
             Fault::Simulate(fault) => simulate_status(fault),
@@ -108,7 +126,7 @@ impl Fault<'_> {
     }
 }
 
-fn source_status(fault: &SourceFault) -> u8
+pub fn source_status(fault: &SourceFault) -> u8
     ensures { result ≡ source_status_of fault.now }
 {
     match fault {

@@ -1,7 +1,8 @@
 //! What a search of lawful orders has come to, as the exit status tells it.
 
 ghost use Rattle.std.specs.Prelude.{◌≡◌};
-ghost use Rattle.program.specs.Findings.{finding_of, finding_status};
+ghost use Rattle.program.specs.Findings.{finding_of};
+ghost use Rattle.program.specs.Program.{finding_status};
 
 use verdict::Claim;
 

@@ -1,29 +1,23 @@
 //! The program `vsimtx` as a library: it runs one Verilog module on several workers or by a seed, replays the journal of a run,
 //! and prints the lines; or it searches all lawful orders of the module and tells their texts.
 //!
-//! 1. `arguments` reads the command line into a `request`, whose options are those of the words, and proved to be in range.
-//! 2. `files` says where paths lead: to the system's files, or to a test's.
-//! 3. `reading` and `writing` take a file or a text whole, and `saving` saves journals.
-//! 4. `running` is a run, `replaying` a replay, and `searching` a search for races, whose `finding` decides the status.
-//! 5. `program` is the whole program as a function, `command`, which `main` calls.
-//! 6. `fault` has the lines on standard error and the exit statuses.
+//! 1. `running` is a run, `replaying` a replay, `checking` a check, and `searching` a search for races, of which `finding` says what
+//!    it has come to.
+//! 2. `ending` is how a command ended: it has the status, and tells what is to be told.
+//! 3. `fault` has the faults with their statuses, and `lines` their lines on standard error.
+//! 4. `program` is the whole program as a function, `command`, which `main` calls.
 #![tactic(auto)]
 
-mod arguments;
-mod extent;
+mod checking;
+mod ending;
 mod fault;
-mod files;
 mod finding;
+mod lines;
 mod program;
-mod reading;
 mod replaying;
-mod request;
 mod running;
 mod sampling;
-mod saving;
 mod searching;
 mod texts;
-mod writing;
 
-pub use files::{Files, SystemFiles};
 pub use program::{command, without_words};

@@ -1,35 +1,36 @@
 //! The program as a function of its words, files and writers.
 //!
-//! It reads the words into a request and does what is asked, and last it tells the first fault or
-//! the reason of a stop, if there is one.
+//! It reads the words into a request and does what is asked, and last it tells how that ended, if there is something to tell.
 
-ghost use Rattle.std.specs.Prelude.{◌≡◌, ◌⊎◌, ◌≤◌, List, [], None};
+ghost use Rattle.std.specs.Prelude.{◌≡◌, ◌≢◌, ◌⊎◌, ◌≤◌, ℕ, List, [], Option, IfErr, IfOk, OnOk, codes};
 ghost use Rattle.clap.specs.Words.{Text};
 ghost use Rattle.std.specs.Io.KnownBytes.{Appends, Keeps};
 ghost use Rattle.journal.specs.Counted.{held};
-ghost use Rattle.program.specs.Program.{ended_status, IsRefusalStatus, help_text};
+ghost use Rattle.arguments.specs.Words.{AreWrong, Asks, AsksCheck, AsksRaces, AsksReplay, AsksRun, Begins, IsRefusal, texts_of};
 ghost use Rattle.program.specs.declared.finding.Finding.TheVariants as finding;
-ghost use Rattle.program.specs.Findings.{searched_status};
-ghost use Rattle.program.specs.Printed.{HasReplayed, HasRun, HasSearched, HasStopped, IsDone, IsUnfinished};
-ghost use Rattle.program.specs.Saved.{KeepsFiles};
-ghost use Rattle.program.specs.Words.{AreWrong, Asks, AsksRaces, AsksReplay, AsksRun, texts_of};
+ghost use Rattle.program.specs.Printed.{HasEnded, HasRefused, HasSearched, IsDone};
+ghost use Rattle.program.specs.Program.{IsRefusalStatus, ended_status, help_text, right_text, status_of, version_text};
+ghost use Rattle.files.specs.Saved.{KeepsFiles};
+ghost use Rattle.program.specs.Told.{IsTold, IsUnfinished};
+ghost use Rattle.program.specs.declared.ending.Ending.TheVariants as Ending;
 
-use crate::arguments::read_request;
-use crate::fault::{Fault, Stop};
-use crate::files::Files;
-use crate::finding::Finding;
+use crate::checking::check;
+use crate::ending::{Ending, finish, tell_fault};
+use crate::fault::Fault;
 use crate::replaying::replay_journal;
-use crate::request::{RacesRequest, Refusal, ReplayRequest, Request, RunRequest};
 use crate::running::run;
 use crate::searching::search_races;
-use crate::writing::show;
+use arguments::{
+    CheckRequest, RacesRequest, Refusal, ReplayRequest, Request, RunRequest, VERSION, read_request,
+};
+use files::{FileFault, Files, send_off, show};
 use journal::Counted;
 use std::alloc::Global;
-use std::fmt::Display;
 use std::io;
 use std::io::{ErrorKind, Write};
 use std::sync::Wait;
 use std::thread::Threads;
+use telling::{show_path, tell_text};
 
 /// The whole program; it answers the exit status. The first word is the program's name.
 pub fn command<R: Threads + Wait + Sync, F: Files, O: Write, E: Write>(
@@ -38,85 +39,140 @@ pub fn command<R: Threads + Wait + Sync, F: Files, O: Write, E: Write>(
     words: &[String],
     files: &mut F,
     out: &mut Counted<O>,
-    err: &mut E,
+    err: &mut Counted<E>,
 ) -> u8
     ensures range { result ≤ 7 }
-    ensures silent { result ≡ 0 → Keeps (E.contents err.old) (E.contents err.new) }
     ensures done { result ≡ 0 → IsDone (texts_of words.now) (O.contents (held out.old)) (O.contents (held out.new)) (F.made files.old) (F.made files.new) }
     ensures wrong { result ≡ 2 → AreWrong (texts_of words.now) }
-    ensures stopped { result ≡ 4 → IsUnfinished (texts_of words.now) (O.contents (held out.old)) (O.contents (held out.new)) (F.made files.old) (F.made files.new) }
+    ensures refused { result ≡ 3 → Begins (texts_of words.now) (codes "check") → HasRefused (texts_of words.now) (O.contents (held out.old)) (O.contents (held out.new)) (F.made files.old) (F.made files.new) }
+    ensures stopped { result ≡ 4 → IsUnfinished (texts_of words.now) (O.contents (held out.old)) (O.contents (held out.new)) (F.made files.old) (F.made files.new) E.contents err.old err.new }
     ensures several { result ≡ 7 → HasSearched (texts_of words.now) (O.contents (held out.old)) (O.contents (held out.new)) (F.made files.old) (F.made files.new) finding.Several }
     ensures nothing { (result ≡ 2) ⊎ ((result ≡ 3) ⊎ (result ≡ 5)) → Keeps (O.contents (held out.old)) (O.contents (held out.new)) }
     ensures unsaved { (result ≡ 2) ⊎ ((result ≡ 3) ⊎ (result ≡ 5)) → KeepsFiles (F.made files.old) (F.made files.new) }
+    ensures silent { (result ≡ 0) ⊎ (result ≡ 7) → err.new ≡ err.old }
+    ensures told { IsTold E.contents err.old err.new (texts_of words.now) result }
 {
     match read_request(alloc, words) {
-        Ok(request) => answer(rt, alloc, &request, files, out, err),
+        Ok(request) => {
+            let ended = perform(rt, alloc, &request, files, out);
+            finish(ended, err)
+        }
         Err(refusal) => refuse(refusal, out, err),
     }
 }
 
-/// Does what is asked, and tells how it ended.
-fn answer<R: Threads + Wait + Sync, F: Files, O: Write, E: Write>(
+/// Does what is asked.
+fn perform<'a, R: Threads + Wait + Sync, F: Files, O: Write>(
     rt: &R,
     alloc: Global,
-    request: &Request<'_>,
+    request: &Request<'a>,
     files: &mut F,
     out: &mut Counted<O>,
-    err: &mut E,
-) -> u8
-    ensures range { result ≤ 7 }
-    ensures silent { result ≡ 0 → Keeps (E.contents err.old) (E.contents err.new) }
-    ensures done { (words : List Text) → Asks words request.now → result ≡ 0 → IsDone words (O.contents (held out.old)) (O.contents (held out.new)) (F.made files.old) (F.made files.new) }
-    ensures right { result ≡ 2 → ⊥ }
-    ensures stopped { (words : List Text) → Asks words request.now → result ≡ 4 → IsUnfinished words (O.contents (held out.old)) (O.contents (held out.new)) (F.made files.old) (F.made files.new) }
-    ensures several { (words : List Text) → Asks words request.now → result ≡ 7 → HasSearched words (O.contents (held out.old)) (O.contents (held out.new)) (F.made files.old) (F.made files.new) finding.Several }
-    ensures nothing { (result ≡ 3) ⊎ (result ≡ 5) → Keeps (O.contents (held out.old)) (O.contents (held out.new)) }
-    ensures unsaved { (result ≡ 3) ⊎ (result ≡ 5) → KeepsFiles (F.made files.old) (F.made files.new) }
+) -> Result<Ending, Fault<'a>>
+    ensures ended { (words : List Text) → Asks words request.now → IfOk result (HasEnded words (O.contents (held out.old)) (O.contents (held out.new)) (F.made files.old) (F.made files.new)) }
+    ensures checked { (words : List Text) → Asks words request.now → Begins words (codes "check") → IfErr result (λ fault. (status_of fault ≡ 1) ⊎ (status_of fault ≡ 6)) }
+    ensures nothing { IfErr result (λ fault. status_of fault ≢ 1 → Keeps (O.contents (held out.old)) (O.contents (held out.new))) }
+    ensures unsaved { IfErr result (λ fault. (status_of fault ≡ 3) ⊎ (status_of fault ≡ 5) → KeepsFiles (F.made files.old) (F.made files.new)) }
 {
     match request {
-        Request::Run(request) => answer_run(rt, alloc, request, files, out, err),
-        Request::Replay(request) => answer_replay(alloc, request, files, out, err),
-        Request::Races(request) => answer_races(alloc, request, files, out, err),
+        Request::Run(request) => perform_run(rt, alloc, request, files, out),
+        Request::Replay(request) => perform_replay(alloc, request, files, out),
+        Request::Races(request) => perform_races(alloc, request, files, out),
+        Request::Check(request) => perform_check(alloc, request, files, out),
+        Request::Version => perform_version(out),
     }
 }
 
-fn answer_run<R: Threads + Wait + Sync, F: Files, O: Write, E: Write>(
+fn perform_run<'a, R: Threads + Wait + Sync, F: Files, O: Write>(
     rt: &R,
     alloc: Global,
-    request: &RunRequest<'_>,
+    request: &RunRequest<'a>,
     files: &mut F,
     out: &mut Counted<O>,
-    err: &mut E,
-) -> u8
-    ensures range { result ≤ 6 }
-    ensures silent { result ≡ 0 → Keeps (E.contents err.old) (E.contents err.new) }
-    ensures done { (words : List Text) → AsksRun words request.now → result ≡ 0 → HasRun words (O.contents (held out.old)) (O.contents (held out.new)) (F.made files.old) (F.made files.new) None }
-    ensures right { result ≡ 2 → ⊥ }
-    ensures stopped { (words : List Text) → AsksRun words request.now → result ≡ 4 → HasStopped words (O.contents (held out.old)) (O.contents (held out.new)) (F.made files.old) (F.made files.new) }
-    ensures nothing { (result ≡ 3) ⊎ (result ≡ 5) → Keeps (O.contents (held out.old)) (O.contents (held out.new)) }
-    ensures unsaved { (result ≡ 3) ⊎ (result ≡ 5) → KeepsFiles (F.made files.old) (F.made files.new) }
+) -> Result<Ending, Fault<'a>>
+    ensures ended { (words : List Text) → AsksRun words request.now → IfOk result (HasEnded words (O.contents (held out.old)) (O.contents (held out.new)) (F.made files.old) (F.made files.new)) }
+    ensures nothing { IfErr result (λ fault. status_of fault ≢ 1 → Keeps (O.contents (held out.old)) (O.contents (held out.new))) }
+    ensures unsaved { IfErr result (λ fault. status_of fault ≢ 1 → KeepsFiles (F.made files.old) (F.made files.new)) }
 {
-    let ended = run(rt, alloc, request, files, out);
-    finish(ended, err)
+    match run(rt, alloc, request, files, out) {
+        Ok(told) => Ok(Ending::of_run(told)),
+        Err(fault) => Err(fault),
+    }
 }
 
-fn answer_replay<F: Files, O: Write, E: Write>(
+fn perform_replay<'a, F: Files, O: Write>(
     alloc: Global,
-    request: &ReplayRequest<'_>,
+    request: &ReplayRequest<'a>,
     files: &mut F,
     out: &mut Counted<O>,
-    err: &mut E,
-) -> u8
-    ensures range { result ≤ 6 }
-    ensures silent { result ≡ 0 → Keeps (E.contents err.old) (E.contents err.new) }
-    ensures done { result ≡ 0 → HasReplayed (O.contents (held out.old)) (O.contents (held out.new)) }
-    ensures right { result ≡ 2 → ⊥ }
-    ensures unstopped { result ≡ 4 → ⊥ }
-    ensures nothing { (result ≡ 3) ⊎ (result ≡ 5) → Keeps (O.contents (held out.old)) (O.contents (held out.new)) }
+) -> Result<Ending, Fault<'a>>
+    ensures ended { (words : List Text) → AsksReplay words request.now → IfOk result (HasEnded words (O.contents (held out.old)) (O.contents (held out.new)) (F.made files.old) (F.made files.new)) }
+    ensures nothing { IfErr result (λ fault. status_of fault ≢ 1 → Keeps (O.contents (held out.old)) (O.contents (held out.new))) }
     ensures unsaved { KeepsFiles (F.made files.old) (F.made files.new) }
 {
-    let replayed = replay_journal(alloc, request, files, out);
-    finish(replayed, err)
+    match replay_journal(alloc, request, files, out) {
+        Ok(()) => Ok(Ending::Done),
+        Err(fault) => Err(fault),
+    }
+}
+
+fn perform_races<'a, F: Files, O: Write>(
+    alloc: Global,
+    request: &RacesRequest<'a>,
+    files: &mut F,
+    out: &mut Counted<O>,
+) -> Result<Ending, Fault<'a>>
+    ensures ended { (words : List Text) → AsksRaces words request.now → IfOk result (HasEnded words (O.contents (held out.old)) (O.contents (held out.new)) (F.made files.old) (F.made files.new)) }
+    ensures nothing { IfErr result (λ fault. status_of fault ≢ 1 → Keeps (O.contents (held out.old)) (O.contents (held out.new))) }
+    ensures unsaved { IfErr result (λ fault. (status_of fault ≡ 3) ⊎ (status_of fault ≡ 5) → KeepsFiles (F.made files.old) (F.made files.new)) }
+{
+    match search_races(alloc, request, files, out) {
+        Ok(found) => Ok(Ending::Found(found)),
+        Err(fault) => Err(fault),
+    }
+}
+
+fn perform_check<'a, F: Files, O: Write>(
+    alloc: Global,
+    request: &CheckRequest<'a>,
+    files: &mut F,
+    out: &mut Counted<O>,
+) -> Result<Ending, Fault<'a>>
+    ensures ended { (words : List Text) → AsksCheck words request.now → IfOk result (HasEnded words (O.contents (held out.old)) (O.contents (held out.new)) (F.made files.old) (F.made files.new)) }
+    ensures fault { IfErr result (λ fault. (status_of fault ≡ 1) ⊎ (status_of fault ≡ 6)) }
+    ensures nothing { IfErr result (λ fault. status_of fault ≢ 1 → Keeps (O.contents (held out.old)) (O.contents (held out.new))) }
+    ensures unsaved { KeepsFiles (F.made files.old) (F.made files.new) }
+{
+    match check(alloc, request, files) {
+        Ok(None) => show_right(request.file, out),
+        Ok(Some(text)) => Ok(Ending::Wrong(text)),
+        Err(fault) => Err(fault),
+    }
+}
+
+/// Shows that a source is right.
+fn show_right<O: Write>(path: &str, out: &mut Counted<O>) -> Result<Ending, Fault<'static>>
+    ensures shown { OnOk result (Appends (O.contents (held out.old)) (O.contents (held out.new)) (right_text path.now)) }
+    ensures done { IfOk result (λ ending. ending ≡ Ending.Done) }
+    ensures fault { IfErr result (λ fault. status_of fault ≡ 1) }
+{
+    if !show_path(out, path, ": no fault\n") {
+        return Err(Fault::Files(FileFault::CannotWrite));
+    }
+    send_off(out)?;
+    Ok(Ending::Done)
+}
+
+/// Shows the version.
+fn perform_version<O: Write>(out: &mut O) -> Result<Ending, Fault<'static>>
+    ensures shown { OnOk result (Appends (O.contents out.old) (O.contents out.new) version_text) }
+    ensures done { IfOk result (λ ending. ending ≡ Ending.Done) }
+    ensures fault { IfErr result (λ fault. status_of fault ≡ 1) }
+{
+    show(out, "vsimtx ")?;
+    show(out, VERSION)?;
+    show(out, "\n")?;
+    Ok(Ending::Done)
 }
 
 /// Answers arguments that can't be had: want of memory as such, any other error as wrong words.
@@ -126,110 +182,39 @@ pub fn without_words<R: Threads + Wait + Sync, F: Files, O: Write, E: Write>(
     error: &io::Error,
     files: &mut F,
     out: &mut Counted<O>,
-    err: &mut E,
+    err: &mut Counted<E>,
 ) -> u8
     ensures range { result ≤ 7 }
-    ensures silent { result ≡ 0 → Keeps (E.contents err.old) (E.contents err.new) }
     ensures done { result ≡ 0 → IsDone [] (O.contents (held out.old)) (O.contents (held out.new)) (F.made files.old) (F.made files.new) }
     ensures nothing { (result ≡ 2) ⊎ ((result ≡ 3) ⊎ (result ≡ 5)) → Keeps (O.contents (held out.old)) (O.contents (held out.new)) }
     ensures unsaved { (result ≡ 2) ⊎ ((result ≡ 3) ⊎ (result ≡ 5)) → KeepsFiles (F.made files.old) (F.made files.new) }
+    ensures silent { (result ≡ 0) ⊎ (result ≡ 7) → err.new ≡ err.old }
+    ensures told { IsTold E.contents err.old err.new [] result }
 {
     match error.kind() {
-        ErrorKind::OutOfMemory => {
-            tell(err, Fault::Memory);
-            6
-        }
+        ErrorKind::OutOfMemory => tell_fault(Fault::Memory, err),
         _ => command(rt, alloc, &[], files, out, err),
-    }
-}
-
-fn answer_races<F: Files, O: Write, E: Write>(
-    alloc: Global,
-    request: &RacesRequest<'_>,
-    files: &mut F,
-    out: &mut Counted<O>,
-    err: &mut E,
-) -> u8
-    ensures range { result ≤ 7 }
-    ensures silent { result ≡ 0 → Keeps (E.contents err.old) (E.contents err.new) }
-    ensures done { (words : List Text) → AsksRaces words request.now → result ≡ 0 → HasSearched words (O.contents (held out.old)) (O.contents (held out.new)) (F.made files.old) (F.made files.new) finding.One }
-    ensures right { result ≡ 2 → ⊥ }
-    ensures unfinished { (words : List Text) → AsksRaces words request.now → result ≡ 4 → HasSearched words (O.contents (held out.old)) (O.contents (held out.new)) (F.made files.old) (F.made files.new) finding.Unfinished }
-    ensures several { (words : List Text) → AsksRaces words request.now → result ≡ 7 → HasSearched words (O.contents (held out.old)) (O.contents (held out.new)) (F.made files.old) (F.made files.new) finding.Several }
-    ensures nothing { (result ≡ 3) ⊎ (result ≡ 5) → Keeps (O.contents (held out.old)) (O.contents (held out.new)) }
-    ensures unsaved { (result ≡ 3) ⊎ (result ≡ 5) → KeepsFiles (F.made files.old) (F.made files.new) }
-{
-    let searched = search_races(alloc, request, files, out);
-    finish_search(searched, err)
-}
-
-/// Tells the fault of a search, and answers the status.
-fn finish_search<E: Write>(searched: Result<Finding, Fault<'_>>, err: &mut E) -> u8
-    ensures range { result ≤ 7 }
-    ensures silent { result ≡ 0 → Keeps (E.contents err.old) (E.contents err.new) }
-    ensures status { result ≡ searched_status searched.entry }
-{
-    match searched {
-        Ok(finding) => finding.status(),
-        Err(fault) => {
-            let status = fault.status();
-            tell(err, fault);
-            status
-        }
-    }
-}
-
-/// Tells the fault or the reason of a stop, and answers the status.
-fn finish<E: Write>(ended: Result<Option<Stop>, Fault<'_>>, err: &mut E) -> u8
-    ensures range { result ≤ 6 }
-    ensures silent { result ≡ 0 → Keeps (E.contents err.old) (E.contents err.new) }
-    ensures status { result ≡ ended_status ended.entry }
-{
-    match ended {
-        Ok(None) => 0,
-        Ok(Some(stop)) => {
-            let status = stop.status();
-            tell(err, stop);
-            status
-        }
-        Err(fault) => {
-            let status = fault.status();
-            tell(err, fault);
-            status
-        }
     }
 }
 
 /// Answers words that make no request: help on standard output, `clap`'s text of wrong words on
 /// standard error.
-fn refuse<O: Write, E: Write>(refusal: Refusal, out: &mut O, err: &mut E) -> u8
+fn refuse<O: Write, E: Write>(refusal: Refusal, out: &mut O, err: &mut Counted<E>) -> u8
     ensures status { IsRefusalStatus refusal result }
-    ensures range { result ≤ 6 }
     ensures helped { result ≡ 0 → Appends (O.contents out.old) (O.contents out.new) (help_text refusal) }
-    ensures silent { result ≡ 0 → Keeps (E.contents err.old) (E.contents err.new) }
     ensures nothing { (result ≡ 2) ⊎ ((result ≡ 3) ⊎ (result ≡ 5)) → Keeps (O.contents out.old) (O.contents out.new) }
+    ensures silent { (result ≡ 0) ⊎ (result ≡ 7) → err.new ≡ err.old }
+    ensures told { (words : List Text) → IsRefusal words refusal → IsTold E.contents err.old err.new words result }
 {
     match refusal {
         Refusal::Help(text) => match show(out, text.as_str()) {
             Ok(()) => 0,
-            Err(fault) => {
-                let status = fault.status();
-                tell(err, fault);
-                status
-            }
+            Err(fault) => tell_fault(Fault::Files(fault), err),
         },
         Refusal::Usage(text) => {
-            let _ = err.write_all(text.as_bytes());
+            tell_text(err, text.as_str());
             2
         }
-        Refusal::Memory => {
-            tell(err, Fault::Memory);
-            6
-        }
+        Refusal::Memory => tell_fault(Fault::Memory, err),
     }
-}
-
-/// Writes one line of the program's own on standard error. Nobody is left to hear of its failure.
-fn tell<E: Write>(err: &mut E, what: impl Display + Drop) {
-    let _ = writeln!(err, "vsimtx: {what}");
 }

@@ -1,31 +1,28 @@
 //! `replay FILE JOURNAL`: the file is read and the journal opened. Then the journal is replayed on the
 //! design of the file, and its lines are written.
 
-ghost use Rattle.std.specs.Prelude.{◌≡◌, ◌≢◌, IfErr, IfOk, None, OnOk};
+ghost use Rattle.std.specs.Prelude.{◌≢◌, IfErr, OnOk};
 ghost use Rattle.std.specs.Io.KnownBytes.{Keeps};
 ghost use Rattle.journal.specs.Counted.{held};
 ghost use Rattle.program.specs.Program.{status_of};
 ghost use Rattle.program.specs.Printed.{HasReplayed};
-ghost use Rattle.program.specs.Saved.{KeepsFiles};
+ghost use Rattle.files.specs.Saved.{KeepsFiles};
 
-use crate::fault::{Fault, Stop};
-use crate::files::Files;
-use crate::reading::{open_file, read_file};
-use crate::request::ReplayRequest;
-use crate::writing::send_off;
+use crate::fault::Fault;
+use arguments::ReplayRequest;
+use files::{Files, open_file, read_file, send_off};
 use journal::Counted;
 use replay::replay_bytes;
 use std::alloc::Global;
 use std::io::Write;
 
-/// Replays JOURNAL on FILE and writes its lines. Nothing is told of a replay that comes to its end.
+/// Replays JOURNAL on FILE and writes its lines.
 pub fn replay_journal<'a, F: Files, O: Write>(
     alloc: Global,
     request: &ReplayRequest<'a>,
     files: &mut F,
     out: &mut Counted<O>,
-) -> Result<Option<Stop>, Fault<'a>>
-    ensures quiet { IfOk result (λ told. told ≡ None) }
+) -> Result<(), Fault<'a>>
     ensures printed { OnOk result (HasReplayed (O.contents (held out.old)) (O.contents (held out.new))) }
     ensures nothing { IfErr result (λ fault. status_of fault ≢ 1 → Keeps (O.contents (held out.old)) (O.contents (held out.new))) }
     ensures unsaved { KeepsFiles (F.made files.old) (F.made files.new) }
@@ -37,5 +34,5 @@ pub fn replay_journal<'a, F: Files, O: Write>(
         Err(fault) => return Err(Fault::Replay(fault)),
     }
     send_off(out)?;
-    Ok(None)
+    Ok(())
 }

@@ -2,10 +2,10 @@
 
 ghost use Rattle.std.specs.Prelude.{◌≡◌, IfOk};
 ghost use Rattle.program.specs.Findings.{AreFound, AreOf, IsOf};
-ghost use Rattle.program.specs.Options.{CanSearch};
+ghost use Rattle.arguments.specs.Options.{CanSearch};
 
-use crate::extent::Extent;
 use crate::texts::Texts;
+use arguments::Extent;
 use design::Design;
 use explore::Shown;
 use model::end::{End, Limits};

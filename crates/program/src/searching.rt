@@ -1,31 +1,28 @@
 //! `races FILE`: the file is read and its lawful orders are searched, or random ones tried. Then journals are written where they
-//! are wanted, and then what is said of the texts.
+//! are wanted, and then the races that are named and what is said of the texts.
 
-ghost use Rattle.std.specs.Prelude.{◌≡◌, ◌≢◌, ◌⊎◌, ◌++◌, IfErr, IfOk, IsTrue, ℕ, List, Bool, length, option_map};
+ghost use Rattle.std.specs.Prelude.{◌≡◌, ◌≢◌, ◌≤◌, ◌⊎◌, IfErr, IfOk, IfSome, IsTrue, OnOk, ℕ, List, option_map};
 ghost use Rattle.std.specs.Io.KnownBytes.{Keeps};
+ghost use Rattle.model.specs.Runs.{last_time};
 ghost use Rattle.frontend.specs.Sources.{IsDesignOf};
-ghost use Rattle.verdict.specs.Verdicts.{verdict_text};
 ghost use Rattle.program.specs.Findings.{AreFound, IsOfSearch, OnEvery, first_text};
-ghost use Rattle.program.specs.Options.{CanSearch};
+ghost use Rattle.arguments.specs.Options.{CanSearch};
 ghost use Rattle.program.specs.Program.{status_of};
-ghost use Rattle.program.specs.Printed.{HasShown};
-ghost use Rattle.program.specs.Saved.{KeepsFiles};
+ghost use Rattle.program.specs.Printed.{HasShown, IsReport};
+ghost use Rattle.files.specs.Saved.{KeepsFiles, LeadsElsewhere, journal_path};
 
-use crate::extent::Extent;
 use crate::fault::Fault;
-use crate::files::Files;
 use crate::finding::Finding;
-use crate::reading::read_file;
-use crate::request::RacesRequest;
 use crate::sampling::sampled;
-use crate::saving::{save_all, try_first};
 use crate::texts::Texts;
-use crate::writing::show_bytes;
+use arguments::{Extent, RacesRequest};
 use design::Design;
 use explore::{Bounds, Explored, Shown};
+use files::{Files, read_file, save_all, show_bytes, spare_first, try_first};
 use frontend::read_design;
 use model::end::{End, Limits};
 use model::entry::Entry;
+use naming::{Names, push_races};
 use races::lawful_orders;
 use std::alloc::{AllocError, Global};
 use std::io::Write;
@@ -42,15 +39,18 @@ pub fn search_races<'a, F: Files, O: Write>(
         (O.contents out.old) (O.contents out.new) (F.made files.old) (F.made files.new)) }
     ensures nothing { IfErr result (λ fault. status_of fault ≢ 1 → Keeps (O.contents out.old) (O.contents out.new)) }
     ensures unsaved { IfErr result (λ fault. (status_of fault ≡ 3) ⊎ (status_of fault ≡ 5) → KeepsFiles (F.made files.old) (F.made files.new)) }
+    ensures spared { OnOk result (LeadsElsewhere (F.alike files.old) request.now.file.now (option_map (λ prefix. journal_path prefix.now 1) request.now.journals)) }
 {
+    spare_first(alloc, request.file, request.journals, files)?;
     let source = read_file(alloc, request.file, files)?;
     let design = read_design(alloc, source.as_slice())?;
-    search_design(alloc, &design, request, files, out)
+    search_design(alloc, source.as_slice(), &design, request, files, out)
 }
 
 /// Searches for races of the design of a source.
 fn search_design<F: Files, O: Write>(
     alloc: Global,
+    source: &[u8],
     design: &Design,
     request: &RacesRequest<'_>,
     files: &mut F,
@@ -64,9 +64,24 @@ fn search_design<F: Files, O: Write>(
 {
     try_first(alloc, request.journals, files)?;
     let texts = find_texts(alloc, design, request.extent)?;
-    let shown = texts.shown.as_slice();
-    let report = report(alloc, texts.claim, request.extent.until, shown)?;
-    save_all(alloc, texts.shown.as_slice(), request.journals, files)?;
+    let names = Names {
+        source,
+        design,
+        limits: Limits {
+            until: request.extent.until,
+            max_entries: request.extent.max_entries,
+        },
+        prefix: request.journals,
+        shown: texts.shown.as_slice(),
+    };
+    let report = report(alloc, texts.claim, &names)?;
+    save_all(
+        alloc,
+        texts.shown.as_slice(),
+        request.file,
+        request.journals,
+        files,
+    )?;
     show_bytes(out, report.as_slice())?;
     Ok(Finding::of(texts.claim, texts.shown.len()))
 }
@@ -128,22 +143,19 @@ fn ends_differ(shown: &[Shown<Entry, End>]) -> bool {
     }
 }
 
-/// What is said of the texts.
-fn report(
-    alloc: Global,
-    claim: Claim,
-    until: Option<u64>,
-    shown: &[Shown<Entry, End>],
-) -> Result<Vec<u8>, AllocError>
-    ensures { IfOk result (λ report. (ends : Bool) × (report.items ≡ verdict_text claim until (length shown.now) ends (first_text shown.now))) }
+/// The races that are named, and what is said of the texts.
+fn report(alloc: Global, claim: Claim, names: &Names<'_>) -> Result<Vec<u8>, AllocError>
+    requires { IfSome names.now.limits.until (λ until. until ≤ last_time) }
+    ensures { IfOk result (λ report. IsReport names.entry.now.design.now names.entry.now.limits claim names.entry.now.shown.now (option_map (λ path. path.now) names.entry.now.prefix) report.items) }
 {
     let mut report = Vec::new(alloc);
+    push_races(alloc, &mut report, names)?;
     let verdict = Verdict {
         claim,
-        until,
-        count: shown.len(),
-        ends: ends_differ(shown),
-        first: first_of(shown),
+        until: names.limits.until,
+        count: names.shown.len(),
+        ends: ends_differ(names.shown),
+        first: first_of(names.shown),
     };
     push_verdict(&mut report, &verdict)?;
     Ok(report)

@@ -9,5 +9,8 @@ pub mod Searches
 pub mod RaceTexts
 pub mod Ways
 pub mod Straight
+pub mod SoleWays
+pub mod FlatSteps
 pub mod Walks
+pub mod Settled
 pub mod Expansions

@@ -7,4 +7,5 @@ pub mod Places
 pub mod Following
 pub mod Serving
 pub mod OnlyWay
+pub mod Sole
 pub mod Walking

@@ -50,7 +50,7 @@ came_on design limits i moves e f (at_e, timely) (at_f, whole) =
 pub text_is : (design : Design) (journal : List Entry) (e : Effect) → run design journal ≡ Some e → text_of design journal ≡ e.lines
 text_is design journal e at_e = ap (λ (o : Option Effect). option_map_or (λ x. x.lines) o []) at_e
 
-ends_alike : (design : Design) (limits : Limits) (g k : Effect) (end : End) → IsInOrder g.state → IsInOrder k.state → Alike g.state k.state → EndsHere design limits g end → EndsHere design limits k end
+pub ends_alike : (design : Design) (limits : Limits) (g k : Effect) (end : End) → IsInOrder g.state → IsInOrder k.state → Alike g.state k.state → EndsHere design limits g end → EndsHere design limits k end
 ends_alike design limits g k end i j alike (few, memory, here) =
     (few, memory, alike_states_end_alike design limits 0 0 g.state k.state end i j alike few (λ h. h) here)
 

@@ -9,16 +9,17 @@ ghost use Rattle.explore.specs.declared.Next.{Next};
 ghost use Rattle.races.specs.declared.place.Place.{Place};
 ghost use Rattle.seeded.specs.Resting.{GoesOn};
 ghost use Rattle.design.specs.Compiled.{design_of};
-ghost use Rattle.regions.specs.Machine.{state_at};
+ghost use Rattle.regions.specs.Machine.{most_entries, state_at};
 ghost use Rattle.races.specs.Following.{IsAdded, IsTurnOf, IsWayBy, TellsLong};
 ghost use Rattle.races.specs.Places.{AreAllWays, AreBounded, AreWaysFor, IsReady, IsWayOn, IsWayToEnd};
 
 use crate::place::{Place, place_of};
-use crate::walk::{Walk, walk_on};
+use crate::walk::{Walk, tell_long, walk_on};
+use design::Design;
 use explore::{Ended, Expanded, Next};
 use model::end::{End, Limits, Why};
 use model::entry::Entry;
-use regions::{Machine, TakeFault};
+use regions::Machine;
 use seeded::resting::{end_at, is_timely};
 use std::alloc::{AllocError, Global};
 
@@ -71,37 +72,32 @@ fn one(alloc: Global, entry: Entry) -> Result<Vec<Entry>, AllocError>
     Ok(moves)
 }
 
-// The process whose turn an entry is.
-fn process_of(machine: &Machine<'_>, entry: Entry) -> Option<u32>
-    ensures { IfSome result (IsTurnOf (state_at machine.now) entry) }
+// The process of an entry that the rules permit, and that takes no step: the turn of a process, which isn't short.
+fn process_of(machine: &Machine<'_>, entry: Entry) -> u32
+    requires permitted { refusal (state_at machine.now) entry ≡ None }
+    requires stuck { step (design_of machine.now.code) (state_at machine.now) entry ≡ None }
+    ensures { IsTurnOf (state_at machine.now) entry result }
 {
     match entry {
         Entry::Turn(number) => match machine.state().evaluation(number) {
-            Some((process, _)) => Some(process),
-            None => None,
+            Some((process, _)) => process,
+            None => unreachable!(),
         },
-        _ => None,
+        _ => unreachable!(),
     }
 }
 
-// The end of a run at an entry that is the turn of a process, and isn't short.
-fn long_of(
-    alloc: Global,
-    machine: &Machine<'_>,
-    entry: Entry,
-) -> Result<Ended<Entry, End>, AllocError>
+// The end of a run at an entry that the rules permit, and that takes no step.
+fn long_of(alloc: Global, machine: &Machine<'_>, entry: Entry) -> Ended<Entry, End>
     requires permitted { refusal (state_at machine.now) entry ≡ None }
     requires stuck { step (design_of machine.now.code) (state_at machine.now) entry ≡ None }
-    ensures long { IfOk result (TellsLong machine.now.code (state_at machine.now) entry) }
-    ensures moves { IfOk result (λ ended. ended.moves.items ≡ []) }
+    ensures long { TellsLong machine.now.code (state_at machine.now) entry result }
+    ensures moves { result.moves.items ≡ [] }
 {
-    match process_of(machine, entry) {
-        Some(process) => Ok(Ended {
-            printed: Vec::new(alloc),
-            end: End::Stopped(Why::TooLong(process)),
-            moves: Vec::new(alloc),
-        }),
-        None => Err(AllocError),
+    Ended {
+        printed: Vec::new(alloc),
+        end: End::Stopped(Why::TooLong(process_of(machine, entry))),
+        moves: Vec::new(alloc),
     }
 }
 
@@ -114,6 +110,7 @@ fn way_by<'d>(
 ) -> Result<Way<'d>, AllocError>
     requires silent { machine.now.lines ≡ [] }
     requires some_entry { 0 < limits.max_entries }
+    requires few { machine.now.core.entries < most_entries }
     requires permitted { refusal (state_at machine.now) entry ≡ None }
     ensures { IfOk result (IsWayBy machine.now.code limits (state_at machine.now) entry) }
 {
@@ -123,8 +120,10 @@ fn way_by<'d>(
     let mut copy = machine.copy(alloc)?;
     match copy.take(entry) {
         Ok(()) => Ok(Way::On(next_of(alloc, copy, one(alloc, entry)?)?)),
-        Err(TakeFault::TooLong) => Ok(Way::Long(long_of(alloc, machine, entry)?)),
-        Err(_) => Err(AllocError),
+        Err(fault) => {
+            tell_long(machine, entry, fault)?;
+            Ok(Way::Long(long_of(alloc, machine, entry)))
+        }
     }
 }
 
@@ -149,6 +148,7 @@ fn follow_each<'d>(
 ) -> Result<Ways<'d>, AllocError>
     requires silent { machine.now.lines ≡ [] }
     requires some_entry { 0 < limits.max_entries }
+    requires few { machine.now.core.entries < most_entries }
     requires permitted { All (λ entry. refusal (state_at machine.now) entry ≡ None) entries.now }
     ensures { IfOk result (λ ways. AreWaysFor machine.now.code limits (state_at machine.now) entries.now ways.successors.items ways.ended.items) }
 {
@@ -181,7 +181,7 @@ fn rests<'d>(alloc: Global, end: End) -> Result<Expanded<Place<'d>, Entry, End>,
     })
 }
 
-// Follows each entry that the rules permit.
+// Follows each entry that the rules permit, and none where the journal has as many as it may have.
 fn branch<'d>(
     alloc: Global,
     limits: Limits,
@@ -192,8 +192,15 @@ fn branch<'d>(
     requires goes_on { GoesOn limits (state_at machine.now) }
     ensures next { IfOk result (λ x. All (IsWayOn machine.now.code limits (state_at machine.now)) x.successors.items) }
     ensures sound { IfOk result (λ x. All (IsWayToEnd machine.now.code limits (state_at machine.now)) x.ended.items) }
-    ensures all { IfOk result (λ x. AreAllWays machine.now.code limits (state_at machine.now) x.successors.items x.ended.items) }
+    ensures all { IfOk result (λ x. IsTrue x.whole → AreAllWays machine.now.code limits (state_at machine.now) x.successors.items x.ended.items) }
 {
+    if machine.state().entries() >= u64::from(limits.max_entries) {
+        return Ok(Expanded {
+            successors: Vec::new(alloc),
+            ended: Vec::new(alloc),
+            whole: false,
+        });
+    }
     let entries = machine.next_entries(alloc)?;
     let Ways { successors, ended } = follow_each(alloc, limits, machine, &entries)?;
     Ok(Expanded {
@@ -219,13 +226,15 @@ fn arrive<'d>(alloc: Global, walk: Walk<'d>) -> Result<Expanded<Place<'d>, Entry
     })
 }
 
-/// Follows each way from where a machine stands. Where the rules leave no choice it goes on, up to the next choice or for some
-/// hundred entries. Ways are left out where the journal has as many entries as it may have, and a run goes on from there.
+/// Follows each way from where a machine stands. Where one way stands for all it goes on by that, up to the next choice or for some
+/// hundred steps. Ways are left out where the journal has as many entries as it may have, and a run goes on from there.
 pub(crate) fn expand<'d>(
     alloc: Global,
+    design: &Design,
     limits: Limits,
     machine: Machine<'d>,
 ) -> Result<Expanded<Place<'d>, Entry, End>, AllocError>
+    requires code { machine.code ≡ design.now }
     requires silent { machine.lines ≡ [] }
     requires bounded { AreBounded limits }
     ensures next { IfOk result (λ x. All (IsWayOn machine.entry.code limits (state_at machine.entry)) x.successors.items) }
@@ -236,14 +245,7 @@ pub(crate) fn expand<'d>(
         Some(end) => return rests(alloc, end),
         None => {}
     }
-    if machine.state().entries() >= u64::from(limits.max_entries) {
-        return Ok(Expanded {
-            successors: Vec::new(alloc),
-            ended: Vec::new(alloc),
-            whole: false,
-        });
-    }
-    let walk = walk_on(alloc, limits, machine)?;
+    let walk = walk_on(alloc, design, limits, machine)?;
     if walk.moves.is_empty() {
         branch(alloc, limits, &walk.machine)
     } else {

@@ -50,7 +50,7 @@ impl<'d> Orders for Lawful<'d> {
         alloc: Global,
         node: Place<'d>,
     ) -> Result<Expanded<Place<'d>, Entry, End>, AllocError> {
-        let expanded = expand(alloc, self.limits, node.machine)?;
+        let expanded = expand(alloc, self.design, self.limits, node.machine)?;
         Ok(expanded)
     }
 

@@ -1,8 +1,8 @@
 //! The races of a design: its lawful orders, searched.
 //!
 //! 1. A `Place` is where a journal has come to: the machine that took its entries, and the key of its state.
-//! 2. `expand` follows each entry that the rules permit from a place, and tells the ends that a run may have there. Where the rules
-//!    leave no choice, `walk` goes on to the next choice.
+//! 2. `expand` follows each entry that the rules permit from a place, and tells the ends that a run may have there. Where one
+//!    order stands for all, since the rules leave no choice or the state is flat, `walk` goes on by it.
 //! 3. `lawful_orders` gives that to the search of `explore`. What it shows are texts and ends of lawful journals, and where it
 //!    answers that all is covered, those of every lawful journal in time.
 //!
@@ -14,6 +14,7 @@ mod expand;
 mod lawful;
 pub mod laws;
 mod place;
+mod settle;
 mod walk;
 
 pub use lawful::lawful_orders;

@@ -1,23 +1,48 @@
-//! A walk on from a machine, as long as the rules leave no choice.
-ghost use Rattle.std.specs.Prelude.{◌≡◌, [], IfOk, IfSome, OnOk};
+//! A walk on from a machine, as long as one order stands for all.
+ghost use Rattle.std.specs.Prelude.{◌≡◌, ◌<◌, [], None, IfOk, IfSome, OnOk};
 ghost use Rattle.model.specs.States.{State};
-ghost use Rattle.regions.specs.Machine.{state_at};
+ghost use Rattle.model.specs.Runs.{refusal, step};
+ghost use Rattle.design.specs.Compiled.{design_of};
+ghost use Rattle.regions.specs.Machine.{most_entries, state_at, IsNotTaken};
 ghost use Rattle.races.specs.Walking.{HasWalked, IsOnlyEntry};
 
+use crate::settle::take_flat;
+use design::Design;
 use model::end::Limits;
 use model::entry::Entry;
 use regions::{Machine, TakeFault};
 use seeded::resting::is_timely;
 use std::alloc::{AllocError, Global};
 
-// The most entries of one walk: a search looks for a state that it has seen at the end of each.
-const MOST_ENTRIES: u32 = 256;
+// The most steps of one walk: a search looks for a state that it has seen at the end of each.
+const MOST_STEPS: u32 = 256;
 
 /// Where a walk has come to, and the entries that it took.
 #[derive(Drop)]
 pub(crate) struct Walk<'d> {
     pub(crate) machine: Machine<'d>,
     pub(crate) moves: Vec<Entry>,
+}
+
+/// Tells that an entry, which the rules permit, wasn't taken since it is a turn that isn't short. Fails where memory was refused to it
+/// instead.
+pub(crate) fn tell_long(
+    machine: &Machine<'_>,
+    entry: Entry,
+    fault: TakeFault,
+) -> Result<(), AllocError>
+    requires permitted { refusal (state_at machine.now) entry ≡ None }
+    requires few { machine.now.core.entries < most_entries }
+    requires fault { IsNotTaken machine.now entry fault }
+    ensures { IfOk result (λ nothing. step (design_of machine.now.code) (state_at machine.now) entry ≡ None) }
+{
+    match fault {
+        TakeFault::TooLong => Ok(()),
+        TakeFault::ApplyMemory => Err(AllocError),
+        TakeFault::Memory => Err(AllocError),
+        TakeFault::Refused(_) => unreachable!(),
+        TakeFault::TooMany => unreachable!(),
+    }
 }
 
 // The only entry that the rules permit, where they permit just one, and that one is in time.
@@ -55,18 +80,39 @@ fn step(alloc: Global, limits: Limits, walk: &mut Walk<'_>) -> Result<bool, Allo
             walk.moves.push(entry)?;
             Ok(true)
         }
-        Err(TakeFault::TooLong) => Ok(false),
-        Err(_) => Err(AllocError),
+        Err(fault) => {
+            tell_long(&walk.machine, entry, fault)?;
+            Ok(false)
+        }
     }
 }
 
-/// Goes on from where a machine stands as long as the rules leave no choice, for some hundred entries at most.
+// Goes on by the only entry, or else by the turns of a flat state. Answers whether it did.
+fn go_on(
+    alloc: Global,
+    design: &Design,
+    limits: Limits,
+    walk: &mut Walk<'_>,
+) -> Result<bool, AllocError>
+    requires code { walk.old.machine.code ≡ design.now }
+    ensures walked { OnOk result ((s : State) → HasWalked limits s walk.old → HasWalked limits s walk.new) }
+    ensures code { walk.new.machine.code ≡ walk.old.machine.code }
+{
+    if step(alloc, limits, walk)? {
+        return Ok(true);
+    }
+    take_flat(alloc, design, limits, walk)
+}
+
+/// Goes on from where a machine stands as long as one order stands for all, for some hundred steps at most.
 pub(crate) fn walk_on<'d>(
     alloc: Global,
+    design: &Design,
     limits: Limits,
     machine: Machine<'d>,
 ) -> Result<Walk<'d>, AllocError>
-    requires { machine.lines ≡ [] }
+    requires silent { machine.lines ≡ [] }
+    requires code { machine.code ≡ design.now }
     ensures code { IfOk result (λ walk. walk.machine.code ≡ machine.entry.code) }
     ensures walked { IfOk result (HasWalked limits (state_at machine.entry)) }
 {
@@ -74,8 +120,8 @@ pub(crate) fn walk_on<'d>(
         machine,
         moves: Vec::new(alloc),
     };
-    for _ in 0..MOST_ENTRIES {
-        if !step(alloc, limits, &mut walk)? {
+    for _ in 0..MOST_STEPS {
+        if !go_on(alloc, design, limits, &mut walk)? {
             return Ok(walk);
         }
     }

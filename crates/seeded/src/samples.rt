@@ -17,8 +17,8 @@ pub struct Samples {
     pub made: u32,
 }
 
-// Whether two runs have the same lines and the same end.
-fn is_same(one: &SeededRun, other: &SeededRun) -> bool
+/// Whether two runs have the same lines and the same end.
+pub fn is_same(one: &SeededRun, other: &SeededRun) -> bool
     ensures { IsTrue result ↔ ((string_bytes one.now.lines ≡ string_bytes other.now.lines) × (one.now.end ≡ other.now.end)) }
 {
     if one.end != other.end {

@@ -4,8 +4,9 @@
 //! data/rows: each tells by its name what it shows.
 #![tactic(auto)]
 
+use files::SystemFiles;
 use journal::Counted;
-use program::{SystemFiles, command};
+use program::command;
 use std::alloc::{AllocError, Global};
 use std::{fs, io};
 
@@ -21,9 +22,9 @@ fn main(rt: HostRuntime) -> io::Result<()> {
         let words = words_of(alloc, line.as_str())?;
         let mut files = SystemFiles { rt: &rt };
         let mut out = Counted::new(rt.stdout());
-        let mut err = Vec::new(alloc);
+        let mut err = Counted::new(Vec::new(alloc));
         let status = command(&rt, alloc, words.as_slice(), &mut files, &mut out, &mut err);
-        show_errors(&mut rt.stdout(), err.as_slice())?;
+        show_errors(&mut rt.stdout(), err.into_inner().as_slice())?;
         println!(rt; "status {status}")?;
     }
     Ok(())

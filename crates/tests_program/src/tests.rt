@@ -1,20 +1,21 @@
 //! The program over files in memory, with exact bytes and statuses.
 
 use design::Design;
+use files::Files;
 use frontend::read_design;
 use journal::Counted;
 use model::entry::Entry;
-use program::{Files, command};
+use program::command;
 use replay::{Replayed, replay};
 use simulate::{Outcome, SimFault};
 use std::alloc::Global;
 use std::cell::RefCell;
-use std::io;
 use std::io::{ErrorKind, Read, Write};
 use std::process::Abort;
 use std::rc::Rc;
 use std::sync::Wait;
 use std::thread::Threads;
+use std::{io, mem};
 
 mod bounds;
 mod counts;
@@ -25,6 +26,7 @@ mod probes;
 mod refused;
 mod replays;
 mod runs;
+mod spared;
 mod starved;
 mod threads;
 mod tries;
@@ -39,6 +41,9 @@ const SAVE: &str = "vsimtx run t.v --journal OUT";
 const REPLAY: &str = "vsimtx replay t.v JOURNAL";
 
 const CANNOT_WRITE: &str = "vsimtx: cannot write\n";
+
+/// What stands in OUT before a command.
+const OLD: &[u8] = b"an old OUT\n";
 
 /// Bytes that a writer puts there, and that stay once it is gone.
 type Shared = Rc<RefCell<Vec<u8>>>;
@@ -65,9 +70,11 @@ impl Read for Source<'_> {
 }
 
 /// Files in memory. Of a source and of a journal there is a whole one, and others that break off after
-/// the same bytes. `folder` isn't there, and any other new file has the room that is given.
+/// the same bytes; `LINK` and `LINKED.1.journal` lead to the source. `folder` isn't there, and any other new file has the room that
+/// is given.
 #[derive(Drop)]
 struct Memory<'a> {
+    alloc: Global,
     source: &'a [u8],
     journal: &'a [u8],
     made: Shared,
@@ -81,7 +88,7 @@ impl<'a> Files for Memory<'a> {
 
     fn open(&mut self, path: &str) -> io::Result<Source<'a>> {
         let (bytes, fault) = match path {
-            "t.v" => (self.source, None),
+            "t.v" | "-" => (self.source, None),
             "broken.v" => (self.source, Some(ErrorKind::Other)),
             "large.v" => (self.source, Some(ErrorKind::OutOfMemory)),
             "interrupted.v" => (self.source, Some(ErrorKind::Interrupted)),
@@ -92,17 +99,28 @@ impl<'a> Files for Memory<'a> {
         Ok(Source { bytes, fault })
     }
 
-    fn create(&mut self, path: &str) -> io::Result<Target> {
+    fn same(&self, source: &str, out: &str) -> bool {
+        source == "t.v" && matches!(out, "t.v" | "LINK" | "LINKED.1.journal")
+    }
+
+    fn begin(&mut self, path: &str) -> io::Result<Target> {
         if path.starts_with("folder/") {
             return Err(io::Error::from(ErrorKind::NotFound));
         }
+        let bytes = RefCell::new(Vec::new(self.alloc));
         Ok(Target {
             room: self.room,
-            written: self.made.clone()?,
+            written: Rc::new(self.alloc, bytes)?,
         })
     }
 
-    fn close(&mut self, _path: &str, _target: Target) {}
+    fn finish(&mut self, _path: &str, target: Target) -> io::Result<()> {
+        match (self.made.try_borrow_mut(), target.written.try_borrow_mut()) {
+            (Ok(mut made), Ok(mut written)) => mem::swap(&mut *made, &mut *written),
+            _ => return Err(io::Error::from(ErrorKind::Other)),
+        }
+        Ok(())
+    }
 }
 
 /// A writer that takes one byte a call, and fails after its room.
@@ -158,8 +176,7 @@ fn over_journal<'a>(source: &'a str, journal: &'a [u8]) -> Setting<'a> {
     }
 }
 
-/// What a command left: its status, and what stands on output, on standard error and in the file that
-/// it made.
+/// What a command left: its status, and what stands on output, on standard error and in OUT.
 #[derive(Drop)]
 struct Left {
     status: u8,
@@ -272,8 +289,10 @@ fn words_of(rt: &impl Abort, alloc: Global, line: &str) -> Vec<String> {
     words
 }
 
-fn shared(rt: &impl Abort, alloc: Global) -> Shared {
-    Rc::new(alloc, RefCell::new(Vec::new(alloc))).expect(rt, "memory")
+fn shared(rt: &impl Abort, alloc: Global, bytes: &[u8]) -> Shared {
+    let mut before = Vec::new(alloc);
+    before.extend_from_slice(bytes).expect(rt, "memory");
+    Rc::new(alloc, RefCell::new(before)).expect(rt, "memory")
 }
 
 /// The bytes that a writer put there.
@@ -284,8 +303,14 @@ fn copy(rt: &impl Abort, alloc: Global, bytes: &Shared) -> Vec<u8> {
     }
 }
 
-fn files_in<'a>(rt: &impl Abort, setting: &Setting<'a>, made: &Shared) -> Memory<'a> {
+fn files_in<'a>(
+    rt: &impl Abort,
+    alloc: Global,
+    setting: &Setting<'a>,
+    made: &Shared,
+) -> Memory<'a> {
     Memory {
+        alloc,
         source: setting.source.as_bytes(),
         journal: setting.journal,
         made: made.clone().expect(rt, "memory"),
@@ -306,16 +331,16 @@ fn run_in<R: Abort + Threads + Wait + Sync>(
     setting: &Setting<'_>,
 ) -> Left {
     let words = words_of(rt, alloc, line);
-    let made = shared(rt, alloc);
-    let shown = shared(rt, alloc);
-    let mut files = files_in(rt, setting, &made);
+    let made = shared(rt, alloc, OLD);
+    let shown = shared(rt, alloc, b"");
+    let mut files = files_in(rt, alloc, setting, &made);
     let mut out = output(rt, setting.out_room, &shown);
-    let mut err = Vec::new(alloc);
+    let mut err = Counted::new(Vec::new(alloc));
     let status = command(rt, alloc, words.as_slice(), &mut files, &mut out, &mut err);
     Left {
         status,
         out: copy(rt, alloc, &shown),
-        err,
+        err: err.into_inner(),
         made: copy(rt, alloc, &made),
     }
 }

@@ -2,6 +2,7 @@
 
 mod concatenations;
 mod elaboration;
+mod faults_told;
 mod parsing;
 mod tasks;
 mod vectors;

@@ -7,7 +7,8 @@
 //! 2. `parsing` has sources that are accepted, and a page of source that is cut, and with each byte replaced.
 //! 3. `concatenations` has concatenations of one part and of more, as they are in a tree.
 //! 4. `elaboration` has modules that `elaborate` makes designs of.
-//! 5. `tasks` has calls of `$display` and `$strobe` in trees and designs.
+//! 5. `faults_told` has what is told of a source in too little memory, and where its processes stand.
+//! 6. `tasks` has calls of `$display` and `$strobe` in trees and designs.
 //!
 //! `runs`:
 //! 1. `turns` has what small processes do in a turn, and `worked` whole turns that are known. All are made by `turn` from a
@@ -22,8 +23,11 @@
 //!
 //! The faults of sources and of journals, the values of literals and operators, and the lines of whole journals are rows of
 //! `shown`.
+//!
+//! `graph` is a small instance of the search of `explore`: the walks through a graph, of which the texts are counted by hand.
 #![tactic(auto)]
 
+pub mod graph;
 #[cfg(test)]
 mod language;
 #[cfg(test)]

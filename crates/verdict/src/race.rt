@@ -1,4 +1,7 @@
-//! The lines on a race. No clause says what they are: a run is lawful and its text is right whatever the race is called.
+//! The lines on a race.
+
+ghost use Rattle.std.specs.Prelude.{◌≡◌, ◌++◌, OnOk, Some, option_map};
+ghost use Rattle.verdict.specs.Races.{begin_text, in_quotes, journal_text, line_text, path_text, prefix_of, quoted_line, race_text, role_text, roles_text, run_text, runs_text, site_text, title_text};
 
 use crate::phrases::push_number;
 use crate::source::Process;
@@ -44,19 +47,41 @@ pub struct Race<'a> {
 }
 
 /// Puts the lines on a race behind a text.
-pub fn push_race(text: &mut Vec<u8>, race: &Race<'_>) -> Result<(), AllocError> {
+pub fn push_race(text: &mut Vec<u8>, race: &Race<'_>) -> Result<(), AllocError>
+    ensures { OnOk result (text.new.items ≡ text.old.items ++ race_text race.entry.now) }
+{
+    push_title(text, race)?;
+    push_roles(text, race)?;
+    push_runs(text, race)
+}
+
+fn push_title(text: &mut Vec<u8>, race: &Race<'_>) -> Result<(), AllocError>
+    ensures { OnOk result (text.new.items ≡ text.old.items ++ title_text race.entry.now) }
+{
     text.extend_from_slice(b"race ")?;
     push_number(text, race.number as u64)?;
     push_site(text, race.site)?;
     push_number(text, race.time)?;
-    text.extend_from_slice(b"\n")?;
+    text.extend_from_slice(b"\n")
+}
+
+fn push_roles(text: &mut Vec<u8>, race: &Race<'_>) -> Result<(), AllocError>
+    ensures { OnOk result (text.new.items ≡ text.old.items ++ roles_text race.entry.now) }
+{
     push_role(text, race.first)?;
-    push_role(text, race.second)?;
+    push_role(text, race.second)
+}
+
+fn push_runs(text: &mut Vec<u8>, race: &Race<'_>) -> Result<(), AllocError>
+    ensures { OnOk result (text.new.items ≡ text.old.items ++ runs_text race.entry.now) }
+{
     push_run(text, race, b"  the first before the second", race.original)?;
     push_run(text, race, b"  the second before the first", race.exchanged)
 }
 
-fn push_site(text: &mut Vec<u8>, site: Site<'_>) -> Result<(), AllocError> {
+fn push_site(text: &mut Vec<u8>, site: Site<'_>) -> Result<(), AllocError>
+    ensures { OnOk result (text.new.items ≡ text.old.items ++ site_text site.entry) }
+{
     match site {
         Site::Register(name) => {
             text.extend_from_slice(b": register ")?;
@@ -68,7 +93,9 @@ fn push_site(text: &mut Vec<u8>, site: Site<'_>) -> Result<(), AllocError> {
     }
 }
 
-fn push_role(text: &mut Vec<u8>, role: Role<'_>) -> Result<(), AllocError> {
+fn push_role(text: &mut Vec<u8>, role: Role<'_>) -> Result<(), AllocError>
+    ensures { OnOk result (text.new.items ≡ text.old.items ++ role_text role.entry) }
+{
     text.extend_from_slice(b"  process ")?;
     push_number(text, u64::from(role.number))?;
     if let Some(process) = role.begins {
@@ -79,7 +106,9 @@ fn push_role(text: &mut Vec<u8>, role: Role<'_>) -> Result<(), AllocError> {
     text.extend_from_slice(b"\n")
 }
 
-fn push_begin(text: &mut Vec<u8>, process: Process) -> Result<(), AllocError> {
+fn push_begin(text: &mut Vec<u8>, process: Process) -> Result<(), AllocError>
+    ensures { OnOk result (text.new.items ≡ text.old.items ++ begin_text (Some process)) }
+{
     let word: &[u8] = match process.always {
         true => b", always at line ",
         false => b", initial at line ",
@@ -93,27 +122,30 @@ fn push_run(
     race: &Race<'_>,
     order: &[u8],
     run: Run<'_>,
-) -> Result<(), AllocError> {
+) -> Result<(), AllocError>
+    ensures { OnOk result (text.new.items ≡ text.old.items ++ run_text race.entry.now order.now run.entry) }
+{
     text.extend_from_slice(order)?;
     push_journal(text, race.prefix, run.journal)?;
-    match race.line {
-        Some(number) => push_line(text, number, run.line),
-        None => text.extend_from_slice(b": the same lines, and another end\n"),
-    }
+    push_difference(text, race.line, run.line)
 }
 
 fn push_journal(
     text: &mut Vec<u8>,
     prefix: Option<&str>,
     journal: Option<usize>,
-) -> Result<(), AllocError> {
+) -> Result<(), AllocError>
+    ensures { OnOk result (text.new.items ≡ text.old.items ++ journal_text (option_map (λ path. path.now) prefix.entry) journal) }
+{
     match (prefix, journal) {
         (Some(prefix), Some(number)) => push_path(text, prefix, number),
         _ => Ok(()),
     }
 }
 
-fn push_path(text: &mut Vec<u8>, prefix: &str, number: usize) -> Result<(), AllocError> {
+fn push_path(text: &mut Vec<u8>, prefix: &str, number: usize) -> Result<(), AllocError>
+    ensures { OnOk result (text.new.items ≡ text.old.items ++ path_text prefix.now number) }
+{
     text.extend_from_slice(b" (")?;
     text.extend_from_slice(prefix.as_bytes())?;
     text.extend_from_slice(b".")?;
@@ -121,17 +153,36 @@ fn push_path(text: &mut Vec<u8>, prefix: &str, number: usize) -> Result<(), Allo
     text.extend_from_slice(b".journal)")
 }
 
-fn push_line(text: &mut Vec<u8>, number: usize, line: &[u8]) -> Result<(), AllocError> {
+fn push_difference(text: &mut Vec<u8>, number: Option<usize>, line: &[u8]) -> Result<(), AllocError>
+    ensures { OnOk result (text.new.items ≡ text.old.items ++ line_text number line.now) }
+{
+    match number {
+        Some(number) => push_line(text, number, line),
+        None => text.extend_from_slice(b": the same lines, and another end\n"),
+    }
+}
+
+fn push_line(text: &mut Vec<u8>, number: usize, line: &[u8]) -> Result<(), AllocError>
+    ensures { OnOk result (text.new.items ≡ text.old.items ++ line_text (Some number) line.now) }
+{
     text.extend_from_slice(b": line ")?;
     push_number(text, number as u64)?;
+    push_quoted(text, line)
+}
+
+fn push_quoted(text: &mut Vec<u8>, line: &[u8]) -> Result<(), AllocError>
+    ensures { OnOk result (text.new.items ≡ text.old.items ++ quoted_line line.now) }
+{
     match line.split_last() {
-        Some((last, before)) if *last == b'\n' => push_quoted(text, before),
-        Some(_) => push_quoted(text, line),
+        Some((last, before)) if *last == 10 => push_quotes(text, before),
+        Some(_) => push_quotes(text, line),
         None => text.extend_from_slice(b" is missing\n"),
     }
 }
 
-fn push_quoted(text: &mut Vec<u8>, line: &[u8]) -> Result<(), AllocError> {
+fn push_quotes(text: &mut Vec<u8>, line: &[u8]) -> Result<(), AllocError>
+    ensures { OnOk result (text.new.items ≡ text.old.items ++ in_quotes line.now) }
+{
     text.extend_from_slice(b" is `")?;
     text.extend_from_slice(line)?;
     text.extend_from_slice(b"`\n")

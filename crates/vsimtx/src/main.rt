@@ -2,8 +2,9 @@
 //! with the status that `command` answers.
 #![tactic(auto)]
 
+use files::SystemFiles;
 use journal::Counted;
-use program::{SystemFiles, command, without_words};
+use program::{command, without_words};
 use std::alloc::Global;
 use std::process::ExitCode;
 use std::{env, io};
@@ -12,7 +13,7 @@ fn main(rt: HostRuntime) -> ExitCode {
     let alloc = rt.alloc();
     let mut files = SystemFiles { rt: &rt };
     let mut out = Counted::new(rt.stdout());
-    let mut err = rt.stderr();
+    let mut err = Counted::new(rt.stderr());
     let status = match words(&rt, alloc) {
         Ok(words) => command(&rt, alloc, words.as_slice(), &mut files, &mut out, &mut err),
         Err(error) => without_words(&rt, alloc, &error, &mut files, &mut out, &mut err),

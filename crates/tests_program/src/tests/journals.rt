@@ -2,7 +2,7 @@
 
 use super::replays::CUTS;
 use super::{
-    CANNOT_WRITE, RUN, SAVE, Setting, Wanted, assert_bytes, assert_cut, assert_left,
+    CANNOT_WRITE, OLD, RUN, SAVE, Setting, Wanted, assert_bytes, assert_cut, assert_left,
     assert_replayed, over, prints, run_in, run_line, tells,
 };
 use std::alloc::Global;
@@ -33,7 +33,7 @@ fn keeps_the_journal_of_a_run(rt: HostRuntime) {
     let setting = over(SOURCE);
     let wanted = prints("hi\n");
     assert_saved(&rt, rt.alloc(), SAVE, &setting, wanted, JOURNAL);
-    assert_saved(&rt, rt.alloc(), RUN, &setting, wanted, b"");
+    assert_saved(&rt, rt.alloc(), RUN, &setting, wanted, OLD);
     let setting = over("module t; endmodule");
     let journal = b"vsimtx-journal 2\nE 0\n";
     assert_saved(&rt, rt.alloc(), SAVE, &setting, prints(""), journal);
@@ -49,20 +49,20 @@ fn one_worker_has_one_journal(rt: HostRuntime) {
     assert_saved(&rt, rt.alloc(), line, &over(source), prints("x\n"), journal);
 }
 
-/// Where there is only room for this much of the journal, no line is printed.
-fn assert_cut_journal<R: Abort + Threads + Wait + Sync>(rt: &R, alloc: Global, journal: &[u8]) {
+/// Where there is only room for this much of the journal, no line is printed, and what stood in OUT stays.
+fn assert_cut_journal<R: Abort + Threads + Wait + Sync>(rt: &R, alloc: Global, room: usize) {
     let cut = Setting {
-        room: journal.len(),
+        room,
         ..over(SOURCE)
     };
-    assert_saved(rt, alloc, SAVE, &cut, tells(1, CANNOT_WRITE), journal);
+    assert_saved(rt, alloc, SAVE, &cut, tells(1, CANNOT_WRITE), OLD);
 }
 
 #[test]
 fn writes_no_line_after_a_cut_journal(rt: HostRuntime) {
     assert!(rt; JOURNAL.len() == 25);
     for room in 0..JOURNAL.len() {
-        assert_cut_journal(&rt, rt.alloc(), &JOURNAL[..room]);
+        assert_cut_journal(&rt, rt.alloc(), room);
     }
 }
 

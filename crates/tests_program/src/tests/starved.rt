@@ -2,12 +2,13 @@
 //! memory can start no thread either.
 //!
 //! A command passes marks: `s` where it starts, `f` where FILE is opened and `F` at its end, `j` at the first read of JOURNAL and
-//! `J` at its end, and `O` where OUT is made. At one of them it loses all memory but a rest.
+//! `J` at its end, and `O` where OUT is begun. At one of them it loses all memory but a rest.
 
 use super::{REPLAY, Shared, Target, repeated, words_of};
+use files::Files;
 use hoard::Hoard;
 use journal::Counted;
-use program::{Files, command};
+use program::command;
 use std::alloc::Global;
 use std::cell::RefCell;
 use std::io::Read;
@@ -126,7 +127,11 @@ impl<'a> Files for Starved<'a> {
         })
     }
 
-    fn create(&mut self, _path: &str) -> io::Result<Target> {
+    fn same(&self, _source: &str, _out: &str) -> bool {
+        false
+    }
+
+    fn begin(&mut self, _path: &str) -> io::Result<Target> {
         self.marks.pass(b'O');
         Ok(Target {
             room: LONGEST,
@@ -134,7 +139,9 @@ impl<'a> Files for Starved<'a> {
         })
     }
 
-    fn close(&mut self, _path: &str, _target: Target) {}
+    fn finish(&mut self, _path: &str, _target: Target) -> io::Result<()> {
+        Ok(())
+    }
 }
 
 /// What a command writes, and the marks that it passes, in room that was there before.
@@ -245,7 +252,7 @@ fn status_of<R: Abort + Threads + Wait + Sync>(
         marks,
     };
     let mut out = Counted::new(target(rt, &places.out));
-    let mut err = target(rt, &places.err);
+    let mut err = Counted::new(target(rt, &places.err));
     marks.pass(b's');
     command(rt, alloc, asked.words, &mut files, &mut out, &mut err)
 }
@@ -432,7 +439,7 @@ fn assert_all_told<R: Abort + Threads + Wait + Sync>(
 /// There is no memory for the tree of a source, then for a run before its first worker, and then for its entries.
 const OF_A_RUN: &[(&str, &str)] = &[
     ("sfF", "vsimtx: P6 memory\n"),
-    ("sfF", "vsimtx: memory\n"),
+    ("sfFO", "vsimtx: memory\n"),
     ("sfFO", "vsimtx: stopped: memory\n"),
 ];
 

@@ -1,21 +1,35 @@
 -- A run by a seed, with its lines and its journal.
-use Rattle.std.proofs.Common.{List, ℕ, subst}
+use Rattle.std.proofs.Common.{List, ℕ, Option, subst}
 use Rattle.std.specs.Prelude.{option_map}
 use Rattle.std.specs.Io.KnownBytes.{Appends}
 use Rattle.model.specs.declared.entry.Entry.{Entry}
-use Rattle.program.specs.Saved.{SavesWhereAsked}
-use Rattle.program.proofs.Ended.{saved_on}
+use Rattle.files.specs.Saved.{SavesWhereAsked}
+use Rattle.program.proofs.Ended.{if_err, kept_on, saved_on}
 use Rattle.program.proofs.running.run_by_seed.Goals as goal
 
 pub returns-clause-printed : goal.returns-clause-printed
 returns-clause-printed g c =
-    let run = c.in_ok-run.run' in
+    let run = c.seeded_run-run.result in
     let path = option_map (λ p. p.now) c.args.request.now.journal in
+    let start = g.F.Files.made c.args.files.now in
+    let read = g.F.Files.made c.design_of.new.files in
+    let begun = g.F.Files.made c.begin.new.files in
+    let end = g.F.Files.made c.save.new.files in
     record {
       run = run;
-      is_run = c.in_ok-run.ensures.is_run;
+      is_run = c.seeded_run-run.ensures;
       lines = subst (λ (l : List ℕ). Appends (g.O.Write.contents c.args.out.now) (g.O.Write.contents c.show.new.out) l) c.as_str.ensures.value c.in_ok-show.ensures.written;
-      saved = saved_on (g.F.Files.made c.args.files.now) (g.F.Files.made c.seeded_run.new.files) (g.F.Files.made c.save.new.files) path run.journal.items c.in_ok-run.ensures.kept
-          (subst (λ (l : List Entry). SavesWhereAsked (g.F.Files.made c.seeded_run.new.files) (g.F.Files.made c.save.new.files) path l) c.as_slice.ensures.value c.in_ok-save.ensures.saved);
+      saved = saved_on start begun end path run.journal.items (kept_on start read begun c.in_ok-design.ensures.kept c.in_ok-begun.ensures.kept)
+          (subst (λ (l : List Entry). SavesWhereAsked begun end path l) c.as_slice.ensures.value
+          (subst (λ (p : Option (List ℕ)). SavesWhereAsked begun end p c.as_slice.result.now) c.in_ok-begun.ensures.path c.in_ok-save.ensures.saved));
       end = c.of.ensures;
     }
+
+pub returns-in_err-save-clause-unsaved : goal.returns-in_err-save-clause-unsaved
+returns-in_err-save-clause-unsaved g c =
+    let start = g.F.Files.made c.args.files.now in
+    let read = g.F.Files.made c.design_of.new.files in
+    let begun = g.F.Files.made c.begin.new.files in
+    let end = g.F.Files.made c.save.new.files in
+    if_err _ c.from_residual-in_err-save.result
+    (λ f other. kept_on start begun end (kept_on start read begun c.in_ok-design.ensures.kept c.in_ok-begun.ensures.kept) c.in_err-save.ensures.unsaved)

@@ -1,5 +1,5 @@
 -- Reading a file leaves the files that were saved.
-use Rattle.program.specs.Saved.{KeepsFiles}
+use Rattle.files.specs.Saved.{KeepsFiles}
 use Rattle.program.proofs.Ended.{shown_on, output_kept}
 use Rattle.program.proofs.searching.search_races.Goals as goal
 

@@ -13,7 +13,7 @@ follow_each-requires-clause-permitted c =
     (λ entry there. (c.in_ok-entries.ensures.permitted entry).0 (subst (λ (l : List Entry). Contains l entry) c.deref.ensures.value there))
 
 pub returns-clause-all : goal.returns-clause-all
-returns-clause-all c =
+returns-clause-all c = λ whole.
     let s = state_at c.args.machine.now in
     all_followed c.args.machine.now.code c.args.limits s c.deref.result.now c.in_ok-successors.field-0.successors.items c.in_ok-successors.field-0.ended.items
     (λ entry free. subst (λ (l : List Entry). Contains l entry) (sym c.deref.ensures.value) ((c.in_ok-entries.ensures.permitted entry).1 free))

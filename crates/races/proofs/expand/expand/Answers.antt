@@ -39,7 +39,7 @@ pub returns-then-is_empty-clause-all : goal.returns-then-is_empty-clause-all
 returns-then-is_empty-clause-all c =
     let none : length c.in_ok-walk.walk.moves.items ≡ 0 = empty_is_none c.in_ok-walk.walk.moves c.is_empty.result c.is_empty.ensures c.if-is_empty.true in
     let there = walked_nowhere c.args.limits (state_at c.args.machine) c.in_ok-walk.walk c.in_ok-walk.ensures.walked (no_elements c.in_ok-walk.walk.moves.items none) in
-    IfOk-weaker c.branch-alloc.result _ _ (λ x all whole. branched_all c.args.machine.code c.in_ok-walk.walk.machine.code c.args.limits (state_at c.args.machine) (state_at c.in_ok-walk.walk.machine) x.successors.items x.ended.items c.in_ok-walk.ensures.code there.0 all) c.branch-alloc.ensures.all
+    IfOk-weaker c.branch-alloc.result _ _ (λ x all whole. branched_all c.args.machine.code c.in_ok-walk.walk.machine.code c.args.limits (state_at c.args.machine) (state_at c.in_ok-walk.walk.machine) x.successors.items x.ended.items c.in_ok-walk.ensures.code there.0 (all whole)) c.branch-alloc.ensures.all
 
 pub returns-clause-next : goal.returns-clause-next
 returns-clause-next c =

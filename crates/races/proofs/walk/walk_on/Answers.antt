@@ -8,15 +8,15 @@ pub loop-init : goal.loop-init
 loop-init c =
     record {
       code = refl;
-      walked = walk_begins c.args.limits c.args.machine (record { machine = c.args.machine; moves = c.new.result }) refl c.new.ensures.items c.requires;
+      walked = walk_begins c.args.limits c.args.machine (record { machine = c.args.machine; moves = c.new.result }) refl c.new.ensures.items c.requires.silent;
     }
 
 pub returns-then-not-branch-clause-walked : goal.returns-then-not-branch-clause-walked
-returns-then-not-branch-clause-walked c = c.in_ok-step.ensures.walked (state_at c.args.machine) c.loop.invariant.walked
+returns-then-not-branch-clause-walked c = c.in_ok-go_on.ensures.walked (state_at c.args.machine) c.loop.invariant.walked
 
 pub loop-preserved : goal.loop-preserved
 loop-preserved c =
     record {
-      code = c.in_ok-step.ensures.code ∙ c.loop.invariant.code;
-      walked = c.in_ok-step.ensures.walked (state_at c.args.machine) c.loop.invariant.walked;
+      code = c.in_ok-go_on.ensures.code ∙ c.loop.invariant.code;
+      walked = c.in_ok-go_on.ensures.walked (state_at c.args.machine) c.loop.invariant.walked;
     }

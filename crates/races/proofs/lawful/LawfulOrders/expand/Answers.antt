@@ -2,6 +2,9 @@
 use Rattle.races.proofs.Ways.{place_next, place_ended, place_covered}
 use Rattle.races.proofs.lawful.LawfulOrders.expand.Goals as goal
 
+pub expand-requires-clause-code : goal.expand-requires-clause-code
+expand-requires-clause-code c = c.requires.1.2.ready.code_is
+
 pub expand-requires-clause-silent : goal.expand-requires-clause-silent
 expand-requires-clause-silent c = c.requires.1.2.ready.silent
 

@@ -1,0 +1,4 @@
+-- Lemmas of words and options.
+pub mod GivenLemmas
+pub mod WordLemmas
+pub mod SecondWord

@@ -1,0 +1,225 @@
+-- What clap's account of the words gives for a request and for a refusal.
+use Rattle.std.proofs.Common.{◌≡◌, ◌⊎◌, ◌^◌, ◌<◌, ◌∙◌, ℕ, true, List, [], ◌∷◌, drop, Option, Some, None, is_some, option_map, pos, Result, Ok, Err, IfOk, IfErr, refl, sym, subst, ap, inl, inr, codes}
+use Rattle.std.specs.Str.Parse.{IsNumeral, ParsesUnsigned, digits_value, without_leading_plus}
+use Rattle.clap.specs.Words.{App, Row, FailsBy, HasKind, HasMatchesOf, IsAmong, Kinds, ReadsOne, Text, one_text, without_minus, fault_of, found_of, is_simple, is_simple_and_free, matches_of, rows_of, kind_of}
+use Rattle.clap.specs.Kinds.{or_else}
+use Rattle.clap.proofs.CallerReads.{signed_reads}
+use Rattle.clap.proofs.WalkLemmas.{one_text-rows}
+use Rattle.clap.specs.declared.parser.matches.Found.{Found}
+use Rattle.clap.specs.declared.builder.value_parser.ValueParser.TheVariants as vp
+use Rattle.clap.specs.declared.error.Error.{Error}
+use Rattle.clap.specs.declared.error.kind.ErrorKind.{ErrorKind}
+use Rattle.clap.specs.declared.error.kind.ErrorKind.TheVariants.{ArgumentConflict, MissingSubcommand, OutOfMemory, DisplayHelp, DisplayVersion}
+use Rattle.clap.specs.declared.parser.matches.ArgMatches.{ArgMatches}
+use Rattle.arguments.specs.declared.request.Refusal.{Refusal}
+use Rattle.arguments.specs.declared.request.Refusal.TheVariants as refusal
+use Rattle.arguments.specs.Arguments.{IsGiven}
+use Rattle.arguments.specs.Words.{number_given, AsksNoTask, Begins, FailsAs, IsRefusal, IsRefusalBy, MayFail, of_run, of_two_orders, of_replay, of_races, of_check, of_others, has_two_orders, other_faults, check_app, check_faults, check_rows, races_app, races_faults, races_rows, replay_app, replay_faults, replay_rows, run_app, run_faults, run_rows, whole_app}
+
+run_is_simple : is_simple run_app ≡ true
+unfolding run_app
+run_is_simple = refl
+
+replay_is_simple : is_simple replay_app ≡ true
+unfolding replay_app
+replay_is_simple = refl
+
+races_is_simple : is_simple races_app ≡ true
+unfolding races_app
+races_is_simple = refl
+
+check_is_simple : is_simple check_app ≡ true
+unfolding check_app
+check_is_simple = refl
+
+run_is_free : is_simple_and_free run_app ≡ true
+unfolding run_app
+run_is_free = refl
+
+replay_is_free : is_simple_and_free replay_app ≡ true
+unfolding replay_app
+replay_is_free = refl
+
+races_is_free : is_simple_and_free races_app ≡ true
+unfolding races_app
+races_is_free = refl
+
+check_is_free : is_simple_and_free check_app ≡ true
+unfolding check_app
+check_is_free = refl
+
+whole_is_free : is_simple_and_free whole_app ≡ true
+unfolding whole_app run_app replay_app races_app check_app
+whole_is_free = refl
+
+-- what a parse found
+
+found_by : (known app : App) (words : List Text) (m : ArgMatches) → is_simple known ≡ true → app ≡ known → HasMatchesOf app words m
+    → rows_of (found_of m) ≡ matches_of known words
+found_by known app words m simple e h = (h (ap is_simple e ∙ simple)).0 ∙ ap (λ (a : App). matches_of a words) e
+
+pub run_found : (app : App) (words : List Text) (m : ArgMatches) → app ≡ run_app → HasMatchesOf app words m → rows_of (found_of m) ≡ run_rows words
+unfolding run_rows
+run_found app words m e h = found_by run_app app words m run_is_simple e h
+
+pub replay_found : (app : App) (words : List Text) (m : ArgMatches) → app ≡ replay_app → HasMatchesOf app words m → rows_of (found_of m) ≡ replay_rows words
+unfolding replay_rows
+replay_found app words m e h = found_by replay_app app words m replay_is_simple e h
+
+pub races_found : (app : App) (words : List Text) (m : ArgMatches) → app ≡ races_app → HasMatchesOf app words m → rows_of (found_of m) ≡ races_rows words
+unfolding races_rows
+races_found app words m e h = found_by races_app app words m races_is_simple e h
+
+pub check_found : (app : App) (words : List Text) (m : ArgMatches) → app ≡ check_app → HasMatchesOf app words m → rows_of (found_of m) ≡ check_rows words
+unfolding check_rows
+check_found app words m e h = found_by check_app app words m check_is_simple e h
+
+-- how it failed
+
+failed_by : (known app : App) (words : List Text) (r : Result ArgMatches Error) → is_simple_and_free known ≡ true → app ≡ known
+    → (is_simple_and_free app ≡ true → FailsBy (fault_of app words) r) → IfErr r (HasKind (fault_of known words))
+failed_by known app words (Ok m) free e h = tt
+failed_by known app words (Err x) free e h = subst (λ (a : App). HasKind (fault_of a words) x) e (h (ap is_simple_and_free e ∙ free))
+
+pub run_failed : (app : App) (words : List Text) (r : Result ArgMatches Error) → app ≡ run_app
+    → (is_simple_and_free app ≡ true → FailsBy (fault_of app words) r) → IfErr r (HasKind (run_faults words))
+unfolding run_faults
+run_failed app words r e h = failed_by run_app app words r run_is_free e h
+
+pub replay_failed : (app : App) (words : List Text) (r : Result ArgMatches Error) → app ≡ replay_app
+    → (is_simple_and_free app ≡ true → FailsBy (fault_of app words) r) → IfErr r (HasKind (replay_faults words))
+unfolding replay_faults
+replay_failed app words r e h = failed_by replay_app app words r replay_is_free e h
+
+pub races_failed : (app : App) (words : List Text) (r : Result ArgMatches Error) → app ≡ races_app
+    → (is_simple_and_free app ≡ true → FailsBy (fault_of app words) r) → IfErr r (HasKind (races_faults words))
+unfolding races_faults
+races_failed app words r e h = failed_by races_app app words r races_is_free e h
+
+pub check_failed : (app : App) (words : List Text) (r : Result ArgMatches Error) → app ≡ check_app
+    → (is_simple_and_free app ≡ true → FailsBy (fault_of app words) r) → IfErr r (HasKind (check_faults words))
+unfolding check_faults
+check_failed app words r e h = failed_by check_app app words r check_is_free e h
+
+kind_kept : (ks next : Kinds) (x : Error) → HasKind ks x → HasKind (or_else ks next) x
+kind_kept [] next x (inl h) = inl h
+kind_kept [] next x (inr h) = absurd h
+kind_kept (k ∷ ks) next x h = h
+
+missing_among : (ks : Kinds) → ks ≡ [] → IsAmong MissingSubcommand (or_else ks (MissingSubcommand ∷ []))
+missing_among ks e = subst (λ (w : Kinds). IsAmong MissingSubcommand (or_else w (MissingSubcommand ∷ []))) (sym e) (inl refl)
+
+pub whole_taken : (app : App) (words : List Text) (r : Result ArgMatches Error) → app ≡ whole_app
+    → (is_simple_and_free app ≡ true → FailsBy (fault_of app words) r) → IfOk r (λ m. IsAmong MissingSubcommand (other_faults words))
+unfolding other_faults
+whole_taken app words (Ok m) e h =
+    missing_among (fault_of whole_app words) (subst (λ (a : App). fault_of a words ≡ []) e (h (ap is_simple_and_free e ∙ whole_is_free)))
+whole_taken app words (Err x) e h = tt
+
+pub whole_failed : (app : App) (words : List Text) (r : Result ArgMatches Error) → app ≡ whole_app
+    → (is_simple_and_free app ≡ true → FailsBy (fault_of app words) r) → IfErr r (HasKind (other_faults words))
+unfolding other_faults
+whole_failed app words (Ok m) e h = tt
+whole_failed app words (Err x) e h =
+    kind_kept (fault_of whole_app words) (MissingSubcommand ∷ []) x (subst (λ (a : App). HasKind (fault_of a words) x) e (h (ap is_simple_and_free e ∙ whole_is_free)))
+
+-- what that says of the words
+
+pub run_fails : (words own : List Text) (e : Error) → Begins words (codes "run") → own ≡ drop 1 words → HasKind (run_faults own) e
+    → FailsAs words (kind_of e)
+run_fails words own e begins same (inl h) = inl h
+run_fails words own e begins same (inr h) = inr (of_run begins (subst (λ (w : List Text). IsAmong (kind_of e) (run_faults w)) same h))
+
+pub replay_fails : (words own : List Text) (e : Error) → Begins words (codes "replay") → own ≡ drop 1 words → HasKind (replay_faults own) e
+    → FailsAs words (kind_of e)
+replay_fails words own e begins same (inl h) = inl h
+replay_fails words own e begins same (inr h) = inr (of_replay begins (subst (λ (w : List Text). IsAmong (kind_of e) (replay_faults w)) same h))
+
+pub races_fails : (words own : List Text) (e : Error) → Begins words (codes "races") → own ≡ drop 1 words → HasKind (races_faults own) e
+    → FailsAs words (kind_of e)
+races_fails words own e begins same (inl h) = inl h
+races_fails words own e begins same (inr h) = inr (of_races begins (subst (λ (w : List Text). IsAmong (kind_of e) (races_faults w)) same h))
+
+pub check_fails : (words own : List Text) (e : Error) → Begins words (codes "check") → own ≡ drop 1 words → HasKind (check_faults own) e
+    → FailsAs words (kind_of e)
+check_fails words own e begins same (inl h) = inl h
+check_fails words own e begins same (inr h) = inr (of_check begins (subst (λ (w : List Text). IsAmong (kind_of e) (check_faults w)) same h))
+
+-- a run both by a seed and on workers
+pub two_orders_fail : (words own : List Text) (rows : List Row) (e : Error) → Begins words (codes "run") → own ≡ drop 1 words → rows ≡ run_rows own
+    → has_two_orders rows ≡ true → (kind_of e ≡ OutOfMemory) ⊎ (kind_of e ≡ ArgumentConflict) → FailsAs words (kind_of e)
+two_orders_fail words own rows e begins same found two (inl h) = inl h
+two_orders_fail words own rows e begins same found two (inr h) =
+    inr (of_two_orders begins (subst (λ (w : List Text). has_two_orders (run_rows w) ≡ true) same (subst (λ (r : List Row). has_two_orders r ≡ true) found two)) h)
+
+pub others_fail : (words : List Text) (e : Error) → AsksNoTask words → HasKind (other_faults words) e → FailsAs words (kind_of e)
+others_fail words e none (inl h) = inl h
+others_fail words e none (inr h) = inr (of_others none h)
+
+pub missing_fails : (words : List Text) (e : Error) → AsksNoTask words → IsAmong MissingSubcommand (other_faults words)
+    → (kind_of e ≡ OutOfMemory) ⊎ (kind_of e ≡ MissingSubcommand) → FailsAs words (kind_of e)
+missing_fails words e none among (inl h) = inl h
+missing_fails words e none among (inr h) = inr (of_others none (subst (λ (k : ErrorKind). IsAmong k (other_faults words)) (sym h) among))
+
+pub refused : (words : List Text) (kind : ErrorKind) (r : Refusal) → FailsAs words kind → IsRefusalBy kind r → IsRefusal words r
+refused words kind (refusal.Help text) (inl h) (inl by) = elim_kind (sym h ∙ by)
+  where
+    elim_kind : OutOfMemory ≡ DisplayHelp → MayFail words DisplayHelp ⊎ MayFail words DisplayVersion
+    elim_kind e = cc
+refused words kind (refusal.Help text) (inl h) (inr by) = elim_kind (sym h ∙ by)
+  where
+    elim_kind : OutOfMemory ≡ DisplayVersion → MayFail words DisplayHelp ⊎ MayFail words DisplayVersion
+    elim_kind e = cc
+refused words kind (refusal.Help text) (inr h) (inl by) = inl (subst (MayFail words) by h)
+refused words kind (refusal.Help text) (inr h) (inr by) = inr (subst (MayFail words) by h)
+refused words kind (refusal.Usage text) (inl h) by = absurd (by.0 h)
+refused words kind (refusal.Usage text) (inr h) by = (kind, h, by.1, by.2)
+refused words kind refusal.Memory h by = tt
+
+-- a number that was read
+
+pub number_read : (E : Type 0) (G : List ℕ → Result ℕ E → Type 0) (k : ℕ) (o : Option Text) (r : Option ℕ) → (o ≡ None → r ≡ None)
+    → ((t : Text) → o ≡ Some t → ReadsOne G t r) → ((t : Text) (x : Result ℕ E) → G t x → ParsesUnsigned k 10 t x)
+    → (o ≡ None) ⊎ (is_some r ≡ true) → r ≡ option_map (λ t. digits_value 10 (without_leading_plus t)) o
+number_read E G k None r none value only h = none refl
+number_read E G k (Some t) r none value only (inl h) = absurd (elim_none h)
+  where
+    elim_none : Some t ≡ None → ⊥
+    elim_none e = cc
+number_read E G k (Some t) r none value only (inr h) = at r (value t refl) h
+  where
+    at : (q : Option ℕ) → ReadsOne G t q → is_some q ≡ true → q ≡ Some (digits_value 10 (without_leading_plus t))
+    at None reads s = cc
+    at (Some v) reads s = ap Some (only t (Ok v) reads).1
+
+-- a text that passed the parser of natural numbers is read
+pub unsigned_read : (E : Type 0) (G : List ℕ → Result ℕ E → Type 0) (t : Text) (r : Option ℕ) → ReadsOne G t r
+    → ((u : Text) (x : Result ℕ E) → G u x → ParsesUnsigned 64 10 u x)
+    → IsNumeral 10 (without_leading_plus t) → digits_value 10 (without_leading_plus t) < 2 ^ 64 → is_some r ≡ true
+unsigned_read E G t (Some v) reads only numeral fits = refl
+unsigned_read E G t None reads only numeral fits = absurd (only t (Err reads.0) reads.1 (numeral, fits))
+
+-- the number that was read of an argument whose texts passed a parser
+pub unsigned_given : (E : Type 0) (G : List ℕ → Result ℕ E → Type 0) (f : Found) (id : Text) (low high : ℕ) (r : Option ℕ)
+    → IsGiven f id (vp.Unsigned low high) → ((t : Text) (x : Result ℕ E) → G t x → ParsesUnsigned 64 10 t x)
+    → (one_text f id ≡ None → r ≡ None) → ((t : Text) → one_text f id ≡ Some t → ReadsOne G t r) → r ≡ number_given id (rows_of f)
+unsigned_given E G f id low high r given only none value =
+    number_read E G 64 (one_text f id) r none value only some ∙ ap (option_map (λ t. digits_value 10 (without_leading_plus t))) (one_text-rows f id)
+  where
+    some : (one_text f id ≡ None) ⊎ (is_some r ≡ true)
+    some = elim given [
+      | inl h ↦ inl h
+      | inr g ↦ inr (unsigned_read E G g.0 r (value g.0 g.2) only g.3.0 g.3.1)
+    ]
+
+pub signed_given : (E : Type 0) (G : List ℕ → Result ℕ E → Type 0) (f : Found) (id : Text) (low high : ℕ) (r : Option ℕ) → high < 2 ^ 32
+    → IsGiven f id (vp.Signed (pos low) (pos high)) → ((t : Text) (x : Result ℕ E) → G t x → ParsesUnsigned 32 10 t x)
+    → (one_text f id ≡ None → r ≡ None) → ((t : Text) → one_text f id ≡ Some t → ReadsOne G t r) → r ≡ number_given id (rows_of f)
+signed_given E G f id low high r small given only none value =
+    number_read E G 32 (one_text f id) r none value only some ∙ ap (option_map (λ t. digits_value 10 (without_leading_plus t))) (one_text-rows f id)
+  where
+    some : (one_text f id ≡ None) ⊎ (is_some r ≡ true)
+    some = elim given [
+      | inl h ↦ inl h
+      | inr g ↦ inr (ap is_some (signed_reads E G 32 low high g.0 r (value (without_minus g.0) g.2) only small g.3).1)
+    ]

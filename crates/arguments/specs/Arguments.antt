@@ -1,0 +1,126 @@
+-- What the commands of the program take, and what a parse of them gives.
+use Rattle.std.specs.Prelude.{◌≡◌, ◌⊎◌, ◌≤◌, ℕ, Bool, true, false, List, [], ◌∷◌, Option, Some, None, ⊤, is_some, codes, pos}
+use Rattle.clap.specs.Facts.{least_values}
+use Rattle.clap.specs.Words.{args_of, IsPlain, IsPlainArg, Accepts, one_text, read_as, reading_of, first_value}
+use Rattle.clap.specs.declared.builder.action.ArgAction.TheVariants.{Set}
+use Rattle.clap.specs.declared.builder.arg.Arg.{Arg}
+use Rattle.clap.specs.declared.builder.command.Command.{Command}
+use Rattle.clap.specs.declared.builder.command.Command.TheViews.{out-Command}
+use Rattle.clap.specs.declared.builder.value_parser.ValueParser.{ValueParser}
+use Rattle.clap.specs.declared.builder.value_parser.ValueParser.TheVariants.{Signed, Unsigned}
+use Rattle.clap.specs.declared.parser.matches.Found.{Found}
+
+-- an argument: its id, whether it is required, and what its values have to pass
+pub record Rule : Type 0 where
+  pub id : List ℕ
+  pub required : Bool
+  pub parser : Option ValueParser
+
+-- a rule for an argument with this id
+abbrev pub rule : List ℕ → Bool → Option ValueParser → Rule
+rule id required parser = record { id = id; required = required; parser = parser }
+
+-- the argument takes one value by this rule, and excludes nothing
+pub record Takes (a : Arg) (r : Rule) : Type 0 where
+  pub id : a.id.now ≡ r.id
+  pub required : a.required ≡ r.required
+  pub parser : (q : ValueParser) → r.parser ≡ Some q → a.value_parser ≡ Some q
+  pub set : a.action ≡ Some Set
+  pub least : 1 ≤ least_values a
+  pub whole : a.val_delim ≡ None
+  pub plain : IsPlainArg a
+  pub local : a.global ≡ false
+
+-- the arguments follow the rules, one by one
+abbrev pub Follow : List Arg → List Rule → Type 0
+Follow [] [] = ⊤
+Follow [] (r ∷ rs) = ⊥
+Follow (a ∷ xs) [] = ⊥
+Follow (a ∷ xs) (r ∷ rs) = Takes a r × Follow xs rs
+
+-- the command has these arguments alone
+pub record HasRules (c : Command) (rs : List Rule) : Type 0 where
+  pub args : Follow (args_of c) rs
+  pub plain : IsPlain c
+  pub local : (out-Command c).has_globals ≡ false
+  pub negates : (out-Command c).subcommand_negates_reqs ≡ false
+
+-- a number of workers is 1 to 16
+abbrev pub workers_parser : ValueParser
+workers_parser = Signed (pos 1) (pos 16)
+
+-- a limit of time is 0 to 2 to the 48
+abbrev pub until_parser : ValueParser
+until_parser = Unsigned 0 281474976710656
+
+-- a limit of entries, as any number of things of which there is at least one, is 1 to the greatest number of 32 bits
+abbrev pub entries_parser : ValueParser
+entries_parser = Signed (pos 1) (pos 4294967295)
+
+-- a seed is 0 to the greatest number of 64 bits
+abbrev pub seed_parser : ValueParser
+seed_parser = Unsigned 0 18446744073709551615
+
+-- the arguments of `run`
+abbrev pub run_rules : List Rule
+run_rules =
+    rule (codes "FILE") true None
+    ∷ rule (codes "workers") false (Some workers_parser)
+    ∷ rule (codes "until") false (Some until_parser)
+    ∷ rule (codes "max-entries") false (Some entries_parser)
+    ∷ rule (codes "journal") false None
+    ∷ rule (codes "seed") false (Some seed_parser)
+    ∷ []
+
+-- the arguments of `replay`
+abbrev pub replay_rules : List Rule
+replay_rules = rule (codes "FILE") true None ∷ rule (codes "JOURNAL") true None ∷ []
+
+-- the arguments of `races`
+abbrev pub races_rules : List Rule
+races_rules =
+    rule (codes "FILE") true None
+    ∷ rule (codes "until") false (Some until_parser)
+    ∷ rule (codes "max-entries") false (Some entries_parser)
+    ∷ rule (codes "max-states") false (Some entries_parser)
+    ∷ rule (codes "max-texts") false (Some entries_parser)
+    ∷ rule (codes "journals") false None
+    ∷ rule (codes "samples") false (Some entries_parser)
+    ∷ rule (codes "seed") false (Some seed_parser)
+    ∷ []
+
+-- the argument of `check`
+abbrev pub check_rules : List Rule
+check_rules = rule (codes "FILE") true None ∷ []
+
+-- the argument has no value, or its value passed the parser
+abbrev pub IsGiven : Found → List ℕ → ValueParser → Type 0
+IsGiven f id q = (one_text f id ≡ None)
+    ⊎ ((text : List ℕ) × (any_case : Bool) × (one_text f id ≡ Some (read_as (reading_of q) text)) × Accepts any_case q text)
+
+-- what a parse of `run` gives
+pub record GivesRun (f : Found) : Type 0 where
+  pub file : is_some (first_value f (codes "FILE")) ≡ true
+  pub workers : IsGiven f (codes "workers") workers_parser
+  pub until : IsGiven f (codes "until") until_parser
+  pub max_entries : IsGiven f (codes "max-entries") entries_parser
+  pub seed : IsGiven f (codes "seed") seed_parser
+
+-- what a parse of `replay` gives
+pub record GivesReplay (f : Found) : Type 0 where
+  pub file : is_some (first_value f (codes "FILE")) ≡ true
+  pub journal : is_some (first_value f (codes "JOURNAL")) ≡ true
+
+-- what a parse of `races` gives
+pub record GivesRaces (f : Found) : Type 0 where
+  pub file : is_some (first_value f (codes "FILE")) ≡ true
+  pub until : IsGiven f (codes "until") until_parser
+  pub max_entries : IsGiven f (codes "max-entries") entries_parser
+  pub max_states : IsGiven f (codes "max-states") entries_parser
+  pub max_texts : IsGiven f (codes "max-texts") entries_parser
+  pub samples : IsGiven f (codes "samples") entries_parser
+  pub seed : IsGiven f (codes "seed") seed_parser
+
+-- what a parse of `check` gives
+pub record GivesCheck (f : Found) : Type 0 where
+  pub file : is_some (first_value f (codes "FILE")) ≡ true

@@ -1,0 +1,264 @@
+-- What the words of a command line ask for, by what clap finds in them.
+use Rattle.std.specs.Prelude.{◌≡◌, ◌≢◌, ◌⊎◌, ℕ, List, [], ◌∷◌, Option, Some, None, is_some, ◌&&◌, Bool, map, drop, slice_get, option_map, unwrap_or, string_bytes, codes, String, true, false}
+use Rattle.std.specs.Str.Parse.{digits_value, without_leading_plus}
+use Rattle.clap.specs.Words.{App, Row, Rule, Text, Kinds, IsAmong, fault_of, first_of, matches_of, new_app, new_rule, one_of, with_rule, with_subcommand}
+use Rattle.clap.specs.Kinds.{or_else}
+use Rattle.clap.specs.Simple.{on_top}
+use Rattle.clap.specs.declared.error.kind.ErrorKind.{ErrorKind}
+use Rattle.clap.specs.declared.error.kind.ErrorKind.TheVariants.{ArgumentConflict, DisplayHelp, DisplayVersion, MissingSubcommand, OutOfMemory}
+use Rattle.clap.specs.declared.builder.action.ArgAction.TheVariants.{Set}
+use Rattle.clap.specs.declared.builder.value_parser.ValueParser.{ValueParser}
+use Rattle.arguments.specs.declared.options.Options.{Options}
+use Rattle.arguments.specs.declared.request.Refusal.{Refusal}
+use Rattle.arguments.specs.declared.request.Refusal.TheVariants as refusal
+use Rattle.arguments.specs.declared.request.Request.{Request}
+use Rattle.arguments.specs.declared.request.Request.TheVariants as request
+use Rattle.arguments.specs.declared.request.RunRequest.{RunRequest}
+use Rattle.arguments.specs.declared.request.ReplayRequest.{ReplayRequest}
+use Rattle.arguments.specs.declared.request.RacesRequest.{RacesRequest}
+use Rattle.arguments.specs.declared.request.CheckRequest.{CheckRequest}
+use Rattle.arguments.specs.declared.task.Task.{Task}
+use Rattle.arguments.specs.declared.task.Task.TheVariants as task
+use Rattle.arguments.specs.declared.extent.Extent.{Extent}
+use Rattle.arguments.specs.Options.{CanRun, CanSearch}
+use Rattle.arguments.specs.Arguments.{workers_parser, until_parser, entries_parser, seed_parser}
+
+-- the bytes of each word
+abbrev pub texts_of : {Z : Type 0} → List (String Z) → List Text
+texts_of = map string_bytes
+
+-- a word that has to be given
+abbrev pub place : Text → Rule
+place name = record (new_rule name) { required = true; action = Some Set }
+
+-- an option with one value, which may have to pass a parser
+abbrev pub choice : Text → Option ValueParser → Rule
+choice name parser = record (new_rule name) {
+  long = Some name;
+  value_names = 1;
+  action = Some Set;
+  parser = parser;
+}
+
+-- `run` with its words and options
+unfoldable pub run_app : App
+run_app =
+    with_rule
+    (with_rule
+    (with_rule
+    (with_rule
+    (with_rule
+    (with_rule (new_app (codes "run")) (place (codes "FILE")))
+    (choice (codes "workers") (Some workers_parser)))
+    (choice (codes "until") (Some until_parser)))
+    (choice (codes "max-entries") (Some entries_parser)))
+    (choice (codes "journal") None))
+    (choice (codes "seed") (Some seed_parser))
+
+-- `replay` with its words
+unfoldable pub replay_app : App
+replay_app =
+    with_rule
+    (with_rule (new_app (codes "replay")) (place (codes "FILE")))
+    (place (codes "JOURNAL"))
+
+-- `races` with its words and options
+unfoldable pub races_app : App
+races_app =
+    with_rule
+    (with_rule
+    (with_rule
+    (with_rule
+    (with_rule
+    (with_rule
+    (with_rule
+    (with_rule (new_app (codes "races")) (place (codes "FILE")))
+    (choice (codes "until") (Some until_parser)))
+    (choice (codes "max-entries") (Some entries_parser)))
+    (choice (codes "max-states") (Some entries_parser)))
+    (choice (codes "max-texts") (Some entries_parser)))
+    (choice (codes "journals") None))
+    (choice (codes "samples") (Some entries_parser)))
+    (choice (codes "seed") (Some seed_parser))
+
+-- `check` with its word
+unfoldable pub check_app : App
+check_app = with_rule (new_app (codes "check")) (place (codes "FILE"))
+
+-- the program, which has a version, with the four
+unfoldable pub whole_app : App
+whole_app =
+    with_subcommand
+    (with_subcommand
+    (with_subcommand
+    (with_subcommand (on_top (λ s. record s { has_version = true; subcommand_required = true; arg_required_else_help = true }) (new_app (codes "vsimtx"))) run_app.top)
+    replay_app.top)
+    races_app.top)
+    check_app.top
+
+-- what clap finds in the words of a run, from `run` on
+unfoldable pub run_rows : List Text → List Row
+run_rows = matches_of run_app
+
+-- and in those of a replay
+unfoldable pub replay_rows : List Text → List Row
+replay_rows = matches_of replay_app
+
+-- and in those of a search for races
+unfoldable pub races_rows : List Text → List Row
+races_rows = matches_of races_app
+
+-- and in those of a check
+unfoldable pub check_rows : List Text → List Row
+check_rows = matches_of check_app
+
+-- the number that was given under a name, in decimal digits, with a plus before them or none
+abbrev pub number_given : Text → List Row → Option ℕ
+number_given name rows = option_map (λ text. digits_value 10 (without_leading_plus text)) (one_of name rows)
+
+-- the options of a run: 2 workers, no limit of time and 1,000,000 entries where the words give no other number
+abbrev pub options_of : List Row → Options
+options_of rows = record {
+  workers = unwrap_or (number_given (codes "workers") rows) 2;
+  until = number_given (codes "until") rows;
+  max_entries = unwrap_or (number_given (codes "max-entries") rows) 1000000;
+}
+
+-- how far orders are searched: no limit of time, 1,000,000 entries, 1,000,000 states and 8 texts where the words give no other
+-- number; whether random orders are tried in place of the search, and from which seed
+abbrev pub extent_of : List Row → Extent
+extent_of rows = record {
+  until = number_given (codes "until") rows;
+  max_entries = unwrap_or (number_given (codes "max-entries") rows) 1000000;
+  max_states = unwrap_or (number_given (codes "max-states") rows) 1000000;
+  max_texts = unwrap_or (number_given (codes "max-texts") rows) 8;
+  samples = number_given (codes "samples") rows;
+  seed = unwrap_or (number_given (codes "seed") rows) 0;
+}
+
+-- both a seed and a number of workers are given
+abbrev pub has_two_orders : List Row → Bool
+has_two_orders rows = is_some (first_of (codes "seed") rows) && is_some (first_of (codes "workers") rows)
+
+-- the word after the program's name is this one
+abbrev pub Begins : List Text → Text → Type 0
+Begins words name = slice_get words 1 ≡ Some name
+
+-- the word that asks for a task
+abbrev pub word_of : Task → Text
+word_of task.Run = codes "run"
+word_of task.Replay = codes "replay"
+word_of task.Races = codes "races"
+word_of task.Check = codes "check"
+word_of task.Version = codes "--version"
+
+-- the word after the program's name asks for no task
+abbrev pub AsksNoTask : List Text → Type 0
+AsksNoTask words = (asked : Task) → Begins words (word_of asked) → ⊥
+
+-- this run is asked for: of FILE, with these options, which are in range, by this seed or else on workers, and for its journal
+-- in OUT where that is given
+pub record IsRunOf (rows : List Row) (run : RunRequest) : Type 0 where
+  pub in_range : CanRun run.options
+  pub file : first_of (codes "FILE") rows ≡ Some run.file.now
+  pub options : run.options ≡ options_of rows
+  pub seed : run.seed ≡ number_given (codes "seed") rows
+  pub one_order : has_two_orders rows ≡ false
+  pub journal : first_of (codes "journal") rows ≡ option_map (λ path. path.now) run.journal
+
+-- this replay is asked for: of JOURNAL on FILE
+pub record IsReplayOf (rows : List Row) (replay : ReplayRequest) : Type 0 where
+  pub file : first_of (codes "FILE") rows ≡ Some replay.file.now
+  pub journal : first_of (codes "JOURNAL") rows ≡ Some replay.journal.now
+
+-- this search for races is asked for: of FILE, so far, and for journals at paths that begin with PREFIX where that is given
+pub record IsRacesOf (rows : List Row) (races : RacesRequest) : Type 0 where
+  pub in_range : CanSearch races.extent
+  pub file : first_of (codes "FILE") rows ≡ Some races.file.now
+  pub extent : races.extent ≡ extent_of rows
+  pub journals : first_of (codes "journals") rows ≡ option_map (λ path. path.now) races.journals
+
+-- this check is asked for: of FILE
+pub record IsCheckOf (rows : List Row) (check : CheckRequest) : Type 0 where
+  pub file : first_of (codes "FILE") rows ≡ Some check.file.now
+
+-- the words ask for this run
+pub record AsksRun (words : List Text) (run : RunRequest) : Type 0 where
+  pub begins : Begins words (codes "run")
+  pub is_run : IsRunOf (run_rows (drop 1 words)) run
+
+-- the words ask for this replay
+pub record AsksReplay (words : List Text) (replay : ReplayRequest) : Type 0 where
+  pub begins : Begins words (codes "replay")
+  pub is_replay : IsReplayOf (replay_rows (drop 1 words)) replay
+
+-- the words ask for this search for races
+pub record AsksRaces (words : List Text) (races : RacesRequest) : Type 0 where
+  pub begins : Begins words (codes "races")
+  pub is_races : IsRacesOf (races_rows (drop 1 words)) races
+
+-- the words ask for this check
+pub record AsksCheck (words : List Text) (check : CheckRequest) : Type 0 where
+  pub begins : Begins words (codes "check")
+  pub is_check : IsCheckOf (check_rows (drop 1 words)) check
+
+-- the words ask for this
+abbrev pub Asks : List Text → Request → Type 0
+Asks words (request.Run run) = AsksRun words run
+Asks words (request.Replay replay) = AsksReplay words replay
+Asks words (request.Races races) = AsksRaces words races
+Asks words (request.Check check) = AsksCheck words check
+Asks words request.Version = Begins words (codes "--version")
+
+-- the kinds of error by which clap may answer the words of a run, from `run` on
+unfoldable pub run_faults : List Text → Kinds
+run_faults = fault_of run_app
+
+-- those of a replay
+unfoldable pub replay_faults : List Text → Kinds
+replay_faults = fault_of replay_app
+
+-- those of a search for races
+unfoldable pub races_faults : List Text → Kinds
+races_faults = fault_of races_app
+
+-- those of a check
+unfoldable pub check_faults : List Text → Kinds
+check_faults = fault_of check_app
+
+-- and those of a whole command line that asks for no task
+unfoldable pub other_faults : List Text → Kinds
+other_faults words = or_else (fault_of whole_app words) (MissingSubcommand ∷ [])
+
+-- clap may answer the words by this kind of error, or they ask for a run both by a seed and on workers
+pub data MayFail (words : List Text) (kind : ErrorKind) : Type 0 where
+  of_run : Begins words (codes "run") → IsAmong kind (run_faults (drop 1 words)) → MayFail words kind
+  of_two_orders : Begins words (codes "run") → has_two_orders (run_rows (drop 1 words)) ≡ true → kind ≡ ArgumentConflict → MayFail words kind
+  of_replay : Begins words (codes "replay") → IsAmong kind (replay_faults (drop 1 words)) → MayFail words kind
+  of_races : Begins words (codes "races") → IsAmong kind (races_faults (drop 1 words)) → MayFail words kind
+  of_check : Begins words (codes "check") → IsAmong kind (check_faults (drop 1 words)) → MayFail words kind
+  of_others : AsksNoTask words → IsAmong kind (other_faults words) → MayFail words kind
+
+-- memory was refused, or clap may answer the words so
+abbrev pub FailsAs : List Text → ErrorKind → Type 0
+FailsAs words kind = (kind ≡ OutOfMemory) ⊎ MayFail words kind
+
+-- the words ask for help
+abbrev pub AsksHelp : List Text → Type 0
+AsksHelp words = MayFail words DisplayHelp ⊎ MayFail words DisplayVersion
+
+-- the words are wrong: they may be answered by an error that isn't help
+abbrev pub AreWrong : List Text → Type 0
+AreWrong words = (kind : ErrorKind) × MayFail words kind × (kind ≢ DisplayHelp) × (kind ≢ DisplayVersion)
+
+-- what is answered to an error of this kind, but for memory, which may be refused for any text
+abbrev pub IsRefusalBy : ErrorKind → Refusal → Type 0
+IsRefusalBy kind (refusal.Help text) = (kind ≡ DisplayHelp) ⊎ (kind ≡ DisplayVersion)
+IsRefusalBy kind (refusal.Usage text) = (kind ≢ OutOfMemory) × (kind ≢ DisplayHelp) × (kind ≢ DisplayVersion)
+IsRefusalBy kind refusal.Memory = Unit {0}
+
+-- the words make no request for this reason, but for memory, which may be refused for any words
+abbrev pub IsRefusal : List Text → Refusal → Type 0
+IsRefusal words (refusal.Help text) = AsksHelp words
+IsRefusal words (refusal.Usage text) = AreWrong words
+IsRefusal words refusal.Memory = Unit {0}

@@ -1,0 +1,152 @@
+//! What was found in the words of a command, as a request.
+
+ghost use Rattle.std.specs.Prelude.{◌≡◌, ◌≤◌, ◌^◌, ◌∷◌, IfSome, codes, is_some, unwrap_or, false};
+ghost use Rattle.clap.specs.Words.{first_of, found_of, rows_of};
+ghost use Rattle.model.specs.Runs.{last_time};
+ghost use Rattle.arguments.specs.Arguments.{IsGiven, GivesRun, GivesReplay, GivesRaces, GivesCheck, workers_parser, until_parser, entries_parser, seed_parser};
+ghost use Rattle.arguments.specs.Options.{CanRun, CanSearch};
+ghost use Rattle.arguments.specs.Words.{IsCheckOf, IsRacesOf, IsReplayOf, IsRunOf, extent_of, has_two_orders, number_given, options_of};
+
+use crate::extent::Extent;
+use crate::options::Options;
+use crate::request::{CheckRequest, RacesRequest, ReplayRequest, RunRequest};
+use clap::ArgMatches;
+
+const DEFAULT_WORKERS: u32 = 2;
+
+const DEFAULT_MAX_ENTRIES: u32 = 1_000_000;
+
+const DEFAULT_MAX_STATES: u32 = 1_000_000;
+
+const DEFAULT_MAX_TEXTS: u32 = 8;
+
+const DEFAULT_SEED: u64 = 0;
+
+pub fn run_request<'a>(matches: &ArgMatches<'a>) -> RunRequest<'a>
+    requires given { GivesRun (found_of matches.now) }
+    requires one_order { has_two_orders (rows_of (found_of matches.now)) ≡ false }
+    ensures { IsRunOf (rows_of (found_of matches.now)) result }
+{
+    RunRequest {
+        file: matches.get_str("FILE").unwrap(),
+        options: options(matches),
+        seed: given_seed(matches),
+        journal: matches.get_str("journal"),
+    }
+}
+
+pub fn replay_request<'a>(matches: &ArgMatches<'a>) -> ReplayRequest<'a>
+    requires { GivesReplay (found_of matches.now) }
+    ensures { IsReplayOf (rows_of (found_of matches.now)) result }
+{
+    ReplayRequest {
+        file: matches.get_str("FILE").unwrap(),
+        journal: matches.get_str("JOURNAL").unwrap(),
+    }
+}
+
+pub fn races_request<'a>(matches: &ArgMatches<'a>) -> RacesRequest<'a>
+    requires { GivesRaces (found_of matches.now) }
+    ensures { IsRacesOf (rows_of (found_of matches.now)) result }
+{
+    RacesRequest {
+        file: matches.get_str("FILE").unwrap(),
+        extent: extent(matches),
+        journals: matches.get_str("journals"),
+    }
+}
+
+pub fn check_request<'a>(matches: &ArgMatches<'a>) -> CheckRequest<'a>
+    requires { GivesCheck (found_of matches.now) }
+    ensures { IsCheckOf (rows_of (found_of matches.now)) result }
+{
+    CheckRequest {
+        file: matches.get_str("FILE").unwrap(),
+    }
+}
+
+/// Whether both a seed and a number of workers are given.
+pub fn gives_two_orders(matches: &ArgMatches<'_>) -> bool
+    ensures { result ≡ has_two_orders (rows_of (found_of matches.now)) }
+{
+    gives(matches, "seed") & gives(matches, "workers")
+}
+
+/// Whether something is given under this name.
+fn gives(matches: &ArgMatches<'_>, name: &str) -> bool
+    ensures { result ≡ is_some (first_of name.now (rows_of (found_of matches.now))) }
+{
+    match matches.get_str(name) {
+        Some(_) => true,
+        None => false,
+    }
+}
+
+fn options(matches: &ArgMatches<'_>) -> Options
+    requires { GivesRun (found_of matches.now) }
+    ensures fit { CanRun result }
+    ensures given { result ≡ options_of (rows_of (found_of matches.now)) }
+{
+    Options {
+        workers: given_workers(matches),
+        until: given_until(matches),
+        max_entries: given_count(matches, "max-entries", DEFAULT_MAX_ENTRIES),
+    }
+}
+
+fn extent(matches: &ArgMatches<'_>) -> Extent
+    requires { GivesRaces (found_of matches.now) }
+    ensures fit { CanSearch result }
+    ensures given { result ≡ extent_of (rows_of (found_of matches.now)) }
+{
+    Extent {
+        until: given_until(matches),
+        max_entries: given_count(matches, "max-entries", DEFAULT_MAX_ENTRIES),
+        max_states: given_count(matches, "max-states", DEFAULT_MAX_STATES),
+        max_texts: given_count(matches, "max-texts", DEFAULT_MAX_TEXTS),
+        samples: given_number(matches, "samples"),
+        seed: given_seed(matches).unwrap_or(DEFAULT_SEED),
+    }
+}
+
+fn given_workers(matches: &ArgMatches<'_>) -> u32
+    requires { IsGiven (found_of matches.now) (codes "workers") workers_parser }
+    ensures least { 1 ≤ result }
+    ensures most { result ≤ 16 }
+    ensures given { result ≡ unwrap_or (number_given (codes "workers") (rows_of (found_of matches.now))) 2 }
+{
+    matches.get_one::<u32>("workers").unwrap_or(DEFAULT_WORKERS)
+}
+
+fn given_until(matches: &ArgMatches<'_>) -> Option<u64>
+    requires { IsGiven (found_of matches.now) (codes "until") until_parser }
+    ensures last { IfSome result (λ t. t ≤ last_time) }
+    ensures given { result ≡ number_given (codes "until") (rows_of (found_of matches.now)) }
+{
+    matches.get_one::<u64>("until")
+}
+
+fn given_seed(matches: &ArgMatches<'_>) -> Option<u64>
+    requires { IsGiven (found_of matches.now) (codes "seed") seed_parser }
+    ensures { result ≡ number_given (codes "seed") (rows_of (found_of matches.now)) }
+{
+    matches.get_one::<u64>("seed")
+}
+
+/// The number that is given under this name, from 1 on, or this one.
+fn given_count(matches: &ArgMatches<'_>, name: &str, default: u32) -> u32
+    requires given { IsGiven (found_of matches.now) name.now entries_parser }
+    requires some { 1 ≤ default }
+    ensures least { 1 ≤ result }
+    ensures given { result ≡ unwrap_or (number_given name.now (rows_of (found_of matches.now))) default }
+{
+    given_number(matches, name).unwrap_or(default)
+}
+
+fn given_number(matches: &ArgMatches<'_>, name: &str) -> Option<u32>
+    requires { IsGiven (found_of matches.now) name.now entries_parser }
+    ensures least { IfSome result (λ n. 1 ≤ n) }
+    ensures given { result ≡ number_given name.now (rows_of (found_of matches.now)) }
+{
+    matches.get_one::<u32>(name)
+}

@@ -1,0 +1,57 @@
+//! What the words of a command line ask for, or why they ask for nothing.
+
+ghost use Rattle.arguments.specs.Options.{CanRun, CanSearch};
+
+use crate::extent::Extent;
+use crate::options::Options;
+
+/// What the program was asked to do.
+#[derive(Drop)]
+pub enum Request<'a> {
+    Run(RunRequest<'a>),
+    Replay(ReplayRequest<'a>),
+    Races(RacesRequest<'a>),
+    Check(CheckRequest<'a>),
+    Version,
+}
+
+/// `run FILE`, by a seed where one is given and else on workers, with a path for the journal where one is wanted.
+#[derive(Drop)]
+pub struct RunRequest<'a> {
+    pub file: &'a str,
+    pub options: Options,
+    pub seed: Option<u64>,
+    pub journal: Option<&'a str>,
+    ghost fit: { CanRun options },
+}
+
+/// `replay FILE JOURNAL`.
+#[derive(Drop)]
+pub struct ReplayRequest<'a> {
+    pub file: &'a str,
+    pub journal: &'a str,
+}
+
+/// `races FILE`, with the beginning of the paths of the journals where they are wanted.
+#[derive(Drop)]
+pub struct RacesRequest<'a> {
+    pub file: &'a str,
+    pub extent: Extent,
+    pub journals: Option<&'a str>,
+    ghost fit: { CanSearch extent },
+}
+
+/// `check FILE`.
+#[derive(Drop)]
+pub struct CheckRequest<'a> {
+    pub file: &'a str,
+}
+
+/// Why there is no request: help was asked for, the words are wrong, or memory was refused. A text
+/// is what `clap` says.
+#[derive(Drop)]
+pub enum Refusal {
+    Help(String),
+    Usage(String),
+    Memory,
+}

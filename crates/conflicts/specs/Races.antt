@@ -1,0 +1,28 @@
+-- What a race shows.
+use Rattle.std.specs.Prelude.{◌≤◌, List, vec_len}
+use Rattle.model.specs.declared.entry.Entry.{Entry}
+use Rattle.model.specs.declared.end.Limits.{Limits}
+use Rattle.model.specs.Design.{Design}
+use Rattle.design.specs.Compiled.{Compiled, design_of}
+use Rattle.seeded.specs.declared.run.SeededRun.{SeededRun}
+use Rattle.seeded.specs.Runs.{IsRun}
+use Rattle.seeded.specs.Samples.{AreDistinct}
+use Rattle.conflicts.specs.declared.told.Race.{Race}
+use Rattle.conflicts.specs.declared.told.Tries.{Tries}
+use Rattle.conflicts.specs.declared.search.Trials.{Trials}
+use Rattle.conflicts.specs.Roles.{HasPair}
+
+-- what a race says of its two processes is so in a journal
+abbrev pub IsNamed : Design → List Entry → Race → Type 0
+IsNamed design journal race = HasPair design journal race.site race.time race.first race.second
+
+-- A race of a design: what it says of its two processes is so in the first run's journal, and a second run within the limits
+-- has other lines than the first, or another end.
+pub record IsShown (code : Compiled) (limits : Limits) (original : SeededRun) (race : Race) : Type 0 where
+  pub named : IsNamed (design_of code) original.journal.items race
+  pub exchanged : IsRun code limits race.exchanged
+  pub differ : AreDistinct original race.exchanged
+
+-- the tries and the races are within the bounds
+abbrev pub IsWithin : Tries → Trials → Type 0
+IsWithin bounds trials = (trials.tried ≤ bounds.pairs) × (vec_len trials.races ≤ bounds.races)

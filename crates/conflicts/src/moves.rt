@@ -1,0 +1,111 @@
+//! Moves: entries without the numbers of their events, so that one run can follow another.
+ghost use Rattle.std.specs.Prelude.{IfSome};
+ghost use Rattle.std.specs.List.{Contains};
+
+use model::entry::Entry;
+use regions::Machine;
+
+/// The turn of a process, the first active update, or a change of the regions.
+#[derive(Clone, Copy)]
+pub(crate) enum Move {
+    Turn(u32),
+    Update,
+    Change(Entry),
+}
+
+// Whether an entry is of this move, where the machine stands.
+fn is_of(machine: &Machine<'_>, entry: Entry, wanted: Move) -> bool {
+    match (wanted, entry) {
+        (Move::Turn(process), Entry::Turn(number)) => match machine.state().evaluation(number) {
+            Some((of, _)) => of == process,
+            None => false,
+        },
+        (Move::Update, Entry::Update(_)) => true,
+        (Move::Change(change), _) => change == entry,
+        _ => false,
+    }
+}
+
+/// The first of these entries that is of a move.
+pub(crate) fn entry_of(machine: &Machine<'_>, next: &[Entry], wanted: Move) -> Option<Entry>
+    ensures { IfSome result (Contains next.now) }
+{
+    for entry in next {
+        if is_of(machine, *entry, wanted) {
+            return Some(*entry);
+        }
+    }
+    None
+}
+
+// Whether an entry comes before a change of the regions that isn't the same: a turn or an update does, and of two changes
+// the one that is due first.
+fn is_earlier(entry: Entry, change: Entry) -> bool {
+    match (entry, change) {
+        (Entry::Turn(_), _) => true,
+        (Entry::Update(_), _) => true,
+        (Entry::Advance(time), Entry::Advance(other)) => time < other,
+        (Entry::Advance(_), _) => false,
+        (_, Entry::Advance(_)) => true,
+        (Entry::ActivateInactive, _) => true,
+        (Entry::ActivateNba, Entry::ActivateMonitor) => true,
+        _ => false,
+    }
+}
+
+/// The moves that a run follows from a place on, but for the later one of the two that were exchanged and for what it needs.
+#[derive(Drop)]
+pub(crate) struct Guide<'m> {
+    pub(crate) moves: &'m [Move],
+    pub(crate) at: usize,
+    pub(crate) left_out: &'m [usize],
+    pub(crate) later: usize,
+}
+
+impl<'m> Guide<'m> {
+    // Goes past the next move.
+    fn pass(&mut self) {
+        self.at = self.at.saturating_add(1);
+    }
+
+    // Whether the next move is one of those that were taken before.
+    fn is_taken(&self) -> bool {
+        self.at == self.later || (self.at < self.later && self.left_out.contains(&self.at))
+    }
+
+    // The next move that wasn't taken before.
+    fn wanted(&mut self) -> Option<Move> {
+        for _ in self.at..self.moves.len() {
+            if !self.is_taken() {
+                return self.moves.get(self.at).copied();
+            }
+            self.pass();
+        }
+        None
+    }
+
+    /// The entry to take of those that may be next: that of the first move for which there is one. A move before it is passed
+    /// by, unless it is a change of the regions before which the first entry comes; then that entry is taken.
+    pub(crate) fn choose(&mut self, machine: &Machine<'_>, next: &[Entry], first: Entry) -> Entry
+        requires { Contains next.now first }
+        ensures { Contains next.now result }
+    {
+        for _ in 0..self.moves.len() {
+            let wanted = match self.wanted() {
+                Some(wanted) => wanted,
+                None => return first,
+            };
+            if let Some(entry) = entry_of(machine, next, wanted) {
+                self.pass();
+                return entry;
+            }
+            if let Move::Change(change) = wanted {
+                if is_earlier(first, change) {
+                    return first;
+                }
+            }
+            self.pass();
+        }
+        first
+    }
+}

@@ -1,0 +1,254 @@
+//! The search for races.
+ghost use Rattle.std.specs.Prelude.{◌<◌, ◌≤◌, IfOk, IfSome, vec_len};
+ghost use Rattle.std.specs.List.{All};
+ghost use Rattle.model.specs.declared.end.Limits.{Limits};
+ghost use Rattle.model.specs.Runs.{last_time};
+ghost use Rattle.design.specs.Compiled.{Compiled};
+ghost use Rattle.seeded.specs.Runs.{IsRun};
+ghost use Rattle.seeded.specs.Samples.{AreDistinct};
+ghost use Rattle.conflicts.specs.Endings.{HasTimeLimit};
+ghost use Rattle.conflicts.specs.Races.{IsShown, IsWithin};
+
+use crate::confirm::is_confirmed;
+use crate::conflicts::{Conflict, Conflicts, Group, MOST_OF_A_GROUP};
+use crate::exchange::{Followed, exchange};
+use crate::moves::Move;
+use crate::run::Run;
+use crate::told::{Found, Race, Tries};
+use crate::watch::{Watch, watch_run};
+use design::Design;
+use model::end::{End, Limits, Why};
+use seeded::run::SeededRun;
+use seeded::samples::is_same;
+use std::alloc::{AllocError, Global};
+
+// A run of no entries, for which there was no memory.
+fn nothing(alloc: Global) -> SeededRun
+    ensures { (code : Compiled) (limits : Limits) → IsRun code limits result }
+{
+    SeededRun {
+        lines: String::new(alloc),
+        journal: Vec::new(alloc),
+        end: End::Stopped(Why::Memory),
+    }
+}
+
+// Whether a race of this group is told.
+fn is_told(races: &[Race], group: Group) -> bool {
+    for race in races {
+        if Group::new(race.site, race.first, race.second) == group {
+            return true;
+        }
+    }
+    false
+}
+
+/// What is tried: a design, its limits and its first run, with the moves of that.
+#[derive(Clone, Copy)]
+struct Task<'a> {
+    design: &'a Design,
+    limits: Limits,
+    original: &'a SeededRun,
+    moves: &'a [Move],
+}
+
+/// What came of the tries so far.
+#[derive(Drop)]
+pub(crate) struct Trials {
+    pub(crate) races: Vec<Race>,
+    pub(crate) tried: usize,
+    pub(crate) complete: bool,
+}
+
+// Makes the second run of a conflict, if there is one that differs from the first.
+fn differing(
+    alloc: Global,
+    task: Task<'_>,
+    conflict: &Conflict,
+) -> Result<Option<SeededRun>, AllocError>
+    requires until { HasTimeLimit task.limits }
+    ensures exchanged { IfOk result (λ made. IfSome made (IsRun task.entry.design.now task.entry.limits)) }
+    ensures differ { IfOk result (λ made. IfSome made (AreDistinct task.entry.original.now)) }
+{
+    let followed = Followed {
+        journal: &task.original.journal,
+        moves: task.moves,
+    };
+    match exchange(alloc, task.design, task.limits, followed, conflict) {
+        Ok(Some(exchanged)) => {
+            if exchanged.end == End::Stopped(Why::Memory) {
+                Err(AllocError)
+            } else if is_same(task.original, &exchanged) {
+                Ok(None)
+            } else {
+                Ok(Some(exchanged))
+            }
+        }
+        Ok(None) => Ok(None),
+        Err(error) => Err(error),
+    }
+}
+
+// The race that a conflict's second run shows, if it shows one. What the conflict says of the first run is confirmed before.
+fn race_of(alloc: Global, task: Task<'_>, conflict: &Conflict) -> Result<Option<Race>, AllocError>
+    requires until { HasTimeLimit task.limits }
+    ensures { IfOk result (λ race. IfSome race (IsShown task.entry.design.now task.entry.limits task.entry.original.now)) }
+{
+    let exchanged = match differing(alloc, task, conflict)? {
+        Some(exchanged) => exchanged,
+        None => return Ok(None),
+    };
+    match is_confirmed(alloc, task.design, &task.original.journal, conflict) {
+        Ok(true) => Ok(Some(Race {
+            site: conflict.site,
+            time: conflict.time,
+            first: conflict.first,
+            second: conflict.second,
+            exchanged,
+        })),
+        Ok(false) => Ok(None),
+        Err(error) => Err(error),
+    }
+}
+
+impl Trials {
+    // Keeps a race, if there is one.
+    fn keep(&mut self, task: Task<'_>, bounds: Tries, race: Option<Race>)
+        requires within { self.old.tried ≤ bounds.pairs }
+        requires room { vec_len self.old.races < bounds.races }
+        requires race { IfSome race (IsShown task.design.now task.limits task.original.now) }
+        requires shown { All (IsShown task.design.now task.limits task.original.now) self.old.races.items }
+        ensures within { IsWithin bounds self.new }
+        ensures shown { All (IsShown task.entry.design.now task.entry.limits task.entry.original.now) self.new.races.items }
+    {
+        match race {
+            Some(race) => {
+                let is_kept = self.races.push(race).is_ok();
+                self.complete = self.complete & is_kept;
+            }
+            None => {}
+        }
+    }
+
+    // Tries a conflict within the bounds, unless a race of its group is told.
+    fn try_conflict(&mut self, alloc: Global, task: Task<'_>, bounds: Tries, conflict: &Conflict)
+        requires until { HasTimeLimit task.limits }
+        requires within { IsWithin bounds self.old }
+        requires shown { All (IsShown task.design.now task.limits task.original.now) self.old.races.items }
+        ensures within { IsWithin bounds self.new }
+        ensures shown { All (IsShown task.entry.design.now task.entry.limits task.entry.original.now) self.new.races.items }
+    {
+        if is_told(&self.races, conflict.group()) {
+            return;
+        }
+        if self.tried >= bounds.pairs || self.races.len() >= bounds.races {
+            self.complete = false;
+            return;
+        }
+        self.tried += 1;
+        match race_of(alloc, task, conflict) {
+            Ok(race) => self.keep(task, bounds, race),
+            Err(_) => self.complete = false,
+        }
+    }
+
+    // Tries the conflicts before which so many of their groups came.
+    fn try_round(
+        &mut self,
+        alloc: Global,
+        task: Task<'_>,
+        bounds: Tries,
+        list: &[Conflict],
+        round: usize,
+    )
+        requires until { HasTimeLimit task.limits }
+        requires within { IsWithin bounds self.old }
+        requires shown { All (IsShown task.design.now task.limits task.original.now) self.old.races.items }
+        ensures within { IsWithin bounds self.new }
+        ensures shown { All (IsShown task.entry.design.now task.entry.limits task.entry.original.now) self.new.races.items }
+    {
+        for conflict in list {
+            if conflict.round == round {
+                self.try_conflict(alloc, task, bounds, conflict);
+            }
+        }
+    }
+}
+
+// Tries the conflicts of a first run, those of the first round first.
+fn try_all(alloc: Global, task: Task<'_>, bounds: Tries, conflicts: &Conflicts) -> Trials
+    requires until { HasTimeLimit task.limits }
+    ensures within { IsWithin bounds result }
+    ensures shown { All (IsShown task.entry.design.now task.entry.limits task.entry.original.now) result.races.items }
+{
+    let mut trials = Trials {
+        races: Vec::new(alloc),
+        tried: 0,
+        complete: conflicts.complete && task.original.end != End::Stopped(Why::Memory),
+    };
+    for round in 0..MOST_OF_A_GROUP {
+        trials.try_round(alloc, task, bounds, &conflicts.list, round);
+    }
+    trials
+}
+
+// Searches, from the first run's start.
+fn search(
+    alloc: Global,
+    design: &Design,
+    limits: Limits,
+    bounds: Tries,
+) -> Result<Found, AllocError>
+    requires until { HasTimeLimit limits }
+    ensures original { IfOk result (λ found. IsRun design.now limits found.original) }
+    ensures races { IfOk result (λ found. All (IsShown design.now limits found.original) found.races.items) }
+    ensures few { IfOk result (λ found. (vec_len found.races ≤ bounds.races) × (found.tried ≤ bounds.pairs)) }
+{
+    let mut watch = Watch::start(alloc, design, bounds.pairs)?;
+    let run = Run::start(alloc, design)?;
+    let original = watch_run(alloc, design, run, limits, &mut watch);
+    watch.finish();
+    let task = Task {
+        design,
+        limits,
+        original: &original,
+        moves: &watch.moves,
+    };
+    let Trials {
+        races,
+        tried,
+        complete,
+    } = try_all(alloc, task, bounds, &watch.conflicts);
+    Ok(Found {
+        original,
+        races,
+        tried,
+        complete,
+    })
+}
+
+/// Searches for the races of a design that show in one run of it, and in the runs in which two entries of that one are
+/// exchanged. Each race is told once for each register, or for printing or strobing, and for each two processes.
+///
+/// The limit of time isn't past the last time, as for every run. Where memory is refused, it ends with what was found until
+/// then.
+pub fn find_races(alloc: Global, design: &Design, limits: Limits, bounds: Tries) -> Found
+    requires until { IfSome limits.until (λ until. until ≤ last_time) }
+    // The first run is lawful and in time, and its lines and its end are told.
+    ensures original { IsRun design.now limits result.original }
+    // What each race says of its two processes is so in the first run. Its second run is lawful and in time too, and has other
+    // lines or another end.
+    ensures races { All (IsShown design.now limits result.original) result.races.items }
+    ensures few_races { vec_len result.races ≤ bounds.races }
+    ensures few_tries { result.tried ≤ bounds.pairs }
+{
+    match search(alloc, design, limits, bounds) {
+        Ok(found) => found,
+        Err(_) => Found {
+            original: nothing(alloc),
+            races: Vec::new(alloc),
+            tried: 0,
+            complete: false,
+        },
+    }
+}

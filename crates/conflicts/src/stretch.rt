@@ -1,0 +1,289 @@
+//! What the entries between two changes of the regions did, and which of them conflict.
+
+use crate::conflicts::{Conflict, Conflicts, Group};
+use crate::told::{Does, Role, Site};
+use design::RegId;
+use logic4::bits::Bits;
+use std::alloc::{AllocError, Global};
+
+// The most steps of a stretch that are looked at, and the most of their accesses.
+const MOST_STEPS: usize = 1_024;
+
+const MOST_ACCESSES: usize = 16_384;
+
+/// A turn of a process, or an update that a turn of the process made.
+#[derive(Clone, Copy)]
+pub(crate) enum Actor {
+    Turn(u32),
+    Update(u32),
+}
+
+impl Actor {
+    fn process(self) -> u32 {
+        match self {
+            Actor::Turn(process) => process,
+            Actor::Update(process) => process,
+        }
+    }
+
+    // Whether two entries keep their order in every run: turns of one process, and updates.
+    fn is_ordered(self, other: Actor) -> bool {
+        match (self, other) {
+            (Actor::Turn(one), Actor::Turn(another)) => one == another,
+            (Actor::Update(_), Actor::Update(_)) => true,
+            _ => false,
+        }
+    }
+}
+
+/// An entry, and the steps that it needs: that which made its event, and the one before it of the same process, or the update
+/// before it.
+#[derive(Clone, Copy)]
+struct Step {
+    actor: Actor,
+    cause: Option<usize>,
+    before: Option<usize>,
+}
+
+/// What a step does at a site, and whether it changes what stands there.
+#[derive(Clone, Copy)]
+struct Access {
+    step: usize,
+    site: Site,
+    does: Does,
+    changes: bool,
+}
+
+/// The last nonblocking assignment that a step makes to a register for a time.
+#[derive(Clone, Copy)]
+struct Assign {
+    step: usize,
+    register: RegId,
+    value: Bits,
+    due: u64,
+}
+
+/// The entries since the last change of the regions.
+#[derive(Drop)]
+pub(crate) struct Stretch {
+    alloc: Global,
+    /// The place in the journal of the first of them.
+    begin: usize,
+    time: u64,
+    steps: Vec<Step>,
+    accesses: Vec<Access>,
+    assigns: Vec<Assign>,
+    /// Whether there were too many to look at.
+    is_cut: bool,
+}
+
+impl Stretch {
+    pub(crate) fn new(alloc: Global) -> Stretch {
+        Stretch {
+            alloc,
+            begin: 0,
+            time: 0,
+            steps: Vec::new(alloc),
+            accesses: Vec::new(alloc),
+            assigns: Vec::new(alloc),
+            is_cut: false,
+        }
+    }
+
+    /// Begins anew, at this place of the journal and this time.
+    pub(crate) fn begin(&mut self, place: usize, time: u64) {
+        self.begin = place;
+        self.time = time;
+        self.steps.clear();
+        self.accesses.clear();
+        self.assigns.clear();
+        self.is_cut = false;
+    }
+
+    /// Whether there is no room for one more entry. Then there is none until the next change of the regions.
+    pub(crate) fn is_full(&mut self) -> bool {
+        if self.steps.len() >= MOST_STEPS || self.accesses.len() >= MOST_ACCESSES {
+            self.is_cut = true;
+        }
+        self.is_cut
+    }
+
+    /// One more entry, whose event the entry at this place of the journal made.
+    pub(crate) fn step(&mut self, actor: Actor, maker: Option<usize>) -> Result<(), AllocError> {
+        let cause = maker.and_then(|place| place.checked_sub(self.begin));
+        let before = self.steps.iter().rposition(|s| s.actor.is_ordered(actor));
+        self.steps.push(Step {
+            actor,
+            cause,
+            before,
+        })?;
+        Ok(())
+    }
+
+    /// What the last entry does at a site.
+    pub(crate) fn access(
+        &mut self,
+        site: Site,
+        does: Does,
+        changes: bool,
+    ) -> Result<(), AllocError> {
+        let step = self.steps.len().saturating_sub(1);
+        self.accesses.push(Access {
+            step,
+            site,
+            does,
+            changes,
+        })?;
+        Ok(())
+    }
+
+    /// A nonblocking assignment of the last entry.
+    pub(crate) fn assign(
+        &mut self,
+        register: RegId,
+        value: Bits,
+        due: u64,
+    ) -> Result<(), AllocError> {
+        let step = self.steps.len().saturating_sub(1);
+        self.assigns.retain(|a| a.step != step || a.register != register || a.due != due);
+        self.assigns.push(Assign {
+            step,
+            register,
+            value,
+            due,
+        })?;
+        Ok(())
+    }
+
+    // The role of a step.
+    fn role(&self, step: usize, does: Does) -> Option<Role> {
+        let process = self.steps.get(step)?.actor.process();
+        Some(Role { process, does })
+    }
+
+    // The steps that a step needs behind an earlier one, in order; none where it needs that one.
+    fn needs(&self, earlier: usize, later: usize) -> Result<Option<Vec<usize>>, AllocError> {
+        let mut needed = vec![in self.alloc; false; self.steps.len()]?;
+        mark(&mut needed, Some(later));
+        for at in (earlier..later.saturating_add(1)).rev() {
+            if needed.get(at).copied() == Some(true) {
+                if let Some(step) = self.steps.get(at) {
+                    mark(&mut needed, step.cause);
+                    mark(&mut needed, step.before);
+                }
+            }
+        }
+        if needed.get(earlier).copied() == Some(true) {
+            return Ok(None);
+        }
+        let mut places = Vec::new(self.alloc);
+        for at in earlier..later {
+            if needed.get(at).copied() == Some(true) {
+                places.push(self.begin.saturating_add(at))?;
+            }
+        }
+        Ok(Some(places))
+    }
+
+    // Keeps the conflict of two steps, if neither needs the other.
+    fn add(
+        &self,
+        conflicts: &mut Conflicts,
+        site: Site,
+        earlier: (usize, Does),
+        later: (usize, Does),
+    ) -> Result<(), AllocError> {
+        let (first, second) = match (self.role(earlier.0, earlier.1), self.role(later.0, later.1)) {
+            (Some(first), Some(second)) => (first, second),
+            _ => return Ok(()),
+        };
+        let places = (
+            self.begin.saturating_add(earlier.0),
+            self.begin.saturating_add(later.0),
+        );
+        let group = Group::new(site, first, second);
+        let round = match conflicts.round(group, places.0, places.1) {
+            Some(round) => round,
+            None => return Ok(()),
+        };
+        let needs = match self.needs(earlier.0, later.0)? {
+            Some(needs) => needs,
+            None => return Ok(()),
+        };
+        conflicts.add(Conflict {
+            site,
+            time: self.time,
+            first,
+            second,
+            earlier: places.0,
+            later: places.1,
+            needs,
+            round,
+        })
+    }
+
+    // Keeps the conflicts of an access that changes what stands at its site.
+    fn conflicts_of(&self, conflicts: &mut Conflicts, one: Access) -> Result<(), AllocError> {
+        for other in self.accesses.iter() {
+            if one.site == other.site {
+                if one.step < other.step {
+                    self.add(
+                        conflicts,
+                        one.site,
+                        (one.step, one.does),
+                        (other.step, other.does),
+                    )?;
+                } else if other.step < one.step && !other.changes {
+                    self.add(
+                        conflicts,
+                        one.site,
+                        (other.step, other.does),
+                        (one.step, one.does),
+                    )?;
+                }
+            }
+        }
+        Ok(())
+    }
+
+    // Keeps the conflicts of a nonblocking assignment with those of later steps.
+    fn conflicts_by(&self, conflicts: &mut Conflicts, one: Assign) -> Result<(), AllocError> {
+        for other in self.assigns.iter() {
+            let is_same = one.register == other.register && one.due == other.due;
+            if is_same && one.step < other.step && one.value != other.value {
+                self.add(
+                    conflicts,
+                    Site::Register(one.register),
+                    (one.step, Does::Assigns),
+                    (other.step, Does::Assigns),
+                )?;
+            }
+        }
+        Ok(())
+    }
+
+    /// Keeps the conflicts of the entries since the last change of the regions.
+    pub(crate) fn find_conflicts(&self, conflicts: &mut Conflicts) -> Result<(), AllocError> {
+        if self.is_cut {
+            conflicts.complete = false;
+        }
+        for one in self.accesses.iter() {
+            if one.changes {
+                self.conflicts_of(conflicts, *one)?;
+            }
+        }
+        for one in self.assigns.iter() {
+            self.conflicts_by(conflicts, *one)?;
+        }
+        Ok(())
+    }
+}
+
+// Marks a step, if there is one.
+fn mark(needed: &mut [bool], step: Option<usize>) {
+    if let Some(at) = step {
+        if at < needed.len() {
+            needed[at] = true;
+        }
+    }
+}

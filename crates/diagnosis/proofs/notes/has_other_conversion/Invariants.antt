@@ -1,6 +1,0 @@
--- Each turn passes a byte or a conversion.
-use Rattle.std.proofs.Common.{length}
-use Rattle.diagnosis.proofs.notes.has_other_conversion.Given as goal
-
-abbrev pub decreases-loop-left : goal.decreases-loop-left
-decreases-loop-left l = length l.left

@@ -1,0 +1,3 @@
+-- Lemmas of files that are saved.
+pub mod Kept
+pub mod Journals

@@ -1,0 +1,132 @@
+-- The log that was filled is the turn of its process, and processes of a machine are those of its state.
+use Rattle.std.proofs.Common.{◌≡◌, ◌<◌, ◌≤◌, ℕ, zero, suc, List, [], ◌∷◌, ◌++◌, map, ◌+◌, length, take, Option, Some, None, refl, sym, ap, subst, ◌∙◌, arith, get_or}
+use Rattle.std.specs.Prelude.{slice_index_or}
+use Rattle.std.specs.List.{All}
+use Rattle.std.specs.Option.{IsSomeAnd}
+use Rattle.std.proofs.lemmas.List.{length-map, map-append, take_more}
+use Rattle.std.proofs.lemmas.List.Elements.{All-head, All-tail}
+use Rattle.logic4.specs.Vector.{Vector}
+use Rattle.model.specs.Design.{Trigger}
+use Rattle.model.specs.Expressions.{Store}
+use Rattle.model.specs.Turns.{Remainder, Turn, short_turn}
+use Rattle.model.specs.States.{Event}
+use Rattle.model.specs.Runs.{turn_of}
+use Rattle.model.specs.Laws.{evaluations_in}
+use Rattle.orders.specs.Alike.{updates_in}
+use Rattle.orders.specs.Silent.{IsSilent}
+use Rattle.orders.proofs.EventLists.{updates-append}
+use Rattle.orders.specs.Apart.{WakesNone}
+use Rattle.design.specs.declared.code.ProcState.{ProcState}
+use Rattle.design.specs.Compiled.{Compiled, design_of}
+use Rattle.design.specs.Standing.{remainder_of, controls_of, IsStateOf}
+use Rattle.turn.specs.Logs.{LogView, IsLogOf}
+use Rattle.regions.specs.declared.queue.Progress.{Progress}
+use Rattle.regions.specs.declared.queue.Update.{Update}
+use Rattle.regions.specs.declared.queue.Evaluation.{Evaluation}
+use Rattle.regions.specs.Queue.{Core, state_of, standing, process_of, update_event, evaluation_event}
+use Rattle.regions.specs.Waking.{triggers_at}
+use Rattle.regions.specs.Reader.{IsTurnOn}
+use Rattle.regions.specs.Passing.{HasOwnStates}
+use Rattle.regions.proofs.Evaluated.{remainder_is}
+use Rattle.flat.specs.declared.turned.Turned.{Turned}
+use Rattle.flat.specs.Turned.{turn_in, event_of, IsPlaceOf}
+use Rattle.flat.specs.Tests.{waiting, AreUpdatesNext}
+use Rattle.flat.proofs.Sleeping.{nobody_waits, wakes_none_more}
+
+-- a log stands for one turn
+one_turn : (code : Compiled) (log : LogView) (turn : Turn) → IsLogOf (remainder_of code) (controls_of code) log turn → turn ≡ turn_in code log
+one_turn code log turn is = rw (is.uses, is.writes, is.laters, is.lines, is.strobes, is.rest, is.wait, is.finish, is.count) refl
+
+some_turn : (code : Compiled) (log : LogView) (o : Option Turn) → IsSomeAnd o (IsLogOf (remainder_of code) (controls_of code) log) → o ≡ Some (turn_in code log)
+some_turn code log None h = absurd h
+some_turn code log (Some turn) h = ap (λ (t : Turn). Some t) (one_turn code log turn h)
+
+-- the turn of a process that goes on from this place
+pub log_is_turn : (code : Compiled) (core : Core) (values : List Vector) (p : ℕ) (place : ProcState) (log : LogView) → HasOwnStates (IsStateOf code) core → map length values ≡ code.widths → p < length core.processes
+    → ((d : ProcState × List Trigger) → (slice_index_or core.processes p d).0 ≡ place) → IsTurnOn code place values core.time log → turn_of (design_of code) (state_of (remainder_of code) values core) p ≡ Some (turn_in code log)
+log_is_turn code core values p place log own widths within at is =
+    let d : ProcState × List Trigger = (place, []) in
+    let own' : IsStateOf code p place = subst (IsStateOf code p) (at d) (own p d within) in
+    let count : length values ≡ length code.widths = sym (length-map values length) ∙ ap length widths in
+    let found : short_turn (design_of code) p (remainder_of code place) values core.time ≡ Some (turn_in code log) =
+    some_turn code log (short_turn (design_of code) p (remainder_of code place) values core.time) (is.is_log.turn p own' values count (is.agrees p own')) in
+    ap (λ (r : Remainder). short_turn (design_of code) p r values core.time) (remainder_is (remainder_of code) core.processes p place at) ∙ found
+
+-- where a process of a machine goes on, by its number
+pub place_is : (controls : List (List Trigger)) (ps : List Progress) (p : ℕ) (x : Progress) → p < length ps → x ≡ get_or ps p x → (p < length (map (process_of controls) ps)) × ((d : ProcState × List Trigger) → (slice_index_or (map (process_of controls) ps) p d).0 ≡ x.state)
+place_is controls [] p x within is = absurd (omega (arith, within))
+place_is controls (q ∷ ps) zero x within is = (omega arith, λ d. ap (λ (y : Progress). y.state) (sym is))
+place_is controls (q ∷ ps) (suc p) x within is =
+    let (within', at) = place_is controls ps p x (omega (arith, within)) is in
+    (omega (arith, within'), at)
+
+pub place_of : (core queue : Core) (ps : List Progress) (p : ℕ) (x : Progress) → map (process_of queue.controls) ps ≡ queue.processes → queue ≡ core → p < length ps → x ≡ get_or ps p x → IsPlaceOf core p x.state
+place_of core queue ps p x are same within is =
+    subst (λ (qs : List (ProcState × List Trigger)). (p < length qs) × ((d : ProcState × List Trigger) → (slice_index_or qs p d).0 ≡ x.state)) (are ∙ ap (λ (k : Core). k.processes) same) (place_is queue.controls ps p x within is)
+
+-- where each process sleeps, all do
+pub all_sleep : (a : Store) (ws : List (ℕ × Vector)) (controls : List (List Trigger)) (rem : ProcState → Remainder) (ps : List Progress) → All (λ p. WakesNone a ws (waiting (triggers_at controls p.waits) ∷ [])) ps
+    → WakesNone a ws (map (standing rem) (map (process_of controls) ps))
+all_sleep a ws controls rem [] each = nobody_waits a ws
+all_sleep a ws controls rem (p ∷ ps) each =
+    wakes_none_more a ws (standing rem (process_of controls p)) (map (standing rem) (map (process_of controls) ps)) (All-head (λ q. WakesNone a ws (waiting (triggers_at controls q.waits) ∷ [])) p ps each)
+    (all_sleep a ws controls rem ps (All-tail (λ q. WakesNone a ws (waiting (triggers_at controls q.waits) ∷ [])) p ps each))
+
+-- the turn that was evaluated on the values of a machine
+pub evaluated : (design code : Compiled) (core : Core) (values store : List Vector) (p : ℕ) (place : ProcState) (now : ℕ) (log : LogView) → code ≡ design → now ≡ core.time → store ≡ values → HasOwnStates (IsStateOf code) core → map length values ≡ code.widths → IsPlaceOf core p place
+    → IsTurnOn design place store now log → turn_of (design_of code) (state_of (remainder_of code) values core) p ≡ Some (turn_in code log)
+evaluated design code core values store p place now log same time still own widths (within, at) is =
+    let is' : IsTurnOn code place values core.time log =
+    subst (λ (k : Compiled). IsTurnOn k place values core.time log) (sym same) (subst (λ (vs : List Vector). IsTurnOn design place vs core.time log) still (subst (λ (t : ℕ). IsTurnOn design place store t log) time is)) in
+    log_is_turn code core values p place log own widths within at is'
+
+-- the writes of one update more
+pub writes_more : (us : List Update) (at : ℕ) (ws more : List (ℕ × Vector)) (u : Update) → at < length us → ws ≡ updates_in (map update_event (take at us)) → u ≡ get_or us at u → more ≡ ws ++ (u.register, u.value) ∷ [] → more ≡ updates_in (map update_event (take (at + 1) us))
+writes_more us at ws more u within before is longer =
+    let one : take (at + 1) us ≡ take at us ++ u ∷ [] = take_more us at u within ∙ ap (λ (v : Update). take at us ++ v ∷ []) (sym is) in
+    let both : updates_in (map update_event (take at us ++ u ∷ [])) ≡ updates_in (map update_event (take at us)) ++ (u.register, u.value) ∷ [] =
+    ap updates_in (map-append update_event (take at us) (u ∷ [])) ∙ updates-append (map update_event (take at us)) (map update_event (u ∷ [])) in
+    longer ∙ (ap (λ (l : List (ℕ × Vector)). l ++ (u.register, u.value) ∷ []) before ∙ sym (ap (λ (l : List Update). updates_in (map update_event l)) one ∙ both))
+
+only_updates : (us : List Update) (p : ℕ) → evaluations_in p (map update_event us) ≡ 0
+only_updates [] p = refl
+only_updates (u ∷ us) p = omega (arith, only_updates us p)
+
+-- updates that are next wake nobody where each process sleeps through them
+pub silent_from : (code : Compiled) (core one two : Core) (values store : List Vector) (us : List Update) (ps : List Progress) (controls : List (List Trigger)) (writes ws : List (ℕ × Vector)) → AreUpdatesNext (state_of (remainder_of code) values core) → map update_event us ≡ one.nonblocking → one ≡ core
+    → ws ≡ updates_in (map update_event us) → writes ≡ ws → map (process_of two.controls) ps ≡ two.processes → two ≡ core → controls ≡ core.controls → store ≡ values → WakesNone store writes (map (standing (remainder_of code)) (map (process_of controls) ps))
+    → IsSilent (state_of (remainder_of code) values core)
+silent_from code core one two values store us ps controls writes ws next events same is same_ws processes same' controls_are still sleeps =
+    let events' : map update_event us ≡ core.nonblocking = events ∙ ap (λ (k : Core). k.nonblocking) same in
+    let writes_are : writes ≡ updates_in core.nonblocking = same_ws ∙ (is ∙ ap updates_in events') in
+    let processes' : map (process_of controls) ps ≡ core.processes =
+    ap (λ (cs : List (List Trigger)). map (process_of cs) ps) (controls_are ∙ ap (λ (k : Core). k.controls) (sym same')) ∙ (processes ∙ ap (λ (k : Core). k.processes) same') in
+    let wakes : WakesNone values (updates_in core.nonblocking) (map (standing (remainder_of code)) core.processes) =
+    subst (λ (qs : List (ProcState × List Trigger)). WakesNone values (updates_in core.nonblocking) (map (standing (remainder_of code)) qs)) processes'
+    (subst (λ (vs : List (ℕ × Vector)). WakesNone values vs (map (standing (remainder_of code)) (map (process_of controls) ps))) writes_are
+    (subst (λ (a : List Vector). WakesNone a writes (map (standing (remainder_of code)) (map (process_of controls) ps))) still sleeps)) in
+    record {
+      goes_on = next.goes_on;
+      active = next.active;
+      inactive = next.inactive;
+      some = next.some;
+      updates = λ p. subst (λ (es : List Event). evaluations_in p es ≡ 0) events' (only_updates us p);
+      wakes = wakes;
+    }
+
+take_whole : {X : Type 0} (xs : List X) (n : ℕ) → length xs ≤ n → take n xs ≡ xs
+take_whole [] zero few = refl
+take_whole [] (suc n) few = refl
+take_whole (x ∷ xs) zero few = absurd (omega (arith, few))
+take_whole (x ∷ xs) (suc n) few = ap (λ (l : List _). x ∷ l) (take_whole xs n (omega (arith, few)))
+
+no_elements : {X : Type 0} (xs : List X) → length xs ≡ 0 → xs ≡ []
+no_elements [] none = refl
+no_elements (x ∷ xs) none = absurd (omega (arith, none))
+
+-- what is active, where no update is and the turn of each evaluation is among these
+pub all_active : (core queue : Core) (us : List Update) (es : List Evaluation) (turns : List Turned) (at : ℕ) → length us ≡ 0 → length es ≤ at → map update_event us ++ map evaluation_event es ≡ queue.active → queue ≡ core → map event_of turns ≡ map evaluation_event (take at es)
+    → core.active ≡ map event_of turns
+all_active core queue us es turns at none few active same events =
+    let whole : map event_of turns ≡ map evaluation_event es = events ∙ ap (map evaluation_event) (take_whole es at few) in
+    sym (ap (λ (k : Core). k.active) same) ∙ (sym active ∙ (ap (λ (l : List Update). map update_event l ++ map evaluation_event es) (no_elements us none) ∙ sym whole))

@@ -1,0 +1,17 @@
+-- One write more.
+use Rattle.std.proofs.Common.{ℕ, List, [], ◌∷◌, take, sym, subst, arith}
+use Rattle.std.proofs.lemmas.List.{take_more}
+use Rattle.logic4.specs.Vector.{Vector}
+use Rattle.orders.specs.Apart.{WakesNone}
+use Rattle.std.specs.Prelude.{slice_index_or}
+use Rattle.flat.specs.Tests.{waiting}
+use Rattle.flat.proofs.Sleeping.{wakes_more}
+use Rattle.flat.proofs.waits.sleeps_through.Goals as goal
+
+pub loop-place-preserved : goal.loop-place-preserved
+loop-place-preserved c =
+    let writes = c.args.writes.now in
+    let place = c.loop-place.place in
+    let d : ℕ × Vector = (0, []) in
+    subst (λ (ws : List (ℕ × Vector)). WakesNone c.args.store.now ws (waiting c.args.control.now ∷ [])) (sym (take_more writes place d (omega arith)))
+    (wakes_more c.args.store.now (take place writes) (slice_index_or writes place d) (waiting c.args.control.now ∷ []) c.loop-place.invariant (c.sleeps_at.ensures c.if-not-sleeps_at.false d))

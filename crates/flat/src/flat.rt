@@ -1,0 +1,167 @@
+//! Whether the turns of all active evaluations keep off each other.
+ghost use Rattle.std.specs.Prelude.{◌≡◌, ◌≢◌, [], ◌∷◌, ◌++◌, true, false, map, IfOk, IfSome, OnOk, MatchOption};
+ghost use Rattle.std.specs.List.{All};
+ghost use Rattle.orders.specs.Apart.{updates_for};
+ghost use Rattle.orders.specs.Flat.{IsFlat, HasOneMaker};
+ghost use Rattle.design.specs.Compiled.{design_of};
+ghost use Rattle.design.specs.Standing.{controls_of};
+ghost use Rattle.turn.specs.Logs.{later_of};
+ghost use Rattle.regions.specs.Machine.{state_at};
+ghost use Rattle.regions.specs.Queue.{evaluation_event};
+ghost use Rattle.flat.specs.Turned.{event_of, turns_in, AreTurned};
+ghost use Rattle.flat.specs.Tests.{IsQuietTurn, ArePair, AreQuiet};
+
+use crate::pairs::are_apart;
+use crate::turned::{Turned, evaluate};
+use crate::waits::all_sleep;
+use design::{Control, Design};
+use regions::{Evaluation, Machine};
+use std::alloc::{AllocError, Global};
+use turn::Nba;
+
+// Whether a turn keeps off each of these.
+fn is_apart(machine: &Machine<'_>, controls: &[Control], turns: &[Turned], turned: &Turned) -> bool
+    requires controls { controls.now ≡ controls_of machine.now.code }
+    requires turns { All (IsQuietTurn machine.now.code (state_at machine.now)) turns.now }
+    requires turned { IsQuietTurn machine.now.code (state_at machine.now) turned.now }
+    ensures { result ≡ true → All (λ one. ArePair machine.now.code (state_at machine.now) one turned.now) turns.now }
+{
+    for one in turns {
+        if !are_apart(machine, controls, one, turned) {
+            return false;
+        }
+    }
+    true
+}
+
+// The turn of an active evaluation, where it is short, doesn't finish, and wakes nobody who waits.
+fn quiet_turn(
+    alloc: Global,
+    design: &Design,
+    machine: &Machine<'_>,
+    controls: &[Control],
+    evaluation: Evaluation,
+) -> Result<Option<Turned>, AllocError>
+    requires code { machine.now.code ≡ design.now }
+    requires controls { controls.now ≡ controls_of machine.now.code }
+    ensures event { IfOk result (λ found. IfSome found (λ turned. event_of turned ≡ evaluation_event evaluation)) }
+    ensures quiet { IfOk result (λ found. IfSome found (IsQuietTurn machine.now.code (state_at machine.now))) }
+{
+    let turned = match evaluate(alloc, design, machine, evaluation)? {
+        Some(turned) => turned,
+        None => return Ok(None),
+    };
+    if turned.log.is_finish() {
+        return Ok(None);
+    }
+    machine.stands();
+    let writes = turned.log.writes();
+    if !all_sleep(
+        controls,
+        machine.state().processes(),
+        machine.store(),
+        writes,
+    ) {
+        return Ok(None);
+    }
+    Ok(Some(turned))
+}
+
+// Adds the turn of an active evaluation to others, where it is quiet and keeps off them. Answers whether it is so.
+fn add_turn(
+    alloc: Global,
+    design: &Design,
+    machine: &Machine<'_>,
+    controls: &[Control],
+    turns: &mut Vec<Turned>,
+    evaluation: Evaluation,
+) -> Result<bool, AllocError>
+    requires code { machine.now.code ≡ design.now }
+    requires controls { controls.now ≡ controls_of machine.now.code }
+    requires quiet { AreQuiet machine.now.code (state_at machine.now) turns.old.items }
+    ensures events { OnOk result (result ≡ Ok true → map event_of turns.new.items ≡ map event_of turns.old.items ++ evaluation_event evaluation ∷ []) }
+    ensures quiet { OnOk result (AreQuiet machine.now.code (state_at machine.now) turns.new.items) }
+{
+    let turned = match quiet_turn(alloc, design, machine, controls, evaluation)? {
+        Some(turned) => turned,
+        None => return Ok(false),
+    };
+    if !is_apart(machine, controls, turns.as_slice(), &turned) {
+        return Ok(false);
+    }
+    turns.push(turned)?;
+    Ok(true)
+}
+
+/// The active evaluations of a machine with their turns, where its state is flat: nothing is finished, no update is active, each turn is
+/// short, doesn't finish and wakes nobody who waits, and any two are apart. A state that is flat may be refused where a turn changes a
+/// register for which a process waits more than once.
+pub fn flat_turns(
+    alloc: Global,
+    design: &Design,
+    machine: &Machine<'_>,
+) -> Result<Option<Vec<Turned>>, AllocError>
+    requires code { machine.now.code ≡ design.now }
+    ensures flat { IfOk result (λ found. IfSome found (λ turns. IsFlat (design_of machine.now.code) (state_at machine.now) (turns_in (design_of machine.now.code) (state_at machine.now)))) }
+    ensures turns { IfOk result (λ found. IfSome found (λ turns. AreTurned machine.now.code (state_at machine.now) turns.items)) }
+{
+    let (updates, evaluations) = machine.state().active();
+    if machine.is_finished() {
+        return Ok(None);
+    }
+    if !updates.is_empty() {
+        return Ok(None);
+    }
+    let controls = design.controls(alloc)?;
+    let mut turns = Vec::new(alloc);
+    for at in 0..evaluations.len() {
+        if !add_turn(
+            alloc,
+            design,
+            machine,
+            &controls,
+            &mut turns,
+            evaluations[at],
+        )? {
+            return Ok(None);
+        }
+    }
+    Ok(Some(turns))
+}
+
+// Whether a turn makes an update for now.
+fn makes_now(now: u64, nbas: &[Nba]) -> bool
+    ensures { result ≡ false → updates_for now (map later_of nbas.now) ≡ [] }
+{
+    for nba in nbas {
+        if nba.due == now {
+            return true;
+        }
+    }
+    false
+}
+
+// The process of the first turn that makes an update for now, or 0 where none does.
+fn first_maker(now: u64, turns: &[Turned]) -> u32 {
+    for turned in turns {
+        if makes_now(now, turned.log.nbas()) {
+            return turned.process;
+        }
+    }
+    0
+}
+
+/// The process whose turn alone may make updates for now, where at most one of these turns does.
+pub fn one_maker(machine: &Machine<'_>, turns: &[Turned]) -> Option<u32>
+    requires turns { AreTurned machine.now.code (state_at machine.now) turns.now }
+    ensures { IfSome result (λ maker. HasOneMaker (state_at machine.now) (turns_in (design_of machine.now.code) (state_at machine.now)) maker) }
+{
+    let now = machine.time();
+    let maker = first_maker(now, turns);
+    for turned in turns {
+        if turned.process != maker && makes_now(now, turned.log.nbas()) {
+            return None;
+        }
+    }
+    Some(maker)
+}

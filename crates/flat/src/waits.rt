@@ -1,0 +1,126 @@
+//! Whether processes that wait sleep through writes.
+ghost use Rattle.std.specs.Prelude.{◌≡◌, ◌≤◌, ℕ, true, false, ◌==◌, [], ◌∷◌, map, length, take, slice_index_or};
+ghost use Rattle.logic4.specs.declared.digit.Edge.{Edge};
+ghost use Rattle.logic4.specs.Vector.{Vector};
+ghost use Rattle.std.specs.List.{list_any};
+ghost use Rattle.model.specs.Expressions.{value_of};
+ghost use Rattle.model.specs.Turns.{Remainder};
+ghost use Rattle.model.specs.States.{wakes};
+ghost use Rattle.orders.specs.Apart.{WakesNone, wakes_any, all_given};
+ghost use Rattle.design.specs.Waking.{wakes_by};
+ghost use Rattle.design.specs.declared.code.ProcState.{ProcState};
+ghost use Rattle.regions.specs.Queue.{standing, process_of};
+ghost use Rattle.regions.specs.Waking.{triggers_at};
+ghost use Rattle.flat.specs.Tests.{waiting};
+
+use design::{Control, RegId};
+use logic4::bits::Bits;
+use logic4::digit::Edge;
+use regions::{PlainStore, Progress};
+
+/// Whether one of these writes is of a register.
+pub(crate) fn is_written(writes: &[(RegId, Bits)], register: RegId) -> bool
+    ensures { result ≡ list_any (λ w. w.0 == register) writes.now }
+{
+    writes.iter().any(|w| w.0 == register)
+}
+
+// Whether an event control waits for changes of a register.
+fn awaits(control: &Control, register: RegId) -> bool
+    ensures { result ≡ false → (e : Edge) → wakes_by control.now register e ≡ false }
+{
+    if control.is_woken(register, Edge::Pos) {
+        return true;
+    }
+    control.is_woken(register, Edge::Neg)
+}
+
+// Whether whoever waits at an event control sleeps through the write of a register that has a value.
+fn sleeps_at_change(control: &Control, register: RegId, old: &Bits, new: &Bits) -> bool
+    ensures { result ≡ true → wakes control.now register old.now new.now ≡ false }
+{
+    if old.width() != new.width() {
+        return false;
+    }
+    !control.is_woken(register, Bits::edge(*old, *new))
+}
+
+// Whether whoever waits at an event control sleeps through a write that follows these. Where it waits for the register, and one of
+// these is of that too, the answer is no.
+fn sleeps_at_write(
+    control: &Control,
+    store: &PlainStore,
+    earlier: &[(RegId, Bits)],
+    write: &(RegId, Bits),
+) -> bool
+    ensures { result ≡ true → wakes control.now write.now.0 (value_of (all_given store.now earlier.now) write.now.0) write.now.1 ≡ false }
+{
+    if !awaits(control, write.0) {
+        return true;
+    }
+    if is_written(earlier, write.0) {
+        return false;
+    }
+    match store.value(write.0) {
+        Some(old) => sleeps_at_change(control, write.0, &old, &write.1),
+        None => false,
+    }
+}
+
+// Whether whoever waits at an event control sleeps through the write at a place, behind those before it.
+fn sleeps_at(control: &Control, store: &PlainStore, writes: &[(RegId, Bits)], place: usize) -> bool
+    requires { place ≤ length writes.now }
+    ensures { result ≡ true → (d : ℕ × Vector) → wakes_any (all_given store.now (take place writes.now)) (slice_index_or writes.now place d) (waiting control.now ∷ []) ≡ false }
+{
+    match writes.get(place) {
+        Some(write) => sleeps_at_write(control, store, writes.split_at(place).0, write),
+        None => false,
+    }
+}
+
+// Whether whoever waits at an event control sleeps through writes that are made in order.
+fn sleeps_through(control: &Control, store: &PlainStore, writes: &[(RegId, Bits)]) -> bool
+    ensures { result ≡ true → WakesNone store.now writes.now (waiting control.now ∷ []) }
+{
+    for place in 0..writes.len() {
+        if !sleeps_at(control, store, writes, place) {
+            return false;
+        }
+    }
+    true
+}
+
+/// Whether a process that waits at this event control, or at none, sleeps through writes that are made in order.
+pub(crate) fn sleeps(
+    controls: &[Control],
+    waits: Option<usize>,
+    store: &PlainStore,
+    writes: &[(RegId, Bits)],
+) -> bool
+    ensures { result ≡ true → WakesNone store.now writes.now (waiting (triggers_at controls.now waits) ∷ []) }
+{
+    match waits {
+        Some(number) => match controls.get(number) {
+            Some(control) => sleeps_through(control, store, writes),
+            None => false,
+        },
+        None => true,
+    }
+}
+
+/// Whether each of these processes sleeps through writes that are made in order.
+pub(crate) fn all_sleep(
+    controls: &[Control],
+    processes: &[Progress],
+    store: &PlainStore,
+    writes: &[(RegId, Bits)],
+) -> bool
+    ensures { result ≡ true → (rem : ProcState → Remainder) → WakesNone store.now writes.now (map (standing rem) (map (process_of controls.now) processes.now)) }
+{
+    for process in processes {
+        if !sleeps(controls, process.waits, store, writes) {
+            return false;
+        }
+    }
+    true
+}

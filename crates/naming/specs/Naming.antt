@@ -1,0 +1,84 @@
+-- Races that are told in lines.
+use Rattle.std.specs.Prelude.{◌≡◌, ℕ, ◌+◌, List, [], ◌∷◌, ◌++◌, Option, Some, None, option_map, slice_get, string_bytes}
+use Rattle.std.specs.List.{All}
+use Rattle.model.specs.declared.entry.Entry.{Entry}
+use Rattle.model.specs.declared.end.End.{End}
+use Rattle.model.specs.declared.end.Limits.{Limits}
+use Rattle.design.specs.Compiled.{Compiled}
+use Rattle.explore.specs.declared.Shown.{Shown}
+use Rattle.seeded.specs.declared.run.SeededRun.{SeededRun}
+use Rattle.seeded.specs.Runs.{IsRun}
+use Rattle.conflicts.specs.declared.told.Race as found
+use Rattle.conflicts.specs.declared.told.Role as found_role
+use Rattle.conflicts.specs.Races.{IsShown}
+use Rattle.conflicts.specs.Lines.{IsFirstDifference, HaveSameLines}
+use Rattle.verdict.specs.declared.race.Race.{Race}
+use Rattle.verdict.specs.declared.race.Role.{Role}
+use Rattle.verdict.specs.declared.race.Run.{Run}
+use Rattle.verdict.specs.Races.{prefix_of, race_text}
+use Rattle.naming.specs.Words.{word_of, IsSiteTold}
+
+-- a process is told by its number, and what it does in words; where it begins no clause says
+pub record IsRoleTold (role : found_role.Role) (told : Role) : Type 0 where
+  pub number : told.number ≡ role.process
+  pub does : told.does.now ≡ word_of role.does
+
+-- the first line in which two texts differ, or none where they have the same lines
+abbrev pub IsDifferenceTold : List ℕ → List ℕ → Option ℕ → List ℕ → List ℕ → Type 0
+IsDifferenceTold one other (Some number) first second = IsFirstDifference one other number first second
+IsDifferenceTold one other None first second = HaveSameLines one other
+
+-- a text and an end are those of a run
+abbrev pub IsText : SeededRun → Shown Entry End → Type 0
+IsText run s = (s.text.items ≡ string_bytes run.lines) × (s.end ≡ run.end)
+
+-- a journal is told by a number, from 1, only where the text with that number is that of the run, with its end
+abbrev pub IsJournalTold : List (Shown Entry End) → SeededRun → Option ℕ → Type 0
+IsJournalTold shown run (Some number) = (s : Shown Entry End) × (place : ℕ) × (number ≡ place + 1) × (slice_get shown place ≡ Some s) × IsText run s
+IsJournalTold shown run None = Unit {0}
+
+-- one of the two runs of a race
+abbrev pub IsRunTold : List (Shown Entry End) → SeededRun → Run → Type 0
+IsRunTold shown run told = IsJournalTold shown run told.journal
+
+-- A race is told with a number: for what, when, by whom, and by the two runs.
+pub record IsRaceTold (code : Compiled) (shown : List (Shown Entry End)) (prefix : Option (List ℕ)) (original : SeededRun) (number : ℕ) (race : found.Race) (told : Race) : Type 0 where
+  pub number_is : told.number ≡ number
+  pub site : IsSiteTold code race.site told.site
+  pub time_is : told.time ≡ race.time
+  pub first : IsRoleTold race.first told.first
+  pub second : IsRoleTold race.second told.second
+  pub prefix_is : prefix_of told ≡ prefix
+  pub difference : IsDifferenceTold (string_bytes original.lines) (string_bytes race.exchanged.lines) told.line told.original.line.now told.exchanged.line.now
+  pub one : IsRunTold shown original told.original
+  pub other : IsRunTold shown race.exchanged told.exchanged
+
+-- so each race is told, with numbers from one on
+abbrev pub AreRacesTold : Compiled → List (Shown Entry End) → Option (List ℕ) → SeededRun → ℕ → List found.Race → List Race → Type 0
+AreRacesTold code shown prefix original number [] [] = Unit {0}
+AreRacesTold code shown prefix original number (r ∷ rs) [] = ⊥
+AreRacesTold code shown prefix original number [] (t ∷ ts) = ⊥
+AreRacesTold code shown prefix original number (r ∷ rs) (t ∷ ts) =
+    IsRaceTold code shown prefix original number r t × AreRacesTold code shown prefix original (number + 1) rs ts
+
+-- the lines on races
+abbrev pub races_text : List Race → List ℕ
+races_text [] = []
+races_text (t ∷ ts) = race_text t ++ races_text ts
+
+-- Races of a design are told in these lines: each is so in one lawful run in time, and is shown by another one.
+pub data TellsRaces (code : Compiled) (limits : Limits) (shown : List (Shown Entry End)) (prefix : Option (List ℕ)) (lines : List ℕ) : Type 0 where
+  tell : (original : SeededRun) (races : List found.Race) (told : List Race) → IsRun code limits original → All (IsShown code limits original) races
+      → AreRacesTold code shown prefix original 1 races told → lines ≡ races_text told → TellsRaces code limits shown prefix lines
+
+-- a text has grown by lines that tell races
+pub record TellsBehind (code : Compiled) (limits : Limits) (shown : List (Shown Entry End)) (prefix : Option (List ℕ)) (old new : List ℕ) : Type 0 where
+  pub lines : List ℕ
+  pub tells : TellsRaces code limits shown prefix lines
+  pub new_is : new ≡ old ++ lines
+
+-- a text has grown by lines that tell these races
+pub record TellsEach (code : Compiled) (shown : List (Shown Entry End)) (prefix : Option (List ℕ)) (original : SeededRun) (races : List found.Race) (old new : List ℕ) : Type 0 where
+  pub told : List Race
+  pub are_told : AreRacesTold code shown prefix original 1 races told
+  pub new_is : new ≡ old ++ races_text told

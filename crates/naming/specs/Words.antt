@@ -1,0 +1,28 @@
+-- The words in which a race is told.
+use Rattle.std.specs.Prelude.{◌≡◌, ℕ, List, Some, codes, slice_get}
+use Rattle.design.specs.Compiled.{Compiled}
+use Rattle.conflicts.specs.declared.told.Does.{Does}
+use Rattle.conflicts.specs.declared.told.Does.TheVariants.{Writes, Assigns, Updates, Reads, Waits, Prints, Strobes, Finishes}
+use Rattle.conflicts.specs.declared.told.Site as found
+use Rattle.conflicts.specs.declared.told.Site.TheVariants as sites
+use Rattle.verdict.specs.declared.race.Site as told
+use Rattle.verdict.specs.declared.race.Site.TheVariants as lines
+
+-- what an entry does
+abbrev pub word_of : Does → List ℕ
+word_of Writes = codes "writes it"
+word_of Assigns = codes "assigns it"
+word_of Updates = codes "updates it"
+word_of Reads = codes "reads it"
+word_of Waits = codes "waits for it"
+word_of Prints = codes "prints"
+word_of Strobes = codes "strobes"
+word_of Finishes = codes "finishes the run"
+
+-- for what two entries race: a register of the design is told by its name
+abbrev pub IsSiteTold : Compiled → found.Site → told.Site → Type 0
+IsSiteTold code (sites.Register r) (lines.Register name) = (known : List ℕ) → slice_get code.names r ≡ Some known → name.now ≡ known
+IsSiteTold code (sites.Register r) lines.Printing = ⊥
+IsSiteTold code (sites.Register r) lines.Strobing = ⊥
+IsSiteTold code sites.Printing site = site ≡ lines.Printing
+IsSiteTold code sites.Strobing site = site ≡ lines.Strobing

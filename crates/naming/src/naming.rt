@@ -1,0 +1,158 @@
+//! The search for races, told in lines.
+ghost use Rattle.std.specs.Prelude.{◌≡◌, ◌≤◌, ◌++◌, true, IfSome, OnOk, option_map, string_bytes};
+ghost use Rattle.std.specs.List.{All};
+ghost use Rattle.model.specs.Runs.{last_time};
+ghost use Rattle.conflicts.specs.Races.{IsShown};
+ghost use Rattle.naming.specs.Naming.{AreRacesTold, IsDifferenceTold, IsJournalTold, IsRaceTold, IsRoleTold, IsText, TellsBehind, TellsEach};
+
+use crate::words::{site_of, word_of};
+use conflicts::{Found, Tries, find_races, first_difference};
+use design::Design;
+use explore::Shown;
+use model::end::{End, Limits};
+use model::entry::Entry;
+use seeded::run::SeededRun;
+use std::alloc::{AllocError, Global};
+use verdict::{Process, Race, Role, Run, processes, push_race};
+
+/// How many second runs are made to name races, and how many races are named at most.
+const TRIES: Tries = Tries {
+    pairs: 1000,
+    races: 64,
+};
+
+/// What races are named by: the source, its design, the limits of its runs, and the texts that were found, of which the
+/// journals are saved at paths that begin with a prefix, where one is given.
+#[derive(Clone, Copy)]
+pub struct Names<'a> {
+    pub source: &'a [u8],
+    pub design: &'a Design,
+    pub limits: Limits,
+    pub prefix: Option<&'a str>,
+    pub shown: &'a [Shown<Entry, End>],
+}
+
+/// The first line in which two runs differ, if it isn't their ends alone: its number, and what it is in each.
+#[derive(Clone, Copy)]
+struct Lines<'a> {
+    number: Option<usize>,
+    one: &'a [u8],
+    other: &'a [u8],
+}
+
+/// Searches for the races that show in one run of a design and in runs in which two of its entries are exchanged, and puts their
+/// lines behind a text. Fails where memory is refused to the text; where it is refused to the search, the races found until then
+/// are told.
+pub fn push_races(alloc: Global, text: &mut Vec<u8>, names: &Names<'_>) -> Result<(), AllocError>
+    requires { IfSome names.now.limits.until (λ until. until ≤ last_time) }
+    ensures { OnOk result (TellsBehind names.entry.now.design.now names.entry.now.limits names.entry.now.shown.now (option_map (λ path. path.now) names.entry.now.prefix) text.old.items text.new.items) }
+{
+    let processes = processes(alloc, names.source)?;
+    let found = find_races(alloc, names.design, names.limits, TRIES);
+    // The same names, for no longer than the runs live.
+    let here = Names {
+        source: names.source,
+        design: names.design,
+        limits: names.limits,
+        prefix: match names.prefix {
+            Some(prefix) => Some(prefix),
+            None => None,
+        },
+        shown: names.shown,
+    };
+    push_each(text, &here, &processes, &found)
+}
+
+fn push_each<'a>(
+    text: &mut Vec<u8>,
+    names: &Names<'a>,
+    processes: &[Process],
+    found: &'a Found,
+) -> Result<(), AllocError>
+    ensures { OnOk result (TellsEach names.entry.now.design.now names.entry.now.shown.now (option_map (λ path. path.now) names.entry.now.prefix) found.entry.now.original found.entry.now.races.items text.old.items text.new.items) }
+{
+    for (place, race) in found.races.iter().enumerate() {
+        let told = told_race(names, processes, &found.original, race, place + 1);
+        push_race(text, &told)?;
+    }
+    Ok(())
+}
+
+/// A race, as it is told.
+fn told_race<'a>(
+    names: &Names<'a>,
+    processes: &[Process],
+    original: &'a SeededRun,
+    race: &'a conflicts::Race,
+    number: usize,
+) -> Race<'a>
+    ensures { IsRaceTold names.entry.now.design.now names.entry.now.shown.now (option_map (λ path. path.now) names.entry.now.prefix) original.entry.now number race.entry.now result }
+{
+    let lines = lines_of(original, &race.exchanged);
+    Race {
+        number,
+        site: site_of(names.design, race.site),
+        time: race.time,
+        first: role_of(processes, race.first),
+        second: role_of(processes, race.second),
+        prefix: names.prefix,
+        line: lines.number,
+        original: Run {
+            journal: journal_of(names.shown, original),
+            line: lines.one,
+        },
+        exchanged: Run {
+            journal: journal_of(names.shown, &race.exchanged),
+            line: lines.other,
+        },
+    }
+}
+
+fn lines_of<'a>(one: &'a SeededRun, other: &'a SeededRun) -> Lines<'a>
+    ensures { IsDifferenceTold (string_bytes one.entry.now.lines) (string_bytes other.entry.now.lines) result.number result.one.now result.other.now }
+{
+    match first_difference(
+        one.lines.as_str().as_bytes(),
+        other.lines.as_str().as_bytes(),
+    ) {
+        Some(found) => Lines {
+            number: Some(found.line),
+            one: found.first,
+            other: found.second,
+        },
+        None => Lines {
+            number: None,
+            one: &[],
+            other: &[],
+        },
+    }
+}
+
+fn role_of(processes: &[Process], role: conflicts::Role) -> Role<'static>
+    ensures { IsRoleTold role result }
+{
+    Role {
+        number: role.process,
+        begins: processes.get(role.process as usize).copied(),
+        does: word_of(role.does),
+    }
+}
+
+/// Whether a text that was found is that of a run, with its end.
+fn is_text(shown: &Shown<Entry, End>, run: &SeededRun) -> bool
+    ensures { result ≡ true → IsText run.now shown.now }
+{
+    shown.end == run.end && shown.text.as_slice() == run.lines.as_str().as_bytes()
+}
+
+/// The number of the journal of a text that was found and is that of this run with its end, from 1.
+fn journal_of(shown: &[Shown<Entry, End>], run: &SeededRun) -> Option<usize>
+    ensures { IsJournalTold shown.now run.now result }
+{
+    for (place, one) in shown.iter().enumerate() {
+        if is_text(one, run) {
+            return Some(place + 1);
+        }
+    }
+    None
+}

@@ -1,0 +1,46 @@
+//! The words in which a race is told.
+ghost use Rattle.std.specs.Prelude.{◌≡◌};
+ghost use Rattle.conflicts.specs.declared.told.Site.TheVariants as sites;
+ghost use Rattle.naming.specs.Words.{word_of, IsSiteTold};
+
+use conflicts::Does;
+use design::{Design, RegId};
+use verdict::Site;
+
+/// What an entry does, in words.
+pub(crate) fn word_of(does: Does) -> &'static str
+    ensures { result.now ≡ word_of does }
+{
+    match does {
+        Does::Writes => "writes it",
+        Does::Assigns => "assigns it",
+        Does::Updates => "updates it",
+        Does::Reads => "reads it",
+        Does::Waits => "waits for it",
+        Does::Prints => "prints",
+        Does::Strobes => "strobes",
+        Does::Finishes => "finishes the run",
+    }
+}
+
+/// For what two entries race, with a register by its name.
+pub(crate) fn site_of<'a>(design: &'a Design, site: conflicts::Site) -> Site<'a>
+    ensures { IsSiteTold design.entry.now site result }
+{
+    match site {
+        conflicts::Site::Register(register) => named(design, register),
+        conflicts::Site::Printing => Site::Printing,
+        conflicts::Site::Strobing => Site::Strobing,
+    }
+}
+
+fn named(design: &Design, register: RegId) -> Site<'_>
+    ensures { IsSiteTold design.entry.now (sites.Register register) result }
+{
+    let _ = design.registers();
+    if register < design.registers() {
+        Site::Register(design.name(register))
+    } else {
+        Site::Register("?")
+    }
+}

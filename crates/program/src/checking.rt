@@ -1,0 +1,43 @@
+//! `check FILE`: the file is read, and what is wrong with it is found.
+
+ghost use Rattle.std.specs.Prelude.{◌≡◌, ◌⊎◌, IfErr, IfOk};
+ghost use Rattle.program.specs.Program.{status_of};
+ghost use Rattle.program.specs.Printed.{HasChecked};
+ghost use Rattle.files.specs.Saved.{KeepsFiles};
+
+use crate::fault::{Fault, source_status};
+use arguments::CheckRequest;
+use diagnosis::diagnose::diagnose;
+use diagnosis::render::render;
+use files::{Files, read_file};
+use std::alloc::Global;
+
+/// What is wrong with FILE, as it is told, or nothing. Want of memory is a fault.
+pub fn check<'a, F: Files>(
+    alloc: Global,
+    request: &CheckRequest<'a>,
+    files: &mut F,
+) -> Result<Option<String>, Fault<'a>>
+    ensures checked { IfOk result HasChecked }
+    ensures kept { KeepsFiles (F.made files.old) (F.made files.new) }
+    ensures fault { IfErr result (λ fault. (status_of fault ≡ 1) ⊎ (status_of fault ≡ 6)) }
+{
+    let source = read_file(alloc, request.file, files)?;
+    check_source(alloc, request.file, source.as_slice())
+}
+
+/// What is wrong with a source.
+fn check_source(alloc: Global, file: &str, source: &[u8]) -> Result<Option<String>, Fault<'static>>
+    ensures checked { IfOk result HasChecked }
+    ensures fault { IfErr result (λ fault. status_of fault ≡ 6) }
+{
+    let diagnosis = diagnose(alloc, source);
+    match &diagnosis.fault {
+        None => Ok(None),
+        Some(fault) if source_status(fault) == 3 => {
+            let text = render(alloc, file, source, &diagnosis)?;
+            Ok(Some(text))
+        }
+        Some(_) => Err(Fault::Memory),
+    }
+}

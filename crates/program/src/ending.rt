@@ -1,0 +1,81 @@
+//! How a command ended.
+
+ghost use Rattle.std.specs.Prelude.{◌≡◌};
+ghost use Rattle.telling.specs.Told.{Tells};
+ghost use Rattle.program.specs.Lines.{fault_line};
+ghost use Rattle.program.specs.Program.{ending_status, ended_status, ending_of, status_of};
+ghost use Rattle.program.specs.Told.{IsEndTold, IsEndingTold};
+
+use crate::fault::{Fault, Stop};
+use crate::finding::Finding;
+use crate::lines::{fault_line, stop_line};
+use journal::Counted;
+use std::io::Write;
+use telling::{tell, tell_text};
+
+/// A command did what was asked, or its run was stopped, or its search found this, or this is wrong with the source that it
+/// checked.
+#[derive(Drop)]
+pub enum Ending {
+    Done,
+    Stopped(Stop),
+    Found(Finding),
+    Wrong(String),
+}
+
+impl Ending {
+    /// How a run ended of which this is told.
+    pub fn of_run(told: Option<Stop>) -> Ending
+        ensures { result ≡ ending_of told }
+    {
+        match told {
+            Some(stop) => Ending::Stopped(stop),
+            None => Ending::Done,
+        }
+    }
+
+    /// The exit status.
+    fn status(&self) -> u8
+        ensures { result ≡ ending_status self.now }
+    {
+        match self {
+            Ending::Done => 0,
+            Ending::Stopped(stop) => stop.status(),
+            Ending::Found(finding) => finding.status(),
+            Ending::Wrong(_) => 3,
+        }
+    }
+}
+
+/// Tells what is to be told of how a command ended, and answers the status.
+pub fn finish<E: Write>(ended: Result<Ending, Fault<'_>>, err: &mut Counted<E>) -> u8
+    ensures status { result ≡ ended_status ended.entry }
+    ensures told { IsEndTold E.contents err.old err.new ended.entry }
+{
+    match ended {
+        Ok(ending) => {
+            tell_ending(&ending, err);
+            ending.status()
+        }
+        Err(fault) => tell_fault(fault, err),
+    }
+}
+
+fn tell_ending<E: Write>(ending: &Ending, err: &mut Counted<E>)
+    ensures { IsEndingTold E.contents err.old err.new ending.now }
+{
+    match ending {
+        Ending::Done | Ending::Found(_) => {}
+        Ending::Stopped(stop) => tell(err, &stop_line(*stop)),
+        Ending::Wrong(text) => tell_text(err, text.as_str()),
+    }
+}
+
+/// Tells a fault, and answers its status.
+pub fn tell_fault<E: Write>(fault: Fault<'_>, err: &mut Counted<E>) -> u8
+    ensures status { result ≡ status_of fault.entry }
+    ensures told { Tells E.contents err.old err.new (fault_line fault.entry) }
+{
+    tell(err, &fault_line(&fault));
+    fault.status()
+}

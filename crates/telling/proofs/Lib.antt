@@ -1,0 +1,2 @@
+-- Lemmas of what was told.
+pub mod Sent
