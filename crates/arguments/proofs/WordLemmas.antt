@@ -14,7 +14,7 @@ use Rattle.clap.specs.declared.parser.matches.ArgMatches.{ArgMatches}
 use Rattle.arguments.specs.declared.request.Refusal.{Refusal}
 use Rattle.arguments.specs.declared.request.Refusal.TheVariants as refusal
 use Rattle.arguments.specs.Arguments.{IsGiven}
-use Rattle.arguments.specs.Words.{number_given, AsksNoTask, Begins, FailsAs, IsRefusal, IsRefusalBy, MayFail, of_run, of_two_orders, of_replay, of_races, of_check, of_others, has_two_orders, other_faults, check_app, check_faults, check_rows, races_app, races_faults, races_rows, replay_app, replay_faults, replay_rows, run_app, run_faults, run_rows, whole_app}
+use Rattle.arguments.specs.Words.{number_given, AsksNoTask, Begins, FailsAs, IsRefusal, IsRefusalBy, MayFail, of_run, of_two_orders, of_replay, of_races, of_check, of_waves, of_others, has_two_orders, other_faults, check_app, check_faults, check_rows, races_app, races_faults, races_rows, replay_app, replay_faults, replay_rows, run_app, run_faults, run_rows, waves_app, waves_faults, waves_rows, whole_app}
 
 run_is_simple : is_simple run_app ≡ true
 unfolding run_app
@@ -32,6 +32,10 @@ check_is_simple : is_simple check_app ≡ true
 unfolding check_app
 check_is_simple = refl
 
+waves_is_simple : is_simple waves_app ≡ true
+unfolding waves_app
+waves_is_simple = refl
+
 run_is_free : is_simple_and_free run_app ≡ true
 unfolding run_app
 run_is_free = refl
@@ -48,8 +52,12 @@ check_is_free : is_simple_and_free check_app ≡ true
 unfolding check_app
 check_is_free = refl
 
+waves_is_free : is_simple_and_free waves_app ≡ true
+unfolding waves_app
+waves_is_free = refl
+
 whole_is_free : is_simple_and_free whole_app ≡ true
-unfolding whole_app run_app replay_app races_app check_app
+unfolding whole_app run_app replay_app races_app check_app waves_app
 whole_is_free = refl
 
 -- what a parse found
@@ -73,6 +81,10 @@ races_found app words m e h = found_by races_app app words m races_is_simple e h
 pub check_found : (app : App) (words : List Text) (m : ArgMatches) → app ≡ check_app → HasMatchesOf app words m → rows_of (found_of m) ≡ check_rows words
 unfolding check_rows
 check_found app words m e h = found_by check_app app words m check_is_simple e h
+
+pub waves_found : (app : App) (words : List Text) (m : ArgMatches) → app ≡ waves_app → HasMatchesOf app words m → rows_of (found_of m) ≡ waves_rows words
+unfolding waves_rows
+waves_found app words m e h = found_by waves_app app words m waves_is_simple e h
 
 -- how it failed
 
@@ -100,6 +112,11 @@ pub check_failed : (app : App) (words : List Text) (r : Result ArgMatches Error)
     → (is_simple_and_free app ≡ true → FailsBy (fault_of app words) r) → IfErr r (HasKind (check_faults words))
 unfolding check_faults
 check_failed app words r e h = failed_by check_app app words r check_is_free e h
+
+pub waves_failed : (app : App) (words : List Text) (r : Result ArgMatches Error) → app ≡ waves_app
+    → (is_simple_and_free app ≡ true → FailsBy (fault_of app words) r) → IfErr r (HasKind (waves_faults words))
+unfolding waves_faults
+waves_failed app words r e h = failed_by waves_app app words r waves_is_free e h
 
 kind_kept : (ks next : Kinds) (x : Error) → HasKind ks x → HasKind (or_else ks next) x
 kind_kept [] next x (inl h) = inl h
@@ -144,6 +161,11 @@ pub check_fails : (words own : List Text) (e : Error) → Begins words (codes "c
     → FailsAs words (kind_of e)
 check_fails words own e begins same (inl h) = inl h
 check_fails words own e begins same (inr h) = inr (of_check begins (subst (λ (w : List Text). IsAmong (kind_of e) (check_faults w)) same h))
+
+pub waves_fails : (words own : List Text) (e : Error) → Begins words (codes "waves") → own ≡ drop 1 words → HasKind (waves_faults own) e
+    → FailsAs words (kind_of e)
+waves_fails words own e begins same (inl h) = inl h
+waves_fails words own e begins same (inr h) = inr (of_waves begins (subst (λ (w : List Text). IsAmong (kind_of e) (waves_faults w)) same h))
 
 -- a run both by a seed and on workers
 pub two_orders_fail : (words own : List Text) (rows : List Row) (e : Error) → Begins words (codes "run") → own ≡ drop 1 words → rows ≡ run_rows own

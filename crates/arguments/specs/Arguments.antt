@@ -93,6 +93,10 @@ races_rules =
 abbrev pub check_rules : List Rule
 check_rules = rule (codes "FILE") true None ∷ []
 
+-- the arguments of `waves`
+abbrev pub waves_rules : List Rule
+waves_rules = rule (codes "FILE") true None ∷ rule (codes "JOURNAL") true None ∷ rule (codes "out") true None ∷ []
+
 -- the argument has no value, or its value passed the parser
 abbrev pub IsGiven : Found → List ℕ → ValueParser → Type 0
 IsGiven f id q = (one_text f id ≡ None)
@@ -124,3 +128,9 @@ pub record GivesRaces (f : Found) : Type 0 where
 -- what a parse of `check` gives
 pub record GivesCheck (f : Found) : Type 0 where
   pub file : is_some (first_value f (codes "FILE")) ≡ true
+
+-- what a parse of `waves` gives
+pub record GivesWaves (f : Found) : Type 0 where
+  pub file : is_some (first_value f (codes "FILE")) ≡ true
+  pub journal : is_some (first_value f (codes "JOURNAL")) ≡ true
+  pub out : is_some (first_value f (codes "out")) ≡ true

@@ -17,6 +17,7 @@ use Rattle.arguments.specs.declared.request.RunRequest.{RunRequest}
 use Rattle.arguments.specs.declared.request.ReplayRequest.{ReplayRequest}
 use Rattle.arguments.specs.declared.request.RacesRequest.{RacesRequest}
 use Rattle.arguments.specs.declared.request.CheckRequest.{CheckRequest}
+use Rattle.arguments.specs.declared.request.WavesRequest.{WavesRequest}
 use Rattle.arguments.specs.declared.task.Task.{Task}
 use Rattle.arguments.specs.declared.task.Task.TheVariants as task
 use Rattle.arguments.specs.declared.extent.Extent.{Extent}
@@ -39,6 +40,10 @@ choice name parser = record (new_rule name) {
   action = Some Set;
   parser = parser;
 }
+
+-- an option that has to be given
+abbrev pub need : Text → Rule
+need name = record (choice name None) { required = true }
 
 -- `run` with its words and options
 unfoldable pub run_app : App
@@ -85,16 +90,27 @@ races_app =
 unfoldable pub check_app : App
 check_app = with_rule (new_app (codes "check")) (place (codes "FILE"))
 
--- the program, which has a version, with the four
+-- `waves` with its words and option
+unfoldable pub waves_app : App
+waves_app =
+    with_rule
+    (with_rule
+    (with_rule (new_app (codes "waves")) (place (codes "FILE")))
+    (place (codes "JOURNAL")))
+    (need (codes "out"))
+
+-- the program, which has a version, with the five
 unfoldable pub whole_app : App
 whole_app =
     with_subcommand
     (with_subcommand
     (with_subcommand
+    (with_subcommand
     (with_subcommand (on_top (λ s. record s { has_version = true; subcommand_required = true; arg_required_else_help = true }) (new_app (codes "vsimtx"))) run_app.top)
     replay_app.top)
     races_app.top)
-    check_app.top
+    check_app.top)
+    waves_app.top
 
 -- what clap finds in the words of a run, from `run` on
 unfoldable pub run_rows : List Text → List Row
@@ -111,6 +127,10 @@ races_rows = matches_of races_app
 -- and in those of a check
 unfoldable pub check_rows : List Text → List Row
 check_rows = matches_of check_app
+
+-- and in those of a value change dump
+unfoldable pub waves_rows : List Text → List Row
+waves_rows = matches_of waves_app
 
 -- the number that was given under a name, in decimal digits, with a plus before them or none
 abbrev pub number_given : Text → List Row → Option ℕ
@@ -150,6 +170,7 @@ word_of task.Run = codes "run"
 word_of task.Replay = codes "replay"
 word_of task.Races = codes "races"
 word_of task.Check = codes "check"
+word_of task.Waves = codes "waves"
 word_of task.Version = codes "--version"
 
 -- the word after the program's name asks for no task
@@ -182,6 +203,12 @@ pub record IsRacesOf (rows : List Row) (races : RacesRequest) : Type 0 where
 pub record IsCheckOf (rows : List Row) (check : CheckRequest) : Type 0 where
   pub file : first_of (codes "FILE") rows ≡ Some check.file.now
 
+-- this value change dump is asked for: of JOURNAL on FILE, in OUT
+pub record IsWavesOf (rows : List Row) (waves : WavesRequest) : Type 0 where
+  pub file : first_of (codes "FILE") rows ≡ Some waves.file.now
+  pub journal : first_of (codes "JOURNAL") rows ≡ Some waves.journal.now
+  pub out : first_of (codes "out") rows ≡ Some waves.out.now
+
 -- the words ask for this run
 pub record AsksRun (words : List Text) (run : RunRequest) : Type 0 where
   pub begins : Begins words (codes "run")
@@ -202,12 +229,18 @@ pub record AsksCheck (words : List Text) (check : CheckRequest) : Type 0 where
   pub begins : Begins words (codes "check")
   pub is_check : IsCheckOf (check_rows (drop 1 words)) check
 
+-- the words ask for this value change dump
+pub record AsksWaves (words : List Text) (waves : WavesRequest) : Type 0 where
+  pub begins : Begins words (codes "waves")
+  pub is_waves : IsWavesOf (waves_rows (drop 1 words)) waves
+
 -- the words ask for this
 abbrev pub Asks : List Text → Request → Type 0
 Asks words (request.Run run) = AsksRun words run
 Asks words (request.Replay replay) = AsksReplay words replay
 Asks words (request.Races races) = AsksRaces words races
 Asks words (request.Check check) = AsksCheck words check
+Asks words (request.Waves waves) = AsksWaves words waves
 Asks words request.Version = Begins words (codes "--version")
 
 -- the kinds of error by which clap may answer the words of a run, from `run` on
@@ -226,6 +259,10 @@ races_faults = fault_of races_app
 unfoldable pub check_faults : List Text → Kinds
 check_faults = fault_of check_app
 
+-- those of a value change dump
+unfoldable pub waves_faults : List Text → Kinds
+waves_faults = fault_of waves_app
+
 -- and those of a whole command line that asks for no task
 unfoldable pub other_faults : List Text → Kinds
 other_faults words = or_else (fault_of whole_app words) (MissingSubcommand ∷ [])
@@ -237,6 +274,7 @@ pub data MayFail (words : List Text) (kind : ErrorKind) : Type 0 where
   of_replay : Begins words (codes "replay") → IsAmong kind (replay_faults (drop 1 words)) → MayFail words kind
   of_races : Begins words (codes "races") → IsAmong kind (races_faults (drop 1 words)) → MayFail words kind
   of_check : Begins words (codes "check") → IsAmong kind (check_faults (drop 1 words)) → MayFail words kind
+  of_waves : Begins words (codes "waves") → IsAmong kind (waves_faults (drop 1 words)) → MayFail words kind
   of_others : AsksNoTask words → IsAmong kind (other_faults words) → MayFail words kind
 
 -- memory was refused, or clap may answer the words so

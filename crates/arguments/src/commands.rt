@@ -3,11 +3,11 @@
 ghost use Rattle.std.specs.Prelude.{◌≡◌, IfErr, IfOk};
 ghost use Rattle.clap.specs.Words.{HasKind, IsAmong, app_of, found_of, kind_of, rows_of};
 ghost use Rattle.clap.specs.declared.error.kind.ErrorKind.TheVariants.{ArgumentConflict, MissingSubcommand};
-ghost use Rattle.arguments.specs.Arguments.{HasRules, GivesRun, GivesReplay, GivesRaces, GivesCheck, run_rules, replay_rules, races_rules, check_rules};
-ghost use Rattle.arguments.specs.Words.{check_app, check_faults, check_rows, other_faults, races_app, races_faults, races_rows, replay_app, replay_faults, replay_rows, run_app, run_faults, run_rows, texts_of, whole_app};
+ghost use Rattle.arguments.specs.Arguments.{HasRules, GivesRun, GivesReplay, GivesRaces, GivesCheck, GivesWaves, run_rules, replay_rules, races_rules, check_rules, waves_rules};
+ghost use Rattle.arguments.specs.Words.{check_app, check_faults, check_rows, other_faults, races_app, races_faults, races_rows, replay_app, replay_faults, replay_rows, run_app, run_faults, run_rows, texts_of, waves_app, waves_faults, waves_rows, whole_app};
 
 use crate::parameters::{
-    journal, journals, max_entries, max_states, max_texts, positional, samples, seed, until,
+    journal, journals, max_entries, max_states, max_texts, out, positional, samples, seed, until,
     workers,
 };
 use crate::version::VERSION;
@@ -49,6 +49,14 @@ pub fn check_matches<'a>(alloc: Global, words: &'a [String]) -> Result<ArgMatche
     check_command(alloc)?.try_get_matches_from(words)
 }
 
+pub fn waves_matches<'a>(alloc: Global, words: &'a [String]) -> Result<ArgMatches<'a>, Error>
+    ensures given { IfOk result (λ m. GivesWaves (found_of m)) }
+    ensures found { IfOk result (λ m. rows_of (found_of m) ≡ waves_rows (texts_of words.now)) }
+    ensures failed { IfErr result (HasKind (waves_faults (texts_of words.now))) }
+{
+    waves_command(alloc)?.try_get_matches_from(words)
+}
+
 pub fn whole_matches<'a>(alloc: Global, words: &'a [String]) -> Result<ArgMatches<'a>, Error>
     ensures taken { IfOk result (λ m. IsAmong MissingSubcommand (other_faults (texts_of words.now))) }
     ensures failed { IfErr result (HasKind (other_faults (texts_of words.now))) }
@@ -80,7 +88,8 @@ fn program<'a>(alloc: Global) -> Result<Command<'a>, AllocError>
         .subcommand(run_command(alloc)?)?
         .subcommand(replay_command(alloc)?)?
         .subcommand(races_command(alloc)?)?
-        .subcommand(check_command(alloc)?)
+        .subcommand(check_command(alloc)?)?
+        .subcommand(waves_command(alloc)?)
 }
 
 fn run_command<'a>(alloc: Global) -> Result<Command<'a>, AllocError>
@@ -134,4 +143,16 @@ fn check_command<'a>(alloc: Global) -> Result<Command<'a>, AllocError>
         .about("Reads FILE and tells what is wrong with it")
         .bin_name("vsimtx check")?
         .arg(positional(alloc, "FILE", "Verilog source"))
+}
+
+fn waves_command<'a>(alloc: Global) -> Result<Command<'a>, AllocError>
+    ensures rules { IfOk result (λ c. HasRules c waves_rules) }
+    ensures app { IfOk result (λ c. app_of c ≡ waves_app) }
+{
+    Command::new(alloc, "waves")
+        .about("Writes the registers of JOURNAL on FILE over time as a value change dump")
+        .bin_name("vsimtx waves")?
+        .arg(positional(alloc, "FILE", "Verilog source"))?
+        .arg(positional(alloc, "JOURNAL", "Journal of a run"))?
+        .arg(out(alloc))
 }

@@ -3,13 +3,13 @@
 ghost use Rattle.std.specs.Prelude.{◌≡◌, ◌≤◌, ◌^◌, ◌∷◌, IfSome, codes, is_some, unwrap_or, false};
 ghost use Rattle.clap.specs.Words.{first_of, found_of, rows_of};
 ghost use Rattle.model.specs.Runs.{last_time};
-ghost use Rattle.arguments.specs.Arguments.{IsGiven, GivesRun, GivesReplay, GivesRaces, GivesCheck, workers_parser, until_parser, entries_parser, seed_parser};
+ghost use Rattle.arguments.specs.Arguments.{IsGiven, GivesRun, GivesReplay, GivesRaces, GivesCheck, GivesWaves, workers_parser, until_parser, entries_parser, seed_parser};
 ghost use Rattle.arguments.specs.Options.{CanRun, CanSearch};
-ghost use Rattle.arguments.specs.Words.{IsCheckOf, IsRacesOf, IsReplayOf, IsRunOf, extent_of, has_two_orders, number_given, options_of};
+ghost use Rattle.arguments.specs.Words.{IsCheckOf, IsRacesOf, IsReplayOf, IsRunOf, IsWavesOf, extent_of, has_two_orders, number_given, options_of};
 
 use crate::extent::Extent;
 use crate::options::Options;
-use crate::request::{CheckRequest, RacesRequest, ReplayRequest, RunRequest};
+use crate::request::{CheckRequest, RacesRequest, ReplayRequest, RunRequest, WavesRequest};
 use clap::ArgMatches;
 
 const DEFAULT_WORKERS: u32 = 2;
@@ -62,6 +62,17 @@ pub fn check_request<'a>(matches: &ArgMatches<'a>) -> CheckRequest<'a>
 {
     CheckRequest {
         file: matches.get_str("FILE").unwrap(),
+    }
+}
+
+pub fn waves_request<'a>(matches: &ArgMatches<'a>) -> WavesRequest<'a>
+    requires { GivesWaves (found_of matches.now) }
+    ensures { IsWavesOf (rows_of (found_of matches.now)) result }
+{
+    WavesRequest {
+        file: matches.get_str("FILE").unwrap(),
+        journal: matches.get_str("JOURNAL").unwrap(),
+        out: matches.get_str("out").unwrap(),
     }
 }
 

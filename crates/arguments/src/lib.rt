@@ -22,5 +22,7 @@ mod version;
 pub use extent::Extent;
 pub use options::Options;
 pub use parsing::read_request;
-pub use request::{CheckRequest, RacesRequest, Refusal, ReplayRequest, Request, RunRequest};
+pub use request::{
+    CheckRequest, RacesRequest, Refusal, ReplayRequest, Request, RunRequest, WavesRequest,
+};
 pub use version::VERSION;

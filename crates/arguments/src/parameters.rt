@@ -3,7 +3,7 @@
 ghost use Rattle.std.specs.Prelude.{◌≡◌, None, Some, true, false, codes};
 ghost use Rattle.clap.specs.Words.{rule_of};
 ghost use Rattle.arguments.specs.Arguments.{Takes, rule, workers_parser, until_parser, entries_parser, seed_parser};
-ghost use Rattle.arguments.specs.Words.{choice, place};
+ghost use Rattle.arguments.specs.Words.{choice, need, place};
 
 use clap::{Arg, ArgAction, value_parser};
 use std::alloc::Global;
@@ -119,4 +119,15 @@ pub fn journals<'a>(alloc: Global) -> Arg<'a>
         .value_name("PREFIX")
         .action(ArgAction::Set)
         .help("Where to write a journal of each text: PREFIX.1.journal, ..")
+}
+
+pub fn out<'a>(alloc: Global) -> Arg<'a>
+    ensures takes { Takes result (rule (codes "out") true None) }
+    ensures rule { rule_of result ≡ need (codes "out") }
+{
+    let out = Arg::new(alloc, "out").required(true);
+    out.long("out")
+        .value_name("OUT")
+        .action(ArgAction::Set)
+        .help("Where to write the value change dump")
 }

@@ -10,9 +10,12 @@ ghost use Rattle.clap.specs.declared.error.kind.ErrorKind.TheVariants.{ArgumentC
 ghost use Rattle.arguments.specs.Words.{Asks, AsksNoTask, Begins, FailsAs, IsRefusal, IsRefusalBy, texts_of, word_of};
 
 use crate::commands::{
-    check_matches, conflict, missing, races_matches, replay_matches, run_matches, whole_matches,
+    check_matches, conflict, missing, races_matches, replay_matches, run_matches, waves_matches,
+    whole_matches,
 };
-use crate::given::{check_request, gives_two_orders, races_request, replay_request, run_request};
+use crate::given::{
+    check_request, gives_two_orders, races_request, replay_request, run_request, waves_request,
+};
 use crate::request::{Refusal, Request};
 use crate::task::Task;
 use clap::Error;
@@ -71,6 +74,9 @@ fn asked_task(words: &[String]) -> Option<Task>
     if begins(words, "check") {
         return Some(Task::Check);
     }
+    if begins(words, "waves") {
+        return Some(Task::Waves);
+    }
     if begins(words, "--version") {
         return Some(Task::Version);
     }
@@ -87,6 +93,7 @@ fn parse_task<'a>(alloc: Global, task: Task, words: &'a [String]) -> Result<Requ
         Task::Replay => parse_replay(alloc, words),
         Task::Races => parse_races(alloc, words),
         Task::Check => parse_check(alloc, words),
+        Task::Waves => parse_waves(alloc, words),
         Task::Version => Ok(Request::Version),
     }
 }
@@ -171,6 +178,18 @@ fn parse_check<'a>(alloc: Global, words: &'a [String]) -> Result<Request<'a>, Er
     let own = own_words(words);
     match check_matches(alloc, own) {
         Ok(matches) => Ok(Request::Check(check_request(&matches))),
+        Err(error) => Err(error),
+    }
+}
+
+fn parse_waves<'a>(alloc: Global, words: &'a [String]) -> Result<Request<'a>, Error>
+    requires { Begins (texts_of words.now) (codes "waves") }
+    ensures asked { IfOk result (Asks (texts_of words.now)) }
+    ensures failed { IfErr result (λ e. FailsAs (texts_of words.now) (kind_of e)) }
+{
+    let own = own_words(words);
+    match waves_matches(alloc, own) {
+        Ok(matches) => Ok(Request::Waves(waves_request(&matches))),
         Err(error) => Err(error),
     }
 }

@@ -12,6 +12,7 @@ pub enum Request<'a> {
     Replay(ReplayRequest<'a>),
     Races(RacesRequest<'a>),
     Check(CheckRequest<'a>),
+    Waves(WavesRequest<'a>),
     Version,
 }
 
@@ -45,6 +46,14 @@ pub struct RacesRequest<'a> {
 #[derive(Drop)]
 pub struct CheckRequest<'a> {
     pub file: &'a str,
+}
+
+/// `waves FILE JOURNAL`, with the path of the value change dump.
+#[derive(Drop)]
+pub struct WavesRequest<'a> {
+    pub file: &'a str,
+    pub journal: &'a str,
+    pub out: &'a str,
 }
 
 /// Why there is no request: help was asked for, the words are wrong, or memory was refused. A text

@@ -7,5 +7,6 @@ pub enum Task {
     Replay,
     Races,
     Check,
+    Waves,
     Version,
 }

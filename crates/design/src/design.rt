@@ -164,6 +164,20 @@ impl Design {
         Ok(controls)
     }
 
+    /// The event controls, in the order of their numbers, as they lie in the design.
+    pub fn event_controls(&self) -> &[Control]
+        ensures { result.now ≡ controls_of self.entry.now }
+    {
+        self.controls.as_slice()
+    }
+
+    /// The processes as trees, in the order of the text (9.9).
+    pub fn trees(&self) -> &[Process]
+        ensures { result.now ≡ self.entry.now.processes }
+    {
+        self.processes.as_slice()
+    }
+
     /// The number of processes.
     pub fn processes(&self) -> u32
         ensures value { result ≡ length (design_of self.now).processes }

@@ -9,6 +9,7 @@ use Rattle.std.proofs.lemmas.Option.{slice_get-get_or}
 use Rattle.std.proofs.lemmas.List.{get_or_default, get_or_append_left}
 use Rattle.std.proofs.Math.Seq.{get_or-append_seam}
 use Rattle.explore.specs.Grown.{Extends, grown}
+use Rattle.explore.specs.Pieces.{pieces, ArePieces}
 use Rattle.explore.specs.Kept.{IsText, IsVisited, IsPending, AreKept, Grows, Leads}
 use Rattle.explore.specs.Runs.{Runs}
 use Rattle.explore.specs.Search.{IsPrinted, Serves, IsShown, IsFollowed}
@@ -20,7 +21,6 @@ use Rattle.explore.specs.declared.Shown.{Shown}
 use Rattle.explore.specs.declared.kept.Kept.{Kept}
 use Rattle.explore.specs.declared.kept.Pending.{Pending}
 use Rattle.explore.specs.declared.kept.Place.{Place}
-use Rattle.explore.specs.declared.visited.Visit.{Visit}
 use Rattle.explore.proofs.Growing.{Extends-itself, Extends-through, length-extends, get_or-extends, length-grown, get_or-grown, slice_get_push}
 use Rattle.explore.proofs.Complete.{Any-extends, Serves-itself, IsFollowed-more, AreFollowed}
 
@@ -53,15 +53,16 @@ IsPending-more {M} runs old new told told' p more longer pending =
 
 -- what is kept is good where texts are added
 pub AreKept-texts : {M N E : Type 0} (runs : Runs M N E) (key_of : N → List ℕ) (old new : Kept N M) → AreKept runs key_of old → new.trail ≡ old.trail → IsTexts new.texts → Extends (texts old.texts) (texts new.texts) →
-    new.visited.visits.keys ≡ old.visited.visits.keys → new.pending.items ≡ old.pending.items → AreKept runs key_of new
-AreKept-texts {M} {N} runs key_of old new kept trail ok longer keys pending =
+    ArePieces new.visited.visits → pieces new.visited.visits ≡ pieces old.visited.visits → new.pending.items ≡ old.pending.items → AreKept runs key_of new
+AreKept-texts {M} {N} runs key_of old new kept trail ok longer whole keys pending =
     let more : Extends (ways old.trail) (ways new.trail) = subst (λ t. Extends (ways old.trail) (ways t)) (sym trail) (Extends-itself (ways old.trail)) in
     record {
       trail = subst IsTrail (sym trail) kept.trail;
       told = ok;
+      whole = whole;
       count = ap length keys ∙ (kept.count ∙ ap (λ t. length (ways t)) (sym trail));
-      visited = λ k visit e. IsVisited-more runs key_of (ways old.trail) (ways new.trail) (texts old.texts) (texts new.texts) (record { number = k; text = visit.text }) visit.key.items more longer
-          (kept.visited k visit (ap (λ (l : List Visit). slice_get l k) (sym keys) ∙ e));
+      visited = λ k visit e. IsVisited-more runs key_of (ways old.trail) (ways new.trail) (texts old.texts) (texts new.texts) (record { number = k; text = visit.0 }) visit.1 more longer
+          (kept.visited k visit (ap (λ (l : List (ℕ × List ℕ)). slice_get l k) (sym keys) ∙ e));
       pending = subst (λ (l : List (Pending N)). All (IsPending runs (ways new.trail) (texts new.texts)) l) (sym pending)
           (λ k d less. IsPending-more runs (ways old.trail) (ways new.trail) (texts old.texts) (texts new.texts) (get_or old.pending.items k d) more longer (kept.pending k d less));
     }
@@ -90,30 +91,31 @@ IsText-next {M} runs old new told told' from text moves printed at print more wi
       same = longer ∙ (ap (λ l. l ++ printed) at.same ∙ (sym print ∙ ap runs.text (sym last)));
     }
 
-visited_pushed : {M N E : Type 0} (runs : Runs M N E) (key_of : N → List ℕ) (old new : List (List M)) (told told' : List (List ℕ)) (keys : List Visit) (visit v : Visit) (k : ℕ) → Extends old new → Extends told told' → length keys ≡ length old →
-    ((k : ℕ) (v : Visit) → slice_get keys k ≡ Some v → IsVisited runs key_of old told (record { number = k; text = v.text }) v.key.items) → IsVisited runs key_of new told' (record { number = length old; text = visit.text }) visit.key.items →
-    slice_get (keys ++ visit ∷ []) k ≡ Some v → IsVisited runs key_of new told' (record { number = k; text = v.text }) v.key.items
+visited_pushed : {M N E : Type 0} (runs : Runs M N E) (key_of : N → List ℕ) (old new : List (List M)) (told told' : List (List ℕ)) (keys : List (ℕ × List ℕ)) (visit v : ℕ × List ℕ) (k : ℕ) → Extends old new → Extends told told' → length keys ≡ length old →
+    ((k : ℕ) (v : ℕ × List ℕ) → slice_get keys k ≡ Some v → IsVisited runs key_of old told (record { number = k; text = v.0 }) v.1) → IsVisited runs key_of new told' (record { number = length old; text = visit.0 }) visit.1 →
+    slice_get (keys ++ visit ∷ []) k ≡ Some v → IsVisited runs key_of new told' (record { number = k; text = v.0 }) v.1
 visited_pushed runs key_of old new told told' keys visit v k more longer count before now e = elim (slice_get_push keys visit v k e) [
-  | inl h ↦ IsVisited-more runs key_of old new told told' (record { number = k; text = v.text }) v.key.items more longer (before k v h.1)
+  | inl h ↦ IsVisited-more runs key_of old new told told' (record { number = k; text = v.0 }) v.1 more longer (before k v h.1)
   | inr h ↦
       let at : length old ≡ k = sym (h.0 ∙ count) in
-      subst (λ (x : Visit). IsVisited runs key_of new told' (record { number = k; text = x.text }) x.key.items) h.1
-      (subst (λ (n : ℕ). IsVisited runs key_of new told' (record { number = n; text = visit.text }) visit.key.items) at now)
+      subst (λ (x : ℕ × List ℕ). IsVisited runs key_of new told' (record { number = k; text = x.0 }) x.1) h.1
+      (subst (λ (n : ℕ). IsVisited runs key_of new told' (record { number = n; text = visit.0 }) visit.1) at now)
 ]
 
 -- what is kept is good where a run is added, with its text, its visit and its node
-pub AreKept-push : {M N E : Type 0} (runs : Runs M N E) (key_of : N → List ℕ) (old new : Kept N M) (from text : ℕ) (moves : List M) (visit : Visit) (p : Pending N) → AreKept runs key_of old →
+pub AreKept-push : {M N E : Type 0} (runs : Runs M N E) (key_of : N → List ℕ) (old new : Kept N M) (from text : ℕ) (moves : List M) (visit : ℕ × List ℕ) (p : Pending N) → AreKept runs key_of old →
     IsTrail new.trail → ways new.trail ≡ grown (ways old.trail) from moves → IsTexts new.texts → Extends (texts old.texts) (texts new.texts) →
-    new.visited.visits.keys ≡ old.visited.visits.keys ++ visit ∷ [] → new.pending.items ≡ old.pending.items ++ p ∷ [] →
-    IsVisited runs key_of (ways new.trail) (texts new.texts) (record { number = length (ways old.trail); text = visit.text }) visit.key.items → IsPending runs (ways new.trail) (texts new.texts) p → AreKept runs key_of new
-AreKept-push {M} {N} runs key_of old new from text moves visit p kept trail added ok longer keys pending seen last =
+    ArePieces new.visited.visits → pieces new.visited.visits ≡ pieces old.visited.visits ++ visit ∷ [] → new.pending.items ≡ old.pending.items ++ p ∷ [] →
+    IsVisited runs key_of (ways new.trail) (texts new.texts) (record { number = length (ways old.trail); text = visit.0 }) visit.1 → IsPending runs (ways new.trail) (texts new.texts) p → AreKept runs key_of new
+AreKept-push {M} {N} runs key_of old new from text moves visit p kept trail added ok longer whole keys pending seen last =
     let more : Extends (ways old.trail) (ways new.trail) = (_, added) in
     record {
       trail = trail;
       told = ok;
-      count = omega (arith, ap length keys, length-append old.visited.visits.keys (visit ∷ []), kept.count, ap length added, length-grown (ways old.trail) from moves);
-      visited = λ k v e. visited_pushed runs key_of (ways old.trail) (ways new.trail) (texts old.texts) (texts new.texts) old.visited.visits.keys visit v k more longer kept.count kept.visited seen
-          (ap (λ (l : List Visit). slice_get l k) (sym keys) ∙ e);
+      whole = whole;
+      count = omega (arith, ap length keys, length-append (pieces old.visited.visits) (visit ∷ []), kept.count, ap length added, length-grown (ways old.trail) from moves);
+      visited = λ k v e. visited_pushed runs key_of (ways old.trail) (ways new.trail) (texts old.texts) (texts new.texts) (pieces old.visited.visits) visit v k more longer kept.count kept.visited seen
+          (ap (λ (l : List (ℕ × List ℕ)). slice_get l k) (sym keys) ∙ e);
       pending = subst (λ (l : List (Pending N)). All (IsPending runs (ways new.trail) (texts new.texts)) l) (sym pending)
           (All-push (IsPending runs (ways new.trail) (texts new.texts)) old.pending.items p
           (λ k d less. IsPending-more runs (ways old.trail) (ways new.trail) (texts old.texts) (texts new.texts) (get_or old.pending.items k d) more longer (kept.pending k d less)) last);
@@ -156,15 +158,15 @@ pub Grows-itself : {M N : Type 0} (a : Kept N M) → Grows a a
 Grows-itself a = Grows-texts a a refl (Extends-itself (texts a.texts)) refl
 
 -- where a visit of the same key and the same text is there, a run that was reached serves the one that leads to the node
-pub there_leads : {M N E : Type 0} (runs : Runs M N E) (key_of : N → List ℕ) (old : Kept N M) (told : List (List ℕ)) (node : N) (run : List M) (visit : Visit) →
+pub there_leads : {M N E : Type 0} (runs : Runs M N E) (key_of : N → List ℕ) (old : Kept N M) (told : List (List ℕ)) (node : N) (run : List M) (visit : ℕ × List ℕ) →
     ((a b : N) (i j : List M) → key_of a ≡ key_of b → runs.Stands a i → runs.Stands b j → runs.text i ≡ runs.text j → Serves runs i j) →
-    AreKept runs key_of old → Extends (texts old.texts) told → runs.Stands node run → key_of node ≡ visit.key.items → get_or told visit.text [] ≡ runs.text run → IsThere visit old.visited.visits.keys → Leads runs (ways old.trail) run
+    AreKept runs key_of old → Extends (texts old.texts) told → runs.Stands node run → key_of node ≡ visit.1 → get_or told visit.0 [] ≡ runs.text run → IsThere visit (pieces old.visited.visits) → Leads runs (ways old.trail) run
 there_leads {M} {N} runs key_of old told node run visit law kept longer stands keyed text there =
-    let at : slice_get old.visited.visits.keys there.0 ≡ Some there.1 = slice_get-get_or old.visited.visits.keys there.0 there.1 there.2 ∙ ap (λ x. Some x) there.3 in
+    let at : slice_get (pieces old.visited.visits) there.0 ≡ Some there.1 = slice_get-get_or (pieces old.visited.visits) there.0 there.1 there.2 ∙ ap (λ x. Some x) there.3 in
     let seen = kept.visited there.0 there.1 at in
     let within : there.0 < length (ways old.trail) = seen.text.way in
     let same : runs.text run ≡ runs.text (get_or (ways old.trail) there.0 []) =
-    sym text ∙ (ap (λ n. get_or told n []) (sym there.4.0) ∙ (get_or-extends (texts old.texts) told there.1.text [] longer seen.text.told ∙ seen.text.same)) in
+    sym text ∙ (ap (λ n. get_or told n []) (sym there.4.0) ∙ (get_or-extends (texts old.texts) told there.1.0 [] longer seen.text.told ∙ seen.text.same)) in
     let serves = law node seen.node run (get_or (ways old.trail) there.0 []) (keyed ∙ sym (seen.keyed ∙ there.4.1)) stands seen.stands same in
     (there.0, get_or (ways old.trail) there.0 [], within, get_or_default (ways old.trail) there.0 (get_or (ways old.trail) there.0 []) [] within, serves)
 
@@ -200,32 +202,33 @@ AreKept-pop {M} {N} runs key_of old new p kept trail told visited pending =
       record {
         trail = subst IsTrail (sym trail) kept.trail;
         told = subst IsTexts (sym told) kept.told;
-        count = ap (λ v. length v.visits.keys) visited ∙ (kept.count ∙ ap (λ t. length (ways t)) (sym trail));
-        visited = λ k v e. subst (λ t. IsVisited runs key_of (ways t) (texts new.texts) (record { number = k; text = v.text }) v.key.items) (sym trail)
-            (subst (λ t. IsVisited runs key_of (ways old.trail) (texts t) (record { number = k; text = v.text }) v.key.items) (sym told) (kept.visited k v (ap (λ s. slice_get s.visits.keys k) (sym visited) ∙ e)));
+        whole = subst (λ v. ArePieces v.visits) (sym visited) kept.whole;
+        count = ap (λ v. length (pieces v.visits)) visited ∙ (kept.count ∙ ap (λ t. length (ways t)) (sym trail));
+        visited = λ k v e. subst (λ t. IsVisited runs key_of (ways t) (texts new.texts) (record { number = k; text = v.0 }) v.1) (sym trail)
+            (subst (λ t. IsVisited runs key_of (ways old.trail) (texts t) (record { number = k; text = v.0 }) v.1) (sym told) (kept.visited k v (ap (λ s. slice_get (pieces s.visits) k) (sym visited) ∙ e)));
         pending = subst (λ t. All (IsPending runs (ways t) (texts new.texts)) new.pending.items) (sym trail) (subst (λ t. All (IsPending runs (ways old.trail) (texts t)) new.pending.items) (sym told) parts.0);
       },
       parts.1,
     )
 
-none_there : (visit : Visit) → IsThere visit [] → ⊥
+none_there : (visit : ℕ × List ℕ) → IsThere visit [] → ⊥
 none_there visit at = absurd (omega (arith, at.2))
 
 -- the first visit is new
-pub keys_first : (b : Bool) (old new : List Visit) (visit : Visit) → old ≡ [] → (b ≡ false → (new ≡ old) × IsThere visit old) → (b ≡ true → new ≡ old ++ visit ∷ []) → new ≡ visit ∷ []
+pub keys_first : (b : Bool) (old new : List (ℕ × List ℕ)) (visit : ℕ × List ℕ) → old ≡ [] → (b ≡ false → (new ≡ old) × IsThere visit old) → (b ≡ true → new ≡ old ++ visit ∷ []) → new ≡ visit ∷ []
 keys_first true old new visit none found added = added refl ∙ ap (λ l. l ++ visit ∷ []) none
 keys_first false old new visit none found added = absurd (none_there visit (subst (IsThere visit) none (found refl).1))
 
-only_visit : {M N E : Type 0} (runs : Runs M N E) (key_of : N → List ℕ) (w : List (List M)) (t : List (List ℕ)) (visit v : Visit) (k : ℕ) → IsVisited runs key_of w t (record { number = 0; text = visit.text }) visit.key.items → slice_get (visit ∷ []) k ≡ Some v → IsVisited runs key_of w t (record { number = k; text = v.text }) v.key.items
+only_visit : {M N E : Type 0} (runs : Runs M N E) (key_of : N → List ℕ) (w : List (List M)) (t : List (List ℕ)) (visit v : ℕ × List ℕ) (k : ℕ) → IsVisited runs key_of w t (record { number = 0; text = visit.0 }) visit.1 → slice_get (visit ∷ []) k ≡ Some v → IsVisited runs key_of w t (record { number = k; text = v.0 }) v.1
 only_visit runs key_of w t visit v k first e = elim (slice_get_push [] visit v k e) [
   | inl h ↦ absurd (omega (arith, h.0))
-  | inr h ↦ subst (λ (x : Visit). IsVisited runs key_of w t (record { number = k; text = x.text }) x.key.items) h.1 (subst (λ (n : ℕ). IsVisited runs key_of w t (record { number = n; text = visit.text }) visit.key.items) (sym h.0) first)
+  | inr h ↦ subst (λ (x : ℕ × List ℕ). IsVisited runs key_of w t (record { number = k; text = x.0 }) x.1) h.1 (subst (λ (n : ℕ). IsVisited runs key_of w t (record { number = n; text = visit.0 }) visit.1) (sym h.0) first)
 ]
 
 -- what is kept at first
-pub AreKept-first : {M N E : Type 0} (runs : Runs M N E) (key_of : N → List ℕ) (new : Kept N M) (p : Pending N) (visit : Visit) → IsTrail new.trail → ways new.trail ≡ [] ∷ [] → IsTexts new.texts → texts new.texts ≡ [] ∷ [] → new.visited.visits.keys ≡ visit ∷ [] → new.pending.items ≡ [] ++ p ∷ [] →
-    visit.text ≡ 0 → p.place ≡ record { number = 0; text = 0 } → runs.Stands p.node [] → key_of p.node ≡ visit.key.items → runs.text [] ≡ [] → AreKept runs key_of new
-AreKept-first {M} {N} runs key_of new p visit trail one told none keys pending zeroth place stands keyed silent =
+pub AreKept-first : {M N E : Type 0} (runs : Runs M N E) (key_of : N → List ℕ) (new : Kept N M) (p : Pending N) (visit : ℕ × List ℕ) → IsTrail new.trail → ways new.trail ≡ [] ∷ [] → IsTexts new.texts → texts new.texts ≡ [] ∷ [] → ArePieces new.visited.visits → pieces new.visited.visits ≡ visit ∷ [] → new.pending.items ≡ [] ++ p ∷ [] →
+    visit.0 ≡ 0 → p.place ≡ record { number = 0; text = 0 } → runs.Stands p.node [] → key_of p.node ≡ visit.1 → runs.text [] ≡ [] → AreKept runs key_of new
+AreKept-first {M} {N} runs key_of new p visit trail one told none whole keys pending zeroth place stands keyed silent =
     let first : get_or (ways new.trail) 0 [] ≡ [] = ap (λ (l : List (List M)). get_or l 0 []) one in
     let at : IsText runs (ways new.trail) (texts new.texts) (record { number = 0; text = 0 }) = record {
       way = omega (arith, ap length one);
@@ -233,7 +236,7 @@ AreKept-first {M} {N} runs key_of new p visit trail one told none keys pending z
       same = ap (λ (l : List (List ℕ)). get_or l 0 []) none ∙ (sym silent ∙ ap runs.text (sym first));
     } in
     let standing : runs.Stands p.node (get_or (ways new.trail) 0 []) = subst (λ (l : List M). runs.Stands p.node l) (sym first) stands in
-    let seen : IsVisited runs key_of (ways new.trail) (texts new.texts) (record { number = 0; text = visit.text }) visit.key.items = record {
+    let seen : IsVisited runs key_of (ways new.trail) (texts new.texts) (record { number = 0; text = visit.0 }) visit.1 = record {
       node = p.node;
       stands = standing;
       keyed = keyed;
@@ -246,8 +249,9 @@ AreKept-first {M} {N} runs key_of new p visit trail one told none keys pending z
     record {
       trail = trail;
       told = told;
+      whole = whole;
       count = omega (arith, ap length keys, ap length one);
-      visited = λ k v e. only_visit runs key_of (ways new.trail) (texts new.texts) visit v k seen (ap (λ (l : List Visit). slice_get l k) (sym keys) ∙ e);
+      visited = λ k v e. only_visit runs key_of (ways new.trail) (texts new.texts) visit v k seen (ap (λ (l : List (ℕ × List ℕ)). slice_get l k) (sym keys) ∙ e);
       pending = subst (λ (l : List (Pending N)). All (IsPending runs (ways new.trail) (texts new.texts)) l) (sym pending)
           (All-push (IsPending runs (ways new.trail) (texts new.texts)) [] p (All-nil (IsPending runs (ways new.trail) (texts new.texts))) last);
     }

@@ -2,6 +2,7 @@
 use Rattle.std.specs.Prelude.{◌≡◌, ℕ, ◌+◌, ◌<◌, ◌≤◌, List, [], length, get_or, Some, slice_get}
 use Rattle.std.specs.List.{All, Any}
 use Rattle.explore.specs.Grown.{Extends}
+use Rattle.explore.specs.Pieces.{pieces, ArePieces}
 use Rattle.explore.specs.Runs.{Runs}
 use Rattle.explore.specs.Search.{Serves}
 use Rattle.explore.specs.Texts.{texts, IsTexts}
@@ -9,7 +10,6 @@ use Rattle.explore.specs.Trail.{ways, IsTrail}
 use Rattle.explore.specs.declared.kept.Kept.{Kept}
 use Rattle.explore.specs.declared.kept.Pending.{Pending}
 use Rattle.explore.specs.declared.kept.Place.{Place}
-use Rattle.explore.specs.declared.visited.Visit.{Visit}
 
 -- the text with a place's text number is that of the run with its number
 pub record IsText {Move Node End : Type 0} (runs : Runs Move Node End) (ways : List (List Move)) (texts : List (List ℕ)) (place : Place) : Type 0 where
@@ -33,8 +33,9 @@ pub record IsPending {Move Node End : Type 0} (runs : Runs Move Node End) (ways 
 pub record AreKept {Move Node End : Type 0} (runs : Runs Move Node End) (key_of : Node → List ℕ) (kept : Kept Node Move) : Type 0 where
   pub trail : IsTrail kept.trail
   pub told : IsTexts kept.texts
-  pub count : length kept.visited.visits.keys ≡ length (ways kept.trail)
-  pub visited : (k : ℕ) (visit : Visit) → slice_get kept.visited.visits.keys k ≡ Some visit → IsVisited runs key_of (ways kept.trail) (texts kept.texts) (record { number = k; text = visit.text }) visit.key.items
+  pub whole : ArePieces kept.visited.visits
+  pub count : length (pieces kept.visited.visits) ≡ length (ways kept.trail)
+  pub visited : (k : ℕ) (visit : ℕ × List ℕ) → slice_get (pieces kept.visited.visits) k ≡ Some visit → IsVisited runs key_of (ways kept.trail) (texts kept.texts) (record { number = k; text = visit.0 }) visit.1
   pub pending : All (IsPending runs (ways kept.trail) (texts kept.texts)) kept.pending.items
 
 -- runs and texts stay, and for each run that was added there is a node more that is pending

@@ -1,5 +1,6 @@
 pub mod Grown
 pub mod Kept
+pub mod Pieces
 pub mod Runs
 pub mod Search
 pub mod Steps

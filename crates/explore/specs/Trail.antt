@@ -1,19 +1,14 @@
 -- The runs that a trail holds.
-use Rattle.std.specs.Prelude.{◌≡◌, ℕ, ◌≤◌, List, [], ◌∷◌, length, map, Some, slice_get, slice_range}
+use Rattle.std.specs.Prelude.{◌≡◌, ℕ, ◌≤◌, List, [], ◌∷◌, Some, slice_get}
 use Rattle.explore.specs.Grown.{grown_all}
-use Rattle.explore.specs.declared.trail.Step.{Step}
+use Rattle.explore.specs.Pieces.{pieces, ArePieces}
 use Rattle.explore.specs.declared.trail.Trail.{Trail}
-
--- the run that a step goes on from, and its further moves
-abbrev pub piece : {Move : Type 0} → List Move → Step → ℕ × List Move
-piece moves step = (step.from, slice_range moves step.begin step.end)
 
 -- the moves of the runs, by their numbers
 abbrev pub ways : {Move : Type 0} → Trail Move → List (List Move)
-ways trail = grown_all ([] ∷ []) (map (piece trail.moves.items) trail.steps.items)
+ways trail = grown_all ([] ∷ []) (pieces trail.steps)
 
--- each step goes on from a run that was there before it, by moves that are there
-abbrev pub IsTrail : {Move : Type 0} → Trail Move → Type 0
-IsTrail {Move} trail =
-    (k : ℕ) (step : Step) → slice_get trail.steps.items k ≡ Some step →
-    (step.from ≤ k) × (step.begin ≤ step.end) × (step.end ≤ length trail.moves.items)
+-- each step goes on from a run that was there before it
+pub record IsTrail {Move : Type 0} (trail : Trail Move) : Type 0 where
+  pub whole : ArePieces trail.steps
+  pub after : (k : ℕ) (step : ℕ × List Move) → slice_get (pieces trail.steps) k ≡ Some step → step.0 ≤ k

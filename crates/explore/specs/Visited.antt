@@ -1,8 +1,7 @@
 -- What was visited.
-use Rattle.std.specs.Prelude.{◌≡◌, List}
+use Rattle.std.specs.Prelude.{◌≡◌, ℕ, List}
 use Rattle.std.specs.List.{Any}
-use Rattle.explore.specs.declared.visited.Visit.{Visit}
 
--- one of the visits has the same key and the same text
-abbrev pub IsThere : Visit → List Visit → Type 0
-IsThere visit visits = Any (λ v. (v.text ≡ visit.text) × (v.key.items ≡ visit.key.items)) visits
+-- one of the visits has the same text and the same key
+abbrev pub IsThere : (ℕ × List ℕ) → List (ℕ × List ℕ) → Type 0
+IsThere visit visits = Any (λ v. (v.0 ≡ visit.0) × (v.1 ≡ visit.1)) visits

@@ -8,7 +8,7 @@ ghost use Rattle.explore.specs.Trail.{ways};
 
 use crate::texts::Texts;
 use crate::trail::Trail;
-use crate::visited::{Visit, Visited};
+use crate::visited::Visited;
 use crate::{Next, Orders};
 use std::alloc::{AllocError, Global};
 
@@ -48,7 +48,7 @@ pub(crate) fn first<O: Orders>(
     let node = orders.start(alloc)?;
     let key = orders.key(alloc, &node)?;
     let mut visited = Visited::new(alloc);
-    let _new = visited.add(Visit { text: 0, key })?;
+    let _new = visited.add(alloc, 0, key.as_slice())?;
     let mut pending = Vec::new(alloc);
     pending.push(Pending {
         node,
@@ -88,12 +88,12 @@ fn follow<O: Orders>(
     } = next;
     let text = kept.texts.longer(from.text, &printed)?;
     let key = orders.key(alloc, &node)?;
-    let visit = Visit { text, key };
+    let bytes = key.as_slice();
     let number = kept.trail.len();
     if number >= most {
-        return Ok(kept.visited.contains(&visit));
+        return Ok(kept.visited.contains(text, bytes));
     }
-    let new = kept.visited.add(visit)?;
+    let new = kept.visited.add(alloc, text, bytes)?;
     if !new {
         return Ok(true);
     }

@@ -13,6 +13,7 @@
 
 mod kept;
 mod orders;
+mod pieces;
 mod search;
 mod show;
 mod texts;

@@ -1,23 +1,16 @@
 //! The moves of the runs that were reached, each told by the run that it goes on from.
-ghost use Rattle.std.specs.Prelude.{◌≡◌, ◌<◌, ◌≤◌, ◌++◌, [], ◌∷◌, length, reverse, get_or, slice_range, IfOk, OnOk};
+ghost use Rattle.std.specs.Prelude.{◌≡◌, ◌<◌, ◌++◌, [], ◌∷◌, length, reverse, get_or, IfOk, OnOk};
 ghost use Rattle.explore.specs.Grown.{grown};
 ghost use Rattle.explore.specs.Trail.{ways, IsTrail};
 
+use crate::pieces::Pieces;
 use std::alloc::{AllocError, Global};
 
-/// The number of the run that a run goes on from, and where its further moves begin and end in the one list of moves.
-#[derive(Clone, Copy)]
-pub(crate) struct Step {
-    pub(crate) from: usize,
-    pub(crate) begin: usize,
-    pub(crate) end: usize,
-}
-
-/// Runs by their numbers. The run of number 0 has no moves, and the others have a step each.
+/// Runs by their numbers. The run of number 0 has no moves, and the others have a step each: the number of the run that they go on
+/// from, and their further moves.
 #[derive(Drop)]
 pub(crate) struct Trail<M> {
-    pub(crate) steps: Vec<Step>,
-    pub(crate) moves: Vec<M>,
+    pub(crate) steps: Pieces<M>,
 }
 
 /// Adds moves, the last of them first.
@@ -42,8 +35,7 @@ impl<M: Copy> Trail<M> {
         ensures ways { ways result ≡ [] ∷ [] }
     {
         Trail {
-            steps: Vec::new(alloc),
-            moves: Vec::new(alloc),
+            steps: Pieces::new(alloc),
         }
     }
 
@@ -61,24 +53,19 @@ impl<M: Copy> Trail<M> {
         ensures trail { OnOk result (IsTrail self.new) }
         ensures ways { OnOk result (ways self.new ≡ grown (ways self.old) from moves.now) }
     {
-        let begin = self.moves.len();
-        self.moves.extend_from_slice(moves)?;
-        let end = self.moves.len();
-        self.steps.push(Step { from, begin, end })?;
+        self.steps.push(from, moves)?;
         Ok(())
     }
 
-    /// The step that led to the run with a number.
-    fn last_step(&self, number: usize) -> Step
+    /// The run that the one with a number goes on from, and its further moves.
+    fn last_step(&self, number: usize) -> (usize, &[M])
         requires trail { IsTrail self.now }
         requires moved { 0 < number }
         requires within { number < length (ways self.now) }
-        ensures from { result.from < number }
-        ensures begin { result.begin ≤ result.end }
-        ensures end { result.end ≤ length self.now.moves.items }
-        ensures way { get_or (ways self.now) number [] ≡ get_or (ways self.now) result.from [] ++ slice_range self.now.moves.items result.begin result.end }
+        ensures from { result.0 < number }
+        ensures way { get_or (ways self.now) number [] ≡ get_or (ways self.now) result.0 [] ++ result.1.now }
     {
-        self.steps[number - 1]
+        self.steps.piece(number - 1)
     }
 
     /// The moves of the run with a number.
@@ -90,9 +77,9 @@ impl<M: Copy> Trail<M> {
         let mut back = Vec::new(alloc);
         let mut k = number;
         while k != 0 {
-            let step = self.last_step(k);
-            push_back_to_front(alloc, &mut back, &self.moves[step.begin..step.end])?;
-            k = step.from;
+            let (from, moves) = self.last_step(k);
+            push_back_to_front(alloc, &mut back, moves)?;
+            k = from;
         }
         back.reverse();
         Ok(back)

@@ -112,14 +112,14 @@ pub fn flat_turns(
     if !updates.is_empty() {
         return Ok(None);
     }
-    let controls = design.controls(alloc)?;
+    let controls = design.event_controls();
     let mut turns = Vec::new(alloc);
     for at in 0..evaluations.len() {
         if !add_turn(
             alloc,
             design,
             machine,
-            &controls,
+            controls,
             &mut turns,
             evaluations[at],
         )? {

@@ -16,4 +16,4 @@ mod waits;
 
 pub use flat::{flat_turns, one_maker};
 pub use silent::is_silent;
-pub use turned::Turned;
+pub use turned::{Turned, evaluate};

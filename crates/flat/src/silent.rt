@@ -45,10 +45,10 @@ pub fn is_silent(alloc: Global, design: &Design, machine: &Machine<'_>) -> Resul
         return Ok(false);
     }
     machine.stands();
-    let controls = design.controls(alloc)?;
+    let controls = design.event_controls();
     let writes = writes_of(alloc, machine.state().nonblocking())?;
     Ok(all_sleep(
-        &controls,
+        controls,
         machine.state().processes(),
         machine.store(),
         &writes,

@@ -27,7 +27,7 @@ fn place_of(machine: &Machine<'_>, process: u32) -> Option<ProcState>
 }
 
 /// The turn of an active evaluation, where it is short.
-pub(crate) fn evaluate(
+pub fn evaluate(
     alloc: Global,
     design: &Design,
     machine: &Machine<'_>,

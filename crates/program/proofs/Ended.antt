@@ -13,6 +13,7 @@ use Rattle.arguments.specs.declared.request.RunRequest.{RunRequest}
 use Rattle.arguments.proofs.SecondWord.{unlike}
 use Rattle.arguments.specs.declared.request.CheckRequest.{CheckRequest}
 use Rattle.arguments.specs.declared.request.RacesRequest.{RacesRequest}
+use Rattle.arguments.specs.declared.request.WavesRequest.{WavesRequest}
 use Rattle.arguments.specs.declared.extent.Extent.{Extent}
 use Rattle.program.specs.declared.finding.Finding.{Finding}
 use Rattle.program.specs.declared.fault.Fault.{Fault}
@@ -21,12 +22,12 @@ use Rattle.program.specs.declared.ending.Ending.{Ending}
 use Rattle.program.specs.declared.ending.Ending.TheVariants as ending
 use Rattle.program.specs.declared.finding.Finding.TheVariants as finding
 use Rattle.program.specs.Program.{IsRefusalStatus, ended_status, ending_of, finding_status, help_text, right_text, status_of, stop_status, version_text}
-use Rattle.program.specs.Printed.{HasEnded, HasPrintedBy, HasRefused, HasRun, HasSearched, HasChecked, HasShown, IsDone, IsRight, IsWrong, checked, helped, ran, searched, versioned}
+use Rattle.program.specs.Printed.{HasEnded, HasPrintedBy, HasRefused, HasRun, HasSearched, HasChecked, HasDumped, HasShown, HasWaves, IsDone, IsRight, IsWrong, checked, helped, ran, searched, versioned}
 use Rattle.program.specs.Told.{IsEndTold, IsTold, IsUnfinished, nothing, of_fault, of_source, of_stop}
 use Rattle.program.proofs.Statuses.{not_of_fault, not_of_stop}
 use Rattle.journal.specs.declared.counted.Counted.{Counted}
 use Rattle.files.specs.Saved.{AddsFile, SavesAllWhereAsked, KeepsFiles, Made, SavesWhereAsked}
-use Rattle.arguments.specs.Words.{AreWrong, Asks, Begins, AsksCheck, AsksRaces, AsksRun, IsRefusal, extent_of, options_of, races_rows, run_rows}
+use Rattle.arguments.specs.Words.{AreWrong, Asks, Begins, AsksCheck, AsksRaces, AsksRun, AsksWaves, IsRefusal, extent_of, options_of, races_rows, run_rows}
 
 -- files
 
@@ -240,13 +241,13 @@ of_source_or_journal f (inl e) = absurd (not_of_fault f 2 refl e)
 of_source_or_journal f (inr h) = h
 
 pub nothing_by_status : (words : List Text) (old new : Option (List ℕ)) (files files' : Option (List Made)) (ended : Result Ending Fault)
-    → IfOk ended (HasEnded words old new files files') → IfErr ended (λ f. status_of f ≢ 1 → Keeps old new) → IsSourceStatus (ended_status ended)
-    → Keeps old new
+    → IfOk ended (HasEnded words old new files files') → IfErr ended (λ f. (status_of f ≡ 3) ⊎ (status_of f ≡ 5) → Keeps old new)
+    → IsSourceStatus (ended_status ended) → Keeps old new
 nothing_by_status words old new files files' (Ok ending.Done) h k e = absurd (no_zero e)
 nothing_by_status words old new files files' (Ok (ending.Stopped s)) h k e = absurd (no_stop s e)
 nothing_by_status words old new files files' (Ok (ending.Found found)) h k e = absurd (no_finding found e)
 nothing_by_status words old new files files' (Ok (ending.Wrong text)) h k e = h.unprinted
-nothing_by_status words old new files files' (Err f) h k e = k (not_one (status_of f) (of_source_or_journal f e))
+nothing_by_status words old new files files' (Err f) h k e = k (of_source_or_journal f e)
 
 pub unsaved_by_status : (words : List Text) (old new : Option (List ℕ)) (files files' : Option (List Made)) (ended : Result Ending Fault)
     → IfOk ended (HasEnded words old new files files') → IfErr ended (λ f. (status_of f ≡ 3) ⊎ (status_of f ≡ 5) → KeepsFiles files files')
@@ -304,6 +305,11 @@ pub if_err : {T E : Type 0} (P : E → Type 0) (r : Result T E) → ((e : E) →
 if_err P (Ok x) h = tt
 if_err P (Err e) h = h e
 
+-- a fault of a source or of a journal is none of files or output
+pub unless_one : (K : Type 0) (r : Result Ending Fault) → IfErr r (λ f. status_of f ≢ 1 → K) → IfErr r (λ f. (status_of f ≡ 3) ⊎ (status_of f ≡ 5) → K)
+unless_one K (Ok e) h = tt
+unless_one K (Err f) h = λ e. h (not_one (status_of f) e)
+
 pub one_only : (K : Type 0) (r : Result Ending Fault) → IfErr r (λ f. status_of f ≡ 1) → IfErr r (λ f. status_of f ≢ 1 → K)
 one_only K (Ok e) h = tt
 one_only K (Err f) h = λ other. absurd (other h)
@@ -323,6 +329,16 @@ check_performed words check old new files files' (Ok (ending.Stopped s)) asks ri
 check_performed words check old new files files' (Ok (ending.Found found)) asks right keeps shown is = cc
 check_performed words check old new files files' (Ok (ending.Wrong text)) asks right keeps shown is = cc
 check_performed words check old new files files' (Err f) asks right keeps shown is = tt
+
+pub waves_performed : (words : List Text) (waves : WavesRequest) (known : Option (List ℕ)) (files files' : Option (List Made)) → AsksWaves words waves
+    → HasDumped waves.out.now files files' → HasWaves words known known files files'
+waves_performed words waves known files files' asks h = record {
+  begins = asks.begins;
+  path = waves.out.now;
+  out = asks.is_waves.out;
+  dumped = h;
+  unprinted = output_same known;
+}
 
 -- a text, and then another
 pub appends_then : (a b c : Option (List ℕ)) (xs ys : List ℕ) → Appends a b xs → Appends b c ys → Appends a c (xs ++ ys)
@@ -356,4 +372,5 @@ check_alone words (request.Run run) e asks begins = unlike (codes "run") (codes 
 check_alone words (request.Replay replay) e asks begins = unlike (codes "replay") (codes "check") refl (sym asks.begins ∙ begins)
 check_alone words (request.Races races) e asks begins = unlike (codes "races") (codes "check") refl (sym asks.begins ∙ begins)
 check_alone words (request.Check check) e asks begins = cc
+check_alone words (request.Waves waves) e asks begins = unlike (codes "waves") (codes "check") refl (sym asks.begins ∙ begins)
 check_alone words request.Version e asks begins = unlike (codes "--version") (codes "check") refl (sym asks ∙ begins)

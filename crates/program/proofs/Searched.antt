@@ -1,5 +1,5 @@
 -- What a search has found, with what is claimed of it.
-use Rattle.std.proofs.Common.{◌≡◌, ◌∙◌, ap, ℕ, Bool, List, [], ◌++◌, length, Option, IsTrue}
+use Rattle.std.proofs.Common.{◌≡◌, ◌∙◌, ap, append_assoc, subst, sym, refl, ℕ, ◌+◌, Bool, List, [], ◌∷◌, ◌++◌, length, map, Option, Some, None, option_map, Result, Ok, Err, IfOk, IsTrue}
 use Rattle.std.specs.List.{All, AllPairs}
 use Rattle.model.specs.declared.entry.Entry.{Entry}
 use Rattle.model.specs.declared.end.End.{End}
@@ -10,11 +10,19 @@ use Rattle.races.specs.Journals.{AreAllTexts, IsLawfulText}
 use Rattle.verdict.specs.declared.claim.Claim.{Claim}
 use Rattle.model.specs.declared.end.Limits.{Limits}
 use Rattle.verdict.specs.Verdicts.{verdict_text}
-use Rattle.naming.specs.Naming.{TellsBehind}
-use Rattle.program.specs.Printed.{IsReport}
+use Rattle.naming.specs.Naming.{AreRacesTold, IsJournalTold, IsRaceTold, TellsBehind, TellsRaces, tell}
+use Rattle.seeded.specs.declared.run.SeededRun.{SeededRun}
+use Rattle.conflicts.specs.declared.told.Race as found
+use Rattle.verdict.specs.declared.race.Race.{Race}
+use Rattle.program.specs.Printed.{HasShown, IsToldFirst, IsToldLast, TellsOtherRaces}
+use Rattle.std.specs.Io.KnownBytes.{Appends}
+use Rattle.frontend.specs.Sources.{IsDesignOf}
+use Rattle.files.specs.Saved.{Made, SavesAllWhereAsked}
+use Rattle.program.specs.declared.finding.Finding.{Finding}
+use Rattle.program.proofs.Ended.{appends_then}
 use Rattle.verdict.specs.declared.claim.Claim.TheVariants.{Every, SoFar, Sampled}
 use Rattle.arguments.specs.declared.extent.Extent.{Extent}
-use Rattle.program.specs.Findings.{AreFound, IsOfSearch, OnEvery, first_text, limits_in}
+use Rattle.program.specs.Findings.{AreFound, IsOfSearch, OnEvery, finding_of, first_text, limits_in}
 
 pub searched_found : (code : Compiled) (extent : Extent) (claim : Claim) (covered : Bool) (ss : List (Shown Entry End)) → IsOfSearch claim
     → OnEvery claim (IsTrue covered)
@@ -24,14 +32,109 @@ searched_found code extent (Every states) covered ss of every sound distinct all
 searched_found code extent (SoFar met) covered ss of every sound distinct all = record { sound = sound; distinct = distinct; all = tt }
 searched_found code extent (Sampled orders) covered ss of every sound distinct all = absurd of
 
--- races in lines, and then what the texts are
-pub reported : (code : Compiled) (limits : Limits) (claim : Claim) (shown : List (Shown Entry End)) (prefix : Option (List ℕ)) (ends : Bool) (begun mid new first : List ℕ)
-    → begun ≡ [] → TellsBehind code limits shown prefix begun mid → first ≡ first_text shown
-    → new ≡ mid ++ verdict_text claim limits.until (length shown) ends first → IsReport code limits claim shown prefix new
-reported code limits claim shown prefix ends begun mid new first empty tells is at = record {
-  races = tells.lines;
-  tells = tells.tells;
-  ends = ends;
-  text_is = at ∙ (ap (λ l. l ++ verdict_text claim limits.until (length shown) ends first) (tells.new_is ∙ ap (λ l. l ++ tells.lines) empty)
-      ∙ ap (λ f. tells.lines ++ verdict_text claim limits.until (length shown) ends f) is);
+-- where no text is found yet, no journal is named, so that the same is told of any texts
+
+journal_of_none : (shown : List (Shown Entry End)) (run : SeededRun) (number : Option ℕ) → IsJournalTold [] run number → IsJournalTold shown run number
+journal_of_none shown run None h = tt
+journal_of_none shown run (Some n) (s, place, counted, at, is) = cc
+
+race_of_none : (code : Compiled) (shown : List (Shown Entry End)) (prefix : Option (List ℕ)) (original : SeededRun) (n : ℕ) (r : found.Race) (t : Race)
+    → IsRaceTold code [] prefix original n r t → IsRaceTold code shown prefix original n r t
+race_of_none code shown prefix original n r t h = record {
+  number_is = h.number_is;
+  site = h.site;
+  time_is = h.time_is;
+  first = h.first;
+  second = h.second;
+  prefix_is = h.prefix_is;
+  difference = h.difference;
+  one = journal_of_none shown original t.original.journal h.one;
+  other = journal_of_none shown r.exchanged t.exchanged.journal h.other;
 }
+
+races_of_none : (code : Compiled) (shown : List (Shown Entry End)) (prefix : Option (List ℕ)) (original : SeededRun) (n : ℕ) (rs : List found.Race) (ts : List Race)
+    → AreRacesTold code [] prefix original n rs ts → AreRacesTold code shown prefix original n rs ts
+races_of_none code shown prefix original n [] [] h = tt
+races_of_none code shown prefix original n (r ∷ rs) [] h = h
+races_of_none code shown prefix original n [] (t ∷ ts) h = h
+races_of_none code shown prefix original n (r ∷ rs) (t ∷ ts) (h, hs) =
+    (race_of_none code shown prefix original n r t h, races_of_none code shown prefix original (n + 1) rs ts hs)
+
+tells_of_none : (code : Compiled) (limits : Limits) (shown : List (Shown Entry End)) (prefix : Option (List ℕ)) (lines : List ℕ)
+    → TellsRaces code limits [] prefix lines → TellsRaces code limits shown prefix lines
+tells_of_none code limits shown prefix lines (tell original races told is_run are_shown are_told same) =
+    tell original races told is_run are_shown (races_of_none code shown prefix original 1 races told are_told) same
+
+none_behind : (xs : List ℕ) → xs ++ [] ≡ xs
+none_behind [] = refl
+none_behind (x ∷ xs) = ap (λ ys. x ∷ ys) (none_behind xs)
+
+-- what holds of an answer, where something else does
+pub if_ok : {T E : Type 0} (P Q : T → Type 0) (r : Result T E) → ((x : T) → P x → Q x) → IfOk r P → IfOk r Q
+if_ok P Q (Ok x) step h = step x h
+if_ok P Q (Err e) step h = tt
+
+-- what is told before the search, and what is told behind it, where journals are saved and where they aren't
+
+pub first_of_none : {X : Type 0} (code : Compiled) (limits : Limits) (shown : List (Shown Entry End)) (prefix : Option X) (path : X → List ℕ) (lines : List ℕ) → prefix ≡ None
+    → shown ≡ [] → TellsRaces code limits shown (option_map path prefix) lines → IsToldFirst code limits (option_map path prefix) lines
+first_of_none code limits shown None path lines none empty h = subst (λ ss. TellsRaces code limits ss None lines) empty h
+first_of_none code limits shown (Some p) path lines none empty h = cc
+
+pub first_of_some : {X : Type 0} (code : Compiled) (limits : Limits) (prefix : Option X) (path : X → List ℕ) (p : X) (lines : List ℕ) → prefix ≡ Some p → lines ≡ []
+    → IsToldFirst code limits (option_map path prefix) lines
+first_of_some code limits None path p lines some h = cc
+first_of_some code limits (Some q) path p lines some h = h
+
+pub others_of_none : {X : Type 0} (code : Compiled) (limits : Limits) (shown : List (Shown Entry End)) (prefix : Option X) (path : X → List ℕ) (lines : List ℕ) → prefix ≡ None
+    → lines ≡ [] → TellsOtherRaces code limits shown (option_map path prefix) lines
+others_of_none code limits shown None path lines none empty = λ first h.
+    subst (TellsRaces code limits shown None) (sym (ap (λ l. first ++ l) empty ∙ none_behind first)) (tells_of_none code limits shown None first h)
+others_of_none code limits shown (Some p) path lines none empty = cc
+
+pub others_of_some : {X : Type 0} (code : Compiled) (limits : Limits) (shown : List (Shown Entry End)) (prefix : Option X) (path : X → List ℕ) (p : X) (lines : List ℕ) → prefix ≡ Some p
+    → TellsRaces code limits shown (option_map path prefix) lines → TellsOtherRaces code limits shown (option_map path prefix) lines
+others_of_some code limits shown None path p lines some h = cc
+others_of_some code limits shown (Some q) path p lines some h = λ first empty. subst (λ f. TellsRaces code limits shown (Some (path q)) (f ++ lines)) (sym empty) h
+
+-- lines that tell races behind a text that is empty
+pub tells_alone : (code : Compiled) (limits : Limits) (shown : List (Shown Entry End)) (prefix : Option (List ℕ)) (begun lines : List ℕ) → begun ≡ []
+    → TellsBehind code limits shown prefix begun lines → TellsRaces code limits shown prefix lines
+tells_alone code limits shown prefix begun lines empty h = subst (TellsRaces code limits shown prefix) (sym (h.new_is ∙ ap (λ l. l ++ h.lines) empty)) h.tells
+
+-- races in lines, and then what the texts are
+pub reported : (code : Compiled) (limits : Limits) (claim : Claim) (shown : List (Shown Entry End)) (prefix : Option (List ℕ)) (ends : Bool) (others new begins : List ℕ)
+    → TellsOtherRaces code limits shown prefix others → begins ≡ first_text shown
+    → new ≡ others ++ verdict_text claim limits.until (length shown) ends begins → IsToldLast code limits claim shown prefix new
+reported code limits claim shown prefix ends others new begins tells is at first told = record {
+  races = first ++ others;
+  tells = tells first told;
+  ends = ends;
+  text_is = ap (λ l. first ++ l) (at ∙ ap (λ f. others ++ verdict_text claim limits.until (length shown) ends f) is)
+      ∙ sym (append_assoc first others (verdict_text claim limits.until (length shown) ends (first_text shown)));
+}
+
+-- a search that was told first and last, with the journals of its texts
+pub search_shown : (source : List ℕ) (code : Compiled) (extent : Extent) (prefix : Option (List ℕ)) (claim : Claim) (shown : List (Shown Entry End)) (one two : Compiled) (early late : Limits)
+    (here there : Option (List ℕ)) (told : List (Shown Entry End)) (a b c : Option (List ℕ)) (files files' : Option (List Made)) (last written : List ℕ) (found : Finding)
+    → IsDesignOf source code → AreFound code extent claim shown → one ≡ code → early ≡ limits_in extent → here ≡ prefix → two ≡ code → late ≡ limits_in extent → there ≡ prefix → told ≡ shown
+    → ((first : List ℕ) × IsToldFirst one early here first × Appends a b first) → IsToldLast two late claim told there last → Appends b c written → written ≡ last
+    → SavesAllWhereAsked files files' prefix (map (λ s. s.moves.items) shown) → found ≡ finding_of claim (length shown) → HasShown extent prefix a c files files' found
+search_shown source code extent prefix claim shown one two early late here there told a b c files files' last written found is_design are_found d1 l1 p1 d2 l2 p2 s2 (first, is_first, grown) is_last more is saved finding =
+    let begins = subst (λ (p : Option (List ℕ)). IsToldFirst code (limits_in extent) p first) p1 (subst (λ (l : Limits). IsToldFirst code l here first) l1
+    (subst (λ (d : Compiled). IsToldFirst d early here first) d1 is_first)) in
+    let ends = subst (λ (p : Option (List ℕ)). IsToldLast code (limits_in extent) claim shown p last) p2 (subst (λ (ss : List (Shown Entry End)). IsToldLast code (limits_in extent) claim ss there last) s2
+    (subst (λ (l : Limits). IsToldLast code l claim told there last) l2 (subst (λ (d : Compiled). IsToldLast d late claim told there last) d2 is_last))) in
+    record {
+      source = source;
+      design = code;
+      is_design = is_design;
+      claim = claim;
+      shown = shown;
+      are_found = are_found;
+      report = first ++ last;
+      is_report = ends first begins;
+      printed = appends_then a b c first last grown (subst (Appends b c) is more);
+      saved = saved;
+      finding = finding;
+    }

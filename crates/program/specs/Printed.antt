@@ -1,7 +1,12 @@
--- What a run, a replay or a search for races leaves on standard output.
-use Rattle.std.specs.Prelude.{◌≡◌, ◌⊎◌, ◌++◌, ℕ, Bool, List, Option, Some, None, codes, drop, length, map, string_bytes}
+-- What a command leaves on standard output and in files.
+use Rattle.std.specs.Prelude.{◌≡◌, ◌⊎◌, ◌++◌, ℕ, Bool, List, [], Option, Some, None, codes, drop, length, map, string_bytes}
 use Rattle.std.specs.Io.KnownBytes.{Appends, Keeps}
-use Rattle.design.specs.Compiled.{Compiled}
+use Rattle.design.specs.Compiled.{Compiled, design_of}
+use Rattle.model.specs.Syntax.{Module}
+use Rattle.vparse.specs.Spells.{Spells}
+use Rattle.waves.specs.Dump.{vcd_text}
+use Rattle.waves.specs.Waves.{IsWaveOf}
+use Rattle.waves.specs.declared.wave.Wave.{Wave}
 use Rattle.frontend.specs.Sources.{IsDesignOf, IsSourceFault}
 use Rattle.frontend.specs.declared.source.SourceFault.{SourceFault}
 use Rattle.commitgate.specs.Closing.{ClosedView}
@@ -9,7 +14,7 @@ use Rattle.eventpool.specs.Pools.{Counts}
 use Rattle.simulate.specs.Outcomes.{IsOutcome}
 use Rattle.model.specs.declared.end.Limits.{Limits}
 use Rattle.arguments.specs.declared.options.Options.{Options}
-use Rattle.replay.specs.Bytes.{Prints}
+use Rattle.replay.specs.Bytes.{AreRead, Prints}
 use Rattle.seeded.specs.Runs as seeded
 use Rattle.seeded.specs.declared.run.SeededRun.{SeededRun}
 use Rattle.model.specs.declared.entry.Entry.{Entry}
@@ -29,8 +34,8 @@ use Rattle.arguments.specs.Options.{CanRun, CanSearch}
 use Rattle.program.specs.declared.ending.Ending.{Ending}
 use Rattle.program.specs.declared.ending.Ending.TheVariants as ending
 use Rattle.program.specs.Program.{right_text, source_status_of, stop_of, version_text}
-use Rattle.files.specs.Saved.{Made, KeepsFiles, SavesAllWhereAsked, SavesWhereAsked}
-use Rattle.arguments.specs.Words.{AsksHelp, Begins, check_rows, extent_of, number_given, options_of, races_rows, run_rows}
+use Rattle.files.specs.Saved.{AddsFile, Made, KeepsFiles, SavesAllWhereAsked, SavesWhereAsked}
+use Rattle.arguments.specs.Words.{AsksHelp, Begins, check_rows, extent_of, number_given, options_of, races_rows, run_rows, waves_rows}
 
 -- the limits of a run
 abbrev pub limits_of : Options → Limits
@@ -88,6 +93,21 @@ pub record IsReport (design : Compiled) (limits : Limits) (claim : Claim) (shown
   pub ends : Bool
   pub text_is : text ≡ races ++ verdict_text claim limits.until (length shown) ends (first_text shown)
 
+-- What is told before a search: the races, where no journal is saved, so that none is named in their lines; and else nothing.
+abbrev pub IsToldFirst : Compiled → Limits → Option (List ℕ) → List ℕ → Type 0
+IsToldFirst design limits None first = TellsRaces design limits [] None first
+IsToldFirst design limits (Some prefix) first = first ≡ []
+
+-- What makes, behind all that may be told before a search, lines that tell races.
+abbrev pub TellsOtherRaces : Compiled → Limits → List (Shown Entry End) → Option (List ℕ) → List ℕ → Type 0
+TellsOtherRaces design limits shown prefix others =
+    (first : List ℕ) → IsToldFirst design limits prefix first → TellsRaces design limits shown prefix (first ++ others)
+
+-- What makes, behind all that may be told before a search, what is said of it.
+abbrev pub IsToldLast : Compiled → Limits → Claim → List (Shown Entry End) → Option (List ℕ) → List ℕ → Type 0
+IsToldLast design limits claim shown prefix last =
+    (first : List ℕ) → IsToldFirst design limits prefix first → IsReport design limits claim shown prefix (first ++ last)
+
 -- Of the design that some source describes texts were found, so far as this says. Output grew by what is said of this search, their
 -- journals were saved where a prefix is given, and this was found.
 pub record HasShown (extent : Extent) (prefix : Option (List ℕ)) (old new : Option (List ℕ)) (files files' : Option (List Made)) (found : Finding) : Type 0 where
@@ -116,6 +136,35 @@ pub record HasReplayed (old new : Option (List ℕ)) : Type 0 where
   pub source : List ℕ
   pub left : Option (List ℕ)
   pub prints : Prints source left old new
+
+-- This is the value change dump of a journal on the design of a source: the text of the journal's wave, in a scope with the name of
+-- the module that the source spells, with the names and widths of the design's registers.
+pub record IsDumpOf (source : List ℕ) (design : Compiled) (journal : List Entry) (text : List ℕ) : Type 0 where
+  pub parsed : Module
+  pub spells : Spells parsed source
+  pub wave : Wave
+  pub is_wave : IsWaveOf (design_of design) journal wave
+  pub text_is : text ≡ vcd_text parsed.name design.names design.widths wave.changes.items wave.end
+
+-- The dump of a journal, which is lawful for the design that some source describes and whose text was left to read, where that is
+-- known, was put at a path, and no other file was made.
+pub record HasDumped (path : List ℕ) (files files' : Option (List Made)) : Type 0 where
+  pub source : List ℕ
+  pub left : Option (List ℕ)
+  pub design : Compiled
+  pub journal : List Entry
+  pub are_read : AreRead source left design journal
+  pub text : List ℕ
+  pub is_dump : IsDumpOf source design journal text
+  pub saved : AddsFile files files' (record { path = path; bytes = text })
+
+-- The words ask for a value change dump, which was put at the OUT of these words, and nothing was left on output.
+pub record HasWaves (words : List Text) (old new : Option (List ℕ)) (files files' : Option (List Made)) : Type 0 where
+  pub begins : Begins words (codes "waves")
+  pub path : List ℕ
+  pub out : first_of (codes "out") (waves_rows (drop 1 words)) ≡ Some path
+  pub dumped : HasDumped path files files'
+  pub unprinted : Keeps old new
 
 -- a source that was checked describes a design
 pub record IsRight : Type 0 where
@@ -146,7 +195,8 @@ pub record HasConfirmed (words : List Text) (old new : Option (List ℕ)) (files
 
 -- The words ask for help, and output grew by some text; or for the version, which output grew by; or they ask for a run, which
 -- left its lines and its journal and wasn't stopped by a limit; or they ask for a replay, which left its lines; or for a search
--- for races, which found one text and no other possible one; or for a check of a source, which is right.
+-- for races, which found one text and no other possible one; or for a check of a source, which is right; or for a value change
+-- dump, which stands in its place.
 pub data IsDone (words : List Text) (old new : Option (List ℕ)) (files files' : Option (List Made)) : Type 0 where
   helped : AsksHelp words → (text : List ℕ) → Appends old new text → KeepsFiles files files' → IsDone words old new files files'
   versioned : Begins words (codes "--version") → Appends old new version_text → KeepsFiles files files' → IsDone words old new files files'
@@ -154,6 +204,7 @@ pub data IsDone (words : List Text) (old new : Option (List ℕ)) (files files' 
   replayed : Begins words (codes "replay") → HasReplayed old new → KeepsFiles files files' → IsDone words old new files files'
   searched : HasSearched words old new files files' finding.One → IsDone words old new files files'
   checked : HasConfirmed words old new files files' → IsDone words old new files files'
+  dumped : HasWaves words old new files files' → IsDone words old new files files'
 
 -- The words ask for a check of a source, which is wrong, and nothing was left on output.
 pub record HasRefused (words : List Text) (old new : Option (List ℕ)) (files files' : Option (List Made)) : Type 0 where

@@ -6,7 +6,7 @@ ghost use Rattle.std.specs.Prelude.{◌≡◌, ◌≢◌, ◌⊎◌, ◌≤◌, 
 ghost use Rattle.clap.specs.Words.{Text};
 ghost use Rattle.std.specs.Io.KnownBytes.{Appends, Keeps};
 ghost use Rattle.journal.specs.Counted.{held};
-ghost use Rattle.arguments.specs.Words.{AreWrong, Asks, AsksCheck, AsksRaces, AsksReplay, AsksRun, Begins, IsRefusal, texts_of};
+ghost use Rattle.arguments.specs.Words.{AreWrong, Asks, AsksCheck, AsksRaces, AsksReplay, AsksRun, AsksWaves, Begins, IsRefusal, texts_of};
 ghost use Rattle.program.specs.declared.finding.Finding.TheVariants as finding;
 ghost use Rattle.program.specs.Printed.{HasEnded, HasRefused, HasSearched, IsDone};
 ghost use Rattle.program.specs.Program.{IsRefusalStatus, ended_status, help_text, right_text, status_of, version_text};
@@ -20,8 +20,10 @@ use crate::fault::Fault;
 use crate::replaying::replay_journal;
 use crate::running::run;
 use crate::searching::search_races;
+use crate::waving::dump_waves;
 use arguments::{
-    CheckRequest, RacesRequest, Refusal, ReplayRequest, Request, RunRequest, VERSION, read_request,
+    CheckRequest, RacesRequest, Refusal, ReplayRequest, Request, RunRequest, VERSION, WavesRequest,
+    read_request,
 };
 use files::{FileFault, Files, send_off, show};
 use journal::Counted;
@@ -71,7 +73,7 @@ fn perform<'a, R: Threads + Wait + Sync, F: Files, O: Write>(
 ) -> Result<Ending, Fault<'a>>
     ensures ended { (words : List Text) → Asks words request.now → IfOk result (HasEnded words (O.contents (held out.old)) (O.contents (held out.new)) (F.made files.old) (F.made files.new)) }
     ensures checked { (words : List Text) → Asks words request.now → Begins words (codes "check") → IfErr result (λ fault. (status_of fault ≡ 1) ⊎ (status_of fault ≡ 6)) }
-    ensures nothing { IfErr result (λ fault. status_of fault ≢ 1 → Keeps (O.contents (held out.old)) (O.contents (held out.new))) }
+    ensures nothing { IfErr result (λ fault. (status_of fault ≡ 3) ⊎ (status_of fault ≡ 5) → Keeps (O.contents (held out.old)) (O.contents (held out.new))) }
     ensures unsaved { IfErr result (λ fault. (status_of fault ≡ 3) ⊎ (status_of fault ≡ 5) → KeepsFiles (F.made files.old) (F.made files.new)) }
 {
     match request {
@@ -79,6 +81,7 @@ fn perform<'a, R: Threads + Wait + Sync, F: Files, O: Write>(
         Request::Replay(request) => perform_replay(alloc, request, files, out),
         Request::Races(request) => perform_races(alloc, request, files, out),
         Request::Check(request) => perform_check(alloc, request, files, out),
+        Request::Waves(request) => perform_waves(alloc, request, files),
         Request::Version => perform_version(out),
     }
 }
@@ -123,7 +126,7 @@ fn perform_races<'a, F: Files, O: Write>(
     out: &mut Counted<O>,
 ) -> Result<Ending, Fault<'a>>
     ensures ended { (words : List Text) → AsksRaces words request.now → IfOk result (HasEnded words (O.contents (held out.old)) (O.contents (held out.new)) (F.made files.old) (F.made files.new)) }
-    ensures nothing { IfErr result (λ fault. status_of fault ≢ 1 → Keeps (O.contents (held out.old)) (O.contents (held out.new))) }
+    ensures nothing { IfErr result (λ fault. (status_of fault ≡ 3) ⊎ (status_of fault ≡ 5) → Keeps (O.contents (held out.old)) (O.contents (held out.new))) }
     ensures unsaved { IfErr result (λ fault. (status_of fault ≡ 3) ⊎ (status_of fault ≡ 5) → KeepsFiles (F.made files.old) (F.made files.new)) }
 {
     match search_races(alloc, request, files, out) {
@@ -161,6 +164,21 @@ fn show_right<O: Write>(path: &str, out: &mut Counted<O>) -> Result<Ending, Faul
     }
     send_off(out)?;
     Ok(Ending::Done)
+}
+
+/// Writes a value change dump; standard output is left as it is, whatever it holds.
+fn perform_waves<'a, F: Files>(
+    alloc: Global,
+    request: &WavesRequest<'a>,
+    files: &mut F,
+) -> Result<Ending, Fault<'a>>
+    ensures ended { (words : List Text) (known : Option (List ℕ)) → AsksWaves words request.now → IfOk result (HasEnded words known known (F.made files.old) (F.made files.new)) }
+    ensures unsaved { IfErr result (λ fault. KeepsFiles (F.made files.old) (F.made files.new)) }
+{
+    match dump_waves(alloc, request, files) {
+        Ok(()) => Ok(Ending::Done),
+        Err(fault) => Err(fault),
+    }
 }
 
 /// Shows the version.

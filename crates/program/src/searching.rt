@@ -1,14 +1,16 @@
-//! `races FILE`: the file is read and its lawful orders are searched, or random ones tried. Then journals are written where they
-//! are wanted, and then the races that are named and what is said of the texts.
+//! `races FILE`: the file is read, and races are searched for and told: a search of all lawful orders may take long. Where journals are
+//! wanted, whose numbers stand in the lines on races, they are told behind it. The lawful orders are searched, or random ones tried.
+//! Then the journals are written, and then what is said of the texts.
 
-ghost use Rattle.std.specs.Prelude.{◌≡◌, ◌≢◌, ◌≤◌, ◌⊎◌, IfErr, IfOk, IfSome, IsTrue, OnOk, ℕ, List, option_map};
-ghost use Rattle.std.specs.Io.KnownBytes.{Keeps};
+ghost use Rattle.std.specs.Prelude.{◌≡◌, ◌≤◌, ◌⊎◌, IfErr, IfOk, IfSome, IsTrue, OnOk, ℕ, List, [], option_map};
+ghost use Rattle.std.specs.Io.KnownBytes.{Appends, Keeps};
 ghost use Rattle.model.specs.Runs.{last_time};
 ghost use Rattle.frontend.specs.Sources.{IsDesignOf};
-ghost use Rattle.program.specs.Findings.{AreFound, IsOfSearch, OnEvery, first_text};
+ghost use Rattle.program.specs.Findings.{AreFound, IsOfSearch, OnEvery, first_text, limits_in};
 ghost use Rattle.arguments.specs.Options.{CanSearch};
 ghost use Rattle.program.specs.Program.{status_of};
-ghost use Rattle.program.specs.Printed.{HasShown, IsReport};
+ghost use Rattle.program.specs.Printed.{HasShown, IsToldFirst, IsToldLast, TellsOtherRaces};
+ghost use Rattle.naming.specs.Naming.{TellsRaces};
 ghost use Rattle.files.specs.Saved.{KeepsFiles, LeadsElsewhere, journal_path};
 
 use crate::fault::Fault;
@@ -37,7 +39,7 @@ pub fn search_races<'a, F: Files, O: Write>(
 ) -> Result<Finding, Fault<'a>>
     ensures shown { IfOk result (HasShown request.now.extent (option_map (λ path. path.now) request.now.journals)
         (O.contents out.old) (O.contents out.new) (F.made files.old) (F.made files.new)) }
-    ensures nothing { IfErr result (λ fault. status_of fault ≢ 1 → Keeps (O.contents out.old) (O.contents out.new)) }
+    ensures nothing { IfErr result (λ fault. (status_of fault ≡ 3) ⊎ (status_of fault ≡ 5) → Keeps (O.contents out.old) (O.contents out.new)) }
     ensures unsaved { IfErr result (λ fault. (status_of fault ≡ 3) ⊎ (status_of fault ≡ 5) → KeepsFiles (F.made files.old) (F.made files.new)) }
     ensures spared { OnOk result (LeadsElsewhere (F.alike files.old) request.now.file.now (option_map (λ prefix. journal_path prefix.now 1) request.now.journals)) }
 {
@@ -59,12 +61,32 @@ fn search_design<F: Files, O: Write>(
     requires { (source : List ℕ) × IsDesignOf source design.now }
     ensures shown { IfOk result (HasShown request.now.extent (option_map (λ path. path.now) request.now.journals)
         (O.contents out.old) (O.contents out.new) (F.made files.old) (F.made files.new)) }
-    ensures nothing { IfErr result (λ fault. status_of fault ≢ 1 → Keeps (O.contents out.old) (O.contents out.new)) }
     ensures fault { IfErr result (λ fault. (status_of fault ≡ 1) ⊎ (status_of fault ≡ 6)) }
 {
     try_first(alloc, request.journals, files)?;
+    tell_first(alloc, &names_of(source, design, request, &[]), out)?;
     let texts = find_texts(alloc, design, request.extent)?;
-    let names = Names {
+    let shown = texts.shown.as_slice();
+    let names = names_of(source, design, request, shown);
+    let last = last_lines(alloc, texts.claim, &names)?;
+    save_all(alloc, shown, request.file, request.journals, files)?;
+    show_bytes(out, last.as_slice())?;
+    Ok(Finding::of(texts.claim, shown.len()))
+}
+
+/// What races are named by, where these texts were found.
+fn names_of<'a>(
+    source: &'a [u8],
+    design: &'a Design,
+    request: &RacesRequest<'a>,
+    shown: &'a [Shown<Entry, End>],
+) -> Names<'a>
+    ensures design { result.design.now ≡ design.entry.now }
+    ensures limits { result.limits ≡ limits_in request.now.extent }
+    ensures prefix { option_map (λ path. path.now) result.prefix ≡ option_map (λ path. path.now) request.now.journals }
+    ensures shown { result.shown.now ≡ shown.entry.now }
+{
+    Names {
         source,
         design,
         limits: Limits {
@@ -72,18 +94,53 @@ fn search_design<F: Files, O: Write>(
             max_entries: request.extent.max_entries,
         },
         prefix: request.journals,
-        shown: texts.shown.as_slice(),
-    };
-    let report = report(alloc, texts.claim, &names)?;
-    save_all(
-        alloc,
-        texts.shown.as_slice(),
-        request.file,
-        request.journals,
-        files,
-    )?;
-    show_bytes(out, report.as_slice())?;
-    Ok(Finding::of(texts.claim, texts.shown.len()))
+        shown,
+    }
+}
+
+/// Tells races before the search, where no journals are wanted.
+fn tell_first<O: Write>(alloc: Global, names: &Names<'_>, out: &mut O) -> Result<(), Fault<'static>>
+    requires until { IfSome names.now.limits.until (λ until. until ≤ last_time) }
+    requires none { names.now.shown.now ≡ [] }
+    ensures told { OnOk result ((first : List ℕ) × IsToldFirst names.entry.now.design.now names.entry.now.limits (option_map (λ path. path.now) names.entry.now.prefix) first × Appends (O.contents out.old) (O.contents out.new) first) }
+    ensures fault { IfErr result (λ fault. (status_of fault ≡ 1) ⊎ (status_of fault ≡ 6)) }
+{
+    let first = first_lines(alloc, names)?;
+    show_bytes(out, first.as_slice())?;
+    Ok(())
+}
+
+/// What is told before the search.
+fn first_lines(alloc: Global, names: &Names<'_>) -> Result<Vec<u8>, AllocError>
+    requires until { IfSome names.now.limits.until (λ until. until ≤ last_time) }
+    requires none { names.now.shown.now ≡ [] }
+    ensures { IfOk result (λ first. IsToldFirst names.entry.now.design.now names.entry.now.limits (option_map (λ path. path.now) names.entry.now.prefix) first.items) }
+{
+    match names.prefix {
+        None => race_lines(alloc, names),
+        Some(_) => Ok(Vec::new(alloc)),
+    }
+}
+
+/// The lines on races that aren't told before the search.
+fn other_lines(alloc: Global, names: &Names<'_>) -> Result<Vec<u8>, AllocError>
+    requires { IfSome names.now.limits.until (λ until. until ≤ last_time) }
+    ensures { IfOk result (λ others. TellsOtherRaces names.entry.now.design.now names.entry.now.limits names.entry.now.shown.now (option_map (λ path. path.now) names.entry.now.prefix) others.items) }
+{
+    match names.prefix {
+        None => Ok(Vec::new(alloc)),
+        Some(_) => race_lines(alloc, names),
+    }
+}
+
+/// The lines on the races that are found.
+fn race_lines(alloc: Global, names: &Names<'_>) -> Result<Vec<u8>, AllocError>
+    requires { IfSome names.now.limits.until (λ until. until ≤ last_time) }
+    ensures { IfOk result (λ lines. TellsRaces names.entry.now.design.now names.entry.now.limits names.entry.now.shown.now (option_map (λ path. path.now) names.entry.now.prefix) lines.items) }
+{
+    let mut lines = Vec::new(alloc);
+    push_races(alloc, &mut lines, names)?;
+    Ok(lines)
 }
 
 /// The texts of all lawful orders, as far as they are searched, or those of random ones where so many are to be tried.
@@ -143,13 +200,12 @@ fn ends_differ(shown: &[Shown<Entry, End>]) -> bool {
     }
 }
 
-/// The races that are named, and what is said of the texts.
-fn report(alloc: Global, claim: Claim, names: &Names<'_>) -> Result<Vec<u8>, AllocError>
+/// What is told behind the search: the races that aren't told yet, and what is said of the texts.
+fn last_lines(alloc: Global, claim: Claim, names: &Names<'_>) -> Result<Vec<u8>, AllocError>
     requires { IfSome names.now.limits.until (λ until. until ≤ last_time) }
-    ensures { IfOk result (λ report. IsReport names.entry.now.design.now names.entry.now.limits claim names.entry.now.shown.now (option_map (λ path. path.now) names.entry.now.prefix) report.items) }
+    ensures { IfOk result (λ last. IsToldLast names.entry.now.design.now names.entry.now.limits claim names.entry.now.shown.now (option_map (λ path. path.now) names.entry.now.prefix) last.items) }
 {
-    let mut report = Vec::new(alloc);
-    push_races(alloc, &mut report, names)?;
+    let mut last = other_lines(alloc, names)?;
     let verdict = Verdict {
         claim,
         until: names.limits.until,
@@ -157,8 +213,8 @@ fn report(alloc: Global, claim: Claim, names: &Names<'_>) -> Result<Vec<u8>, All
         ends: ends_differ(names.shown),
         first: first_of(names.shown),
     };
-    push_verdict(&mut report, &verdict)?;
-    Ok(report)
+    push_verdict(&mut last, &verdict)?;
+    Ok(last)
 }
 
 /// The first text, if there is one.

@@ -68,7 +68,7 @@ given_turn code core values event p st log own widths e h = λ number q is_entry
     subst P (process_is core event p st number q e is_entry action)
     (is_log_for code core values event p st log (own_state code core event p st own e) count e h)
 
-permitted_where : (b : Bool) (o : Option Action) (p : ℕ) → b ≡ false → o ≡ Some (Evaluate p) → refused_where b Finished (turn_refusal o) ≡ None
+pub permitted_where : (b : Bool) (o : Option Action) (p : ℕ) → b ≡ false → o ≡ Some (Evaluate p) → refused_where b Finished (turn_refusal o) ≡ None
 permitted_where b o p running action = ap (λ x. refused_where x Finished (turn_refusal o)) running ∙ ap turn_refusal action
 
 -- a turn that isn't permitted needs no log

@@ -6,12 +6,17 @@ use design::Control;
 use std::alloc::{AllocError, Global};
 use std::collections::VecDeque;
 
-// The same elements.
-fn copy_deque<T: Copy>(alloc: Global, deque: &VecDeque<T>) -> Result<VecDeque<T>, AllocError>
+// The same elements, with room for so many more.
+fn copy_deque<T: Copy>(
+    alloc: Global,
+    deque: &VecDeque<T>,
+    room: usize,
+) -> Result<VecDeque<T>, AllocError>
     ensures { IfOk result (λ copy. copy.items ≡ deque.now.items) }
 {
     let (front, back) = deque.as_slices();
-    let mut copy = Vec::from_slice(alloc, front)?;
+    let mut copy = Vec::with_capacity(alloc, deque.len().saturating_add(room))?;
+    copy.extend_from_slice(front)?;
     copy.extend_from_slice(back)?;
     Ok(VecDeque::from(copy))
 }
@@ -43,13 +48,13 @@ impl Queue {
             controls: copy_controls(alloc, &self.controls)?,
             processes: Vec::from_slice(alloc, &self.processes)?,
             waiters: Vec::from_slice(alloc, &self.waiters)?,
-            updates: copy_deque(alloc, &self.updates)?,
-            evaluations: copy_deque(alloc, &self.evaluations)?,
-            inactive: copy_deque(alloc, &self.inactive)?,
-            nonblocking: copy_deque(alloc, &self.nonblocking)?,
+            updates: copy_deque(alloc, &self.updates, 0)?,
+            evaluations: copy_deque(alloc, &self.evaluations, self.processes.len())?,
+            inactive: copy_deque(alloc, &self.inactive, 0)?,
+            nonblocking: copy_deque(alloc, &self.nonblocking, 0)?,
             monitor: Vec::from_slice(alloc, &self.monitor)?,
-            future_inactive: copy_deque(alloc, &self.future_inactive)?,
-            future_nonblocking: copy_deque(alloc, &self.future_nonblocking)?,
+            future_inactive: copy_deque(alloc, &self.future_inactive, 0)?,
+            future_nonblocking: copy_deque(alloc, &self.future_nonblocking, 0)?,
         })
     }
 }

@@ -1,5 +1,5 @@
 //! What may be next: the change of the regions that is due, and all entries that the rules permit.
-ghost use Rattle.std.specs.Prelude.{◌≡◌, ◌↔◌, List, map, IfOk, None, Some, false};
+ghost use Rattle.std.specs.Prelude.{◌≡◌, ◌↔◌, List, ◌++◌, map, IfOk, OnOk, None, Some, false};
 ghost use Rattle.std.specs.List.{Contains};
 ghost use Rattle.logic4.specs.Vector.{Vector};
 ghost use Rattle.model.specs.declared.entry.Entry.{Entry};
@@ -10,10 +10,20 @@ ghost use Rattle.regions.specs.Queue.{core_of, state_of};
 ghost use Rattle.regions.specs.Machine.{IsTurn, IsDue, AreInOrder};
 ghost use Rattle.regions.specs.Turns.{turn_of};
 
-use crate::queue::Queue;
+use crate::queue::{Evaluation, Queue};
 use model::end::LAST_TIME;
 use model::entry::Entry;
 use std::alloc::{AllocError, Global};
+
+// Appends the turns of evaluations.
+fn push_turns(turns: &mut Vec<Entry>, evaluations: &[Evaluation]) -> Result<(), AllocError>
+    ensures { OnOk result (turns.new.items ≡ turns.old.items ++ map turn_of evaluations.now) }
+{
+    for evaluation in evaluations {
+        turns.push(Entry::Turn(evaluation.number))?;
+    }
+    Ok(())
+}
 
 impl Queue {
     ghost use Rattle.regions.specs.Order.{IsOrderedQueue};
@@ -54,10 +64,10 @@ impl Queue {
     fn turns(&self, alloc: Global) -> Result<Vec<Entry>, AllocError>
         ensures { IfOk result (λ v. v.items ≡ map turn_of self.now.evaluations.items) }
     {
-        let mut turns = Vec::new(alloc);
-        for at in 0..self.evaluations.len() {
-            turns.push(Entry::Turn(self.evaluations[at].number))?;
-        }
+        let (first, second) = self.evaluations.as_slices();
+        let mut turns = Vec::with_capacity(alloc, self.evaluations.len().saturating_add(1))?;
+        push_turns(&mut turns, first)?;
+        push_turns(&mut turns, second)?;
         Ok(turns)
     }
 

@@ -28,7 +28,7 @@ fn log_event(
     requires stands { Stands design.now state.now store.now }
     ensures { MatchResult result (λ has. IsTurnGiven design.now (state_of (remainder_of design.now) store.now state.now) (entries.Turn number) (if has then Some log.new else None)) (IsStop design.now (state_of (remainder_of design.now) store.now state.now) (entries.Turn number)) }
 {
-    if !state.legal(&Entry::Turn(number)) {
+    if state.is_finished() {
         return Ok(false);
     }
     match state.evaluation(number) {

@@ -19,4 +19,4 @@ mod replayed;
 pub use bytes::replay_bytes;
 pub use fault::{BytesFault, Cause, ReplayFault};
 pub use laws::faults_are_just;
-pub use replayed::{Replayed, replay};
+pub use replayed::{Replayed, replay, take_next};

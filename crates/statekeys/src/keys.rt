@@ -161,6 +161,9 @@ fn put_future_evaluations(
     put_slice(bytes, processes)
 }
 
+// Room that most keys fit in.
+const KEY_ROOM: usize = 256;
+
 /// Fills `bytes` with the key of a state and the values of its registers. What stood there is dropped; where memory is refused,
 /// a part of the key may stand there.
 pub fn key(
@@ -174,6 +177,7 @@ pub fn key(
     let (updates, evaluations) = state.active();
     let future = state.future_evaluations();
     bytes.clear();
+    bytes.reserve(KEY_ROOM)?;
     state.time().encode(bytes)?;
     state.is_finished().encode(bytes)?;
     put_slice(bytes, store.values())?;

@@ -40,6 +40,8 @@ const SAVE: &str = "vsimtx run t.v --journal OUT";
 
 const REPLAY: &str = "vsimtx replay t.v JOURNAL";
 
+const WAVES: &str = "vsimtx waves t.v JOURNAL --out OUT";
+
 const CANNOT_WRITE: &str = "vsimtx: cannot write\n";
 
 /// What stands in OUT before a command.
@@ -70,8 +72,8 @@ impl Read for Source<'_> {
 }
 
 /// Files in memory. Of a source and of a journal there is a whole one, and others that break off after
-/// the same bytes; `LINK` and `LINKED.1.journal` lead to the source. `folder` isn't there, and any other new file has the room that
-/// is given.
+/// the same bytes; `LINK` and `LINKED.1.journal` lead to the source, and `COPY` to the journal. `folder` isn't there, and any other new
+/// file has the room that is given.
 #[derive(Drop)]
 struct Memory<'a> {
     alloc: Global,
@@ -100,7 +102,11 @@ impl<'a> Files for Memory<'a> {
     }
 
     fn same(&self, source: &str, out: &str) -> bool {
-        source == "t.v" && matches!(out, "t.v" | "LINK" | "LINKED.1.journal")
+        match source {
+            "t.v" => matches!(out, "t.v" | "LINK" | "LINKED.1.journal"),
+            "JOURNAL" => matches!(out, "JOURNAL" | "COPY"),
+            _ => false,
+        }
     }
 
     fn begin(&mut self, path: &str) -> io::Result<Target> {

@@ -19,7 +19,8 @@
 //!    that fail.
 //! 4. `replays` has what a fault prints, and replays from bytes to bytes by readers and writers that fail.
 //! 5. `refused` makes the calls from bytes to bytes in too little memory.
-//! 6. `replaced` has a source and its journal that are cut, and with each byte replaced.
+//! 6. `dumps` has waves of small designs, and their dumps.
+//! 7. `replaced` has a source and its journal that are cut, and with each byte replaced.
 //!
 //! The faults of sources and of journals, the values of literals and operators, and the lines of whole journals are rows of
 //! `shown`.

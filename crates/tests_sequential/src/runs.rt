@@ -1,6 +1,7 @@
 //! Turns, regions, texts of journals and replays.
 
 mod compare;
+mod dumps;
 mod event_queue;
 mod held;
 mod journal_text;

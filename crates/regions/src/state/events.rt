@@ -6,6 +6,7 @@ ghost use Rattle.regions.specs.Future.{due_event};
 use super::State;
 use crate::future::Due;
 use crate::queue::{Evaluation, Progress, Update};
+use design::Control;
 use std::collections::VecDeque;
 
 impl State {
@@ -57,5 +58,12 @@ impl State {
         ensures { map (process_of self.now.controls) result.now ≡ self.now.processes }
     {
         self.queue.processes.as_slice()
+    }
+
+    /// The event controls, in the order of their numbers.
+    pub fn controls(&self) -> &[Control]
+        ensures { result.now ≡ self.entry.now.controls }
+    {
+        self.queue.controls.as_slice()
     }
 }

@@ -29,6 +29,16 @@ const FILE_FAULTS: &[(&str, u8, &str)] = &[
         3,
         "vsimtx: P2 syntax at token 1\n",
     ),
+    (
+        "vsimtx waves broken.v JOURNAL --out OUT",
+        1,
+        "vsimtx: cannot read broken.v\n",
+    ),
+    (
+        "vsimtx waves t.v BROKEN --out OUT",
+        3,
+        "vsimtx: P2 syntax at token 1\n",
+    ),
 ];
 
 #[test]

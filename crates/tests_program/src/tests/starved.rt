@@ -2,16 +2,17 @@
 //! memory can start no thread either.
 //!
 //! A command passes marks: `s` where it starts, `f` where FILE is opened and `F` at its end, `j` at the first read of JOURNAL and
-//! `J` at its end, and `O` where OUT is begun. At one of them it loses all memory but a rest.
+//! `J` at its end, `O` where OUT is begun, and `o` at the first byte of a search's output. At one of them it loses all memory but a
+//! rest.
 
-use super::{REPLAY, Shared, Target, repeated, words_of};
+use super::{REPLAY, Shared, Target, WAVES, repeated, words_of};
 use files::Files;
 use hoard::Hoard;
 use journal::Counted;
 use program::command;
 use std::alloc::Global;
 use std::cell::RefCell;
-use std::io::Read;
+use std::io::{Read, Write};
 use std::process::Abort;
 use std::rc::Rc;
 use std::sync::Wait;
@@ -268,6 +269,11 @@ const LOSSES: &[(&str, u8, &str, &str)] = &[
     (REPLAY, b'F', "sfF", "vsimtx: P6 memory\n"),
     (REPLAY, b'j', "sfFj", "vsimtx: Q5 memory\n"),
     (REPLAY, b'J', "sfFjJ", "vsimtx: entry 0: memory\n"),
+    (WAVES, b's', "s", "vsimtx: memory\n"),
+    (WAVES, b'f', "sf", "vsimtx: memory\n"),
+    (WAVES, b'F', "sfF", "vsimtx: P6 memory\n"),
+    (WAVES, b'j', "sfFj", "vsimtx: Q5 memory\n"),
+    (WAVES, b'J', "sfFjJO", "vsimtx: entry 0: memory\n"),
 ];
 
 /// A command passed these marks, wrote this line alone, and had the status of memory.
@@ -481,4 +487,78 @@ fn tells_that_no_worker_starts(rt: HostRuntime) {
     };
     let status = status_of(&rt, rt.alloc(), asked, &places, marks);
     assert_told(&rt, &places, status, "sfF", "vsimtx: cannot start worker\n");
+}
+
+/// Standard output, whose first write is a mark.
+#[derive(Drop)]
+struct MarkedTarget<'a> {
+    target: Target,
+    first: u8,
+    marks: Marks<'a>,
+}
+
+impl Write for MarkedTarget<'_> {
+    fn write(&mut self, buf: &[u8]) -> io::Result<usize> {
+        self.marks.pass(once(&mut self.first));
+        self.target.write(buf)
+    }
+
+    fn flush(&mut self) -> io::Result<()> {
+        Ok(())
+    }
+}
+
+const RACE: &str = "module t; reg a; initial a = 1'b1; initial $display(\"%b\", a); endmodule";
+
+/// What is told of the race before the search.
+const NAMED: &[u8] =
+    b"race 1: register a, time 0\n  process 0, initial at line 1, writes it\n  process 1, initial at line 1, reads it\n  the first before the second: line 1 is `1`\n  the second before the first: line 1 is `x`\n";
+
+/// The status of a search that loses all memory at the first byte of what it tells.
+fn status_of_search<R: Abort + Threads + Wait + Sync>(
+    rt: &R,
+    alloc: Global,
+    words: &[String],
+    places: &Places,
+    marks: Marks<'_>,
+) -> u8 {
+    let mut files = Starved {
+        source: RACE.as_bytes(),
+        journal: NO_ENTRY,
+        made: places.made.clone().expect(rt, "a count"),
+        marks,
+    };
+    let mut out = Counted::new(MarkedTarget {
+        target: target(rt, &places.out),
+        first: b'o',
+        marks,
+    });
+    let mut err = Counted::new(target(rt, &places.err));
+    command(rt, alloc, words, &mut files, &mut out, &mut err)
+}
+
+/// A race is told before the search of all orders, which has no memory: nothing is said of the texts.
+#[test]
+fn tells_races_before_the_search(rt: HostRuntime) {
+    let words = words_of(&rt, rt.alloc(), "vsimtx races t.v");
+    let places = new_places(&rt, rt.alloc());
+    let hoard = hoarded(&rt, rt.alloc(), 64);
+    open_all(&rt, &hoard, 32);
+    let marks = Marks {
+        passed: &places.passed,
+        hoard: &hoard,
+        loss: b'o',
+        rest: 0,
+    };
+    let status = status_of_search(&rt, rt.alloc(), words.as_slice(), &places, marks);
+    shut(&hoard);
+    assert_named(&rt, &places, status);
+}
+
+/// The race is told alone, and then that memory was refused.
+fn assert_named(rt: &impl Abort, places: &Places, status: u8) {
+    assert!(rt; status == 6, "the status of memory");
+    assert!(rt; has(&places.passed, b"fFo"), "the marks");
+    assert!(rt; has(&places.out, NAMED), "the race alone");
+    assert!(rt; has(&places.err, b"vsimtx: memory\n"), "the line");
 }

@@ -10,7 +10,7 @@ const EMPTY: &str = "module t; endmodule";
 
 /// The help of the program as a whole.
 const WHOLE: &str =
-    "Simulates one Verilog module on several workers\n\nUsage: vsimtx <COMMAND>\n\nCommands:\n  run     Simulates FILE and prints its lines\n  replay  Replays JOURNAL on FILE and prints its lines\n  races   Searches the lawful orders of FILE and shows where its runs differ\n  check   Reads FILE and tells what is wrong with it\n  help    Print this message or the help of the given subcommand(s)\n\nOptions:\n  -h, --help     Print help\n  -V, --version  Print version\n";
+    "Simulates one Verilog module on several workers\n\nUsage: vsimtx <COMMAND>\n\nCommands:\n  run     Simulates FILE and prints its lines\n  replay  Replays JOURNAL on FILE and prints its lines\n  races   Searches the lawful orders of FILE and shows where its runs differ\n  check   Reads FILE and tells what is wrong with it\n  waves   Writes the registers of JOURNAL on FILE over time as a value change dump\n  help    Print this message or the help of the given subcommand(s)\n\nOptions:\n  -h, --help     Print help\n  -V, --version  Print version\n";
 
 const OF_RUN: &str =
     "Simulates FILE and prints its lines\n\nUsage: vsimtx run [OPTIONS] <FILE>\n\nArguments:\n  <FILE>  Verilog source\n\nOptions:\n      --workers <N>      Worker threads, 1 to 16 [default: 2]\n      --until <T>        Last time that the run may reach, 0 to 281474976710656 [default: no limit]\n      --max-entries <N>  Most entries of a journal, 1 to 4294967295 [default: 1000000]\n      --journal <OUT>    Where to write the journal\n      --seed <S>         Takes random choices from S, 0 to 18446744073709551615, on one thread\n  -h, --help             Print help\n";

@@ -1,20 +1,20 @@
-use Rattle.std.proofs.Common.{◌≡◌, List, [], ◌∷◌, ◌++◌, refl, sym, ap, ◌∙◌, subst}
+use Rattle.std.proofs.Common.{◌≡◌, ℕ, List, [], ◌∷◌, ◌++◌, refl, sym, ap, ◌∙◌, subst}
 use Rattle.std.specs.List.{Any}
 use Rattle.std.proofs.lemmas.List.Quantifiers.{Any-push}
 use Rattle.explore.specs.declared.kept.Pending.{Pending}
-use Rattle.explore.specs.declared.visited.Visit.{Visit}
+use Rattle.explore.specs.Pieces.{pieces}
 use Rattle.explore.proofs.Keeping.{AreKept-first, keys_first}
 use Rattle.explore.proofs.kept.first.Goals as goal
 
 pub returns-clause-kept : goal.returns-clause-kept
 returns-clause-kept g c =
     let orders = c.args.orders.now in
-    let visit : Visit = record { text = 0; key = c.in_ok-key.key } in
+    let visit : ℕ × List ℕ = (0, c.as_slice.result.now) in
     let p : Pending g.row.O-Node.Denot = record { node = c.in_ok-node.node; place = record { number = 0; text = 0 } } in
-    AreKept-first (g.O.Orders.runs orders) (g.O.Orders.key_of orders) _ p visit c.new.ensures.trail c.new.ensures.ways c.new-2.ensures.ok c.new-2.ensures.texts
-    (keys_first c.in_ok-_new._new c.new-visited.result.visits.keys c.add.new.self.visits.keys visit c.new-visited.ensures c.in_ok-_new.ensures.there c.in_ok-_new.ensures.added)
+    AreKept-first (g.O.Orders.runs orders) (g.O.Orders.key_of orders) _ p visit c.new.ensures.trail c.new.ensures.ways c.new-2.ensures.ok c.new-2.ensures.texts c.in_ok-_new.ensures.whole
+    (keys_first c.in_ok-_new._new (pieces c.new-visited.result.visits) (pieces c.add.new.self.visits) visit c.new-visited.ensures.none c.in_ok-_new.ensures.there c.in_ok-_new.ensures.added)
     (c.in_ok-push.ensures.items ∙ ap (λ (l : List (Pending g.row.O-Node.Denot)). l ++ p ∷ []) c.new-pending.ensures.items)
-    refl refl c.in_ok-node.ensures (sym c.in_ok-key.ensures) (g.met.O.Orders.silent orders)
+    refl refl c.in_ok-node.ensures (sym (c.as_slice.ensures.value ∙ c.in_ok-key.ensures)) (g.met.O.Orders.silent orders)
 
 pub returns-clause-waits : goal.returns-clause-waits
 returns-clause-waits g c =

@@ -1,4 +1,5 @@
 -- Reading a file leaves the files that were saved.
+use Rattle.std.specs.Io.KnownBytes.{Keeps}
 use Rattle.files.specs.Saved.{KeepsFiles}
 use Rattle.program.proofs.Ended.{shown_on, output_kept}
 use Rattle.program.proofs.searching.search_races.Goals as goal
@@ -9,3 +10,7 @@ returns-clause-shown g c =
 
 pub returns-clause-unsaved : goal.returns-clause-unsaved
 returns-clause-unsaved g c = output_kept (KeepsFiles (g.F.Files.made c.args.files.now) (g.F.Files.made c.search_design.new.files)) c.search_design.result c.search_design.ensures.fault
+
+pub returns-clause-nothing : goal.returns-clause-nothing
+returns-clause-nothing g c =
+    output_kept (Keeps (g.O.Write.contents c.args.out.now) (g.O.Write.contents c.search_design.new.out)) c.search_design.result c.search_design.ensures.fault

@@ -1,23 +1,26 @@
 -- The turn of an event that is permitted, and why there is none.
-use Rattle.std.proofs.Common.{◌≡◌, refl, subst, true, false, ℕ, None}
+use Rattle.std.proofs.Common.{◌≡◌, ◌∙◌, refl, sym, subst, Bool, true, false, ℕ, None}
 use Rattle.model.specs.declared.entry.Entry.TheVariants as entries
-use Rattle.model.specs.Runs.{refusal}
+use Rattle.model.specs.Runs.{refusal, action_in}
 use Rattle.model.specs.Turns.{short_turn}
 use Rattle.design.specs.Compiled.{design_of}
 use Rattle.design.specs.Standing.{remainder_of, IsStateOf}
 use Rattle.turn.specs.declared.log.FillFault.{FillFault}
 use Rattle.regions.specs.Queue.{state_of}
 use Rattle.regions.specs.Reader.{IsTurnOn, IsNoTurnOn}
-use Rattle.regions.proofs.Given.{given_turn, given_none, stop_turn}
+use Rattle.regions.proofs.Given.{given_turn, given_inactive, permitted_where, stop_turn}
 use Rattle.regions.proofs.take.log_event.Goals as goal
 
-pub returns-then-not-legal : goal.returns-then-not-legal
-returns-then-not-legal c =
-    let code = c.args.design.now in
-    let values = c.args.store.now in
-    let no : c.legal.result ≡ false = c.if-not-legal.true in
-    given_none code (state_of (remainder_of code) values c.args.state.now) c.args.number
-    (λ none. let yes : c.legal.result ≡ true = (c.legal.ensures (remainder_of code) values).1 none in cc)
+clash : (b : Bool) → b ≡ true → b ≡ false → ⊥
+clash b finished running = cc
+
+pub returns-then-is_finished : goal.returns-then-is_finished
+returns-then-is_finished c = λ n p is_entry running action.
+    absurd (clash c.args.state.now.finished (sym c.is_finished.ensures ∙ c.if-is_finished.true) running)
+
+pub returns-in-None : goal.returns-in-None
+returns-in-None c =
+    given_inactive c.args.design.now (state_of (remainder_of c.args.design.now) c.args.store.now c.args.state.now) c.args.number c.in-None.ensures
 
 pub returns-in-Ok : goal.returns-in-Ok
 returns-in-Ok c =
@@ -31,11 +34,14 @@ returns-in-Err-TooLong c =
     let code = c.args.design.now in
     let values = c.args.store.now in
     let core = c.args.state.now in
-    let permitted : refusal (state_of (remainder_of code) values core) (entries.Turn c.args.number) ≡ None = (c.legal.ensures (remainder_of code) values).0 c.if-not-legal.false in
+    let permitted : refusal (state_of (remainder_of code) values core) (entries.Turn c.args.number) ≡ None =
+    permitted_where c.args.state.now.finished (action_in c.args.state.now.active c.args.number) c.in-Some.field-0-0 (sym c.is_finished.ensures ∙ c.if-is_finished.false) c.in-Some.ensures.0 in
     let none = subst (λ (f : FillFault). IsNoTurnOn code c.in-Some.place values c.time-now.result f) c.in-Err-TooLong.field-0-is c.in-Err-TooLong.ensures in
     stop_turn code core values c.args.number c.in-Some.field-0-0 c.in-Some.place c.requires.stands.states c.in-Some.ensures permitted
     (subst (λ (now : ℕ). (q : ℕ) → IsStateOf code q c.in-Some.place → short_turn (design_of code) q (remainder_of code c.in-Some.place) values now ≡ None) c.time-now.ensures none)
 
 pub returns-in-Err-Memory : goal.returns-in-Err-Memory
 returns-in-Err-Memory c =
-    ((c.legal.ensures (remainder_of c.args.design.now) c.args.store.now).0 c.if-not-legal.false, (c.args.number, refl))
+    let permitted : refusal (state_of (remainder_of c.args.design.now) c.args.store.now c.args.state.now) (entries.Turn c.args.number) ≡ None =
+    permitted_where c.args.state.now.finished (action_in c.args.state.now.active c.args.number) c.in-Some.field-0-0 (sym c.is_finished.ensures ∙ c.if-is_finished.false) c.in-Some.ensures.0 in
+    (permitted, (c.args.number, refl))

@@ -45,7 +45,7 @@ is_told c = record {
 pub returns : goal.returns
 returns c =
     let t : Told = told c in
-    let s1 = c.in_ok-encode.ensures ∙ ap (λ bs. bs ++ nat_code t.time) c.clear.ensures.items in
+    let s1 = c.in_ok-encode.ensures ∙ ap (λ bs. bs ++ nat_code t.time) (c.reserve.ensures.items ∙ c.clear.ensures.items) in
     let s2 = c.in_ok-encode-2.ensures ∙ ap (λ bs. bs ++ bool_code t.finished) s1 in
     let s3 = c.in_ok-put_slice.ensures ∙ ap (λ bs. bs ++ list_code vector_code t.values) s2 in
     let s4 = c.in_ok-put_processes.ensures ∙ ap (λ bs. bs ++ list_code process_code t.processes) s3 in

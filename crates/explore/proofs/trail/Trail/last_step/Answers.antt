@@ -1,24 +1,24 @@
-use Rattle.std.proofs.Common.{◌≡◌, ℕ, ◌-◌, ◌+◌, ◌<◌, ◌≤◌, Some, slice_get, length, refl, arith, get_or, [], ap, ◌∙◌}
-use Rattle.std.proofs.lemmas.Option.{slice_get_read}
+use Rattle.std.proofs.Common.{◌≡◌, ℕ, ◌-◌, ◌+◌, ◌≤◌, arith, get_or, [], ap, ◌∙◌, Some, List}
+use Rattle.std.specs.Prelude.{slice_get}
+use Rattle.explore.specs.Pieces.{pieces}
 use Rattle.explore.specs.Trail.{ways}
 use Rattle.explore.proofs.Steps.{length-gone, gone-step}
 use Rattle.explore.proofs.trail.Trail.last_step.Goals as goal
 
-pub index-requires : goal.index-requires
-index-requires g c = omega (arith, length-gone c.args.self.now.moves.items c.args.self.now.steps.items, c.requires.within, c.requires.moved)
+pub piece-requires-clause-whole : goal.piece-requires-clause-whole
+piece-requires-clause-whole g c = c.requires.trail.whole
+
+pub piece-requires-clause-within : goal.piece-requires-clause-within
+piece-requires-clause-within g c = omega (arith, length-gone (pieces c.args.self.now.steps), c.requires.within, c.requires.moved)
 
 pub returns : goal.returns
 returns g c =
-    let moves = c.args.self.now.moves.items in
-    let steps = c.args.self.now.steps.items in
-    let step = c.index.result.now in
-    let within : c.args.number - 1 < length steps = omega (arith, length-gone moves steps, c.requires.within, c.requires.moved) in
-    let at : slice_get steps (c.args.number - 1) ≡ Some step = slice_get_read steps (length steps) (c.args.number - 1) step refl within c.index.ensures in
-    let known : (step.from ≤ c.args.number - 1) × (step.begin ≤ step.end) × (step.end ≤ length moves) = c.requires.trail (c.args.number - 1) step at in
+    let steps = pieces c.args.self.now.steps in
+    let step : ℕ × List g.row.M.Denot = (c.piece.result.0, c.piece.result.1.now) in
+    let at : slice_get steps (c.args.number - 1) ≡ Some step = c.piece.ensures in
+    let low : step.0 ≤ c.args.number - 1 = c.requires.trail.after (c.args.number - 1) step at in
     let back : c.args.number ≡ (c.args.number - 1) + 1 = omega (arith, c.requires.moved) in
     record {
-      from = omega (arith, known.0, c.requires.moved);
-      begin = known.1;
-      end = known.2;
-      way = ap (λ (n : ℕ). get_or (ways c.args.self.now) n []) back ∙ gone-step moves steps (c.args.number - 1) step c.requires.trail at;
+      from = omega (arith, low, c.requires.moved);
+      way = ap (λ (n : ℕ). get_or (ways c.args.self.now) n []) back ∙ gone-step steps (c.args.number - 1) step c.requires.trail.after at;
     }

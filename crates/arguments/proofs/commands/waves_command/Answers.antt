@@ -1,0 +1,24 @@
+use Rattle.std.proofs.Common.{◌≡◌, ◌∙◌, ap, ap₂, rules, [], None, true, codes}
+use Rattle.clap.specs.Built.{AddsArg}
+use Rattle.clap.specs.Simple.{app_of, app_of_fields, new_app, with_rule}
+use Rattle.arguments.specs.Arguments.{HasRules, waves_rules, rule}
+use Rattle.arguments.specs.Words.{place, waves_app}
+use Rattle.arguments.proofs.GivenLemmas.{if_ok, none_yet, one_more}
+use Rattle.arguments.proofs.commands.waves_command.Goals as goal
+
+pub returns : goal.returns
+unfolding waves_app
+returns c =
+    let begun : app_of c.in_ok-bin_name.field-0 ≡ new_app (codes "waves") = ap app_of_fields c.in_ok-bin_name.ensures.0 ∙ (ap app_of_fields c.about.ensures ∙ c.new.ensures.app) in
+    let with_file : app_of c.in_ok-arg.field-0 ≡ with_rule (new_app (codes "waves")) (place (codes "FILE")) =
+    c.in_ok-arg.ensures.shape c.positional.ensures.takes.local ∙ ap₂ with_rule begun c.positional.ensures.rule in
+    let with_journal = c.in_ok-arg-2.ensures.shape c.positional-2.ensures.takes.local ∙ ap₂ with_rule with_file c.positional-2.ensures.rule in
+    let start = none_yet c.in_ok-bin_name.field-0 (search rules) (search rules) (search rules) (search rules) in
+    let one = one_more c.in_ok-bin_name.field-0 c.in_ok-arg.field-0 c.positional.result [] (rule (codes "FILE") true None) start c.positional.ensures.takes c.in_ok-arg.ensures in
+    let two = one_more c.in_ok-arg.field-0 c.in_ok-arg-2.field-0 c.positional-2.result _ _ one c.positional-2.ensures.takes c.in_ok-arg-2.ensures in
+    record {
+      rules = if_ok (AddsArg c.in_ok-arg-2.field-0 c.out.result) (λ d. HasRules d waves_rules) c.arg-3.result
+          (λ d added. one_more c.in_ok-arg-2.field-0 d c.out.result _ _ two c.out.ensures.takes added) c.arg-3.ensures;
+      app = if_ok (AddsArg c.in_ok-arg-2.field-0 c.out.result) (λ d. app_of d ≡ waves_app) c.arg-3.result
+          (λ d added. added.shape c.out.ensures.takes.local ∙ ap₂ with_rule with_journal c.out.ensures.rule) c.arg-3.ensures;
+    }

@@ -1,0 +1,91 @@
+-- What the tests of a process's text say together.
+use Rattle.std.proofs.Common.{◌≡◌, ℕ, suc, ◌+◌, ◌<◌, ◌≤◌, true, false, List, [], ◌∷◌, ◌++◌, map, length, drop, Some, refl, sym, ap, subst, ◌∙◌, arith}
+use Rattle.std.specs.Prelude.{slice_get}
+use Rattle.std.proofs.lemmas.List.{length-map}
+use Rattle.std.proofs.lemmas.List.Elements.{All-get_or}
+use Rattle.model.specs.Design.{Design, Process, Statement, Await, Statements, End, Then, Trigger, all_of, size, statements_of, process_at, first_place}
+use Rattle.model.specs.Turns.{OnChange, contains, parts, short_turn}
+use Rattle.model.specs.declared.tree.Change.TheVariants.{Any}
+use Rattle.design.specs.Trees.{process_of}
+use Rattle.design.specs.Compiled.{Compiled, design_of}
+use Rattle.design.specs.Standing.{controls_of}
+use Rattle.design.specs.Places.{remainder_at}
+use Rattle.design.specs.Sound.{AreSoundStatements}
+use Rattle.design.specs.Meaning.{IsCompiled}
+use Rattle.phases.specs.Phase.{Block, IsBlock}
+use Rattle.phases.specs.Combinational.{is_plain, reads, written, settled, IsCombinational, block_of}
+use Rattle.phases.proofs.Blocks.{body_at, no_more, combinational_is_block}
+use Rattle.combinational.specs.declared.block.Logic.{Logic}
+use Rattle.combinational.specs.Found.{any_change, block_in, HasLogic}
+use Rattle.combinational.proofs.Waits.{IsAwaiting}
+use Rattle.combinational.proofs.Bounds.{reads_bound, written_bound, length-drop}
+
+-- a block with the same outputs in another order
+same_block : (design : Design) (p : ℕ) (b c : Block) → b.rest ≡ c.rest → b.inputs ≡ c.inputs → ((r : ℕ) → contains b.outputs r ≡ true → contains c.outputs r ≡ true)
+    → ((r : ℕ) → contains c.outputs r ≡ true → contains b.outputs r ≡ true) → IsBlock design p b → IsBlock design p c
+same_block design p b c rest inputs more fewer block =
+    record {
+      turns = λ store now.
+          let (t, at, h) = block.turns store now in (
+            t,
+            ap (λ left. short_turn design p left store now) (sym rest) ∙ at,
+            record {
+              reads = λ r used. ap (λ xs. contains xs r) (sym inputs) ∙ h.reads r used;
+              writes = λ r wrote. more r (h.writes r wrote);
+              all = λ r out. h.all r (fewer r out);
+              laters = h.laters;
+              lines = h.lines;
+              strobes = h.strobes;
+              finish = h.finish;
+              rest = h.rest ∙ rest;
+              wait = h.wait ∙ ap (λ xs. OnChange (map (λ r. (Any, r)) xs)) inputs;
+            },
+          );
+      apart = λ r out. ap (λ xs. contains xs r) (sym inputs) ∙ block.apart r (fewer r out);
+    }
+
+sound_body : (code : Compiled) (p : ℕ) (ts : List Trigger) (body : Statements) → IsCompiled code → p < length code.processes → IsAwaiting code p ts body → AreSoundStatements code.widths body
+sound_body code p ts body compiled lt is =
+    let within : p < length (design_of code).processes = rw (length-map code.processes process_of) lt in
+    let all : AreSoundStatements code.widths (process_at (design_of code) p).body =
+    All-get_or (λ (q : Process). AreSoundStatements code.widths q.body) (design_of code).processes p (record { repeats = false; body = End }) within compiled.sound.statements in
+    let whole : AreSoundStatements code.widths (Then (Await ts body) End) = subst (λ (q : Process). AreSoundStatements code.widths q.body) is all in
+    whole.0.1
+
+length-append : (xs ys : List Statement) → length (xs ++ ys) ≡ length xs + length ys
+length-append [] ys = omega arith
+length-append (x ∷ xs) ys = omega (arith, length-append xs ys)
+
+short_body : (code : Compiled) (p : ℕ) (ts : List Trigger) (body : Statements) → IsCompiled code → IsAwaiting code p ts body → length code.nodes ≤ 65534 → size body + 2 ≤ 65536
+short_body code p ts body compiled is few =
+    let all : List Statement = statements_of (design_of code).processes in
+    let (others, at) = body_at (design_of code).processes p (record { repeats = true; body = Then (Await ts body) End }) is refl in
+    let long : length (drop (first_place (design_of code) p) all) ≡ suc (length ((all_of body ++ []) ++ others)) = ap length at in
+    let inner : length ((all_of body ++ []) ++ others) ≡ length (all_of body ++ []) + length others = length-append (all_of body ++ []) others in
+    let body_long : length (all_of body ++ []) ≡ size body = ap length (no_more (all_of body)) in
+    omega (arith, few, compiled.count, length-drop (first_place (design_of code) p) all, long, inner, body_long)
+
+pub logic_found : (code : Compiled) (p : ℕ) (logic : Logic) (ts : List Trigger) (body : Statements) → IsCompiled code → p < length code.processes → IsAwaiting code p ts body → is_plain body ≡ true → length code.nodes ≤ 65534
+    → map any_change logic.inputs.items ≡ ts → (slice_get (controls_of code) logic.control ≡ Some ts) × (remainder_at (design_of code) logic.place ≡ parts (first_place (design_of code) p + 1) body)
+    → ((r : ℕ) → contains logic.outputs.items r ≡ true → contains (written body) r ≡ true) → ((r : ℕ) → r < length code.widths → contains (written body) r ≡ true → contains logic.outputs.items r ≡ true)
+    → ((r : ℕ) → r < length code.widths → contains (reads body []) r ≡ true → contains logic.inputs.items r ≡ true) → ((r : ℕ) → contains logic.outputs.items r ≡ true → contains (settled body) r ≡ true)
+    → ((r : ℕ) → contains logic.outputs.items r ≡ true → contains logic.inputs.items r ≡ false) → HasLogic code p logic
+logic_found code p logic ts body compiled lt is plain few inputs (control, rest) only all within sure apart =
+    let design : Design = design_of code in
+    let sound : AreSoundStatements code.widths body = sound_body code p ts body compiled lt is in
+    let outputs : (r : ℕ) → contains (written body) r ≡ true → contains logic.outputs.items r ≡ true = λ r there. all r (written_bound code.widths body r sound there) there in
+    let is' : IsAwaiting code p (map any_change logic.inputs.items) body = subst (λ xs. IsAwaiting code p xs body) (sym inputs) is in
+    let combinational : IsCombinational design p logic.inputs.items body =
+    record {
+      process = is';
+      plain = plain;
+      within = λ r there. within r (reads_bound code.widths body [] r sound (λ none. cc) there) there;
+      all = λ r there. sure r (outputs r there);
+      apart = λ r there. apart r (outputs r there);
+      short = short_body code p ts body compiled is few;
+    } in
+    let block : IsBlock design p (block_of design p logic.inputs.items body) = combinational_is_block design p logic.inputs.items body combinational in
+    record {
+      block = same_block design p (block_of design p logic.inputs.items body) (block_in code logic) (sym rest) refl outputs only block;
+      control = control ∙ ap (λ xs. Some xs) (sym inputs);
+    }

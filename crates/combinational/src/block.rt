@@ -1,0 +1,178 @@
+//! A combinational process, found by its text.
+ghost use Rattle.std.specs.Prelude.{◌≡◌, ℕ, ◌+◌, ◌<◌, ◌≤◌, true, false, List, [], map, length, Some, slice_get, IfOk, IfSome};
+ghost use Rattle.model.specs.Design.{Trigger as Triggered, Statements, Await, End, Then, process_at, first_place};
+ghost use Rattle.model.specs.Turns.{contains, parts};
+ghost use Rattle.design.specs.Trees.{process_of, statements_of};
+ghost use Rattle.design.specs.Compiled.{design_of};
+ghost use Rattle.design.specs.Standing.{controls_of};
+ghost use Rattle.design.specs.Places.{remainder_at};
+ghost use Rattle.phases.specs.Combinational.{reads as all_reads, written, settled};
+ghost use Rattle.combinational.specs.Found.{any_change, HasLogic};
+
+use crate::body::{is_plain, may_read, may_write, must_write};
+use design::code::Node;
+use design::tree::{Process, Statement};
+use design::{Design, RegId, Trigger};
+use model::tree::Change;
+use std::alloc::{AllocError, Global};
+
+/// The logic of a combinational process: the place at which it goes on behind its wait, the number of the event control by which it
+/// waits, the registers that it waits for, and those that it gives values.
+#[derive(Drop)]
+pub struct Logic {
+    pub place: usize,
+    pub control: usize,
+    pub inputs: Vec<RegId>,
+    pub outputs: Vec<RegId>,
+}
+
+/// Whether a register is among these.
+pub fn is_among(registers: &[RegId], register: RegId) -> bool
+    ensures { result ≡ contains registers.now register }
+{
+    registers.iter().any(|own| *own == register)
+}
+
+// The registers of an event control that waits for any change of each (9.7.2).
+fn inputs_of(alloc: Global, triggers: &[Trigger]) -> Result<Option<Vec<RegId>>, AllocError>
+    ensures { IfOk result (λ found. IfSome found (λ inputs. map any_change inputs.items ≡ triggers.now)) }
+{
+    let mut inputs = Vec::new(alloc);
+    for trigger in triggers {
+        match trigger.0 {
+            Change::Any => inputs.push(trigger.1)?,
+            Change::Posedge => return Ok(None),
+            Change::Negedge => return Ok(None),
+        }
+    }
+    Ok(Some(inputs))
+}
+
+// Those of the first registers that a body may write, in the order of their numbers.
+fn outputs_of(alloc: Global, registers: u32, body: &[Statement]) -> Result<Vec<RegId>, AllocError>
+    ensures written { IfOk result (λ outputs. (r : ℕ) → contains outputs.items r ≡ true → contains (written (statements_of body.now)) r ≡ true) }
+    ensures all { IfOk result (λ outputs. (r : ℕ) → r < registers → contains (written (statements_of body.now)) r ≡ true → contains outputs.items r ≡ true) }
+{
+    let mut outputs = Vec::new(alloc);
+    for register in 0..registers {
+        if may_write(body, register) {
+            outputs.push(register)?;
+        }
+    }
+    Ok(outputs)
+}
+
+// Whether a register is an input, where a body may read it before it writes it.
+fn reads_input(body: &[Statement], inputs: &[RegId], register: RegId) -> bool
+    ensures { result ≡ true → contains (all_reads (statements_of body.now) []) register ≡ true → contains inputs.now register ≡ true }
+{
+    !may_read(body, register, false) | is_among(inputs, register)
+}
+
+// Whether a body reads none of the first registers but these before it writes it.
+fn reads_inputs(registers: u32, body: &[Statement], inputs: &[RegId]) -> bool
+    ensures { result ≡ true → (r : ℕ) → r < registers → contains (all_reads (statements_of body.now) []) r ≡ true → contains inputs.now r ≡ true }
+{
+    for register in 0..registers {
+        if !reads_input(body, inputs, register) {
+            return false;
+        }
+    }
+    true
+}
+
+// Whether a body writes a register on every way through it, and that is no input.
+fn settles_output(body: &[Statement], inputs: &[RegId], register: RegId) -> bool
+    ensures settled { result ≡ true → contains (settled (statements_of body.now)) register ≡ true }
+    ensures apart { result ≡ true → contains inputs.now register ≡ false }
+{
+    must_write(body, register) & !is_among(inputs, register)
+}
+
+// Whether a body writes each of these registers on every way through it, and none of them is an input.
+fn settles_outputs(body: &[Statement], inputs: &[RegId], outputs: &[RegId]) -> bool
+    ensures settled { result ≡ true → (r : ℕ) → contains outputs.now r ≡ true → contains (settled (statements_of body.now)) r ≡ true }
+    ensures apart { result ≡ true → (r : ℕ) → contains outputs.now r ≡ true → contains inputs.now r ≡ false }
+{
+    for output in outputs {
+        if !settles_output(body, inputs, *output) {
+            return false;
+        }
+    }
+    true
+}
+
+// The events and the body of a process that is an event control alone, again and again.
+fn awaited(process: &Process) -> Option<(&[Trigger], &[Statement])>
+    ensures { IfSome result (λ found. process_of process.now ≡ record { repeats = true; body = Then (Await found.0.now (statements_of found.1.now)) End }) }
+{
+    if !process.repeats {
+        return None;
+    }
+    if process.body.len() != 1 {
+        return None;
+    }
+    match &process.body[0] {
+        Statement::Await(triggers, body) => Some((triggers.as_slice(), body.as_slice())),
+        _ => None,
+    }
+}
+
+// The number of the event control with which a process begins, and the place behind it.
+fn first_wait(design: &Design, process: u32) -> Option<(usize, usize)>
+    requires { process < length design.now.processes }
+    ensures { IfSome result (λ found. (triggers : List Triggered) (body : Statements) → process_at (design_of design.now) process ≡ record { repeats = true; body = Then (Await triggers body) End } → (slice_get (controls_of design.now) found.0 ≡ Some triggers) × (remainder_at (design_of design.now) found.1 ≡ parts (first_place (design_of design.now) process + 1) body)) }
+{
+    design.registers();
+    let first = design.first(process);
+    match design.nodes().get(first.place) {
+        Some(Node::Await { control, next }) => Some((*control, *next)),
+        _ => None,
+    }
+}
+
+// Whether a design has so few statements that each turn of combinational logic is short.
+fn is_short(design: &Design) -> bool
+    ensures { result ≡ true → length design.now.nodes ≤ 65534 }
+{
+    design.nodes().len() <= 65_534
+}
+
+/// The logic of a process, where it is combinational by its text (9.7.2, 9.9): `always @(registers)` with a body of blocks, blocking
+/// assignments without a delay and `if` alone, which reads no other register before it writes it, writes whatever it may write on every
+/// way through it, and nothing that it waits for. None is found in a design of more than some 65,000 statements.
+pub(crate) fn logic_of(
+    alloc: Global,
+    design: &Design,
+    process: u32,
+) -> Result<Option<Logic>, AllocError>
+    requires { process < length design.now.processes }
+    ensures { IfOk result (λ found. IfSome found (HasLogic design.now process)) }
+{
+    let registers = design.registers();
+    let (triggers, body) = match awaited(&design.trees()[process as usize]) {
+        Some(parts) => parts,
+        None => return Ok(None),
+    };
+    let (control, place) = match first_wait(design, process) {
+        Some(wait) => wait,
+        None => return Ok(None),
+    };
+    if !is_plain(body) || !is_short(design) {
+        return Ok(None);
+    }
+    let inputs = match inputs_of(alloc, triggers)? {
+        Some(inputs) => inputs,
+        None => return Ok(None),
+    };
+    let outputs = outputs_of(alloc, registers, body)?;
+    if !reads_inputs(registers, body, &inputs) || !settles_outputs(body, &inputs, &outputs) {
+        return Ok(None);
+    }
+    Ok(Some(Logic {
+        place,
+        control,
+        inputs,
+        outputs,
+    }))
+}

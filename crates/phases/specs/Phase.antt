@@ -1,0 +1,142 @@
+-- Combinational processes, and the phases in which they settle.
+use Rattle.std.specs.Prelude.{◌≡◌, ◌≢◌, ℕ, ◌<◌, Bool, true, false, ◌==◌, List, [], ◌∷◌, ◌⊎◌, map, length, Some, slice_index_or}
+use Rattle.std.specs.List.{All, list_any}
+use Rattle.model.specs.declared.tree.Change.TheVariants.{Any}
+use Rattle.model.specs.declared.entry.Entry.{Entry}
+use Rattle.model.specs.declared.entry.Entry.TheVariants.{Turn, Update, ActivateInactive, ActivateNba, ActivateMonitor, Advance}
+use Rattle.model.specs.declared.end.Limits.{Limits}
+use Rattle.model.specs.Design.{Design, Trigger}
+use Rattle.model.specs.Expressions.{Store}
+use Rattle.model.specs.Turns.{Remainder, OnChange, contains, short_turn}
+use Rattle.model.specs.Turns as turns
+use Rattle.model.specs.States.{Progress, State}
+use Rattle.model.specs.Runs.{Effect, run_from}
+use Rattle.model.specs.Laws.{evaluations_in}
+use Rattle.orders.specs.Alike.{IsInOrder, updates_in}
+use Rattle.orders.specs.Apart.{all_given, written_by}
+use Rattle.orders.specs.Flat.{IsActive, IsFlat}
+use Rattle.orders.specs.Search.{IsOneNode, IsReached, Visited, Covers}
+
+-- A block of combinational logic, as in `always @(a or b) y = a & b;`: what its process has left to run while it waits, the
+-- registers that it waits for, and the registers that it gives values.
+pub record Block : Type 0 where
+  pub rest : Remainder
+  pub inputs : List ℕ
+  pub outputs : List ℕ
+
+-- what the process of a block waits for: any change of an input (9.7.2)
+abbrev pub triggers : Block → List Trigger
+triggers block = map (λ r. (Any, r)) block.inputs
+
+-- A turn computes a block: it reads no register but the inputs before it writes it, writes the outputs, each of them, and
+-- nothing else, does nothing besides, and waits again as before.
+abbrev pub Computes : Block → turns.Turn → Type 0
+Computes block turn =
+    record {
+      reads : (r : ℕ) → contains turn.uses r ≡ true → contains block.inputs r ≡ true;
+      writes : (r : ℕ) → contains (written_by turn) r ≡ true → contains block.outputs r ≡ true;
+      all : (r : ℕ) → contains block.outputs r ≡ true → contains (written_by turn) r ≡ true;
+      laters : turn.laters ≡ [];
+      lines : turn.lines ≡ [];
+      strobes : turn.strobes ≡ [];
+      finish : turn.finish ≡ false;
+      rest : turn.rest ≡ block.rest;
+      wait : turn.wait ≡ OnChange (triggers block);
+    }
+
+-- A process is combinational, with this block: whatever the values of the registers and the time, it has a short turn behind its
+-- wait, which computes the block; and no output is an input.
+abbrev pub IsBlock : Design → ℕ → Block → Type 0
+IsBlock design p block =
+    record {
+      turns : (store : Store) (now : ℕ) → (turn : turns.Turn) × (short_turn design p block.rest store now ≡ Some turn) × Computes block turn;
+      apart : (r : ℕ) → contains block.outputs r ≡ true → contains block.inputs r ≡ false;
+    }
+
+-- a process in a state
+abbrev pub progress_of : State → ℕ → Progress
+progress_of s p = slice_index_or s.processes p (record { remainder = []; triggers = [] })
+
+-- the turn of a block would leave every value as it is
+abbrev pub IsConsistent : Design → State → ℕ → Block → Type 0
+IsConsistent design s p block =
+    (turn : turns.Turn) → short_turn design p block.rest s.store s.time ≡ Some turn → all_given s.store turn.writes ≡ s.store
+
+-- the turn of a block is still to come
+abbrev pub IsPending : State → ℕ → Block → Type 0
+IsPending s p block = (evaluations_in p s.active ≡ 1) × (progress_of s p ≡ record { remainder = block.rest; triggers = [] })
+
+-- a block waits, and its turn would leave every value as it is
+abbrev pub HasSettled : Design → State → ℕ → Block → Type 0
+HasSettled design s p block =
+    (evaluations_in p s.active ≡ 0) × (progress_of s p ≡ record { remainder = block.rest; triggers = triggers block })
+    × IsConsistent design s p block
+
+-- whether a process waits for a change of a register, of whatever kind
+abbrev pub waits_for : Progress → ℕ → Bool
+waits_for x r = list_any (λ (t : Trigger). t.1 == r) x.triggers
+
+-- the registers of the active updates
+abbrev pub updated_in : State → List ℕ
+updated_in s = map (λ u. u.0) (updates_in s.active)
+
+-- a register is an output of one of these processes
+abbrev pub IsOutput : List ℕ → (ℕ → Block) → ℕ → Type 0
+IsOutput members block r = (p : ℕ) × (contains members p ≡ true) × (contains (block p).outputs r ≡ true)
+
+-- A phase: the members are combinational processes, and only updates and turns of theirs are active. Each of them is pending, or waits
+-- and would change nothing. No register is an output of two of them, nor an output that is updated. They stand in an order, in
+-- which each comes before those that read its outputs. No other process waits for an output or for a register that is updated.
+abbrev pub IsPhase : Design → State → List ℕ → (ℕ → Block) → (ℕ → ℕ) → Type 0
+IsPhase design s members block rank =
+    record {
+      goes_on : s.finished ≡ false;
+      inside : (p : ℕ) → IsActive s p → contains members p ≡ true;
+      exist : (p : ℕ) → contains members p ≡ true → p < length s.processes;
+      blocks : (p : ℕ) → contains members p ≡ true → IsBlock design p (block p);
+      stands : (p : ℕ) → contains members p ≡ true → IsPending s p (block p) ⊎ HasSettled design s p (block p);
+      single : (p q r : ℕ) → contains members p ≡ true → contains members q ≡ true → p ≢ q → contains (block p).outputs r ≡ true
+          → contains (block q).outputs r ≡ false;
+      updates : (r : ℕ) → contains (updated_in s) r ≡ true → (p : ℕ) → contains members p ≡ true → contains (block p).outputs r ≡ false;
+      order : (p q r : ℕ) → contains members p ≡ true → contains members q ≡ true → contains (block p).outputs r ≡ true
+          → contains (block q).inputs r ≡ true → rank p < rank q;
+      others : (q r : ℕ) → contains members q ≡ false → contains (updated_in s) r ≡ true ⊎ IsOutput members block r
+          → waits_for (progress_of s q) r ≡ false;
+    }
+
+-- an entry takes an event, and changes no region
+abbrev pub TakesEvent : Entry → Type 0
+TakesEvent (Turn number) = Unit {0}
+TakesEvent (Update number) = Unit {0}
+TakesEvent ActivateInactive = ⊥
+TakesEvent ActivateNba = ⊥
+TakesEvent ActivateMonitor = ⊥
+TakesEvent (Advance time) = ⊥
+
+-- these entries take events up to the end of a phase, at which none is active
+abbrev pub EndsPhase : Design → Effect → List Entry → Effect → Type 0
+EndsPhase design e entries f =
+    All TakesEvent entries × (run_from design e entries ≡ Some f) × (f.state.active ≡ [])
+
+-- Whichever events of a phase come first, at its end nothing was printed, and there is one node.
+abbrev pub PhaseEndsInOneNode : Type 0
+PhaseEndsInOneNode =
+    (design : Design) (members : List ℕ) (block : ℕ → Block) (rank : ℕ → ℕ) (e f g : Effect) (entries others : List Entry)
+    → IsInOrder e.state → IsPhase design e.state members block rank → EndsPhase design e entries f → EndsPhase design e others g
+    → (f.lines ≡ e.lines) × IsOneNode f g
+
+-- One way through a phase is enough: the node at its end covers the runs from its begin.
+abbrev pub PhaseCovers : Type 0
+PhaseCovers =
+    (design : Design) (limits : Limits) (nodes : List Effect) (members : List ℕ) (block : ℕ → Block) (rank : ℕ → ℕ) (e f : Effect)
+    (entries : List Entry) → IsReached design e → IsPhase design e.state members block rank → entries ≢ []
+    → EndsPhase design e entries f → Visited nodes f → Covers design limits nodes e
+
+-- Where the turns of a flat state, taken in any order, lead to nonblocking updates, and these, once they are activated, to a phase, one
+-- way through all of it is enough: the node at the end of the phase covers the runs from the flat state.
+abbrev pub FlatPhaseCovers : Type 0
+FlatPhaseCovers =
+    (design : Design) (limits : Limits) (nodes : List Effect) (members : List ℕ) (block : ℕ → Block) (rank : ℕ → ℕ) (turn : ℕ → turns.Turn)
+    (e c d f : Effect) (turns entries : List Entry) → IsReached design e → IsFlat design e.state turn → length turns ≡ length e.state.active
+    → run_from design e turns ≡ Some c → run_from design c (ActivateNba ∷ []) ≡ Some d → IsPhase design d.state members block rank
+    → EndsPhase design d entries f → Visited nodes f → Covers design limits nodes e

@@ -1,9 +1,0 @@
-use Rattle.std.proofs.Common.{option_map}
-use Rattle.program.proofs.Searched.{reported}
-use Rattle.program.proofs.searching.report.Goals as goal
-
-pub returns : goal.returns
-returns c =
-    let names = c.args.names.now in
-    reported names.design.now names.limits c.args.claim names.shown.now (option_map (λ path. path.now) names.prefix) c.ends_differ.result c.new-report.result.items c.push_races.new.text.items c.push_verdict.new.text.items
-    c.first_of.result.now c.new-report.ensures.items c.in_ok-push_races.ensures c.first_of.ensures c.in_ok-push_verdict.ensures

@@ -1,0 +1,94 @@
+//! `waves FILE JOURNAL --out OUT`: an OUT that is FILE or JOURNAL is refused. FILE is read, JOURNAL is opened and read, and OUT is begun.
+//! Then the registers over time are written to OUT as a value change dump, and OUT stands in its place.
+
+ghost use Rattle.std.specs.Prelude.{Some, IfOk, IfSome, OnErr, OnOk};
+ghost use Rattle.files.specs.Saved.{AddsFile, HoldsNothing, KeepsFiles, LeadsElsewhere};
+ghost use Rattle.journal.specs.Counted.{held};
+ghost use Rattle.model.specs.Journal.{IsJournal};
+ghost use Rattle.program.specs.Printed.{HasDumped, IsDumpOf};
+
+use crate::fault::Fault;
+use arguments::WavesRequest;
+use design::Design;
+use files::{Files, begin_at, finish_at, open_file, read_file, show_bytes, spare_source};
+use frontend::{SourceFault, read_design};
+use journal::{Counted, read_journal};
+use model::entry::Entry;
+use replay::BytesFault;
+use std::alloc::Global;
+use std::io::Read;
+use vparse::parse;
+use waves::{WaveFault, value_change_dump, waves};
+
+/// Writes the value change dump of JOURNAL on FILE to OUT.
+pub fn dump_waves<'a, F: Files>(
+    alloc: Global,
+    request: &WavesRequest<'a>,
+    files: &mut F,
+) -> Result<(), Fault<'a>>
+    ensures dumped { OnOk result (HasDumped request.now.out.now (F.made files.old) (F.made files.new)) }
+    ensures unsaved { OnErr result (KeepsFiles (F.made files.old) (F.made files.new)) }
+    ensures source_spared { OnOk result (LeadsElsewhere (F.alike files.old) request.now.file.now (Some request.now.out.now)) }
+    ensures journal_spared { OnOk result (LeadsElsewhere (F.alike files.old) request.now.journal.now (Some request.now.out.now)) }
+{
+    spare_source(request.file, Some(request.out), files)?;
+    spare_source(request.journal, Some(request.out), files)?;
+    let source = read_file(alloc, request.file, files)?;
+    let mut journal = Counted::new(open_file(request.journal, files)?);
+    let design = read_design(alloc, source.as_slice())?;
+    let entries = entries_of(alloc, &mut journal)?;
+    let target = begin_at(request.out, files)?;
+    let text = dump_of(alloc, source.as_slice(), &design, entries.as_slice())?;
+    put(text.as_slice(), request.out, target, files)?;
+    Ok(())
+}
+
+/// The entries of a journal that is left to read.
+fn entries_of<R: Read>(
+    alloc: Global,
+    journal: &mut Counted<R>,
+) -> Result<Vec<Entry>, Fault<'static>>
+    ensures { IfSome (R.remaining (held journal.old)) (λ bytes. IfOk result (λ entries. IsJournal bytes entries.items)) }
+{
+    match read_journal(alloc, journal) {
+        Ok(entries) => Ok(entries),
+        Err(fault) => Err(Fault::Replay(BytesFault::Read(fault))),
+    }
+}
+
+/// The text of the registers over time, in a scope with the name of the module.
+fn dump_of(
+    alloc: Global,
+    source: &[u8],
+    design: &Design,
+    entries: &[Entry],
+) -> Result<Vec<u8>, Fault<'static>>
+    ensures { IfOk result (λ text. IsDumpOf source.now design.now entries.now text.items) }
+{
+    let wave = match waves(alloc, design, entries) {
+        Ok(wave) => wave,
+        Err(WaveFault::Replay(fault)) => return Err(Fault::Replay(BytesFault::Replay(fault))),
+        Err(WaveFault::Memory) => return Err(Fault::Memory),
+    };
+    match parse(alloc, source) {
+        Ok(module) => Ok(value_change_dump(alloc, module.name.as_str(), design, &wave)?),
+        Err(fault) => Err(Fault::Source(SourceFault::Parse(fault))),
+    }
+}
+
+/// Writes a text to a file that was begun for its path, and puts it there.
+fn put<F: Files>(
+    text: &[u8],
+    path: &str,
+    target: F::Target,
+    files: &mut F,
+) -> Result<(), Fault<'static>>
+    requires { HoldsNothing (F.made files.old) (F.Target.contents target) }
+    ensures put { OnOk result (AddsFile (F.made files.old) (F.made files.new) (record { path = path.now; bytes = text.now })) }
+    ensures unput { OnErr result (KeepsFiles (F.made files.old) (F.made files.new)) }
+{
+    let mut target = target;
+    show_bytes(&mut target, text)?;
+    finish_at(path, target, files)?;
+    Ok(())
+}

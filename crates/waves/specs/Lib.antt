@@ -1,0 +1,4 @@
+pub mod Codes
+pub mod Dump
+pub mod Waves
+pub mod Told

@@ -1,0 +1,26 @@
+//! The registers of a run over time, as a value change dump (IEEE 1364-2005, 18) that wave viewers open.
+//!
+//! 1. A machine of `regions` takes each entry of a journal where it stands.
+//! 2. Before each advance of the time, and at the end, the value of each register is compared with the one that was told last, and
+//!    is told where it differs. So of several changes of one register at one time the last is told.
+//! 3. `value_change_dump` writes what was told as text: the registers with their identifier codes, their values at the start, and
+//!    then time by time what changed.
+//!
+//! What the layer above uses: a `Wave` by `waves`, with which the values of all registers at the end of each time can be read back
+//! (`specs/Waves`), and its text by `value_change_dump`, which is pinned whole by `specs/Dump`.
+#![tactic(auto)]
+
+mod code;
+mod dump;
+mod fault;
+mod laws;
+mod lines;
+mod recording;
+mod told;
+mod wave;
+
+pub use dump::value_change_dump;
+pub use fault::WaveFault;
+pub use laws::{advances_rise, codes_differ};
+pub use recording::waves;
+pub use wave::{Change, Wave};
