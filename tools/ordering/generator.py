@@ -6,6 +6,9 @@ displays, delays of zero, and values taken before a wait and assigned behind it.
 
 A part of the designs are synchronous: a clock, processes that assign at its edge, and combinational ones that react to what these assign. Some of their
 processes are then made a little otherwise, so that a race is near.
+
+Register-transfer designs are made where they are asked for: registers that are assigned at an edge without blocking, combinational processes in an order
+behind them, each of which waits for all that it reads, and a stimulus. One in five has one thing in it that is otherwise.
 """
 from ordering.tree import Module, Process
 
@@ -129,6 +132,57 @@ class Generator:
         if self.chance(0.1):
             assigned = ("block", (assigned, ("assign", name, None, ("unary", "~", ("name", name)))))
         return Process(True, ("await", tuple(("posedge" if self.chance(0.05) else "", it) for it in waited), assigned))
+
+    # Register-transfer designs
+
+    def register_transfer(self):
+        """Registers at the edge of a clock, and logic between them."""
+        width = self.pick((1, 1, 2, 3))
+        registers, logic = "bcd"[: self.random.randint(1, 3)], "efgh"[: self.random.randint(1, 4)]
+        self.tops = {"a": None, **{name: None if width == 1 else width - 1 for name in registers + logic}}
+        self.names = list(self.tops)
+        known = tuple(("later" if self.chance(0.5) else "assign", name, None, self.constant()) for name in registers if self.chance(0.9))
+        processes = [Process(False, ("block", (("assign", "a", None, ("literal", "0")), *known)))]
+        processes.append(Process(True, ("delay", 1, ("assign", "a", None, ("unary", "~", ("name", "a"))))))
+        processes += [self.register(name, registers + logic) for name in registers]
+        processes += [self.logic(name, registers + logic[:at]) for at, name in enumerate(logic)]
+        if self.chance(0.6):
+            shown = (self.pick(("display", "strobe")), " ".join(["n", *("%b" for _ in self.names)]), tuple(("name", it) for it in self.names))
+            processes.append(Process(True, ("await", (("negedge", "a"),), shown)))
+        if self.chance(0.5):
+            processes.append(self.input(registers[0]))
+        if self.chance(0.2):
+            at = self.random.randrange(len(processes))
+            processes[at] = self.pick((self.reacting, self.stimulus, lambda: self.logic(self.pick(logic), registers), lambda: self.clocked(registers[0], logic)))()
+        self.random.shuffle(processes)
+        return Module("t", tuple(self.tops.items()), tuple(processes))
+
+    def register(self, name, read):
+        """A register that takes a value at the edge of the clock, some on a condition."""
+        value = ("binary", self.pick(("+", "^", "-")), ("name", self.pick(read)), ("name", self.pick(read)))
+        assigned = ("later", name, None, value)
+        if self.chance(0.3):
+            other = (("later", name, None, self.constant()),) if self.chance(0.5) else None
+            assigned = ("if", ("name", self.pick(read)), (assigned,), other)
+        if self.chance(0.2):
+            assigned = ("block", (assigned, self.printing()))
+        return Process(True, ("await", (("posedge", "a"),), assigned))
+
+    def logic(self, name, read):
+        """A combinational process, which waits for each register that it reads before it writes it."""
+        used = sorted({self.pick(read) for _ in range(self.random.randint(1, 3))})
+        operand = lambda: ("name", self.pick(used))
+        assigned = ("assign", name, None, ("binary", self.pick(("^", "+", "&", "|")), operand(), operand()))
+        if self.chance(0.4):
+            assigned = ("if", operand(), (assigned,), (("assign", name, None, ("unary", "~", operand())),))
+        if self.chance(0.3):
+            assigned = ("block", (assigned, ("assign", name, None, ("binary", "^", ("name", name), operand()))))
+        return Process(True, ("await", tuple(("", it) for it in used), assigned))
+
+    def input(self, name):
+        """A stimulus without blocking, at the times of edges and between them."""
+        given = tuple(("delay", self.pick((1, 1, 2)), ("later", name, None, self.constant())) for _ in range(self.random.randint(1, 3)))
+        return Process(False, ("block", given))
 
     # Statements
 

@@ -14,7 +14,7 @@ use Rattle.clap.specs.declared.parser.matches.ArgMatches.{ArgMatches}
 use Rattle.arguments.specs.declared.request.Refusal.{Refusal}
 use Rattle.arguments.specs.declared.request.Refusal.TheVariants as refusal
 use Rattle.arguments.specs.Arguments.{IsGiven}
-use Rattle.arguments.specs.Words.{number_given, AsksNoTask, Begins, FailsAs, IsRefusal, IsRefusalBy, MayFail, of_run, of_two_orders, of_replay, of_races, of_check, of_waves, of_others, has_two_orders, other_faults, check_app, check_faults, check_rows, races_app, races_faults, races_rows, replay_app, replay_faults, replay_rows, run_app, run_faults, run_rows, waves_app, waves_faults, waves_rows, whole_app}
+use Rattle.arguments.specs.Words.{number_given, AsksNoTask, Begins, FailsAs, IsRefusal, IsRefusalBy, MayFail, of_run, of_two_orders, of_replay, of_races, of_check, of_explain, of_waves, of_others, has_two_orders, other_faults, check_app, check_faults, check_rows, explain_app, explain_faults, explain_rows, races_app, races_faults, races_rows, replay_app, replay_faults, replay_rows, run_app, run_faults, run_rows, waves_app, waves_faults, waves_rows, whole_app}
 
 run_is_simple : is_simple run_app ≡ true
 unfolding run_app
@@ -31,6 +31,10 @@ races_is_simple = refl
 check_is_simple : is_simple check_app ≡ true
 unfolding check_app
 check_is_simple = refl
+
+explain_is_simple : is_simple explain_app ≡ true
+unfolding explain_app
+explain_is_simple = refl
 
 waves_is_simple : is_simple waves_app ≡ true
 unfolding waves_app
@@ -52,12 +56,16 @@ check_is_free : is_simple_and_free check_app ≡ true
 unfolding check_app
 check_is_free = refl
 
+explain_is_free : is_simple_and_free explain_app ≡ true
+unfolding explain_app
+explain_is_free = refl
+
 waves_is_free : is_simple_and_free waves_app ≡ true
 unfolding waves_app
 waves_is_free = refl
 
 whole_is_free : is_simple_and_free whole_app ≡ true
-unfolding whole_app run_app replay_app races_app check_app waves_app
+unfolding whole_app run_app replay_app races_app check_app explain_app waves_app
 whole_is_free = refl
 
 -- what a parse found
@@ -81,6 +89,10 @@ races_found app words m e h = found_by races_app app words m races_is_simple e h
 pub check_found : (app : App) (words : List Text) (m : ArgMatches) → app ≡ check_app → HasMatchesOf app words m → rows_of (found_of m) ≡ check_rows words
 unfolding check_rows
 check_found app words m e h = found_by check_app app words m check_is_simple e h
+
+pub explain_found : (app : App) (words : List Text) (m : ArgMatches) → app ≡ explain_app → HasMatchesOf app words m → rows_of (found_of m) ≡ explain_rows words
+unfolding explain_rows
+explain_found app words m e h = found_by explain_app app words m explain_is_simple e h
 
 pub waves_found : (app : App) (words : List Text) (m : ArgMatches) → app ≡ waves_app → HasMatchesOf app words m → rows_of (found_of m) ≡ waves_rows words
 unfolding waves_rows
@@ -112,6 +124,11 @@ pub check_failed : (app : App) (words : List Text) (r : Result ArgMatches Error)
     → (is_simple_and_free app ≡ true → FailsBy (fault_of app words) r) → IfErr r (HasKind (check_faults words))
 unfolding check_faults
 check_failed app words r e h = failed_by check_app app words r check_is_free e h
+
+pub explain_failed : (app : App) (words : List Text) (r : Result ArgMatches Error) → app ≡ explain_app
+    → (is_simple_and_free app ≡ true → FailsBy (fault_of app words) r) → IfErr r (HasKind (explain_faults words))
+unfolding explain_faults
+explain_failed app words r e h = failed_by explain_app app words r explain_is_free e h
 
 pub waves_failed : (app : App) (words : List Text) (r : Result ArgMatches Error) → app ≡ waves_app
     → (is_simple_and_free app ≡ true → FailsBy (fault_of app words) r) → IfErr r (HasKind (waves_faults words))
@@ -161,6 +178,11 @@ pub check_fails : (words own : List Text) (e : Error) → Begins words (codes "c
     → FailsAs words (kind_of e)
 check_fails words own e begins same (inl h) = inl h
 check_fails words own e begins same (inr h) = inr (of_check begins (subst (λ (w : List Text). IsAmong (kind_of e) (check_faults w)) same h))
+
+pub explain_fails : (words own : List Text) (e : Error) → Begins words (codes "explain") → own ≡ drop 1 words → HasKind (explain_faults own) e
+    → FailsAs words (kind_of e)
+explain_fails words own e begins same (inl h) = inl h
+explain_fails words own e begins same (inr h) = inr (of_explain begins (subst (λ (w : List Text). IsAmong (kind_of e) (explain_faults w)) same h))
 
 pub waves_fails : (words own : List Text) (e : Error) → Begins words (codes "waves") → own ≡ drop 1 words → HasKind (waves_faults own) e
     → FailsAs words (kind_of e)

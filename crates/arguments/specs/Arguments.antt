@@ -93,6 +93,15 @@ races_rules =
 abbrev pub check_rules : List Rule
 check_rules = rule (codes "FILE") true None ∷ []
 
+-- the arguments of `explain`
+abbrev pub explain_rules : List Rule
+explain_rules =
+    rule (codes "FILE") true None
+    ∷ rule (codes "JOURNAL") true None
+    ∷ rule (codes "from") false (Some entries_parser)
+    ∷ rule (codes "to") false (Some entries_parser)
+    ∷ []
+
 -- the arguments of `waves`
 abbrev pub waves_rules : List Rule
 waves_rules = rule (codes "FILE") true None ∷ rule (codes "JOURNAL") true None ∷ rule (codes "out") true None ∷ []
@@ -128,6 +137,13 @@ pub record GivesRaces (f : Found) : Type 0 where
 -- what a parse of `check` gives
 pub record GivesCheck (f : Found) : Type 0 where
   pub file : is_some (first_value f (codes "FILE")) ≡ true
+
+-- what a parse of `explain` gives
+pub record GivesExplain (f : Found) : Type 0 where
+  pub file : is_some (first_value f (codes "FILE")) ≡ true
+  pub journal : is_some (first_value f (codes "JOURNAL")) ≡ true
+  pub from : IsGiven f (codes "from") entries_parser
+  pub to : IsGiven f (codes "to") entries_parser
 
 -- what a parse of `waves` gives
 pub record GivesWaves (f : Found) : Type 0 where

@@ -17,6 +17,7 @@ use Rattle.arguments.specs.declared.request.RunRequest.{RunRequest}
 use Rattle.arguments.specs.declared.request.ReplayRequest.{ReplayRequest}
 use Rattle.arguments.specs.declared.request.RacesRequest.{RacesRequest}
 use Rattle.arguments.specs.declared.request.CheckRequest.{CheckRequest}
+use Rattle.arguments.specs.declared.request.ExplainRequest.{ExplainRequest}
 use Rattle.arguments.specs.declared.request.WavesRequest.{WavesRequest}
 use Rattle.arguments.specs.declared.task.Task.{Task}
 use Rattle.arguments.specs.declared.task.Task.TheVariants as task
@@ -90,6 +91,17 @@ races_app =
 unfoldable pub check_app : App
 check_app = with_rule (new_app (codes "check")) (place (codes "FILE"))
 
+-- `explain` with its words and options
+unfoldable pub explain_app : App
+explain_app =
+    with_rule
+    (with_rule
+    (with_rule
+    (with_rule (new_app (codes "explain")) (place (codes "FILE")))
+    (place (codes "JOURNAL")))
+    (choice (codes "from") (Some entries_parser)))
+    (choice (codes "to") (Some entries_parser))
+
 -- `waves` with its words and option
 unfoldable pub waves_app : App
 waves_app =
@@ -99,10 +111,11 @@ waves_app =
     (place (codes "JOURNAL")))
     (need (codes "out"))
 
--- the program, which has a version, with the five
+-- the program, which has a version, with the six
 unfoldable pub whole_app : App
 whole_app =
     with_subcommand
+    (with_subcommand
     (with_subcommand
     (with_subcommand
     (with_subcommand
@@ -110,6 +123,7 @@ whole_app =
     replay_app.top)
     races_app.top)
     check_app.top)
+    explain_app.top)
     waves_app.top
 
 -- what clap finds in the words of a run, from `run` on
@@ -127,6 +141,10 @@ races_rows = matches_of races_app
 -- and in those of a check
 unfoldable pub check_rows : List Text → List Row
 check_rows = matches_of check_app
+
+-- and in those of a telling of a journal
+unfoldable pub explain_rows : List Text → List Row
+explain_rows = matches_of explain_app
 
 -- and in those of a value change dump
 unfoldable pub waves_rows : List Text → List Row
@@ -170,6 +188,7 @@ word_of task.Run = codes "run"
 word_of task.Replay = codes "replay"
 word_of task.Races = codes "races"
 word_of task.Check = codes "check"
+word_of task.Explain = codes "explain"
 word_of task.Waves = codes "waves"
 word_of task.Version = codes "--version"
 
@@ -203,6 +222,14 @@ pub record IsRacesOf (rows : List Row) (races : RacesRequest) : Type 0 where
 pub record IsCheckOf (rows : List Row) (check : CheckRequest) : Type 0 where
   pub file : first_of (codes "FILE") rows ≡ Some check.file.now
 
+-- this telling is asked for: of JOURNAL on FILE, from one entry to another, where the words give them, and else from the
+-- first to the last
+pub record IsExplainOf (rows : List Row) (explain : ExplainRequest) : Type 0 where
+  pub file : first_of (codes "FILE") rows ≡ Some explain.file.now
+  pub journal : first_of (codes "JOURNAL") rows ≡ Some explain.journal.now
+  pub from : explain.from ≡ unwrap_or (number_given (codes "from") rows) 1
+  pub to : explain.to ≡ number_given (codes "to") rows
+
 -- this value change dump is asked for: of JOURNAL on FILE, in OUT
 pub record IsWavesOf (rows : List Row) (waves : WavesRequest) : Type 0 where
   pub file : first_of (codes "FILE") rows ≡ Some waves.file.now
@@ -229,6 +256,11 @@ pub record AsksCheck (words : List Text) (check : CheckRequest) : Type 0 where
   pub begins : Begins words (codes "check")
   pub is_check : IsCheckOf (check_rows (drop 1 words)) check
 
+-- the words ask for this telling
+pub record AsksExplain (words : List Text) (explain : ExplainRequest) : Type 0 where
+  pub begins : Begins words (codes "explain")
+  pub is_explain : IsExplainOf (explain_rows (drop 1 words)) explain
+
 -- the words ask for this value change dump
 pub record AsksWaves (words : List Text) (waves : WavesRequest) : Type 0 where
   pub begins : Begins words (codes "waves")
@@ -240,6 +272,7 @@ Asks words (request.Run run) = AsksRun words run
 Asks words (request.Replay replay) = AsksReplay words replay
 Asks words (request.Races races) = AsksRaces words races
 Asks words (request.Check check) = AsksCheck words check
+Asks words (request.Explain explain) = AsksExplain words explain
 Asks words (request.Waves waves) = AsksWaves words waves
 Asks words request.Version = Begins words (codes "--version")
 
@@ -259,6 +292,10 @@ races_faults = fault_of races_app
 unfoldable pub check_faults : List Text → Kinds
 check_faults = fault_of check_app
 
+-- those of a telling of a journal
+unfoldable pub explain_faults : List Text → Kinds
+explain_faults = fault_of explain_app
+
 -- those of a value change dump
 unfoldable pub waves_faults : List Text → Kinds
 waves_faults = fault_of waves_app
@@ -274,6 +311,7 @@ pub data MayFail (words : List Text) (kind : ErrorKind) : Type 0 where
   of_replay : Begins words (codes "replay") → IsAmong kind (replay_faults (drop 1 words)) → MayFail words kind
   of_races : Begins words (codes "races") → IsAmong kind (races_faults (drop 1 words)) → MayFail words kind
   of_check : Begins words (codes "check") → IsAmong kind (check_faults (drop 1 words)) → MayFail words kind
+  of_explain : Begins words (codes "explain") → IsAmong kind (explain_faults (drop 1 words)) → MayFail words kind
   of_waves : Begins words (codes "waves") → IsAmong kind (waves_faults (drop 1 words)) → MayFail words kind
   of_others : AsksNoTask words → IsAmong kind (other_faults words) → MayFail words kind
 

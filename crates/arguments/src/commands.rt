@@ -3,12 +3,12 @@
 ghost use Rattle.std.specs.Prelude.{◌≡◌, IfErr, IfOk};
 ghost use Rattle.clap.specs.Words.{HasKind, IsAmong, app_of, found_of, kind_of, rows_of};
 ghost use Rattle.clap.specs.declared.error.kind.ErrorKind.TheVariants.{ArgumentConflict, MissingSubcommand};
-ghost use Rattle.arguments.specs.Arguments.{HasRules, GivesRun, GivesReplay, GivesRaces, GivesCheck, GivesWaves, run_rules, replay_rules, races_rules, check_rules, waves_rules};
-ghost use Rattle.arguments.specs.Words.{check_app, check_faults, check_rows, other_faults, races_app, races_faults, races_rows, replay_app, replay_faults, replay_rows, run_app, run_faults, run_rows, texts_of, waves_app, waves_faults, waves_rows, whole_app};
+ghost use Rattle.arguments.specs.Arguments.{HasRules, GivesRun, GivesReplay, GivesRaces, GivesCheck, GivesExplain, GivesWaves, run_rules, replay_rules, races_rules, check_rules, explain_rules, waves_rules};
+ghost use Rattle.arguments.specs.Words.{check_app, check_faults, check_rows, explain_app, explain_faults, explain_rows, other_faults, races_app, races_faults, races_rows, replay_app, replay_faults, replay_rows, run_app, run_faults, run_rows, texts_of, waves_app, waves_faults, waves_rows, whole_app};
 
 use crate::parameters::{
-    journal, journals, max_entries, max_states, max_texts, out, positional, samples, seed, until,
-    workers,
+    from, journal, journals, max_entries, max_states, max_texts, out, positional, samples, seed,
+    to, until, workers,
 };
 use crate::version::VERSION;
 use clap::error::ErrorKind;
@@ -47,6 +47,14 @@ pub fn check_matches<'a>(alloc: Global, words: &'a [String]) -> Result<ArgMatche
     ensures failed { IfErr result (HasKind (check_faults (texts_of words.now))) }
 {
     check_command(alloc)?.try_get_matches_from(words)
+}
+
+pub fn explain_matches<'a>(alloc: Global, words: &'a [String]) -> Result<ArgMatches<'a>, Error>
+    ensures given { IfOk result (λ m. GivesExplain (found_of m)) }
+    ensures found { IfOk result (λ m. rows_of (found_of m) ≡ explain_rows (texts_of words.now)) }
+    ensures failed { IfErr result (HasKind (explain_faults (texts_of words.now))) }
+{
+    explain_command(alloc)?.try_get_matches_from(words)
 }
 
 pub fn waves_matches<'a>(alloc: Global, words: &'a [String]) -> Result<ArgMatches<'a>, Error>
@@ -89,6 +97,7 @@ fn program<'a>(alloc: Global) -> Result<Command<'a>, AllocError>
         .subcommand(replay_command(alloc)?)?
         .subcommand(races_command(alloc)?)?
         .subcommand(check_command(alloc)?)?
+        .subcommand(explain_command(alloc)?)?
         .subcommand(waves_command(alloc)?)
 }
 
@@ -143,6 +152,19 @@ fn check_command<'a>(alloc: Global) -> Result<Command<'a>, AllocError>
         .about("Reads FILE and tells what is wrong with it")
         .bin_name("vsimtx check")?
         .arg(positional(alloc, "FILE", "Verilog source"))
+}
+
+fn explain_command<'a>(alloc: Global) -> Result<Command<'a>, AllocError>
+    ensures rules { IfOk result (λ c. HasRules c explain_rules) }
+    ensures app { IfOk result (λ c. app_of c ≡ explain_app) }
+{
+    Command::new(alloc, "explain")
+        .about("Tells the entries of JOURNAL on FILE in words")
+        .bin_name("vsimtx explain")?
+        .arg(positional(alloc, "FILE", "Verilog source"))?
+        .arg(positional(alloc, "JOURNAL", "Journal of a run"))?
+        .arg(from(alloc))?
+        .arg(to(alloc))
 }
 
 fn waves_command<'a>(alloc: Global) -> Result<Command<'a>, AllocError>

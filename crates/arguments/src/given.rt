@@ -3,13 +3,15 @@
 ghost use Rattle.std.specs.Prelude.{◌≡◌, ◌≤◌, ◌^◌, ◌∷◌, IfSome, codes, is_some, unwrap_or, false};
 ghost use Rattle.clap.specs.Words.{first_of, found_of, rows_of};
 ghost use Rattle.model.specs.Runs.{last_time};
-ghost use Rattle.arguments.specs.Arguments.{IsGiven, GivesRun, GivesReplay, GivesRaces, GivesCheck, GivesWaves, workers_parser, until_parser, entries_parser, seed_parser};
+ghost use Rattle.arguments.specs.Arguments.{IsGiven, GivesRun, GivesReplay, GivesRaces, GivesCheck, GivesExplain, GivesWaves, workers_parser, until_parser, entries_parser, seed_parser};
 ghost use Rattle.arguments.specs.Options.{CanRun, CanSearch};
-ghost use Rattle.arguments.specs.Words.{IsCheckOf, IsRacesOf, IsReplayOf, IsRunOf, IsWavesOf, extent_of, has_two_orders, number_given, options_of};
+ghost use Rattle.arguments.specs.Words.{IsCheckOf, IsExplainOf, IsRacesOf, IsReplayOf, IsRunOf, IsWavesOf, extent_of, has_two_orders, number_given, options_of};
 
 use crate::extent::Extent;
 use crate::options::Options;
-use crate::request::{CheckRequest, RacesRequest, ReplayRequest, RunRequest, WavesRequest};
+use crate::request::{
+    CheckRequest, ExplainRequest, RacesRequest, ReplayRequest, RunRequest, WavesRequest,
+};
 use clap::ArgMatches;
 
 const DEFAULT_WORKERS: u32 = 2;
@@ -21,6 +23,8 @@ const DEFAULT_MAX_STATES: u32 = 1_000_000;
 const DEFAULT_MAX_TEXTS: u32 = 8;
 
 const DEFAULT_SEED: u64 = 0;
+
+const FIRST_ENTRY: u32 = 1;
 
 pub fn run_request<'a>(matches: &ArgMatches<'a>) -> RunRequest<'a>
     requires given { GivesRun (found_of matches.now) }
@@ -62,6 +66,18 @@ pub fn check_request<'a>(matches: &ArgMatches<'a>) -> CheckRequest<'a>
 {
     CheckRequest {
         file: matches.get_str("FILE").unwrap(),
+    }
+}
+
+pub fn explain_request<'a>(matches: &ArgMatches<'a>) -> ExplainRequest<'a>
+    requires { GivesExplain (found_of matches.now) }
+    ensures { IsExplainOf (rows_of (found_of matches.now)) result }
+{
+    ExplainRequest {
+        file: matches.get_str("FILE").unwrap(),
+        journal: matches.get_str("JOURNAL").unwrap(),
+        from: given_count(matches, "from", FIRST_ENTRY),
+        to: given_number(matches, "to"),
     }
 }
 

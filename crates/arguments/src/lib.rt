@@ -23,6 +23,7 @@ pub use extent::Extent;
 pub use options::Options;
 pub use parsing::read_request;
 pub use request::{
-    CheckRequest, RacesRequest, Refusal, ReplayRequest, Request, RunRequest, WavesRequest,
+    CheckRequest, ExplainRequest, RacesRequest, Refusal, ReplayRequest, Request, RunRequest,
+    WavesRequest,
 };
 pub use version::VERSION;

@@ -121,6 +121,28 @@ pub fn journals<'a>(alloc: Global) -> Arg<'a>
         .help("Where to write a journal of each text: PREFIX.1.journal, ..")
 }
 
+pub fn from<'a>(alloc: Global) -> Arg<'a>
+    ensures takes { Takes result (rule (codes "from") false (Some entries_parser)) }
+    ensures rule { rule_of result ≡ choice (codes "from") (Some entries_parser) }
+{
+    count(
+        alloc,
+        "from",
+        "First entry that is told, 1 to 4294967295 [default: 1]",
+    )
+}
+
+pub fn to<'a>(alloc: Global) -> Arg<'a>
+    ensures takes { Takes result (rule (codes "to") false (Some entries_parser)) }
+    ensures rule { rule_of result ≡ choice (codes "to") (Some entries_parser) }
+{
+    count(
+        alloc,
+        "to",
+        "Last entry that is told, 1 to 4294967295 [default: the last]",
+    )
+}
+
 pub fn out<'a>(alloc: Global) -> Arg<'a>
     ensures takes { Takes result (rule (codes "out") true None) }
     ensures rule { rule_of result ≡ need (codes "out") }

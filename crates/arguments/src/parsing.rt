@@ -10,11 +10,12 @@ ghost use Rattle.clap.specs.declared.error.kind.ErrorKind.TheVariants.{ArgumentC
 ghost use Rattle.arguments.specs.Words.{Asks, AsksNoTask, Begins, FailsAs, IsRefusal, IsRefusalBy, texts_of, word_of};
 
 use crate::commands::{
-    check_matches, conflict, missing, races_matches, replay_matches, run_matches, waves_matches,
-    whole_matches,
+    check_matches, conflict, explain_matches, missing, races_matches, replay_matches, run_matches,
+    waves_matches, whole_matches,
 };
 use crate::given::{
-    check_request, gives_two_orders, races_request, replay_request, run_request, waves_request,
+    check_request, explain_request, gives_two_orders, races_request, replay_request, run_request,
+    waves_request,
 };
 use crate::request::{Refusal, Request};
 use crate::task::Task;
@@ -74,6 +75,9 @@ fn asked_task(words: &[String]) -> Option<Task>
     if begins(words, "check") {
         return Some(Task::Check);
     }
+    if begins(words, "explain") {
+        return Some(Task::Explain);
+    }
     if begins(words, "waves") {
         return Some(Task::Waves);
     }
@@ -93,6 +97,7 @@ fn parse_task<'a>(alloc: Global, task: Task, words: &'a [String]) -> Result<Requ
         Task::Replay => parse_replay(alloc, words),
         Task::Races => parse_races(alloc, words),
         Task::Check => parse_check(alloc, words),
+        Task::Explain => parse_explain(alloc, words),
         Task::Waves => parse_waves(alloc, words),
         Task::Version => Ok(Request::Version),
     }
@@ -178,6 +183,18 @@ fn parse_check<'a>(alloc: Global, words: &'a [String]) -> Result<Request<'a>, Er
     let own = own_words(words);
     match check_matches(alloc, own) {
         Ok(matches) => Ok(Request::Check(check_request(&matches))),
+        Err(error) => Err(error),
+    }
+}
+
+fn parse_explain<'a>(alloc: Global, words: &'a [String]) -> Result<Request<'a>, Error>
+    requires { Begins (texts_of words.now) (codes "explain") }
+    ensures asked { IfOk result (Asks (texts_of words.now)) }
+    ensures failed { IfErr result (λ e. FailsAs (texts_of words.now) (kind_of e)) }
+{
+    let own = own_words(words);
+    match explain_matches(alloc, own) {
+        Ok(matches) => Ok(Request::Explain(explain_request(&matches))),
         Err(error) => Err(error),
     }
 }

@@ -12,6 +12,7 @@ pub enum Request<'a> {
     Replay(ReplayRequest<'a>),
     Races(RacesRequest<'a>),
     Check(CheckRequest<'a>),
+    Explain(ExplainRequest<'a>),
     Waves(WavesRequest<'a>),
     Version,
 }
@@ -46,6 +47,15 @@ pub struct RacesRequest<'a> {
 #[derive(Drop)]
 pub struct CheckRequest<'a> {
     pub file: &'a str,
+}
+
+/// `explain FILE JOURNAL`, of the entries from one number to another, which are counted from 1.
+#[derive(Drop)]
+pub struct ExplainRequest<'a> {
+    pub file: &'a str,
+    pub journal: &'a str,
+    pub from: u32,
+    pub to: Option<u32>,
 }
 
 /// `waves FILE JOURNAL`, with the path of the value change dump.

@@ -7,6 +7,7 @@ pub enum Task {
     Replay,
     Races,
     Check,
+    Explain,
     Waves,
     Version,
 }

@@ -10,14 +10,14 @@ use Rattle.seeded.specs.Samples.{AreDistinct}
 use Rattle.conflicts.specs.declared.told.Race.{Race}
 use Rattle.conflicts.specs.declared.told.Tries.{Tries}
 use Rattle.conflicts.specs.declared.search.Trials.{Trials}
-use Rattle.conflicts.specs.Roles.{HasPair}
+use Rattle.deeds.specs.Roles.{HasBothOrders}
 
--- what a race says of its two processes is so in a journal
+-- what a race says of its two processes is so in a journal, and in that of its second run they come the other way round
 abbrev pub IsNamed : Design → List Entry → Race → Type 0
-IsNamed design journal race = HasPair design journal race.site race.time race.first race.second
+IsNamed design journal race = HasBothOrders design journal race.exchanged.journal.items race.site race.time race.first race.second
 
--- A race of a design: what it says of its two processes is so in the first run's journal, and a second run within the limits
--- has other lines than the first, or another end.
+-- A race of a design: what it says of its two processes is so in the first run's journal, and a second run within the limits, in
+-- which they come the other way round, has other lines than the first, or another end.
 pub record IsShown (code : Compiled) (limits : Limits) (original : SeededRun) (race : Race) : Type 0 where
   pub named : IsNamed (design_of code) original.journal.items race
   pub exchanged : IsRun code limits race.exchanged

@@ -1,22 +1,16 @@
 //! The conflicts of a run, grouped by what they are for and whose they are.
 
-use crate::told::{Role, Site};
+use deeds::{Pair, Role, Site};
 use indexmap::IndexMap;
 use std::alloc::{AllocError, Global};
 
 // The most conflicts of one group that are kept.
 pub(crate) const MOST_OF_A_GROUP: usize = 4;
 
-/// Two entries of a run that conflict, by their places in its journal, and the places between them of the entries that the
-/// later one needs.
+/// Two entries of a run that conflict, and the places between them of the entries that the later one needs.
 #[derive(Drop)]
 pub(crate) struct Conflict {
-    pub(crate) site: Site,
-    pub(crate) time: u64,
-    pub(crate) first: Role,
-    pub(crate) second: Role,
-    pub(crate) earlier: usize,
-    pub(crate) later: usize,
+    pub(crate) pair: Pair,
     pub(crate) needs: Vec<usize>,
     /// How many conflicts of its group came before it.
     pub(crate) round: usize,
@@ -60,7 +54,7 @@ impl Group {
 
 impl Conflict {
     pub(crate) fn group(&self) -> Group {
-        Group::new(self.site, self.first, self.second)
+        Group::new(self.pair.site, self.pair.first, self.pair.second)
     }
 }
 
@@ -101,8 +95,8 @@ impl Conflicts {
         let group = conflict.group();
         let tally = Tally {
             count: conflict.round.saturating_add(1),
-            earlier: conflict.earlier,
-            later: conflict.later,
+            earlier: conflict.pair.earlier,
+            later: conflict.pair.later,
         };
         self.list.push(conflict)?;
         self.tallies.insert(group, tally)?;

@@ -10,17 +10,15 @@
 //!    the earlier one, and then the moves of the first run as far as they may be taken (`exchange`). It is lawful since a
 //!    machine made it.
 //! 5. Where the second run has other lines than the first, or another end, a machine that is led to the two entries in the first
-//!    run confirms what each does there (`confirm`, by `deeds`). Then it is a race (`search`).
+//!    run confirms what each does there, and one led to them in the second that they come the other way round (the crate `deeds`).
+//!    Then it is a race (`search`).
 //!
 //! What the layer above uses: the contract of `find_races`. The first run and that of each race are lawful and in time, their
-//! lines and ends are told, and the two differ; and the two processes do in the first run what the race says. `first_difference`
-//! says in which line two texts differ.
+//! lines and ends are told, and the two differ; the two processes do in the first run what the race says, and come the other way
+//! round in the second.
 #![tactic(auto)]
 
-mod confirm;
 mod conflicts;
-mod deeds;
-mod difference;
 mod exchange;
 mod moves;
 mod run;
@@ -29,6 +27,5 @@ mod stretch;
 mod told;
 mod watch;
 
-pub use difference::{Difference, first_difference};
 pub use search::find_races;
-pub use told::{Does, Found, Race, Role, Site, Tries};
+pub use told::{Found, Race, Tries};

@@ -73,6 +73,12 @@ impl<'m> Guide<'m> {
         self.at == self.later || (self.at < self.later && self.left_out.contains(&self.at))
     }
 
+    /// The place of the next move that wasn't taken before.
+    pub(crate) fn place(&mut self) -> usize {
+        let _next = self.wanted();
+        self.at
+    }
+
     // The next move that wasn't taken before.
     fn wanted(&mut self) -> Option<Move> {
         for _ in self.at..self.moves.len() {
@@ -108,4 +114,14 @@ impl<'m> Guide<'m> {
         }
         first
     }
+}
+
+/// The place of the first change of the regions behind a place, or the end of the moves.
+pub(crate) fn next_change(moves: &[Move], place: usize) -> usize {
+    for at in place..moves.len() {
+        if let Move::Change(_) = moves[at] {
+            return at;
+        }
+    }
+    moves.len()
 }

@@ -9,13 +9,13 @@ ghost use Rattle.seeded.specs.Samples.{AreDistinct};
 ghost use Rattle.conflicts.specs.Endings.{HasTimeLimit};
 ghost use Rattle.conflicts.specs.Races.{IsShown, IsWithin};
 
-use crate::confirm::is_confirmed;
 use crate::conflicts::{Conflict, Conflicts, Group, MOST_OF_A_GROUP};
 use crate::exchange::{Followed, exchange};
 use crate::moves::Move;
 use crate::run::Run;
 use crate::told::{Found, Race, Tries};
 use crate::watch::{Watch, watch_run};
+use deeds::is_confirmed;
 use design::Design;
 use model::end::{End, Limits, Why};
 use seeded::run::SeededRun;
@@ -89,7 +89,7 @@ fn differing(
     }
 }
 
-// The race that a conflict's second run shows, if it shows one. What the conflict says of the first run is confirmed before.
+// The race that a conflict's second run shows, if it shows one. What the conflict says of both runs is confirmed before.
 fn race_of(alloc: Global, task: Task<'_>, conflict: &Conflict) -> Result<Option<Race>, AllocError>
     requires until { HasTimeLimit task.limits }
     ensures { IfOk result (λ race. IfSome race (IsShown task.entry.design.now task.entry.limits task.entry.original.now)) }
@@ -98,12 +98,19 @@ fn race_of(alloc: Global, task: Task<'_>, conflict: &Conflict) -> Result<Option<
         Some(exchanged) => exchanged,
         None => return Ok(None),
     };
-    match is_confirmed(alloc, task.design, &task.original.journal, conflict) {
+    match is_confirmed(
+        alloc,
+        task.design,
+        &task.original.journal,
+        &exchanged.journal,
+        conflict.pair,
+        conflict.needs.len(),
+    ) {
         Ok(true) => Ok(Some(Race {
-            site: conflict.site,
-            time: conflict.time,
-            first: conflict.first,
-            second: conflict.second,
+            site: conflict.pair.site,
+            time: conflict.pair.time,
+            first: conflict.pair.first,
+            second: conflict.pair.second,
             exchanged,
         })),
         Ok(false) => Ok(None),
@@ -204,7 +211,7 @@ fn search(
     ensures races { IfOk result (λ found. All (IsShown design.now limits found.original) found.races.items) }
     ensures few { IfOk result (λ found. (vec_len found.races ≤ bounds.races) × (found.tried ≤ bounds.pairs)) }
 {
-    let mut watch = Watch::start(alloc, design, bounds.pairs)?;
+    let mut watch = Watch::start(alloc, design, bounds.pairs);
     let run = Run::start(alloc, design)?;
     let original = watch_run(alloc, design, run, limits, &mut watch);
     watch.finish();
@@ -236,8 +243,8 @@ pub fn find_races(alloc: Global, design: &Design, limits: Limits, bounds: Tries)
     requires until { IfSome limits.until (λ until. until ≤ last_time) }
     // The first run is lawful and in time, and its lines and its end are told.
     ensures original { IsRun design.now limits result.original }
-    // What each race says of its two processes is so in the first run. Its second run is lawful and in time too, and has other
-    // lines or another end.
+    // What each race says of its two processes is so in the first run. Its second run is lawful and in time too, there the two come
+    // the other way round, and it has other lines or another end.
     ensures races { All (IsShown design.now limits result.original) result.races.items }
     ensures few_races { vec_len result.races ≤ bounds.races }
     ensures few_tries { result.tried ≤ bounds.pairs }

@@ -1,7 +1,7 @@
 //! What the entries between two changes of the regions did, and which of them conflict.
 
 use crate::conflicts::{Conflict, Conflicts, Group};
-use crate::told::{Does, Role, Site};
+use deeds::{Does, Pair, Role, Site};
 use design::RegId;
 use logic4::bits::Bits;
 use std::alloc::{AllocError, Global};
@@ -211,12 +211,14 @@ impl Stretch {
             None => return Ok(()),
         };
         conflicts.add(Conflict {
-            site,
-            time: self.time,
-            first,
-            second,
-            earlier: places.0,
-            later: places.1,
+            pair: Pair {
+                site,
+                time: self.time,
+                first,
+                second,
+                earlier: places.0,
+                later: places.1,
+            },
             needs,
             round,
         })

@@ -1,36 +1,7 @@
 //! What is told: the races of a design, each with a run that shows it.
 
-use design::RegId;
+use deeds::{Role, Site};
 use seeded::run::SeededRun;
-
-/// What two entries race for: a register, the order of the lines that they print, or the order of the lines of their
-/// `$strobe` statements.
-#[derive(Clone, Copy, PartialEq, Eq, Hash)]
-pub enum Site {
-    Register(RegId),
-    Printing,
-    Strobing,
-}
-
-/// What an entry does where it races. An update is that of an earlier turn's nonblocking assignment.
-#[derive(Clone, Copy)]
-pub enum Does {
-    Writes,
-    Assigns,
-    Updates,
-    Reads,
-    Waits,
-    Prints,
-    Strobes,
-    Finishes,
-}
-
-/// A process, and what it does.
-#[derive(Clone, Copy)]
-pub struct Role {
-    pub process: u32,
-    pub does: Does,
-}
 
 /// A race: what for, at which time, who comes first in the first run and who second, and a run in which they come the other
 /// way round, which has other lines or another end.

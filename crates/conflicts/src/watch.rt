@@ -8,12 +8,11 @@ ghost use Rattle.seeded.specs.Runs.{HasComeTo, IsRun};
 ghost use Rattle.conflicts.specs.Endings.{HasTimeLimit, EndsAt};
 
 use crate::conflicts::Conflicts;
-use crate::deeds::fill;
 use crate::moves::Move;
 use crate::run::Run;
 use crate::stretch::{Actor, Stretch};
-use crate::told::{Does, Site};
-use design::{Control, Design};
+use deeds::{Does, Site, fill};
+use design::Design;
 use model::end::{End, Limits, Why};
 use model::entry::Entry;
 use regions::Machine;
@@ -31,7 +30,6 @@ struct Maker {
 /// What is noted of the entries of a run.
 #[derive(Drop)]
 pub(crate) struct Watch {
-    controls: Vec<Control>,
     log: TurnLog,
     stretch: Stretch,
     /// The number of the next event that is made.
@@ -53,14 +51,8 @@ pub(crate) struct Noted {
 }
 
 impl Watch {
-    pub(crate) fn start(
-        alloc: Global,
-        design: &Design,
-        most_groups: usize,
-    ) -> Result<Watch, AllocError> {
-        let controls = design.controls(alloc)?;
-        Ok(Watch {
-            controls,
+    pub(crate) fn start(alloc: Global, design: &Design, most_groups: usize) -> Watch {
+        Watch {
             log: TurnLog::new(alloc),
             stretch: Stretch::new(alloc),
             next_event: u64::from(design.processes()),
@@ -68,7 +60,7 @@ impl Watch {
             makers: Vec::new(alloc),
             moves: Vec::new(alloc),
             conflicts: Conflicts::new(alloc, most_groups),
-        })
+        }
     }
 
     // Who made an event.
@@ -114,9 +106,9 @@ impl Watch {
     }
 
     // Notes the registers for which the process of a turn begins to wait.
-    fn note_wait(&mut self) -> Result<(), AllocError> {
+    fn note_wait(&mut self, design: &Design) -> Result<(), AllocError> {
         if let Suspend::Event(control) = self.log.suspend() {
-            if let Some(control) = self.controls.get(control) {
+            if let Some(control) = design.event_controls().get(control) {
                 for trigger in control.triggers() {
                     self.stretch
                         .access(Site::Register(trigger.1), Does::Waits, false)?;
@@ -155,7 +147,7 @@ impl Watch {
             self.stretch.step(Actor::Turn(process), maker)?;
             self.note_values(machine)?;
             self.note_lines()?;
-            self.note_wait()?;
+            self.note_wait(design)?;
         }
         Ok(Some(Noted {
             wanted: Move::Turn(process),

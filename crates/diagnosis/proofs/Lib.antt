@@ -1,7 +1,4 @@
--- Lemmas of lines, of tokens with their bytes, and of words.
-pub mod Skipped
-pub mod Spotted
-pub mod Texts
+-- Lemmas of tokens, of words, and of notes.
 pub mod Tellings
 pub mod Lexed
 pub mod Noted

@@ -2,9 +2,9 @@
 use Rattle.std.proofs.Common.{◌≡◌, ℕ, ◌-◌, ◌≤◌, List, [], ◌∷◌, length, map, take, drop, Bool, true, Option, Some, None, subst, get_or, arith}
 use Rattle.std.specs.Prelude.{IfSome}
 use Rattle.std.proofs.lemmas.List.{take_all}
-use Rattle.diagnosis.specs.declared.spots.Spot.{Spot}
-use Rattle.diagnosis.specs.Spots.{PlainSpot}
-use Rattle.diagnosis.specs.PlainSpots.{plain_spot}
+use Rattle.places.specs.declared.spot.Spot.{Spot}
+use Rattle.places.specs.Spots.{PlainSpot}
+use Rattle.places.specs.PlainSpots.{plain_spot}
 use Rattle.diagnosis.specs.Told.{IsSpotAt, found, later}
 
 pub front_found : (p : PlainSpot → Bool) (xs : List Spot) (d : Spot) → 1 ≤ length xs → p (plain_spot (get_or xs 0 d)) ≡ true → IsSpotAt p (map plain_spot xs) (get_or xs 0 d).byte

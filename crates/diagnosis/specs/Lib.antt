@@ -1,7 +1,3 @@
-pub mod Lines
-pub mod Spots
-pub mod PlainSpots
-pub mod Places
 pub mod Told
 pub mod Lexemes
 pub mod PlainLexemes

@@ -9,11 +9,11 @@ use Rattle.elaborate.specs.declared.fault.ElabFault.{ElabFault}
 use Rattle.elaborate.specs.declared.fault.ElabFault.TheVariants as module_fault
 use Rattle.frontend.specs.declared.source.SourceFault.{SourceFault}
 use Rattle.frontend.specs.declared.source.SourceFault.TheVariants.{Parse, Elaborate}
-use Rattle.diagnosis.specs.declared.places.Place.{Place}
+use Rattle.places.specs.declared.place.Place.{Place}
 use Rattle.diagnosis.specs.declared.wanted.Wanted.{Wanted}
 use Rattle.diagnosis.specs.declared.wanted.Wanted.TheVariants as wanted
-use Rattle.diagnosis.specs.Spots.{PlainSpot, AreSpots}
-use Rattle.diagnosis.specs.Places.{place_of, is_process, IsTokenPlace}
+use Rattle.places.specs.Spots.{PlainSpot, AreSpots}
+use Rattle.places.specs.Places.{place_of, is_process, IsTokenPlace}
 
 -- A token that is spelled as a name.
 abbrev pub is_named : List ℕ → PlainSpot → Bool

@@ -9,11 +9,10 @@ ghost use Rattle.vparse.specs.declared.parser.ParseFault.TheVariants.{Memory};
 ghost use Rattle.diagnosis.specs.Notes.{HasNotes};
 
 use crate::notes::{Note, notes};
-use crate::places::{Place, place_of_byte, place_of_token};
-use crate::spots::spots;
 use crate::wanted::told_byte;
 use elaborate::ElabFault;
 use frontend::{SourceFault, read_design};
+use places::{Place, place_of_byte, place_of_token, spots};
 use std::alloc::Global;
 use tokens::cut::CutFault;
 use vparse::ParseFault;

@@ -7,7 +7,7 @@ ghost use Rattle.diagnosis.specs.Lexemes as spec;
 ghost use Rattle.diagnosis.specs.Lexemes.{AreLexemes};
 ghost use Rattle.diagnosis.specs.PlainLexemes.{plain_lexeme};
 
-use crate::spots::{behind_skipped, line_span};
+use places::{behind_skipped, line_span};
 use std::alloc::{AllocError, Global};
 
 /// A lexeme, its first byte, and the one behind its last, counted from 0.

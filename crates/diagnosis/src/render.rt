@@ -1,12 +1,10 @@
 //! A diagnosis as text.
 
 use crate::diagnose::Diagnosis;
-use crate::lines::last_line;
 use crate::notes::Note;
-use crate::places::{Place, before, place_of_byte};
-use crate::spots::line_span;
 use elaborate::ElabFault;
 use frontend::SourceFault;
+use places::{Place, before, last_line, line_span, place_of_byte};
 use std::alloc::{AllocError, Global};
 use std::{fmt, str};
 use unicode_width::UnicodeWidthChar;

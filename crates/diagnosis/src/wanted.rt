@@ -1,13 +1,12 @@
 //! The token that a fault of a module tells.
 
 ghost use Rattle.std.specs.Prelude.{◌≡◌, true, map, IfSome};
-ghost use Rattle.diagnosis.specs.PlainSpots.{plain_spot};
+ghost use Rattle.places.specs.PlainSpots.{plain_spot};
 ghost use Rattle.diagnosis.specs.Told.{is_name, is_named, is_call, tells, wants, IsSpotAt};
 
 use crate::notes::conversions;
-use crate::places::is_process;
-use crate::spots::Spot;
 use elaborate::ElabFault;
+use places::{Spot, is_process};
 use tokens::token::Kind;
 
 /// The greatest delay.

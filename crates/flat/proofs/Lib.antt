@@ -4,3 +4,4 @@ pub mod Assignments
 pub mod Pairing
 pub mod Flatness
 pub mod Evaluated
+pub mod Plainness

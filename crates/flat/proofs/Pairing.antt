@@ -1,5 +1,5 @@
 -- What tests of two logs say of the turns that they stand for.
-use Rattle.std.proofs.Common.{◌≡◌, ◌≢◌, ℕ, Bool, true, false, List, [], ◌∷◌, map, Option, refl, sym, ap, subst, ◌∙◌, eq-eqb}
+use Rattle.std.proofs.Common.{◌≡◌, ◌≢◌, ℕ, Bool, true, false, List, [], ◌∷◌, map, length, arith, Option, refl, sym, ap, subst, ◌∙◌, eq-eqb}
 use Rattle.std.specs.Prelude.{◌&&◌, ◌||◌, ◌==◌}
 use Rattle.std.specs.List.{All, list_any}
 use Rattle.std.proofs.lemmas.Bool.{eqb-true}
@@ -46,12 +46,27 @@ keeps_off code s one other controls waits same wait reads writes wakes sleeps =
       waits = wakes_none_more s.store one.writes (progress_after (turn_in code other)) [] (subst (λ (ts : List Trigger). WakesNone s.store one.writes (waiting ts ∷ [])) awaited sleeps) (nobody_waits s.store one.writes);
     }
 
+no_elements : {X : Type 0} (xs : List X) → length xs ≡ 0 → xs ≡ []
+no_elements [] none = refl
+no_elements (x ∷ xs) none = absurd (omega (arith, none))
+
+-- a turn that writes nothing keeps off any other
+pub writes_nothing : (code : Compiled) (s : State) (one other : LogView) (ws : List (ℕ × Vector)) → ws ≡ one.writes → length ws ≡ 0 → KeepsOff s (turn_in code one) (turn_in code other)
+writes_nothing code s one other ws same empty =
+    let none : one.writes ≡ [] = sym same ∙ no_elements ws empty in
+    record {
+      uses = λ r there. ap (λ (l : List (ℕ × Vector)). list_any (λ q. q == r) (map (λ w. w.0) l)) none;
+      writes = λ r there. ap (λ (l : List (ℕ × Vector)). list_any (λ q. q == r) (map (λ w. w.0) l)) none;
+      wakes = subst (λ (l : List (ℕ × Vector)). WakesNone s.store l s.processes) (sym none) tt;
+      waits = subst (λ (l : List (ℕ × Vector)). WakesNone s.store l (progress_after (turn_in code other) ∷ [])) (sym none) tt;
+    }
+
 other_time : (due now : ℕ) → (due == now) ≡ false → due ≢ now
 other_time due now off same =
     let on : (due == now) ≡ true = eq-eqb due now same in
     cc
 
-pair : (code : Compiled) (s : State) (one other : Turned) → one.process ≢ other.process → IsQuietTurn code s one → IsQuietTurn code s other → KeepsOff s (turn_in code one.log) (turn_in code other.log) → KeepsOff s (turn_in code other.log) (turn_in code one.log)
+pub pair : (code : Compiled) (s : State) (one other : Turned) → one.process ≢ other.process → IsQuietTurn code s one → IsQuietTurn code s other → KeepsOff s (turn_in code one.log) (turn_in code other.log) → KeepsOff s (turn_in code other.log) (turn_in code one.log)
     → (has_any one.log.lines && has_any other.log.lines) ≡ false → (has_any one.log.strobes && has_any other.log.strobes) ≡ false → All (λ n. All (AreNbasApart s.time n) other.log.nbas) one.log.nbas → ArePair code s one other
 pair code s one other differ quiet quiet' off off' lines strobes nbas =
     record {

@@ -1,2 +1,3 @@
 pub mod Turned
 pub mod Tests
+pub mod Plain

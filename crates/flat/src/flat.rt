@@ -10,8 +10,10 @@ ghost use Rattle.regions.specs.Machine.{state_at};
 ghost use Rattle.regions.specs.Queue.{evaluation_event};
 ghost use Rattle.flat.specs.Turned.{event_of, turns_in, AreTurned};
 ghost use Rattle.flat.specs.Tests.{IsQuietTurn, ArePair, AreQuiet};
+ghost use Rattle.flat.specs.Plain.{ArePlain};
 
 use crate::pairs::are_apart;
+use crate::plain::Plain;
 use crate::turned::{Turned, evaluate};
 use crate::waits::all_sleep;
 use design::{Control, Design};
@@ -32,6 +34,27 @@ fn is_apart(machine: &Machine<'_>, controls: &[Control], turns: &[Turned], turne
         }
     }
     true
+}
+
+// Whether a turn keeps off each of these, as it does where they and it are plain and of other processes and registers.
+fn is_apart_from(
+    machine: &Machine<'_>,
+    controls: &[Control],
+    turns: &[Turned],
+    turned: &Turned,
+    plain: &mut Plain,
+) -> bool
+    requires controls { controls.now ≡ controls_of machine.now.code }
+    requires turns { All (IsQuietTurn machine.now.code (state_at machine.now)) turns.now }
+    requires turned { IsQuietTurn machine.now.code (state_at machine.now) turned.now }
+    requires plain { plain.old.holds ≡ true → ArePlain machine.now.core.time plain.old.processes.items plain.old.registers.items turns.now }
+    ensures apart { result ≡ true → All (λ one. ArePair machine.now.code (state_at machine.now) one turned.now) turns.now }
+    ensures plain { plain.new.holds ≡ true → ArePlain machine.now.core.time plain.new.processes.items plain.new.registers.items (turns.now ++ turned.now ∷ []) }
+{
+    if plain.take(machine.time(), turned) {
+        return true;
+    }
+    is_apart(machine, controls, turns, turned)
 }
 
 // The turn of an active evaluation, where it is short, doesn't finish, and wakes nobody who waits.
@@ -72,21 +95,23 @@ fn add_turn(
     alloc: Global,
     design: &Design,
     machine: &Machine<'_>,
-    controls: &[Control],
+    plain: &mut Plain,
     turns: &mut Vec<Turned>,
     evaluation: Evaluation,
 ) -> Result<bool, AllocError>
     requires code { machine.now.code ≡ design.now }
-    requires controls { controls.now ≡ controls_of machine.now.code }
     requires quiet { AreQuiet machine.now.code (state_at machine.now) turns.old.items }
+    requires plain { plain.old.holds ≡ true → ArePlain machine.now.core.time plain.old.processes.items plain.old.registers.items turns.old.items }
     ensures events { OnOk result (result ≡ Ok true → map event_of turns.new.items ≡ map event_of turns.old.items ++ evaluation_event evaluation ∷ []) }
     ensures quiet { OnOk result (AreQuiet machine.now.code (state_at machine.now) turns.new.items) }
+    ensures plain { OnOk result (result ≡ Ok true → plain.new.holds ≡ true → ArePlain machine.now.core.time plain.new.processes.items plain.new.registers.items turns.new.items) }
 {
+    let controls = design.event_controls();
     let turned = match quiet_turn(alloc, design, machine, controls, evaluation)? {
         Some(turned) => turned,
         None => return Ok(false),
     };
-    if !is_apart(machine, controls, turns.as_slice(), &turned) {
+    if !is_apart_from(machine, controls, turns.as_slice(), &turned, plain) {
         return Ok(false);
     }
     turns.push(turned)?;
@@ -112,14 +137,15 @@ pub fn flat_turns(
     if !updates.is_empty() {
         return Ok(None);
     }
-    let controls = design.event_controls();
+    let processes = machine.state().processes().len();
+    let mut plain = Plain::new(alloc, processes, design.widths().len())?;
     let mut turns = Vec::new(alloc);
     for at in 0..evaluations.len() {
         if !add_turn(
             alloc,
             design,
             machine,
-            controls,
+            &mut plain,
             &mut turns,
             evaluations[at],
         )? {

@@ -10,6 +10,7 @@
 
 mod flat;
 mod pairs;
+mod plain;
 mod silent;
 mod turned;
 mod waits;

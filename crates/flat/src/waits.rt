@@ -117,6 +117,9 @@ pub(crate) fn all_sleep(
 ) -> bool
     ensures { result ≡ true → (rem : ProcState → Remainder) → WakesNone store.now writes.now (map (standing rem) (map (process_of controls.now) processes.now)) }
 {
+    if writes.is_empty() {
+        return true;
+    }
     for process in processes {
         if !sleeps(controls, process.waits, store, writes) {
             return false;

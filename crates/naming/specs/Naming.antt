@@ -9,9 +9,9 @@ use Rattle.explore.specs.declared.Shown.{Shown}
 use Rattle.seeded.specs.declared.run.SeededRun.{SeededRun}
 use Rattle.seeded.specs.Runs.{IsRun}
 use Rattle.conflicts.specs.declared.told.Race as found
-use Rattle.conflicts.specs.declared.told.Role as found_role
+use Rattle.deeds.specs.declared.role.Role as found_role
 use Rattle.conflicts.specs.Races.{IsShown}
-use Rattle.conflicts.specs.Lines.{IsFirstDifference, HaveSameLines}
+use Rattle.verdict.specs.Lines.{IsFirstDifference, HaveSameLines}
 use Rattle.verdict.specs.declared.race.Race.{Race}
 use Rattle.verdict.specs.declared.race.Role.{Role}
 use Rattle.verdict.specs.declared.race.Run.{Run}

@@ -1,10 +1,10 @@
 -- The words in which a race is told.
 use Rattle.std.specs.Prelude.{◌≡◌, ℕ, List, Some, codes, slice_get}
 use Rattle.design.specs.Compiled.{Compiled}
-use Rattle.conflicts.specs.declared.told.Does.{Does}
-use Rattle.conflicts.specs.declared.told.Does.TheVariants.{Writes, Assigns, Updates, Reads, Waits, Prints, Strobes, Finishes}
-use Rattle.conflicts.specs.declared.told.Site as found
-use Rattle.conflicts.specs.declared.told.Site.TheVariants as sites
+use Rattle.deeds.specs.declared.role.Does.{Does}
+use Rattle.deeds.specs.declared.role.Does.TheVariants.{Writes, Assigns, Updates, Reads, Waits, Prints, Strobes, Finishes}
+use Rattle.deeds.specs.declared.role.Site as found
+use Rattle.deeds.specs.declared.role.Site.TheVariants as sites
 use Rattle.verdict.specs.declared.race.Site as told
 use Rattle.verdict.specs.declared.race.Site.TheVariants as lines
 

@@ -1,19 +1,23 @@
 //! The search for races, told in lines.
-ghost use Rattle.std.specs.Prelude.{◌≡◌, ◌≤◌, ◌++◌, true, IfSome, OnOk, option_map, string_bytes};
+ghost use Rattle.std.specs.Prelude.{◌≡◌, ◌≢◌, ◌≤◌, ◌++◌, [], true, IfOk, IfSome, OnOk, option_map, string_bytes};
 ghost use Rattle.std.specs.List.{All};
 ghost use Rattle.model.specs.Runs.{last_time};
 ghost use Rattle.conflicts.specs.Races.{IsShown};
+ghost use Rattle.tokens.specs.declared.cut.CutFault.TheVariants as faults;
+ghost use Rattle.naming.specs.Begins.{AreProcessesOf, begin_of};
 ghost use Rattle.naming.specs.Naming.{AreRacesTold, IsDifferenceTold, IsJournalTold, IsRaceTold, IsRoleTold, IsText, TellsBehind, TellsEach};
 
 use crate::words::{site_of, word_of};
-use conflicts::{Found, Tries, find_races, first_difference};
+use conflicts::{Found, Tries, find_races};
 use design::Design;
 use explore::Shown;
 use model::end::{End, Limits};
 use model::entry::Entry;
+use places::processes;
 use seeded::run::SeededRun;
 use std::alloc::{AllocError, Global};
-use verdict::{Process, Race, Role, Run, processes, push_race};
+use tokens::cut::CutFault;
+use verdict::{Process, Race, Role, Run, first_difference, push_race};
 
 /// How many second runs are made to name races, and how many races are named at most.
 const TRIES: Tries = Tries {
@@ -47,7 +51,7 @@ pub fn push_races(alloc: Global, text: &mut Vec<u8>, names: &Names<'_>) -> Resul
     requires { IfSome names.now.limits.until (λ until. until ≤ last_time) }
     ensures { OnOk result (TellsBehind names.entry.now.design.now names.entry.now.limits names.entry.now.shown.now (option_map (λ path. path.now) names.entry.now.prefix) text.old.items text.new.items) }
 {
-    let processes = processes(alloc, names.source)?;
+    let processes = processes_of(alloc, names.source)?;
     let found = find_races(alloc, names.design, names.limits, TRIES);
     // The same names, for no longer than the runs live.
     let here = Names {
@@ -63,10 +67,31 @@ pub fn push_races(alloc: Global, text: &mut Vec<u8>, names: &Names<'_>) -> Resul
     push_each(text, &here, &processes, &found)
 }
 
+/// The processes of a source; none where it isn't cut into tokens.
+fn processes_of(alloc: Global, source: &[u8]) -> Result<Vec<places::Process>, AllocError>
+    ensures { IfOk result (λ found. AreProcessesOf source.now found.items) }
+{
+    match processes(alloc, source) {
+        Ok(found) => Ok(found),
+        Err(fault) => without_processes(alloc, fault),
+    }
+}
+
+fn without_processes(alloc: Global, fault: CutFault) -> Result<Vec<places::Process>, AllocError>
+    ensures empty { IfOk result (λ found. found.items ≡ []) }
+    ensures known { IfOk result (λ _. fault ≢ faults.Memory) }
+{
+    match fault {
+        CutFault::Memory => Err(AllocError),
+        CutFault::Stray(_) => Ok(Vec::new(alloc)),
+        CutFault::BadNumber(_) => Ok(Vec::new(alloc)),
+    }
+}
+
 fn push_each<'a>(
     text: &mut Vec<u8>,
     names: &Names<'a>,
-    processes: &[Process],
+    processes: &[places::Process],
     found: &'a Found,
 ) -> Result<(), AllocError>
     ensures { OnOk result (TellsEach names.entry.now.design.now names.entry.now.shown.now (option_map (λ path. path.now) names.entry.now.prefix) found.entry.now.original found.entry.now.races.items text.old.items text.new.items) }
@@ -81,7 +106,7 @@ fn push_each<'a>(
 /// A race, as it is told.
 fn told_race<'a>(
     names: &Names<'a>,
-    processes: &[Process],
+    processes: &[places::Process],
     original: &'a SeededRun,
     race: &'a conflicts::Race,
     number: usize,
@@ -128,13 +153,26 @@ fn lines_of<'a>(one: &'a SeededRun, other: &'a SeededRun) -> Lines<'a>
     }
 }
 
-fn role_of(processes: &[Process], role: conflicts::Role) -> Role<'static>
+fn role_of(processes: &[places::Process], role: deeds::Role) -> Role<'static>
     ensures { IsRoleTold role result }
 {
     Role {
         number: role.process,
-        begins: processes.get(role.process as usize).copied(),
+        begins: begin_of(processes, role.process),
         does: word_of(role.does),
+    }
+}
+
+/// Where the process with a number begins, if that is known.
+fn begin_of(processes: &[places::Process], number: u32) -> Option<Process>
+    ensures { result ≡ begin_of processes.now number }
+{
+    match processes.get(number as usize) {
+        Some(process) => Some(Process {
+            always: process.always,
+            line: process.place.line,
+        }),
+        None => None,
     }
 }
 

@@ -1,9 +1,9 @@
 //! The words in which a race is told.
 ghost use Rattle.std.specs.Prelude.{◌≡◌};
-ghost use Rattle.conflicts.specs.declared.told.Site.TheVariants as sites;
+ghost use Rattle.deeds.specs.declared.role.Site.TheVariants as sites;
 ghost use Rattle.naming.specs.Words.{word_of, IsSiteTold};
 
-use conflicts::Does;
+use deeds::Does;
 use design::{Design, RegId};
 use verdict::Site;
 
@@ -24,13 +24,13 @@ pub(crate) fn word_of(does: Does) -> &'static str
 }
 
 /// For what two entries race, with a register by its name.
-pub(crate) fn site_of<'a>(design: &'a Design, site: conflicts::Site) -> Site<'a>
+pub(crate) fn site_of<'a>(design: &'a Design, site: deeds::Site) -> Site<'a>
     ensures { IsSiteTold design.entry.now site result }
 {
     match site {
-        conflicts::Site::Register(register) => named(design, register),
-        conflicts::Site::Printing => Site::Printing,
-        conflicts::Site::Strobing => Site::Strobing,
+        deeds::Site::Register(register) => named(design, register),
+        deeds::Site::Printing => Site::Printing,
+        deeds::Site::Strobing => Site::Strobing,
     }
 }
 

@@ -22,7 +22,7 @@ use Rattle.program.specs.declared.ending.Ending.{Ending}
 use Rattle.program.specs.declared.ending.Ending.TheVariants as ending
 use Rattle.program.specs.declared.finding.Finding.TheVariants as finding
 use Rattle.program.specs.Program.{IsRefusalStatus, ended_status, ending_of, finding_status, help_text, right_text, status_of, stop_status, version_text}
-use Rattle.program.specs.Printed.{HasEnded, HasPrintedBy, HasRefused, HasRun, HasSearched, HasChecked, HasDumped, HasShown, HasWaves, IsDone, IsRight, IsWrong, checked, helped, ran, searched, versioned}
+use Rattle.program.specs.Printed.{HasEnded, HasPrintedBy, HasRefused, HasRun, HasSearched, HasChecked, HasDumped, HasShown, HasWaves, IsDone, IsRight, IsUnprinted, IsWrong, checked, helped, ran, searched, versioned}
 use Rattle.program.specs.Told.{IsEndTold, IsTold, IsUnfinished, nothing, of_fault, of_source, of_stop}
 use Rattle.program.proofs.Statuses.{not_of_fault, not_of_stop}
 use Rattle.journal.specs.declared.counted.Counted.{Counted}
@@ -186,6 +186,15 @@ refused_by_status words old new files files' (Ok (ending.Wrong text)) h k e = h
 refused_by_status words old new files files' (Err f) h (inl one) e = absurd (omega (arith, one, e))
 refused_by_status words old new files files' (Err f) h (inr six) e = absurd (omega (arith, six, e))
 
+pub faulty_by_status : (ended : Result Ending Fault) (K : Type 0) → IfErr ended (λ f. status_of f ≡ 5 → K) → ended_status ended ≡ 5 → K
+faulty_by_status (Ok ending.Done) K h e = cc
+faulty_by_status (Ok (ending.Stopped s)) K h e = absurd (not_of_stop s 5 refl e)
+faulty_by_status (Ok (ending.Found finding.One)) K h e = cc
+faulty_by_status (Ok (ending.Found finding.Unfinished)) K h e = cc
+faulty_by_status (Ok (ending.Found finding.Several)) K h e = cc
+faulty_by_status (Ok (ending.Wrong text)) K h e = cc
+faulty_by_status (Err f) K h e = h e
+
 pub stopped_by_status : {E : Type 0} (words : List Text) (old new : Option (List ℕ)) (files files' : Option (List Made)) (contents : E → Option (List ℕ))
     (err err' : Counted E) (ended : Result Ending Fault) → IfOk ended (HasEnded words old new files files') → IsEndTold contents err err' ended
     → ended_status ended ≡ 4 → IsUnfinished words old new files files' contents err err'
@@ -240,14 +249,28 @@ of_source_or_journal : (f : Fault) → IsSourceStatus (status_of f) → (status_
 of_source_or_journal f (inl e) = absurd (not_of_fault f 2 refl e)
 of_source_or_journal f (inr h) = h
 
+pub source_status : (words : List Text) (n : ℕ) → IsUnprinted words n → IsSourceStatus n
+source_status words n (inl e) = inl e
+source_status words n (inr (inl e)) = inr (inl e)
+source_status words n (inr (inr (e, other))) = inr (inr e)
+
+-- where there are no words, no journal is told
+no_words : (word : Text) → Begins [] word → ⊥
+no_words word begins = cc
+
+pub unprinted_without : (n : ℕ) → (n ≡ 2) ⊎ ((n ≡ 3) ⊎ (n ≡ 5)) → IsUnprinted [] n
+unprinted_without n (inl e) = inl e
+unprinted_without n (inr (inl e)) = inr (inl e)
+unprinted_without n (inr (inr e)) = inr (inr (e, λ begins. no_words (codes "explain") begins))
+
 pub nothing_by_status : (words : List Text) (old new : Option (List ℕ)) (files files' : Option (List Made)) (ended : Result Ending Fault)
-    → IfOk ended (HasEnded words old new files files') → IfErr ended (λ f. (status_of f ≡ 3) ⊎ (status_of f ≡ 5) → Keeps old new)
-    → IsSourceStatus (ended_status ended) → Keeps old new
-nothing_by_status words old new files files' (Ok ending.Done) h k e = absurd (no_zero e)
-nothing_by_status words old new files files' (Ok (ending.Stopped s)) h k e = absurd (no_stop s e)
-nothing_by_status words old new files files' (Ok (ending.Found found)) h k e = absurd (no_finding found e)
+    → IfOk ended (HasEnded words old new files files') → IfErr ended (λ f. IsUnprinted words (status_of f) → Keeps old new)
+    → IsUnprinted words (ended_status ended) → Keeps old new
+nothing_by_status words old new files files' (Ok ending.Done) h k e = absurd (no_zero (source_status words 0 e))
+nothing_by_status words old new files files' (Ok (ending.Stopped s)) h k e = absurd (no_stop s (source_status words (stop_status s) e))
+nothing_by_status words old new files files' (Ok (ending.Found found)) h k e = absurd (no_finding found (source_status words (finding_status found) e))
 nothing_by_status words old new files files' (Ok (ending.Wrong text)) h k e = h.unprinted
-nothing_by_status words old new files files' (Err f) h k e = k (of_source_or_journal f e)
+nothing_by_status words old new files files' (Err f) h k e = k e
 
 pub unsaved_by_status : (words : List Text) (old new : Option (List ℕ)) (files files' : Option (List Made)) (ended : Result Ending Fault)
     → IfOk ended (HasEnded words old new files files') → IfErr ended (λ f. (status_of f ≡ 3) ⊎ (status_of f ≡ 5) → KeepsFiles files files')
@@ -305,10 +328,26 @@ pub if_err : {T E : Type 0} (P : E → Type 0) (r : Result T E) → ((e : E) →
 if_err P (Ok x) h = tt
 if_err P (Err e) h = h e
 
--- a fault of a source or of a journal is none of files or output
-pub unless_one : (K : Type 0) (r : Result Ending Fault) → IfErr r (λ f. status_of f ≢ 1 → K) → IfErr r (λ f. (status_of f ≡ 3) ⊎ (status_of f ≡ 5) → K)
-unless_one K (Ok e) h = tt
-unless_one K (Err f) h = λ e. h (not_one (status_of f) e)
+-- a fault at whose status nothing is printed is none of files or output, and one of a source or of a journal
+pub unless_one : (K : Type 0) (words : List Text) (r : Result Ending Fault) → IfErr r (λ f. status_of f ≢ 1 → K) → IfErr r (λ f. IsUnprinted words (status_of f) → K)
+unless_one K words (Ok e) h = tt
+unless_one K words (Err f) h = λ e. h (not_one (status_of f) (of_source_or_journal f (source_status words (status_of f) e)))
+
+pub if_read : (K : Type 0) (words : List Text) (r : Result Ending Fault) → IfErr r (λ f. (status_of f ≡ 3) ⊎ (status_of f ≡ 5) → K)
+    → IfErr r (λ f. IsUnprinted words (status_of f) → K)
+if_read K words (Ok e) h = tt
+if_read K words (Err f) h = λ e. h (of_source_or_journal f (source_status words (status_of f) e))
+
+-- a journal is told up to its fault
+pub unless_told : (K : Type 0) (words : List Text) (r : Result Ending Fault) → Begins words (codes "explain") → IfErr r (λ f. status_of f ≡ 3 → K)
+    → IfErr r (λ f. IsUnprinted words (status_of f) → K)
+unless_told K words (Ok e) begins h = tt
+unless_told K words (Err f) begins h = go
+  where
+    go : IsUnprinted words (status_of f) → K
+    go (inl e) = absurd (not_of_fault f 2 refl e)
+    go (inr (inl e)) = h e
+    go (inr (inr (e, other))) = absurd (other begins)
 
 pub one_only : (K : Type 0) (r : Result Ending Fault) → IfErr r (λ f. status_of f ≡ 1) → IfErr r (λ f. status_of f ≢ 1 → K)
 one_only K (Ok e) h = tt
@@ -361,10 +400,24 @@ wrong_if (Some y) x e h = h
 pub wrong_usage : (words : List Text) (r : Refusal) (text : _) → r ≡ refusal.Usage text → IsRefusal words r → AreWrong words
 wrong_usage words r text e h = subst (IsRefusal words) e h
 
--- a request for a check
+-- a request for a check, or to be told a journal
 abbrev pub is_check : Request → Bool
 is_check (request.Check c) = true
 is_check r = false
+
+abbrev pub is_explain : Request → Bool
+is_explain (request.Explain c) = true
+is_explain r = false
+
+-- words that begin as those of a telling ask for nothing else
+pub explain_alone : (words : List Text) (r : Request) → is_explain r ≡ false → Asks words r → Begins words (codes "explain") → ⊥
+explain_alone words (request.Run run) e asks begins = unlike (codes "run") (codes "explain") refl (sym asks.begins ∙ begins)
+explain_alone words (request.Replay replay) e asks begins = unlike (codes "replay") (codes "explain") refl (sym asks.begins ∙ begins)
+explain_alone words (request.Races races) e asks begins = unlike (codes "races") (codes "explain") refl (sym asks.begins ∙ begins)
+explain_alone words (request.Check check) e asks begins = unlike (codes "check") (codes "explain") refl (sym asks.begins ∙ begins)
+explain_alone words (request.Explain explain) e asks begins = cc
+explain_alone words (request.Waves waves) e asks begins = unlike (codes "waves") (codes "explain") refl (sym asks.begins ∙ begins)
+explain_alone words request.Version e asks begins = unlike (codes "--version") (codes "explain") refl (sym asks ∙ begins)
 
 -- words that begin as those of a check ask for nothing else
 pub check_alone : (words : List Text) (r : Request) → is_check r ≡ false → Asks words r → Begins words (codes "check") → ⊥
@@ -372,5 +425,6 @@ check_alone words (request.Run run) e asks begins = unlike (codes "run") (codes 
 check_alone words (request.Replay replay) e asks begins = unlike (codes "replay") (codes "check") refl (sym asks.begins ∙ begins)
 check_alone words (request.Races races) e asks begins = unlike (codes "races") (codes "check") refl (sym asks.begins ∙ begins)
 check_alone words (request.Check check) e asks begins = cc
+check_alone words (request.Explain explain) e asks begins = unlike (codes "explain") (codes "check") refl (sym asks.begins ∙ begins)
 check_alone words (request.Waves waves) e asks begins = unlike (codes "waves") (codes "check") refl (sym asks.begins ∙ begins)
 check_alone words request.Version e asks begins = unlike (codes "--version") (codes "check") refl (sym asks ∙ begins)

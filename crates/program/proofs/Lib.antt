@@ -2,5 +2,6 @@
 pub mod Statuses
 pub mod Endings
 pub mod Ended
+pub mod Explained
 pub mod Sampled
 pub mod Searched

@@ -9,7 +9,7 @@ use Rattle.explore.specs.declared.Shown.{Shown}
 use Rattle.explore.specs.Search.{AreDistinct, IsShown}
 use Rattle.seeded.specs.Runs as seeded
 use Rattle.seeded.specs.declared.run.SeededRun.{SeededRun}
-use Rattle.races.specs.Journals.{AreAllTexts, IsLawfulText}
+use Rattle.walks.specs.Journals.{AreAllTexts, IsLawfulText}
 use Rattle.verdict.specs.declared.claim.Claim.{Claim}
 use Rattle.verdict.specs.declared.claim.Claim.TheVariants.{Every, SoFar, Sampled}
 use Rattle.arguments.specs.declared.extent.Extent.{Extent}

@@ -1,8 +1,12 @@
 -- What a command leaves on standard output and in files.
-use Rattle.std.specs.Prelude.{◌≡◌, ◌⊎◌, ◌++◌, ℕ, Bool, List, [], Option, Some, None, codes, drop, length, map, string_bytes}
+use Rattle.std.specs.Prelude.{◌≡◌, ◌⊎◌, ◌++◌, ℕ, Bool, List, [], Option, Some, None, codes, drop, length, map, string_bytes, unwrap_or}
 use Rattle.std.specs.Io.KnownBytes.{Appends, Keeps}
 use Rattle.design.specs.Compiled.{Compiled, design_of}
 use Rattle.model.specs.Syntax.{Module}
+use Rattle.explain.specs.Explained.{IsLawfulText}
+use Rattle.explain.specs.Texts.{ExplainsText, ExplainsTextFault}
+use Rattle.explain.specs.declared.telling.Window.{Window}
+use Rattle.replay.specs.declared.fault.ReplayFault.{ReplayFault}
 use Rattle.vparse.specs.Spells.{Spells}
 use Rattle.waves.specs.Dump.{vcd_text}
 use Rattle.waves.specs.Waves.{IsWaveOf}
@@ -35,7 +39,7 @@ use Rattle.program.specs.declared.ending.Ending.{Ending}
 use Rattle.program.specs.declared.ending.Ending.TheVariants as ending
 use Rattle.program.specs.Program.{right_text, source_status_of, stop_of, version_text}
 use Rattle.files.specs.Saved.{AddsFile, Made, KeepsFiles, SavesAllWhereAsked, SavesWhereAsked}
-use Rattle.arguments.specs.Words.{AsksHelp, Begins, check_rows, extent_of, number_given, options_of, races_rows, run_rows, waves_rows}
+use Rattle.arguments.specs.Words.{AsksHelp, Begins, check_rows, explain_rows, extent_of, number_given, options_of, races_rows, run_rows, waves_rows}
 
 -- the limits of a run
 abbrev pub limits_of : Options → Limits
@@ -137,6 +141,40 @@ pub record HasReplayed (old new : Option (List ℕ)) : Type 0 where
   pub left : Option (List ℕ)
   pub prints : Prints source left old new
 
+-- which entries are told: from the first, or this one, to the last that there may be, or this one
+abbrev pub window_of : ℕ → Option ℕ → Window
+window_of from to = record { from = from; to = unwrap_or to 18446744073709551615 }
+
+-- Output grew by a journal in words, in this window: by a line for each entry that it has, and how the run stands behind them. The
+-- journal is lawful for the design that some source describes, and what was left to read, where that is known, is its text.
+pub record HasExplained (window : Window) (old new : Option (List ℕ)) : Type 0 where
+  pub source : List ℕ
+  pub left : Option (List ℕ)
+  pub lawful : IsLawfulText source left
+  pub explains : ExplainsText source window left old new
+
+-- So it is of a journal up to its first entry that isn't taken, and output grew by why it isn't.
+pub record HasExplainedFault (window : Window) (old new : Option (List ℕ)) : Type 0 where
+  pub source : List ℕ
+  pub left : Option (List ℕ)
+  pub fault : ReplayFault
+  pub explains : ExplainsTextFault source window left old new fault
+
+-- no journal was read, and output is as it was; or one was told up to its fault
+abbrev pub HasExplainedSome : Window → Option (List ℕ) → Option (List ℕ) → Type 0
+HasExplainedSome window old new = Keeps old new ⊎ HasExplainedFault window old new
+
+-- the window that these words ask for
+abbrev pub window_in : List Text → Window
+window_in words =
+    window_of (unwrap_or (number_given (codes "from") (explain_rows (drop 1 words))) 1) (number_given (codes "to") (explain_rows (drop 1 words)))
+
+-- The words ask to be told a journal, and it was told in the window of these words.
+pub record HasTold (words : List Text) (old new : Option (List ℕ)) (files files' : Option (List Made)) : Type 0 where
+  pub begins : Begins words (codes "explain")
+  pub explained : HasExplained (window_in words) old new
+  pub unsaved : KeepsFiles files files'
+
 -- This is the value change dump of a journal on the design of a source: the text of the journal's wave, in a scope with the name of
 -- the module that the source spells, with the names and widths of the design's registers.
 pub record IsDumpOf (source : List ℕ) (design : Compiled) (journal : List Entry) (text : List ℕ) : Type 0 where
@@ -196,7 +234,8 @@ pub record HasConfirmed (words : List Text) (old new : Option (List ℕ)) (files
 -- The words ask for help, and output grew by some text; or for the version, which output grew by; or they ask for a run, which
 -- left its lines and its journal and wasn't stopped by a limit; or they ask for a replay, which left its lines; or for a search
 -- for races, which found one text and no other possible one; or for a check of a source, which is right; or for a value change
--- dump, which stands in its place.
+-- dump, which stands in its place; or to be told a journal,
+-- which is lawful.
 pub data IsDone (words : List Text) (old new : Option (List ℕ)) (files files' : Option (List Made)) : Type 0 where
   helped : AsksHelp words → (text : List ℕ) → Appends old new text → KeepsFiles files files' → IsDone words old new files files'
   versioned : Begins words (codes "--version") → Appends old new version_text → KeepsFiles files files' → IsDone words old new files files'
@@ -205,6 +244,7 @@ pub data IsDone (words : List Text) (old new : Option (List ℕ)) (files files' 
   searched : HasSearched words old new files files' finding.One → IsDone words old new files files'
   checked : HasConfirmed words old new files files' → IsDone words old new files files'
   dumped : HasWaves words old new files files' → IsDone words old new files files'
+  explained : HasTold words old new files files' → IsDone words old new files files'
 
 -- The words ask for a check of a source, which is wrong, and nothing was left on output.
 pub record HasRefused (words : List Text) (old new : Option (List ℕ)) (files files' : Option (List Made)) : Type 0 where
@@ -219,3 +259,7 @@ HasEnded words old new files files' ending.Done = IsDone words old new files fil
 HasEnded words old new files files' (ending.Stopped stop) = HasRun words old new files files' (Some stop)
 HasEnded words old new files files' (ending.Found found) = HasSearched words old new files files' found
 HasEnded words old new files files' (ending.Wrong text) = HasRefused words old new files files'
+
+-- At status 2 and 3 nothing is printed, and at 5 neither, unless a journal is told, up to its fault.
+abbrev pub IsUnprinted : List Text → ℕ → Type 0
+IsUnprinted words status = (status ≡ 2) ⊎ ((status ≡ 3) ⊎ ((status ≡ 5) × (Begins words (codes "explain") → ⊥)))

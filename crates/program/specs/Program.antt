@@ -15,6 +15,9 @@ use Rattle.program.specs.declared.finding.Finding.TheVariants as finding
 use Rattle.program.specs.declared.fault.Stop.{Stop}
 use Rattle.program.specs.declared.fault.Stop.TheVariants as stop
 use Rattle.files.specs.Faults.{file_status}
+use Rattle.files.specs.declared.fault.FileFault.TheVariants as file
+use Rattle.explain.specs.declared.failure.ExplainFault.{ExplainFault}
+use Rattle.explain.specs.declared.failure.ExplainFault.TheVariants as explaining
 use Rattle.telling.specs.Told.{shown_path}
 use Rattle.workers.specs.declared.fault.SimFault.{SimFault}
 use Rattle.vparse.specs.declared.parser.ParseFault.TheVariants as parsing
@@ -64,6 +67,14 @@ status_of fault.Memory = 6
 status_of (fault.Source f) = source_status_of f
 status_of (fault.Simulate f) = simulate_status_of f
 status_of (fault.Replay f) = replay_status_of f
+
+-- a fault of a journal that is told in words: that of a replay, where a replay has it
+abbrev pub explain_fault : ExplainFault → Fault
+explain_fault (explaining.Source f) = fault.Replay (replaying.Source f)
+explain_fault (explaining.Read f) = fault.Replay (replaying.Read f)
+explain_fault (explaining.Replay f) = fault.Replay (replaying.Replay f)
+explain_fault explaining.CannotWrite = fault.Replay replaying.CannotWrite
+explain_fault explaining.Memory = fault.Memory
 
 -- what is told of a stop: `$finish` is none
 abbrev pub stop_for : Why → Option Stop

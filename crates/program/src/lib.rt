@@ -1,9 +1,9 @@
 //! The program `vsimtx` as a library: it runs one Verilog module on several workers or by a seed, replays the journal of a run,
 //! and prints the lines; or it searches all lawful orders of the module and tells their texts; or it writes the registers of a journal
-//! over time as a value change dump.
+//! over time as a value change dump, or tells it in words.
 //!
-//! 1. `running` is a run, `replaying` a replay, `checking` a check, `waving` a value change dump, and `searching` a search for races,
-//!    of which `finding` says what it has come to.
+//! 1. `running` is a run, `replaying` a replay, `checking` a check, `waving` a value change dump, `explaining` a journal in words, and
+//!    `searching` a search for races, of which `finding` says what it has come to.
 //! 2. `ending` is how a command ended: it has the status, and tells what is to be told.
 //! 3. `fault` has the faults with their statuses, and `lines` their lines on standard error.
 //! 4. `program` is the whole program as a function, `command`, which `main` calls.
@@ -11,6 +11,7 @@
 
 mod checking;
 mod ending;
+mod explaining;
 mod fault;
 mod finding;
 mod lines;

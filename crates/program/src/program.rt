@@ -6,9 +6,9 @@ ghost use Rattle.std.specs.Prelude.{◌≡◌, ◌≢◌, ◌⊎◌, ◌≤◌, 
 ghost use Rattle.clap.specs.Words.{Text};
 ghost use Rattle.std.specs.Io.KnownBytes.{Appends, Keeps};
 ghost use Rattle.journal.specs.Counted.{held};
-ghost use Rattle.arguments.specs.Words.{AreWrong, Asks, AsksCheck, AsksRaces, AsksReplay, AsksRun, AsksWaves, Begins, IsRefusal, texts_of};
+ghost use Rattle.arguments.specs.Words.{AreWrong, Asks, AsksCheck, AsksExplain, AsksRaces, AsksReplay, AsksRun, AsksWaves, Begins, IsRefusal, texts_of};
 ghost use Rattle.program.specs.declared.finding.Finding.TheVariants as finding;
-ghost use Rattle.program.specs.Printed.{HasEnded, HasRefused, HasSearched, IsDone};
+ghost use Rattle.program.specs.Printed.{HasEnded, HasExplainedSome, HasRefused, HasSearched, IsDone, IsUnprinted, window_in};
 ghost use Rattle.program.specs.Program.{IsRefusalStatus, ended_status, help_text, right_text, status_of, version_text};
 ghost use Rattle.files.specs.Saved.{KeepsFiles};
 ghost use Rattle.program.specs.Told.{IsTold, IsUnfinished};
@@ -16,14 +16,15 @@ ghost use Rattle.program.specs.declared.ending.Ending.TheVariants as Ending;
 
 use crate::checking::check;
 use crate::ending::{Ending, finish, tell_fault};
+use crate::explaining::explain_journal;
 use crate::fault::Fault;
 use crate::replaying::replay_journal;
 use crate::running::run;
 use crate::searching::search_races;
 use crate::waving::dump_waves;
 use arguments::{
-    CheckRequest, RacesRequest, Refusal, ReplayRequest, Request, RunRequest, VERSION, WavesRequest,
-    read_request,
+    CheckRequest, ExplainRequest, RacesRequest, Refusal, ReplayRequest, Request, RunRequest,
+    VERSION, WavesRequest, read_request,
 };
 use files::{FileFault, Files, send_off, show};
 use journal::Counted;
@@ -47,9 +48,10 @@ pub fn command<R: Threads + Wait + Sync, F: Files, O: Write, E: Write>(
     ensures done { result ≡ 0 → IsDone (texts_of words.now) (O.contents (held out.old)) (O.contents (held out.new)) (F.made files.old) (F.made files.new) }
     ensures wrong { result ≡ 2 → AreWrong (texts_of words.now) }
     ensures refused { result ≡ 3 → Begins (texts_of words.now) (codes "check") → HasRefused (texts_of words.now) (O.contents (held out.old)) (O.contents (held out.new)) (F.made files.old) (F.made files.new) }
+    ensures faulty { result ≡ 5 → Begins (texts_of words.now) (codes "explain") → HasExplainedSome (window_in (texts_of words.now)) (O.contents (held out.old)) (O.contents (held out.new)) }
     ensures stopped { result ≡ 4 → IsUnfinished (texts_of words.now) (O.contents (held out.old)) (O.contents (held out.new)) (F.made files.old) (F.made files.new) E.contents err.old err.new }
     ensures several { result ≡ 7 → HasSearched (texts_of words.now) (O.contents (held out.old)) (O.contents (held out.new)) (F.made files.old) (F.made files.new) finding.Several }
-    ensures nothing { (result ≡ 2) ⊎ ((result ≡ 3) ⊎ (result ≡ 5)) → Keeps (O.contents (held out.old)) (O.contents (held out.new)) }
+    ensures nothing { IsUnprinted (texts_of words.now) result → Keeps (O.contents (held out.old)) (O.contents (held out.new)) }
     ensures unsaved { (result ≡ 2) ⊎ ((result ≡ 3) ⊎ (result ≡ 5)) → KeepsFiles (F.made files.old) (F.made files.new) }
     ensures silent { (result ≡ 0) ⊎ (result ≡ 7) → err.new ≡ err.old }
     ensures told { IsTold E.contents err.old err.new (texts_of words.now) result }
@@ -73,7 +75,8 @@ fn perform<'a, R: Threads + Wait + Sync, F: Files, O: Write>(
 ) -> Result<Ending, Fault<'a>>
     ensures ended { (words : List Text) → Asks words request.now → IfOk result (HasEnded words (O.contents (held out.old)) (O.contents (held out.new)) (F.made files.old) (F.made files.new)) }
     ensures checked { (words : List Text) → Asks words request.now → Begins words (codes "check") → IfErr result (λ fault. (status_of fault ≡ 1) ⊎ (status_of fault ≡ 6)) }
-    ensures nothing { IfErr result (λ fault. (status_of fault ≡ 3) ⊎ (status_of fault ≡ 5) → Keeps (O.contents (held out.old)) (O.contents (held out.new))) }
+    ensures refused { (words : List Text) → Asks words request.now → Begins words (codes "explain") → IfErr result (λ fault. status_of fault ≡ 5 → HasExplainedSome (window_in words) (O.contents (held out.old)) (O.contents (held out.new))) }
+    ensures nothing { (words : List Text) → Asks words request.now → IfErr result (λ fault. IsUnprinted words (status_of fault) → Keeps (O.contents (held out.old)) (O.contents (held out.new))) }
     ensures unsaved { IfErr result (λ fault. (status_of fault ≡ 3) ⊎ (status_of fault ≡ 5) → KeepsFiles (F.made files.old) (F.made files.new)) }
 {
     match request {
@@ -81,6 +84,7 @@ fn perform<'a, R: Threads + Wait + Sync, F: Files, O: Write>(
         Request::Replay(request) => perform_replay(alloc, request, files, out),
         Request::Races(request) => perform_races(alloc, request, files, out),
         Request::Check(request) => perform_check(alloc, request, files, out),
+        Request::Explain(request) => perform_explain(alloc, request, files, out),
         Request::Waves(request) => perform_waves(alloc, request, files),
         Request::Version => perform_version(out),
     }
@@ -164,6 +168,23 @@ fn show_right<O: Write>(path: &str, out: &mut Counted<O>) -> Result<Ending, Faul
     }
     send_off(out)?;
     Ok(Ending::Done)
+}
+
+fn perform_explain<'a, F: Files, O: Write>(
+    alloc: Global,
+    request: &ExplainRequest<'a>,
+    files: &mut F,
+    out: &mut Counted<O>,
+) -> Result<Ending, Fault<'a>>
+    ensures ended { (words : List Text) → AsksExplain words request.now → IfOk result (HasEnded words (O.contents (held out.old)) (O.contents (held out.new)) (F.made files.old) (F.made files.new)) }
+    ensures refused { (words : List Text) → AsksExplain words request.now → IfErr result (λ fault. status_of fault ≡ 5 → HasExplainedSome (window_in words) (O.contents (held out.old)) (O.contents (held out.new))) }
+    ensures nothing { IfErr result (λ fault. status_of fault ≡ 3 → Keeps (O.contents (held out.old)) (O.contents (held out.new))) }
+    ensures unsaved { KeepsFiles (F.made files.old) (F.made files.new) }
+{
+    match explain_journal(alloc, request, files, out) {
+        Ok(()) => Ok(Ending::Done),
+        Err(fault) => Err(fault),
+    }
 }
 
 /// Writes a value change dump; standard output is left as it is, whatever it holds.

@@ -1,5 +1,5 @@
 -- What an expansion comes to where a run rests, where it branches, and where a walk leads on.
-use Rattle.std.proofs.Common.{Vec, Global, vec_len, ◌==◌, Bool, true, false, ◌≡◌, ◌≢◌, ◌<◌, List, [], ◌∷◌, length, Result, Ok, Err, inl, refl, sym, ap, ◌∙◌, subst, arith}
+use Rattle.std.proofs.Common.{Some, Vec, Global, vec_len, ◌==◌, Bool, true, false, ◌≡◌, ◌≢◌, ◌<◌, List, [], ◌∷◌, length, Result, Ok, Err, inl, refl, sym, ap, ◌∙◌, subst, arith}
 use Rattle.std.specs.Prelude.{IfOk}
 use Rattle.std.specs.List.{All}
 use Rattle.std.proofs.lemmas.Grind.{common_steps}
@@ -8,20 +8,44 @@ use Rattle.model.specs.declared.entry.Entry.{Entry}
 use Rattle.model.specs.declared.end.Limits.{Limits}
 use Rattle.model.specs.declared.end.End.{End}
 use Rattle.model.specs.States.{State}
-use Rattle.model.specs.Runs.{silent, IsTimely}
+use Rattle.model.specs.Runs.{silent, run_from, IsTimely}
 use Rattle.orders.specs.Search.{EndsHere}
 use Rattle.design.specs.Compiled.{Compiled, design_of}
 use Rattle.seeded.specs.Resting.{RestsAt}
 use Rattle.explore.specs.declared.Next.{Next}
 use Rattle.explore.specs.declared.Ended.{Ended}
-use Rattle.races.specs.Expanding.{GoesOnTo}
-use Rattle.regions.specs.Machine.{state_at}
+use Rattle.walks.specs.Cover.{CoverRuns}
+use Rattle.walks.specs.Going.{GoesOnTo}
+use Rattle.walks.specs.Sole.{StandsForAll}
+use Rattle.regions.specs.Machine.{Position, state_at}
 use Rattle.races.specs.Places.{IsReady, IsWayOn, IsWayToEnd, AreAllWays}
-use Rattle.races.specs.Walking.{HasWalked}
+use Rattle.races.specs.Following.{IsArrived}
+use Rattle.walks.specs.Walking.{HasWalked}
 use Rattle.races.specs.declared.place.Place.{Place}
-use Rattle.races.specs.declared.walk.Walk.{Walk}
 use Rattle.races.proofs.Ways.{nothing_followed}
-use Rattle.races.proofs.Walks.{walk_is_way, walk_is_all}
+
+-- what the successor of a walk holds
+pub walk_is_way : (code : Compiled) (limits : Limits) (s : State) (m : Position) (moves : List Entry) (next : Next Place Entry) → m.code ≡ code → HasWalked limits s m moves → next.moves.items ≡ moves → next.printed.items ≡ m.lines → IsReady m.code next.node → state_at next.node.machine.value ≡ state_at m
+    → IsWayOn code limits s next
+walk_is_way code limits s m moves next same walked moves_are printed ready state =
+    let goes : run_from (design_of code) (silent s) moves ≡ Some walked.effect = subst (λ (k : Compiled). run_from (design_of k) (silent s) moves ≡ Some walked.effect) same walked.goes in
+    let both : GoesOnTo (design_of code) limits (silent s) moves walked.effect = (goes, walked.timely) in
+    record {
+      effect = walked.effect;
+      goes = subst (λ (l : List Entry). GoesOnTo (design_of code) limits (silent s) l walked.effect) (sym moves_are) both;
+      printed = printed ∙ walked.lines_are;
+      holds = record { ready = subst (λ (k : Compiled). IsReady k next.node) same ready; state_is = state ∙ walked.state_is };
+    }
+
+-- nothing is left out of a walk of one entry or more
+pub walk_is_all : (code : Compiled) (limits : Limits) (s : State) (m : Position) (moves : List Entry) (next : Next Place Entry) (ended : List (Ended Entry End)) → m.code ≡ code → HasWalked limits s m moves → moves ≢ [] → next.moves.items ≡ moves
+    → AreAllWays code limits s (next ∷ []) ended
+walk_is_all code limits s m moves next ended same walked some moves_are =
+    let sole : StandsForAll (design_of code) limits s moves = subst (λ (k : Compiled). StandsForAll (design_of k) limits s moves) same (walked.sole some) in
+    record {
+      cover = λ run e at_e state. subst (λ (l : List Entry). CoverRuns (design_of code) limits run (l ∷ [])) (sym moves_are) (sole.covers run e at_e state);
+      told = λ end here. absurd (sole.goes_on end here);
+    }
 
 -- the one end of a run that rests
 pub rest_sound : (code : Compiled) (limits : Limits) (s : State) (end : End) (xs : List (Ended Entry End)) (one : Ended Entry End) → 0 < limits.max_entries → RestsAt (design_of code) limits s end
@@ -70,20 +94,15 @@ branched_all code other limits s t xs ys same alike all =
     subst (λ (x : State). AreAllWays code limits x xs ys) alike (subst (λ (k : Compiled). AreAllWays k limits t xs ys) same all)
 
 -- what comes of a walk of one entry or more
-abbrev pub IsArrived : Walk → List (Next Place Entry) → Type 0
-IsArrived walk xs =
-    (next : Next Place Entry) × (xs ≡ next ∷ []) × (next.moves.items ≡ walk.moves.items) × (next.printed.items ≡ walk.machine.lines) × IsReady walk.machine.code next.node
-    × (state_at next.node.machine ≡ state_at walk.machine)
-
-pub arrived_next : (code : Compiled) (limits : Limits) (s : State) (walk : Walk) (xs : List (Next Place Entry)) → walk.machine.code ≡ code → HasWalked limits s walk → IsArrived walk xs → All (IsWayOn code limits s) xs
-arrived_next code limits s walk xs same walked (next, is, moves, printed, ready, state) =
+pub arrived_next : (code : Compiled) (limits : Limits) (s : State) (m : Position) (moves : List Entry) (xs : List (Next Place Entry)) → m.code ≡ code → HasWalked limits s m moves → IsArrived m moves xs → All (IsWayOn code limits s) xs
+arrived_next code limits s m moves xs same walked (next, is, moves_are, printed, ready, state) =
     subst (All (IsWayOn code limits s)) (sym is)
-    (All-cons (IsWayOn code limits s) next [] (walk_is_way code limits s walk next same walked moves printed ready state) (All-nil (IsWayOn code limits s)))
+    (All-cons (IsWayOn code limits s) next [] (walk_is_way code limits s m moves next same walked moves_are printed ready state) (All-nil (IsWayOn code limits s)))
 
-pub arrived_all : (code : Compiled) (limits : Limits) (s : State) (walk : Walk) (xs : List (Next Place Entry)) (ys : List (Ended Entry End)) → walk.machine.code ≡ code → HasWalked limits s walk → 0 < length walk.moves.items → IsArrived walk xs → AreAllWays code limits s xs ys
-arrived_all code limits s walk xs ys same walked some (next, is, moves, printed, ready, state) =
+pub arrived_all : (code : Compiled) (limits : Limits) (s : State) (m : Position) (moves : List Entry) (xs : List (Next Place Entry)) (ys : List (Ended Entry End)) → m.code ≡ code → HasWalked limits s m moves → 0 < length moves → IsArrived m moves xs → AreAllWays code limits s xs ys
+arrived_all code limits s m moves xs ys same walked some (next, is, moves_are, printed, ready, state) =
     subst (λ (l : List (Next Place Entry)). AreAllWays code limits s l ys) (sym is)
-    (walk_is_all code limits s walk next ys same walked (some_elements walk.moves.items some) moves)
+    (walk_is_all code limits s m moves next ys same walked (some_elements moves some) moves_are)
 
 -- the end of a run that rests, as what an expansion tells
 abbrev pub IsRested : End → List (Ended Entry End) → Type 0

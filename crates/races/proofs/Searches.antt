@@ -16,15 +16,17 @@ use Rattle.explore.specs.declared.Next.{Next}
 use Rattle.explore.specs.declared.Ended.{Ended}
 use Rattle.explore.specs.declared.Shown.{Shown}
 use Rattle.explore.specs.Search.{IsShown, IsOfRun, IsNext, IsEnded, IsCovered, AreAllShown}
-use Rattle.races.specs.Journals.{ComesOf, text_of, MayEnd, ComeToOneNode, IsLawfulText, AreAllTexts}
-use Rattle.races.specs.Cover.{LeadOn, CoverRuns, FollowMoves}
+use Rattle.walks.specs.Journals.{ComesOf, text_of, MayEnd, ComeToOneNode, IsLawfulText, AreAllTexts}
+use Rattle.walks.specs.Cover.{LeadOn, CoverRuns, FollowMoves}
 use Rattle.races.specs.Runs.{runs_of, AlikeRunsServe, KeyedRunsAreAlike, RunsBeginSilent, ShownIsLawful, AllShownAreAll}
-use Rattle.races.specs.Expanding.{GoesOnTo, StepGoesOn, WaysGoOn, EntriesLeadToNext, EntriesLeadToEnd, ways_to, TellsEnds, CoveringIsCovered, FollowingIsCovered}
-use Rattle.races.proofs.Places.{all_map, any_of_map}
-use Rattle.races.proofs.RunParts.{runs_on}
-use Rattle.races.specs.Serving.{alike_serve, keyed_alike, comes_on, text_is}
-use Rattle.races.proofs.Covering.{followed_moves_cover, ends_are_the_states}
-use Rattle.races.proofs.LawfulTexts.{ends_are_lawful, all_may_end}
+use Rattle.walks.specs.Going.{GoesOnTo}
+use Rattle.races.specs.Expanding.{EntriesLeadToNext, EntriesLeadToEnd, ways_to, TellsEnds, CoveringIsCovered, FollowingIsCovered}
+use Rattle.walks.proofs.Lists.{all_map, any_of_map}
+use Rattle.walks.proofs.RunParts.{runs_on}
+use Rattle.races.specs.Serving.{alike_serve, keyed_alike}
+use Rattle.walks.proofs.Serving.{comes_on, text_is}
+use Rattle.walks.proofs.Covering.{followed_moves_cover, ends_are_the_states}
+use Rattle.walks.proofs.LawfulTexts.{ends_are_lawful, all_may_end}
 
 pub shown_of_run : {Node : Type 0} (Holds : Node → Effect → Type 0) (design : Design) (limits : Limits) (shown : Shown Entry End) → IsOfRun (runs_of Holds design limits) shown → IsLawfulText design limits shown.moves.items shown.text.items shown.end
 shown_of_run Holds design limits shown (ends, text) =
@@ -44,14 +46,6 @@ prints_on : (design : Design) (limits : Limits) (run moves : List Entry) (e g : 
 prints_on design limits run moves e g printed at_e goes lines =
     text_is design (run ++ moves) (joined e g) (goes_on design limits run moves e g at_e goes).0
     ∙ (ap (λ t. t ++ g.lines) (sym (text_is design run e at_e.0)) ∙ ap (λ t. text_of design run ++ t) (sym lines))
-
-pub step_goes_on : StepGoesOn
-step_goes_on design limits e g entry at_g timely =
-    (then_some (λ x. run_from design (joined (silent e.state) x) []) (step design e.state entry) g g at_g refl, All-cons (IsTimely limits) entry [] timely (All-nil (IsTimely limits)))
-
-pub ways_go_on : WaysGoOn
-ways_go_on design limits e f g moves more (goes, timely) (goes', timely') =
-    (run_from-append design (silent e.state) moves more ∙ (ap (option_and_then (λ x. run_from design x more)) goes ∙ runs_on design f g more goes'), All-append (IsTimely limits) moves more timely timely')
 
 pub leads_to_next : {Node : Type 0} (Holds : Node → Effect → Type 0) (design : Design) (limits : Limits) (run : List Entry) (e g : Effect) (next : Next Node Entry) → ComesOf design limits run e → GoesOnTo design limits e next.moves.items g → next.printed.items ≡ g.lines → Holds next.node (joined e g) → IsNext (runs_of Holds design limits) run next
 leads_to_next Holds design limits run e g next at_e goes lines holds =

@@ -27,9 +27,10 @@ use Rattle.explore.specs.declared.Ended.{Ended}
 use Rattle.explore.specs.Grown.{Extends}
 use Rattle.explore.specs.Search.{IsNext, IsEnded, IsCovered}
 use Rattle.explore.proofs.Complete.{Any-extends}
-use Rattle.races.specs.Journals.{ComesOf}
-use Rattle.races.specs.Cover.{FollowMoves}
-use Rattle.races.specs.Expanding.{GoesOnTo, ways_to}
+use Rattle.walks.specs.Journals.{ComesOf}
+use Rattle.walks.specs.Cover.{FollowMoves}
+use Rattle.walks.specs.Going.{GoesOnTo}
+use Rattle.races.specs.Expanding.{ways_to}
 use Rattle.races.specs.Runs.{StandsAt}
 use Rattle.races.specs.Places.{IsReady, Holds, lawful_runs, IsWayOn, IsWayToEnd, IsToldHere, IsFollowedIn, AreWaysFor, AreAllWays}
 use Rattle.races.specs.Following.{IsTurnOf, IsLongTurnOf, TellsLong, IsWayBy, IsAdded}
@@ -38,9 +39,9 @@ use Rattle.races.specs.declared.expand.Way.{Way}
 use Rattle.races.specs.declared.expand.Way.TheVariants.{On, Long, Past}
 use Rattle.seeded.specs.Resting.{GoesOn}
 use Rattle.seeded.proofs.Rests.{only_long_turns_end}
-use Rattle.races.proofs.LongTurns.{step_is_permitted, stuck_is_long_turn, long_turn_is_stuck}
-use Rattle.races.proofs.Covering.{followed_moves_cover, permitted_are_followed}
-use Rattle.races.proofs.Straight.{running}
+use Rattle.walks.proofs.LongTurns.{step_is_permitted, stuck_is_long_turn, long_turn_is_stuck}
+use Rattle.walks.proofs.Covering.{followed_moves_cover, permitted_are_followed}
+use Rattle.walks.proofs.Straight.{running}
 use Rattle.races.proofs.Searches.{leads_to_next, leads_to_end, lead_on, covered_by}
 
 nothing : (o : Option Refusal) → unless_refused o None ≡ None
@@ -213,20 +214,20 @@ nothing_followed code limits s ended none told =
     }
 
 -- the ways from a place, as those of the runs at which it stands
-pub place_next : (code : Compiled) (limits : Limits) (place : Place) (run : List Entry) (successors : List (Next Place Entry)) → StandsAt (Holds code) (design_of code) limits place run → All (IsWayOn place.machine.code limits (state_at place.machine)) successors → All (IsNext (lawful_runs code limits) run) successors
+pub place_next : (code : Compiled) (limits : Limits) (place : Place) (run : List Entry) (successors : List (Next Place Entry)) → StandsAt (Holds code) (design_of code) limits place run → All (IsWayOn place.machine.value.code limits (state_at place.machine.value)) successors → All (IsNext (lawful_runs code limits) run) successors
 place_next code limits place run successors (e, at_e, holds) on =
-    ways_are_next code limits run (state_at place.machine) e successors at_e holds.state_is (subst (λ (k : Compiled). All (IsWayOn k limits (state_at place.machine)) successors) holds.ready.code_is on)
+    ways_are_next code limits run (state_at place.machine.value) e successors at_e holds.state_is (subst (λ (k : Compiled). All (IsWayOn k limits (state_at place.machine.value)) successors) holds.ready.code_is on)
 
-pub place_ended : (code : Compiled) (limits : Limits) (place : Place) (run : List Entry) (ended : List (Ended Entry End)) → StandsAt (Holds code) (design_of code) limits place run → All (IsWayToEnd place.machine.code limits (state_at place.machine)) ended → All (IsEnded (lawful_runs code limits) run) ended
+pub place_ended : (code : Compiled) (limits : Limits) (place : Place) (run : List Entry) (ended : List (Ended Entry End)) → StandsAt (Holds code) (design_of code) limits place run → All (IsWayToEnd place.machine.value.code limits (state_at place.machine.value)) ended → All (IsEnded (lawful_runs code limits) run) ended
 place_ended code limits place run ended (e, at_e, holds) to =
-    ways_are_ended code limits run (state_at place.machine) e ended at_e holds.state_is (subst (λ (k : Compiled). All (IsWayToEnd k limits (state_at place.machine)) ended) holds.ready.code_is to)
+    ways_are_ended code limits run (state_at place.machine.value) e ended at_e holds.state_is (subst (λ (k : Compiled). All (IsWayToEnd k limits (state_at place.machine.value)) ended) holds.ready.code_is to)
 
-pub place_covered : (code : Compiled) (limits : Limits) (place : Place) (run : List Entry) (successors : List (Next Place Entry)) (ended : List (Ended Entry End)) → StandsAt (Holds code) (design_of code) limits place run → AreAllWays place.machine.code limits (state_at place.machine) successors ended → IsCovered (lawful_runs code limits) successors ended run
+pub place_covered : (code : Compiled) (limits : Limits) (place : Place) (run : List Entry) (successors : List (Next Place Entry)) (ended : List (Ended Entry End)) → StandsAt (Holds code) (design_of code) limits place run → AreAllWays place.machine.value.code limits (state_at place.machine.value) successors ended → IsCovered (lawful_runs code limits) successors ended run
 place_covered code limits place run successors ended (e, at_e, holds) all =
-    ways_are_covered code limits run (state_at place.machine) e successors ended at_e holds.state_is (subst (λ (k : Compiled). AreAllWays k limits (state_at place.machine) successors ended) holds.ready.code_is all)
+    ways_are_covered code limits run (state_at place.machine.value) e successors ended at_e holds.state_is (subst (λ (k : Compiled). AreAllWays k limits (state_at place.machine.value) successors ended) holds.ready.code_is all)
 
 -- the place of a machine that took no entry stands at the journal of none
-pub place_at_start : (code : Compiled) (limits : Limits) (place : Place) (m : Position) → place.machine ≡ m → m.code ≡ code → m.core.controls ≡ controls_of m.code → m.lines ≡ [] → state_at m ≡ start (design_of code) → IsKey m.core m.values place.key.items → StandsAt (Holds code) (design_of code) limits place []
+pub place_at_start : (code : Compiled) (limits : Limits) (place : Place) (m : Position) → place.machine.value ≡ m → m.code ≡ code → m.core.controls ≡ controls_of m.code → m.lines ≡ [] → state_at m ≡ start (design_of code) → IsKey m.core m.values place.key.items → StandsAt (Holds code) (design_of code) limits place []
 place_at_start code limits place m same code_is controls silent_is state keyed =
     let ready : IsReady code place =
     record {
@@ -239,7 +240,7 @@ place_at_start code limits place m same code_is controls silent_is state keyed =
 
 -- what a machine's copy came to by an entry that it took, as a way from where the machine stands
 pub taken_is_way : (limits : Limits) (m copy new : Position) (entry : Entry) (next : Next Place Entry) → copy ≡ m → m.lines ≡ [] → IsTimely limits entry → new.code ≡ copy.code
-    → IsTaken copy.code (state_at copy) copy.lines entry (state_at new) new.lines → next.moves.items ≡ entry ∷ [] → next.printed.items ≡ new.lines → IsReady new.code next.node → state_at next.node.machine ≡ state_at new
+    → IsTaken copy.code (state_at copy) copy.lines entry (state_at new) new.lines → next.moves.items ≡ entry ∷ [] → next.printed.items ≡ new.lines → IsReady new.code next.node → state_at next.node.machine.value ≡ state_at new
     → IsWayOn m.code limits (state_at m) next × (next.moves.items ≡ entry ∷ [])
 taken_is_way limits m copy new entry next same none timely code taken moves printed ready state =
     let at : step (design_of m.code) (state_at m) entry ≡ Some taken.effect = subst (λ (p : Position). step (design_of p.code) (state_at p) entry ≡ Some taken.effect) same taken.is_step in

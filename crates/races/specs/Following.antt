@@ -11,7 +11,8 @@ use Rattle.model.specs.Runs.{action_in, turn_of, IsTimely}
 use Rattle.design.specs.Compiled.{Compiled, design_of}
 use Rattle.explore.specs.declared.Next.{Next}
 use Rattle.explore.specs.declared.Ended.{Ended}
-use Rattle.races.specs.Places.{IsWayOn, IsWayToEnd}
+use Rattle.regions.specs.Machine.{Position, state_at}
+use Rattle.races.specs.Places.{IsReady, IsWayOn, IsWayToEnd}
 use Rattle.races.specs.declared.place.Place.{Place}
 use Rattle.races.specs.declared.expand.Way.{Way}
 use Rattle.races.specs.declared.expand.Way.TheVariants.{On, Long, Past}
@@ -48,3 +49,8 @@ abbrev pub IsAdded : Way → List (Next Place Entry) → List (Ended Entry End) 
 IsAdded (On next) successors ended more all = (more ≡ successors ++ next ∷ []) × (all ≡ ended)
 IsAdded (Long end) successors ended more all = (more ≡ successors) × (all ≡ ended ++ end ∷ [])
 IsAdded Past successors ended more all = (more ≡ successors) × (all ≡ ended)
+
+-- There is one successor, at the place of a machine, with the lines that are left in it, by these entries.
+abbrev pub IsArrived : Position → List Entry → List (Next Place Entry) → Type 0
+IsArrived m moves xs =
+    (next : Next Place Entry) × (xs ≡ next ∷ []) × (next.moves.items ≡ moves) × (next.printed.items ≡ m.lines) × IsReady m.code next.node × (state_at next.node.machine.value ≡ state_at m)

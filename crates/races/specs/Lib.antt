@@ -1,11 +1,5 @@
-pub mod Journals
-pub mod Cover
-pub mod FlatWays
 pub mod Runs
 pub mod Expanding
 pub mod Places
 pub mod Following
 pub mod Serving
-pub mod OnlyWay
-pub mod Sole
-pub mod Walking

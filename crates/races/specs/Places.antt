@@ -18,9 +18,10 @@ use Rattle.orders.specs.Search.{EndsHere}
 use Rattle.explore.specs.declared.Next.{Next}
 use Rattle.explore.specs.declared.Ended.{Ended}
 use Rattle.explore.specs.Runs.{Runs}
-use Rattle.races.specs.Journals.{ComesOf}
-use Rattle.races.specs.Cover.{CoverRuns}
-use Rattle.races.specs.Expanding.{GoesOnTo, ways_to}
+use Rattle.walks.specs.Journals.{ComesOf}
+use Rattle.walks.specs.Cover.{CoverRuns}
+use Rattle.walks.specs.Going.{GoesOnTo}
+use Rattle.races.specs.Expanding.{ways_to}
 use Rattle.races.specs.Runs.{runs_of}
 use Rattle.races.specs.declared.place.Place.{Place}
 
@@ -31,15 +32,15 @@ pub record AreBounded (limits : Limits) : Type 0 where
 
 -- A place is ready: its machine is one of this design, with no lines left in it, and its key is one of the machine's state.
 pub record IsReady (code : Compiled) (place : Place) : Type 0 where
-  pub code_is : place.machine.code ≡ code
-  pub controls : place.machine.core.controls ≡ controls_of code
-  pub silent : place.machine.lines ≡ []
-  pub keyed : IsKey place.machine.core place.machine.values place.key.items
+  pub code_is : place.machine.value.code ≡ code
+  pub controls : place.machine.value.core.controls ≡ controls_of code
+  pub silent : place.machine.value.lines ≡ []
+  pub keyed : IsKey place.machine.value.core place.machine.value.values place.key.items
 
 -- A place holds what comes of a journal: it is ready, and its machine stands where the journal leads.
 pub record Holds (code : Compiled) (place : Place) (e : Effect) : Type 0 where
   pub ready : IsReady code place
-  pub state_is : state_at place.machine ≡ e.state
+  pub state_is : state_at place.machine.value ≡ e.state
 
 -- the runs of a design, at which places stand
 abbrev pub lawful_runs : Compiled → Limits → Runs Entry Place End

@@ -10,7 +10,7 @@ use Rattle.orders.specs.Search.{IsOneNode}
 use Rattle.explore.specs.declared.Shown.{Shown}
 use Rattle.explore.specs.Runs.{Runs}
 use Rattle.explore.specs.Search.{IsShown, IsOfRun, Serves, AreAllShown}
-use Rattle.races.specs.Journals.{ComesOf, MayEnd, text_of, ComeToOneNode, IsLawfulText, AreAllTexts}
+use Rattle.walks.specs.Journals.{ComesOf, MayEnd, text_of, ComeToOneNode, IsLawfulText, AreAllTexts}
 
 -- a node stands at a journal if it holds what comes of it
 abbrev pub StandsAt : {Node : Type 0} → (Node → Effect → Type 0) → Design → Limits → Node → List Entry → Type 0

@@ -10,18 +10,18 @@ ghost use Rattle.races.specs.declared.place.Place.{Place};
 ghost use Rattle.seeded.specs.Resting.{GoesOn};
 ghost use Rattle.design.specs.Compiled.{design_of};
 ghost use Rattle.regions.specs.Machine.{most_entries, state_at};
-ghost use Rattle.races.specs.Following.{IsAdded, IsTurnOf, IsWayBy, TellsLong};
+ghost use Rattle.races.specs.Following.{IsAdded, IsArrived, IsTurnOf, IsWayBy, TellsLong};
 ghost use Rattle.races.specs.Places.{AreAllWays, AreBounded, AreWaysFor, IsReady, IsWayOn, IsWayToEnd};
 
 use crate::place::{Place, place_of};
-use crate::walk::{Walk, tell_long, walk_on};
-use design::Design;
 use explore::{Ended, Expanded, Next};
 use model::end::{End, Limits, Why};
 use model::entry::Entry;
 use regions::Machine;
 use seeded::resting::{end_at, is_timely};
+use settling::Networked;
 use std::alloc::{AllocError, Global};
+use walks::{copy_of, tell_long, walk_on};
 
 /// What one entry leads to.
 #[derive(Drop)]
@@ -44,13 +44,13 @@ pub(crate) struct Ways<'d> {
 // The place of a machine that took these entries, with the lines that they printed.
 fn next_of<'d>(
     alloc: Global,
-    machine: Machine<'d>,
+    machine: Box<Machine<'d>>,
     moves: Vec<Entry>,
 ) -> Result<Next<Place<'d>, Entry>, AllocError>
     ensures moves { IfOk result (λ next. next.moves ≡ moves) }
-    ensures printed { IfOk result (λ next. next.printed.items ≡ machine.entry.lines) }
-    ensures ready { IfOk result (λ next. IsReady machine.entry.code next.node) }
-    ensures state { IfOk result (λ next. state_at next.node.machine ≡ state_at machine.entry) }
+    ensures printed { IfOk result (λ next. next.printed.items ≡ machine.entry.value.lines) }
+    ensures ready { IfOk result (λ next. IsReady machine.entry.value.code next.node) }
+    ensures state { IfOk result (λ next. state_at next.node.machine.value ≡ state_at machine.entry.value) }
 {
     let mut machine = machine;
     let printed = machine.take_lines().into_bytes();
@@ -117,7 +117,7 @@ fn way_by<'d>(
     if !is_timely(limits, entry) {
         return Ok(Way::Past);
     }
-    let mut copy = machine.copy(alloc)?;
+    let mut copy = copy_of(alloc, machine)?;
     match copy.take(entry) {
         Ok(()) => Ok(Way::On(next_of(alloc, copy, one(alloc, entry)?)?)),
         Err(fault) => {
@@ -211,11 +211,14 @@ fn branch<'d>(
 }
 
 // Goes on by one place, to which the only way leads.
-fn arrive<'d>(alloc: Global, walk: Walk<'d>) -> Result<Expanded<Place<'d>, Entry, End>, AllocError>
-    ensures one { IfOk result (λ x. (next : Next Place Entry) × (x.successors.items ≡ next ∷ []) × (next.moves.items ≡ walk.entry.moves.items) × (next.printed.items ≡ walk.entry.machine.lines) × IsReady walk.entry.machine.code next.node × (state_at next.node.machine ≡ state_at walk.entry.machine)) }
+fn arrive<'d>(
+    alloc: Global,
+    machine: Box<Machine<'d>>,
+    moves: Vec<Entry>,
+) -> Result<Expanded<Place<'d>, Entry, End>, AllocError>
+    ensures one { IfOk result (λ x. IsArrived machine.entry.value moves.items x.successors.items) }
     ensures none { IfOk result (λ x. x.ended.items ≡ []) }
 {
-    let Walk { machine, moves } = walk;
     let next = next_of(alloc, machine, moves)?;
     let mut successors = Vec::new(alloc);
     successors.push(next)?;
@@ -230,25 +233,26 @@ fn arrive<'d>(alloc: Global, walk: Walk<'d>) -> Result<Expanded<Place<'d>, Entry
 /// hundred steps. Ways are left out where the journal has as many entries as it may have, and a run goes on from there.
 pub(crate) fn expand<'d>(
     alloc: Global,
-    design: &Design,
+    networked: &Networked<'_>,
     limits: Limits,
-    machine: Machine<'d>,
+    machine: Box<Machine<'d>>,
 ) -> Result<Expanded<Place<'d>, Entry, End>, AllocError>
-    requires code { machine.code ≡ design.now }
-    requires silent { machine.lines ≡ [] }
+    requires code { machine.value.code ≡ networked.now }
+    requires silent { machine.value.lines ≡ [] }
     requires bounded { AreBounded limits }
-    ensures next { IfOk result (λ x. All (IsWayOn machine.entry.code limits (state_at machine.entry)) x.successors.items) }
-    ensures sound { IfOk result (λ x. All (IsWayToEnd machine.entry.code limits (state_at machine.entry)) x.ended.items) }
-    ensures all { IfOk result (λ x. IsTrue x.whole → AreAllWays machine.entry.code limits (state_at machine.entry) x.successors.items x.ended.items) }
+    ensures next { IfOk result (λ x. All (IsWayOn machine.entry.value.code limits (state_at machine.entry.value)) x.successors.items) }
+    ensures sound { IfOk result (λ x. All (IsWayToEnd machine.entry.value.code limits (state_at machine.entry.value)) x.ended.items) }
+    ensures all { IfOk result (λ x. IsTrue x.whole → AreAllWays machine.entry.value.code limits (state_at machine.entry.value) x.successors.items x.ended.items) }
 {
     match end_at(limits, &machine) {
         Some(end) => return rests(alloc, end),
         None => {}
     }
-    let walk = walk_on(alloc, design, limits, machine)?;
-    if walk.moves.is_empty() {
-        branch(alloc, limits, &walk.machine)
+    let mut machine = machine;
+    let moves = walk_on(alloc, networked, limits, &mut machine)?;
+    if moves.is_empty() {
+        branch(alloc, limits, &machine)
     } else {
-        arrive(alloc, walk)
+        arrive(alloc, machine, moves)
     }
 }

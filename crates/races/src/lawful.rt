@@ -1,10 +1,12 @@
 //! The lawful orders of a design, as a search follows them.
-ghost use Rattle.std.specs.Prelude.{◌<◌, ◌≤◌, IfSome, IsTrue};
+ghost use Rattle.std.specs.Prelude.{◌≡◌, ◌<◌, ◌≤◌, [], IfOk, IfSome, IsTrue};
 ghost use Rattle.std.specs.List.{All, AllPairs};
+ghost use Rattle.model.specs.States.{start};
 ghost use Rattle.model.specs.Runs.{last_time};
+ghost use Rattle.regions.specs.Machine.{state_at};
 ghost use Rattle.design.specs.Compiled.{design_of};
 ghost use Rattle.explore.specs.Search.{AreDistinct, IsShown};
-ghost use Rattle.races.specs.Journals.{AreAllTexts, IsLawfulText};
+ghost use Rattle.walks.specs.Journals.{AreAllTexts, IsLawfulText};
 ghost use Rattle.races.specs.Places.{AreBounded};
 
 use crate::expand::expand;
@@ -14,12 +16,24 @@ use explore::{Bounds, Expanded, Explored, Orders, explore};
 use model::end::{End, Limits};
 use model::entry::Entry;
 use regions::Machine;
+use settling::Networked;
 use std::alloc::{AllocError, Global};
+
+// The start of a design's run, on the heap.
+fn start_of<'d>(alloc: Global, design: &'d Design) -> Result<Box<Machine<'d>>, AllocError>
+    ensures code { IfOk result (λ machine. machine.value.code ≡ design.now) }
+    ensures state { IfOk result (λ machine. state_at machine.value ≡ start (design_of design.now)) }
+    ensures lines { IfOk result (λ machine. machine.value.lines ≡ []) }
+{
+    let machine = Machine::start(alloc, design)?;
+    let boxed = Box::new(alloc, machine)?;
+    Ok(boxed)
+}
 
 // The lawful journals of a design in time.
 #[derive(Drop)]
 struct Lawful<'d> {
-    design: &'d Design,
+    networked: Networked<'d>,
     limits: Limits,
     ghost bounded: { AreBounded limits },
 }
@@ -35,12 +49,12 @@ impl<'d> Orders for Lawful<'d> {
 
     type End = End;
 
-    ghost runs = { λ o. lawful_runs o.design.now o.limits };
+    ghost runs = { λ o. lawful_runs o.networked o.limits };
 
     ghost key_of = { λ _ place. place.key.items };
 
     fn start(&self, alloc: Global) -> Result<Place<'d>, AllocError> {
-        let machine = Machine::start(alloc, self.design)?;
+        let machine = start_of(alloc, self.networked.design())?;
         machine.stands();
         place_of(alloc, machine)
     }
@@ -50,7 +64,7 @@ impl<'d> Orders for Lawful<'d> {
         alloc: Global,
         node: Place<'d>,
     ) -> Result<Expanded<Place<'d>, Entry, End>, AllocError> {
-        let expanded = expand(alloc, self.design, self.limits, node.machine)?;
+        let expanded = expand(alloc, &self.networked, self.limits, node.machine)?;
         Ok(expanded)
     }
 
@@ -66,9 +80,9 @@ impl<'d> Orders for Lawful<'d> {
 
     ghost silent = { λ _. refl };
 
-    ghost alike = { λ o i j a. lawful_alike o.design.now o.limits i j a };
+    ghost alike = { λ o i j a. lawful_alike o.networked o.limits i j a };
 
-    ghost keyed = { λ o a b i j e at bt text. lawful_keyed o.design.now o.limits a b i j e at bt text };
+    ghost keyed = { λ o a b i j e at bt text. lawful_keyed o.networked o.limits a b i j e at bt text };
 }
 
 /// Searches all lawful orders of a design within these limits (11.4), on one thread. Each text that is shown is that of the lawful
@@ -88,5 +102,6 @@ pub fn lawful_orders(
     ensures all { IsTrue result.covered → AreAllTexts (design_of design.now) limits (IsShown result.shown.items) }
     ensures few { result.nodes ≤ bounds.nodes }
 {
-    explore(alloc, &Lawful { design, limits }, bounds)
+    let networked = Networked::of(alloc, design);
+    explore(alloc, &Lawful { networked, limits }, bounds)
 }

@@ -2,20 +2,19 @@
 //!
 //! 1. A `Place` is where a journal has come to: the machine that took its entries, and the key of its state.
 //! 2. `expand` follows each entry that the rules permit from a place, and tells the ends that a run may have there. Where one
-//!    order stands for all, since the rules leave no choice or the state is flat, `walk` goes on by it.
+//!    order stands for all, `walk_on` of `walks` goes on by it.
 //! 3. `lawful_orders` gives that to the search of `explore`. What it shows are texts and ends of lawful journals, and where it
 //!    answers that all is covered, those of every lawful journal in time.
 //!
 //! The definitions stand in `specs/`: what the runs of a design are to a search, and what it says of the lawful journals that a
-//! search has shown texts and ends, and all of them. `laws` carries what is proved of them besides.
+//! search has shown texts and ends, and all of them. What those journals are stands in `walks`. `laws` carries what is proved of them
+//! besides.
 #![tactic(auto)]
 
 mod expand;
 mod lawful;
 pub mod laws;
 mod place;
-mod settle;
-mod walk;
 
 pub use lawful::lawful_orders;
 pub use place::Place;

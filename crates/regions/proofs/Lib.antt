@@ -28,3 +28,4 @@ pub mod Told
 pub mod Begun
 pub mod Untaken
 pub mod Permitted
+pub mod Crossing

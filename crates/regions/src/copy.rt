@@ -2,9 +2,9 @@
 ghost use Rattle.std.specs.Prelude.{◌≡◌, IfOk};
 
 use crate::queue::Queue;
-use design::Control;
 use std::alloc::{AllocError, Global};
 use std::collections::VecDeque;
+use std::sync::Arc;
 
 // The same elements, with room for so many more.
 fn copy_deque<T: Copy>(
@@ -21,17 +21,6 @@ fn copy_deque<T: Copy>(
     Ok(VecDeque::from(copy))
 }
 
-// The same event controls.
-fn copy_controls(alloc: Global, controls: &[Control]) -> Result<Vec<Control>, AllocError>
-    ensures { IfOk result (λ copy. copy.items ≡ controls.now) }
-{
-    let mut copy = Vec::new(alloc);
-    for control in controls {
-        copy.push(Control::new(Vec::from_slice(alloc, control.triggers())?))?;
-    }
-    Ok(copy)
-}
-
 impl Queue {
     ghost use Rattle.regions.specs.Copies.{IsCopy};
 
@@ -44,8 +33,7 @@ impl Queue {
             entries: self.entries,
             next_event: self.next_event,
             finished: self.finished,
-            widths: Vec::from_slice(alloc, &self.widths)?,
-            controls: copy_controls(alloc, &self.controls)?,
+            shared: Arc::try_clone(&self.shared)?,
             processes: Vec::from_slice(alloc, &self.processes)?,
             waiters: Vec::from_slice(alloc, &self.waiters)?,
             updates: copy_deque(alloc, &self.updates, 0)?,

@@ -1,2 +1,3 @@
 -- What a run leaves.
+pub mod Placed
 pub mod Outcomes

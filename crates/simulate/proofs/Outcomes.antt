@@ -22,19 +22,21 @@ use Rattle.gateparts.specs.declared.log.Item.TheVariants.{Did, Ended}
 use Rattle.commitgate.specs.Named.{Named}
 use Rattle.gateparts.specs.Log.{Log, entries_of, end_in, IsEndLast}
 use Rattle.commitgate.specs.Seats.{SeatView, new_seat}
+use Rattle.commitgate.specs.Tickets.{TicketView, IsFirstTickets}
 use Rattle.commitgate.specs.Journals.{IsLog}
 use Rattle.commitgate.specs.Closing.{ClosedView, EndsOrRuns, IsEndIn, IsClosedWith, AreAllSeats, times}
 use Rattle.eventpool.specs.Ends.{Owning, Stealing, owner_card}
-use Rattle.eventpool.specs.Pools.{Counts, cards_of, IsPool}
+use Rattle.eventpool.specs.Pools.{Counts, cards_of, IsPool, IsUnused}
 use Rattle.eventpool.proofs.Cards.{pool_kept}
 use Rattle.workers.specs.declared.worker.Worker.{Worker}
 use Rattle.workers.specs.Counting.{turns_in, turns_at}
-use Rattle.workers.specs.Working.{IsOver, IsCounted, HasPositions, turns_of, AreDone, AreBegun, IsFixed}
+use Rattle.workers.specs.Working.{IsOver, IsCounted, HasPositions, turns_of, AreDone, AreBegun, IsFixed, ArePlaced}
 use Rattle.model.specs.declared.end.Limits.{Limits}
 use Rattle.simulate.specs.Outcomes.{IsOutcome}
 use Rattle.workers.proofs.Counting.{turns_add_up}
 use Rattle.workers.proofs.Rows.{sum_cons}
 use Rattle.workers.proofs.Seats.{turns_begin, entries_begin}
+use Rattle.simulate.proofs.Placed.{placed_at, placed_few}
 
 -- an end is the last
 end_last : (seen more : Log) → IsEndLast (seen ++ more) → IsSome (end_in seen) → more ≡ []
@@ -204,22 +206,28 @@ module _ {A : Type 0} where
         new_counted code ks ws rest z.1,
       )
 
-  pub begun : (n : Named) (ws : List (Worker A)) (seats : List SeatView) (owners owners' : List (Owning _)) (rows : List (Vec (Stealing _)))
-      → seats ≡ map (new_seat n.code) (range_with_len 0 n.workers) → IsPool owners rows → IsFixed owners owners'
+  pub begun : (n : Named) (ws : List (Worker A)) (seats : List SeatView) (owners owners' : List (Owning TicketView)) (rows : List (Vec (Stealing TicketView))) (tickets : List TicketView)
+      → seats ≡ map (new_seat n.code) (range_with_len 0 n.workers) → IsFirstTickets n.code tickets → IsPool owners rows → IsUnused owners rows → IsFixed owners owners' → ArePlaced owners tickets owners'
       → map (λ w. w.seat) ws ≡ seats → map (λ w. w.owner) ws ≡ owners' → map (λ w. w.row) ws ≡ rows → AllByRecursion (λ w. w.evaluations ≡ 0) ws → AreBegun n ws
-  begun n ws seats owners owners' rows new pool fixed s o r none = record {
+  begun n ws seats owners owners' rows tickets new are_first pool unused fixed placed s o r none = record {
     seats = s ∙ new;
     pool = subst (λ (p : List (Owning _) × List (Vec (Stealing _))). IsPool p.0 p.1) (λ i. (sym o i, sym r i)) (pool_kept owners owners' rows rows fixed.0 refl pool);
     count = sym (length-map ws (λ (w : Worker A). w.seat)) ∙ ap length (s ∙ new) ∙ length-map (range_with_len 0 n.workers) (new_seat n.code) ∙ length-range_with_len 0 n.workers;
     counted = new_counted n.code (range_with_len 0 n.workers) ws (s ∙ new) none;
+    first = tickets;
+    are_first = are_first;
+    placed = (let count : length owners' ≡ length owners = sym (length-map owners' owner_card) ∙ ap length fixed.0 ∙ length-map owners owner_card in
+        let many : length owners' ≡ n.workers = ap length (sym o) ∙ length-map ws (λ (w : Worker A). w.owner) ∙ sym (length-map ws (λ (w : Worker A). w.seat)) ∙ ap length (s ∙ new)
+        ∙ length-map (range_with_len 0 n.workers) (new_seat n.code) ∙ length-range_with_len 0 n.workers in
+        placed_at n.workers ws owners owners' rows tickets o (omega (arith, count, many)) count unused placed);
   }
 
   pub outcome : (n : Named) (first left : List (Worker A)) (seats : List SeatView) (owners : List (Owning _)) (rows : List (Vec (Stealing _))) (closed : ClosedView) (tally : Counts) (evaluations : List ℕ)
       → AreBegun n first → AreDone n first left → 1 ≤ n.workers → n.limits.max_entries < 2 ^ 32
       → seats ≡ map (λ w. w.seat) left → owners ≡ map (λ w. w.owner) left → rows ≡ map (λ w. w.row) left → evaluations ≡ map (λ w. w.evaluations) left
-      → IsClosedWith n seats closed → tally.takes ≡ sum_by (λ o. length o.taken) owners → tally.steals ≡ sum_by (λ row. sum_by (λ t. length t.stolen) row.items) rows
+      → IsClosedWith n seats closed → tally.puts ≡ sum_by (λ o. length o.put) owners → tally.takes ≡ sum_by (λ o. length o.taken) owners → tally.steals ≡ sum_by (λ row. sum_by (λ t. length t.stolen) row.items) rows
       → IsOutcome n.code n.limits n.workers closed tally evaluations
-  outcome n first left seats owners rows closed tally evaluations b h some few s o r e c takes steals =
+  outcome n first left seats owners rows closed tally evaluations b h some few s o r e c puts takes steals =
       let long : length left ≡ n.workers = done_length n first left h ∙ b.count in
       let counted : AllByRecursion Counted left = done_counted n first left b.counted h in
       let extends : All (λ v. IsPrefix v.seen c.log) (map (λ (w : Worker A). w.seat) left) = subst (λ (l : List SeatView). All (λ v. IsPrefix v.seen c.log) l) s c.extends in
@@ -235,6 +243,7 @@ module _ {A : Type 0} where
       let most : turns_in closed.entries ≤ length closed.entries = few_turns closed.entries in
       let room : length closed.entries ≤ n.limits.max_entries = (let f = c.is_log.few in let l = ap length c.entries in omega (arith, f, l)) in
       let taken : tally.takes ≡ sum_by (λ (w : Worker A). length w.owner.taken) left = takes ∙ ap (sum_by (λ (q : Owning _). length q.taken)) o ∙ sum_map (λ (q : Owning _). length q.taken) (λ (w : Worker A). w.owner) left in
+      let put : tally.puts ≡ sum_by (λ (w : Worker A). length w.owner.put) left = puts ∙ ap (sum_by (λ (q : Owning _). length q.put)) o ∙ sum_map (λ (q : Owning _). length q.put) (λ (w : Worker A). w.owner) left in
       let stolen : tally.steals ≡ sum_by (λ (w : Worker A). sum_by (λ t. length t.stolen) w.row.items) left =
       (steals ∙ ap (sum_by (λ (v : Vec (Stealing _)). sum_by (λ (t : Stealing _). length t.stolen) v.items)) r ∙ sum_map (λ (v : Vec (Stealing _)). sum_by (λ (t : Stealing _). length t.stolen) v.items) (λ (w : Worker A). w.row) left) in
       record {
@@ -251,6 +260,7 @@ module _ {A : Type 0} where
             (λ (x : 2 ^ 64 - 1 ≤ sum_by (λ (w : Worker A). w.evaluations) left). omega (arith, x, most, room, few, total))
             (turns_few c.log left counted extends);
         tickets = let f = few_evaluations left counted in omega (arith, f, total, taken, stolen);
+        placed = let p = placed_few n first left b h some in omega (arith, p, put);
       }
 
 pub outcome_at : (code code' : Compiled) (limits limits' : Limits) (workers workers' : ℕ) (closed : ClosedView) (tally : Counts) (evaluations : List ℕ)

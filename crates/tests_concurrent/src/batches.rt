@@ -4,10 +4,12 @@ ghost use Rattle.std.specs.Prelude.{◌≡◌, length};
 ghost use Rattle.commitgate.specs.Batches.{AreOffered};
 
 use crate::alone::{Alone, play_alone};
-use crate::course::{Course, accepted, stale};
-use crate::examples::{COPY, assert_journal, read_unknown, seen_of};
+use crate::claims::{fail, holds};
+use crate::course::{Course, accepted, assert_closed, assert_journal, assert_turn, stale};
+use crate::examples::COPY;
 use crate::refused::granted;
-use commitgate::{Grant, Naming, Reply, Seat, Ticket};
+use crate::steps::{assert_read, assert_sees};
+use commitgate::{Closed, Naming, Reply, Seat, Ticket};
 use hoard::{Hoard, LARGEST_PIECE};
 use model::end::End;
 use model::entry::Entry;
@@ -62,7 +64,7 @@ impl<K: Naming> Batch<K> {
         ensures offered { AreOffered K.named.code seat.new.fresh self.new.tickets.items self.new.logs.items }
     {
         let rt = course.rt;
-        assert!(rt; ticket.tries() < 3, "refused three times");
+        holds(rt, ticket.tries() < 3, "refused three times");
         let log = course.evaluate(seat, &ticket);
         self.tickets
             .push_back(ticket)
@@ -105,7 +107,11 @@ fn commit<K: Naming, R: Wait + Abort>(
 {
     let rt = course.rt;
     let Batch { tickets, logs } = batch;
-    assert!(rt; tickets.len() <= replies.capacity(), "room for the answers");
+    holds(
+        rt,
+        tickets.len() <= replies.capacity(),
+        "room for the answers",
+    );
     course
         .gate
         .commit_all(rt, course.alloc, seat, tickets, logs, replies);
@@ -121,7 +127,11 @@ fn committed<K: Naming, R: Wait + Abort>(
 {
     let mut replies = room(course.rt, course.alloc);
     commit(course, seat, batch, &mut replies);
-    assert!(course.rt; batch.tickets.is_empty(), "a ticket without an answer");
+    holds(
+        course.rt,
+        batch.tickets.is_empty(),
+        "a ticket without an answer",
+    );
     replies
 }
 
@@ -130,20 +140,12 @@ fn next<K: Naming>(rt: &impl Abort, replies: &mut VecDeque<Reply<K>>) -> Reply<K
     replies.pop_front().expect(rt, "an answer")
 }
 
-// The turn of this event stands at the position of the event's number, and made nothing active.
-fn assert_turn<K: Naming>(rt: &impl Abort, grant: Grant<K>, event: u64) {
-    assert!(rt;
-        grant.position == event && grant.entry == Entry::Turn(event) && grant.tickets.is_empty(),
-        "another entry"
-    );
-}
-
 // The answers are that the turns of these events were accepted, in this order.
 fn assert_turns<K: Naming>(rt: &impl Abort, mut replies: VecDeque<Reply<K>>, events: Range<u64>) {
     for event in events {
-        assert_turn(rt, accepted(rt, next(rt, &mut replies)), event);
+        assert_turn(rt, &accepted(rt, next(rt, &mut replies)), event);
     }
-    assert!(rt; replies.is_empty(), "another answer");
+    holds(rt, replies.is_empty(), "another answer");
 }
 
 // The turns of these tickets, which are those of these events, are accepted at once.
@@ -159,14 +161,13 @@ fn accept_all<K: Naming, R: Wait + Abort>(
 
 // The last turn of a batch read a register when it was all x.
 fn assert_read_unknown(rt: &impl Abort, logs: &[TurnLog]) {
-    let log = logs.last().expect(rt, "a log");
-    assert!(rt; read_unknown(log), "a value that isn't x");
+    assert_read(rt, logs.last().expect(rt, "a log"), &[(0, 0, None)]);
 }
 
 // The first of two turns is accepted, and the second is stale, since it read what the first one changed.
 fn one_behind<K: Naming>(rt: &impl Abort, mut replies: VecDeque<Reply<K>>) -> Ticket<K> {
-    assert!(rt; replies.len() == 2, "another number of answers");
-    assert_turn(rt, accepted(rt, next(rt, &mut replies)), 0);
+    holds(rt, replies.len() == 2, "another number of answers");
+    assert_turn(rt, &accepted(rt, next(rt, &mut replies)), 0);
     stale(rt, next(rt, &mut replies), 1)
 }
 
@@ -199,7 +200,7 @@ impl Alone for Both {
     ) {
         let late = take_both(course, seat, tickets);
         accept_all(course, seat, only(course.rt, course.alloc, late), 1..2);
-        course.read_as(seat, 1, &seen_of(1, 1, 1));
+        assert_sees(course, seat, &[(1, 1, Some(1))]);
     }
 }
 
@@ -231,9 +232,9 @@ fn commit_in<K: Naming, R: Wait + Abort>(
     requires { AreOffered K.named.code seat.old.fresh batch.old.tickets.items batch.old.logs.items }
 {
     hoard.shut();
-    assert!(course.rt; hoard.leave(bytes), "a piece of memory");
+    holds(course.rt, hoard.leave(bytes), "a piece of memory");
     commit(course, seat, batch, replies);
-    assert!(course.rt; hoard.open(), "a piece of memory");
+    holds(course.rt, hoard.open(), "a piece of memory");
 }
 
 // How many turns were accepted, at the positions from 0 on. Where memory was refused for the next one, its ticket comes back
@@ -245,7 +246,7 @@ fn settle<K: Naming>(
 ) -> u64 {
     for event in 0..TURNS {
         match granted(rt, next(rt, replies), event) {
-            Ok(grant) => assert_turn(rt, grant, event),
+            Ok(grant) => assert_turn(rt, &grant, event),
             Err(back) => {
                 tickets.push_front(back).expect(rt, "room for a ticket");
                 return event;
@@ -258,12 +259,14 @@ fn settle<K: Naming>(
 // These are the tickets of all events from this one on, in order, and none has a try yet.
 fn assert_waiting<K: Naming>(rt: &impl Abort, tickets: &VecDeque<Ticket<K>>, first: u64) {
     let count = TURNS.saturating_sub(first);
-    assert!(rt; tickets.len() as u64 == count, "another number of tickets");
+    holds(
+        rt,
+        tickets.len() as u64 == count,
+        "another number of tickets",
+    );
     for (event, ticket) in (first..TURNS).zip(tickets) {
-        assert!(rt;
-            ticket.event() == event && ticket.tries() == 0,
-            "another ticket"
-        );
+        holds(rt, ticket.event() == event, "another ticket");
+        holds(rt, ticket.tries() == 0, "another try");
     }
 }
 
@@ -281,7 +284,11 @@ fn commit_starved<K: Naming, R: Wait + Abort>(
     let mut replies = room(rt, course.alloc);
     commit_in(course, seat, batch, &mut replies, hoard, bytes);
     let accepted = settle(rt, &mut replies, &mut batch.tickets);
-    assert!(rt; replies.is_empty(), "an answer behind a refusal of memory");
+    holds(
+        rt,
+        replies.is_empty(),
+        "an answer behind a refusal of memory",
+    );
     assert_waiting(rt, &batch.tickets, accepted);
     accepted
 }
@@ -310,32 +317,35 @@ impl<'h> Alone for Starving<'h> {
     }
 }
 
+// The run of the three turns is quiet, with all of its lines.
+fn assert_quiet(rt: &impl Abort, closed: &Closed) {
+    holds(rt, closed.end() == End::Quiet, "another end");
+    holds(rt, closed.lines().len() == LINES, "other lines");
+}
+
 // How many of the three turns so many bytes were enough for.
 fn play_starving<R: Wait + Abort>(rt: &R, alloc: Global, hoard: &mut Hoard, bytes: usize) -> u64 {
-    assert!(rt; hoard.open(), "a piece of memory");
+    holds(rt, hoard.open(), "a piece of memory");
     let mut starving = Starving {
         hoard,
         bytes,
         accepted: 0,
     };
     let closed = play_alone(rt, alloc, APART, &mut starving);
-    assert!(rt;
-        closed.end() == End::Quiet && closed.lines().len() == LINES,
-        "another end"
-    );
+    assert_quiet(rt, &closed);
     starving.accepted
 }
 
 #[test]
 fn a_turn_that_read_what_one_before_it_changed_is_stale(rt: HostRuntime) {
     let closed = play_alone(&rt, rt.alloc(), COPY, &mut Both);
-    assert!(rt; closed.end() == End::Quiet && closed.committed() == [2].as_slice());
+    assert_closed(&rt, &closed, End::Quiet, &[2]);
 }
 
 #[test]
 fn turns_that_read_nothing_of_each_other_stand_in_their_order(rt: HostRuntime) {
     let closed = play_alone(&rt, rt.alloc(), APART, &mut Three);
-    assert!(rt; closed.end() == End::Quiet && closed.lines().len() == LINES);
+    assert_quiet(&rt, &closed);
 }
 
 #[test]
@@ -347,10 +357,14 @@ fn turns_behind_one_that_is_refused_memory_are_left(rt: HostRuntime) {
         match refused.get_mut(accepted as usize) {
             Some(was) => *was = true,
             None => {
-                assert!(rt; refused == [true; ANSWERS], "a turn wasn't refused memory");
+                holds(
+                    &rt,
+                    refused == [true; ANSWERS],
+                    "a turn wasn't refused memory",
+                );
                 return;
             }
         }
     }
-    panic!(rt; "memory is refused still");
+    fail(&rt, "memory is refused still");
 }

@@ -5,6 +5,7 @@ ghost use Rattle.turn.specs.Answers.{IsTurnLog, IsNoTurn};
 ghost use Rattle.turn.specs.Reads.{GaveAll};
 ghost use Rattle.gateparts.specs.Histories.{IsRead};
 
+use crate::claims::{fail, holds};
 use crate::course::Course;
 use commitgate::{Naming, Seat, SeatReader, Ticket};
 use design::RegId;
@@ -102,11 +103,11 @@ pub fn mixed<K: Naming, R: Wait + Abort>(
     let mut log = TurnLog::new(course.alloc);
     let mut waits = Some(early);
     let Err(fault) = fill(course, &mut log, two, late, one, &mut waits) else {
-        panic!(course.rt; "a short turn")
+        fail(course.rt, "a short turn")
     };
     let FillFault::TooLong = fault else {
-        panic!(course.rt; "memory")
+        fail(course.rt, "memory")
     };
-    assert!(course.rt; waits.is_none(), "a turn that still waits");
+    holds(course.rt, waits.is_none(), "a turn that still waits");
     log
 }

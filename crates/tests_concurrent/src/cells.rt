@@ -5,6 +5,7 @@ ghost use Rattle.turn.specs.Nets.{altered};
 ghost use Rattle.regions.specs.Past.{IsNetOf, IsPastOf};
 ghost use Rattle.regcells.specs.Seats.{widths_of, seen_of, last_values, changes_left};
 
+use crate::claims::holds;
 use design::RegId;
 use logic4::bits::Bits;
 use regcells::{HeldStore, Holder, RegCells, RegSeat};
@@ -16,29 +17,57 @@ use std::thread::{Threads, join, yield_now};
 use turn::{Net, Seen};
 
 // How often one thread stores, while the other reads.
-const TIMES: u64 = 10_000;
+const TIMES: u64 = 20_000;
 
 // How often a thread reads before it gives up.
 const LOOKS: u32 = 1_000_000;
 
-// Whether this is what stands: all x at first, and then each version's own number, in the register's width.
-fn is_stored(seen: &Seen) -> bool {
+// What is stored: the number of each version, or all ones and all zeros by turns, of which no part is a part of both.
+#[derive(Clone, Copy)]
+enum Pattern {
+    Numbers,
+    OnesAndZeros,
+}
+
+// The value of a version in a register's width: all ones where it is odd, and else all zeros.
+fn value_at(pattern: Pattern, width: u32, version: u64) -> Bits
+    requires some { 1 ≤ width }
+    requires within { width ≤ 128 }
+    ensures { length result ≡ width }
+{
+    match pattern {
+        Pattern::Numbers => Bits::from_u64(width, version),
+        Pattern::OnesAndZeros => {
+            let zeros = Bits::from_u64(width, 0);
+            if version % 2 == 0 { zeros } else { zeros.not() }
+        }
+    }
+}
+
+// Whether this is what stands: all x at first, and then the value of each version.
+fn is_stored(pattern: Pattern, seen: &Seen) -> bool {
     let width = seen.value.width();
     if seen.version == 0 {
         return seen.value == Bits::unknown(width);
     }
-    seen.value == Bits::from_u64(width, seen.version)
+    seen.value == value_at(pattern, width, seen.version)
 }
 
 // Stores the value of the next version.
-fn store_next<R: Wait + Abort>(rt: &R, cells: &RegCells, holder: &mut Holder, register: RegId)
+fn store_next<R: Wait + Abort>(
+    rt: &R,
+    cells: &RegCells,
+    holder: &mut Holder,
+    register: RegId,
+    pattern: Pattern,
+)
     requires cells { holder.old.cells ≡ cells.now }
     requires register { register < length cells.now }
     ensures { holder.new.cells ≡ holder.old.cells }
 {
     let held = cells.get_held(rt, holder, register);
-    assert!(rt; held.version < u64::MAX);
-    let value = Bits::from_u64(held.value.width(), held.version + 1);
+    holds(rt, held.version < u64::MAX, "versions are left");
+    let value = value_at(pattern, held.value.width(), held.version + 1);
     cells.store(rt, holder, register, value);
 }
 
@@ -49,7 +78,7 @@ fn store_again<R: Wait + Abort>(rt: &R, cells: &RegCells, holder: &mut Holder, r
     ensures { holder.new.cells ≡ holder.old.cells }
 {
     let held = cells.get_held(rt, holder, register);
-    assert!(rt; held.version < u64::MAX);
+    holds(rt, held.version < u64::MAX, "versions are left");
     cells.store(rt, holder, register, held.value);
 }
 
@@ -68,13 +97,15 @@ fn read_and_meet<R: Wait + Abort>(
     ensures seat { seat.new.cells ≡ seat.old.cells }
 {
     let new = cells.read(rt, seat, register);
-    assert!(rt; new.version == 0 && is_stored(&new));
-    store_next(rt, cells, holder, register);
-    store_next(rt, cells, holder, register);
+    holds(rt, new.version == 0, "the first version");
+    holds(rt, is_stored(Pattern::Numbers, &new), "the first value");
+    store_next(rt, cells, holder, register, Pattern::Numbers);
+    store_next(rt, cells, holder, register, Pattern::Numbers);
     store_again(rt, cells, holder, register);
     cells.meet(rt, seat, holder, register);
     let last = cells.read(rt, seat, register);
-    assert!(rt; last.version == 2 && is_stored(&last));
+    holds(rt, last.version == 2, "the last version");
+    holds(rt, is_stored(Pattern::Numbers, &last), "the last value");
 }
 
 #[test]
@@ -160,7 +191,7 @@ fn give<R: Wait + Abort>(
 {
     holder.registers();
     let held = cells.get_held(rt, holder, 0);
-    assert!(rt; held.version < u64::MAX - 1);
+    holds(rt, held.version < u64::MAX - 1, "versions are left");
     set_two_held(rt, cells, holder, 0, first, last)
 }
 
@@ -188,14 +219,30 @@ fn give_twice<R: Wait + Abort>(rt: &R, cells: &RegCells, holder: &mut Holder)
 {
     let two = Bits::from_u64(8, 2);
     let three = Bits::from_u64(8, 3);
-    assert!(rt; give(rt, cells, holder, two, three) == three);
-    assert!(rt; held_are(rt, cells, holder, 0, 2, three));
-    assert!(rt; give(rt, cells, holder, three, two) == two);
-    assert!(rt; held_are(rt, cells, holder, 0, 3, two));
-    assert!(rt; give(rt, cells, holder, three, two) == two);
-    assert!(rt; held_are(rt, cells, holder, 0, 5, two));
-    assert!(rt; give(rt, cells, holder, two, two) == two);
-    assert!(rt; held_are(rt, cells, holder, 0, 5, two));
+    holds(
+        rt,
+        give(rt, cells, holder, two, three) == three,
+        "3 is read",
+    );
+    holds(rt, held_are(rt, cells, holder, 0, 2, three), "3 stands");
+    holds(rt, give(rt, cells, holder, three, two) == two, "2 is read");
+    holds(rt, held_are(rt, cells, holder, 0, 3, two), "2 stands");
+    holds(
+        rt,
+        give(rt, cells, holder, three, two) == two,
+        "2 is read behind 3",
+    );
+    holds(
+        rt,
+        held_are(rt, cells, holder, 0, 5, two),
+        "2 stands behind 3",
+    );
+    holds(
+        rt,
+        give(rt, cells, holder, two, two) == two,
+        "2 is read again",
+    );
+    holds(rt, held_are(rt, cells, holder, 0, 5, two), "2 stands still");
 }
 
 #[test]
@@ -206,18 +253,30 @@ fn a_net_adds_each_value_that_differs(rt: HostRuntime) -> Result<(), Fail> {
 }
 
 // Stores the values of the next versions.
-fn store_often<R: Wait + Abort>(rt: &R, cells: &RegCells, mut holder: Holder, register: RegId)
+fn store_often<R: Wait + Abort>(
+    rt: &R,
+    cells: &RegCells,
+    mut holder: Holder,
+    register: RegId,
+    pattern: Pattern,
+)
     requires cells { holder.cells ≡ cells.now }
     requires register { register < length cells.now }
 {
     for _ in 0..TIMES {
-        store_next(rt, cells, &mut holder, register);
+        store_next(rt, cells, &mut holder, register, pattern);
     }
 }
 
 // Reads until the last version stands. Whether that comes in time, each read gives what was stored, and none an older version
 // than the one before.
-fn read_to_the_last<R: Wait>(rt: &R, cells: &RegCells, mut seat: RegSeat, register: RegId) -> bool
+fn read_to_the_last<R: Wait>(
+    rt: &R,
+    cells: &RegCells,
+    mut seat: RegSeat,
+    register: RegId,
+    pattern: Pattern,
+) -> bool
     requires cells { seat.cells ≡ cells.now }
     requires register { register < length cells.now }
 {
@@ -225,7 +284,7 @@ fn read_to_the_last<R: Wait>(rt: &R, cells: &RegCells, mut seat: RegSeat, regist
     let mut version = 0;
     for _ in 0..LOOKS {
         let seen = cells.read(rt, &mut seat, register);
-        good = good & is_stored(&seen) & (version <= seen.version);
+        good = good & is_stored(pattern, &seen) & (version <= seen.version);
         if seen.version >= TIMES {
             return good;
         }
@@ -244,6 +303,7 @@ fn race<R: Threads + Wait + Abort + Sync>(
     holder: Holder,
     seat: RegSeat,
     register: RegId,
+    pattern: Pattern,
 ) -> bool
     requires holder { holder.cells ≡ cells.now }
     requires seat { seat.cells ≡ cells.now }
@@ -251,18 +311,31 @@ fn race<R: Threads + Wait + Abort + Sync>(
 {
     let ((), good) = join(
         rt,
-        move || store_often(rt, cells, holder, register),
-        move || -> bool { read_to_the_last(rt, cells, seat, register) },
+        move || store_often(rt, cells, holder, register, pattern),
+        move || -> bool { read_to_the_last(rt, cells, seat, register, pattern) },
     );
     good
 }
 
+// Registers of 1, 8 and 128 digits, and what is stored in each.
+const RACES: [(RegId, Pattern); 4] = [
+    (0, Pattern::Numbers),
+    (1, Pattern::Numbers),
+    (2, Pattern::Numbers),
+    (2, Pattern::OnesAndZeros),
+];
+
 #[test]
 fn one_thread_stores_and_another_reads(rt: HostRuntime) -> Result<(), Fail> {
-    for register in 0..3 {
+    for (register, pattern) in RACES {
+        holds(&rt, register < 3, "a register");
         let (cells, holder, mut seats) = RegCells::of_widths(&rt, rt.alloc(), &[1, 8, 128], 1)?;
         let seat = seats.pop().expect(&rt, "a seat");
-        assert!(&rt; race(&rt, &cells, holder, seat, register));
+        holds(
+            &rt,
+            race(&rt, &cells, holder, seat, register, pattern),
+            "a read that goes back, or gives what wasn't stored",
+        );
     }
     Ok(())
 }

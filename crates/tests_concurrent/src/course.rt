@@ -5,9 +5,12 @@ ghost use Rattle.turn.specs.Answers.{IsTurnLog, IsNoTurn};
 ghost use Rattle.turn.specs.Reads.{GaveAll, Keeps};
 ghost use Rattle.gateparts.specs.Histories.{IsRead};
 
+use crate::claims::{fail, holds};
 use commitgate::{Closed, Gate, Grant, Naming, Reply, Seat, Ticket};
 use design::{Design, RegId};
 use frontend::read_design;
+use model::end::End;
+use model::entry::Entry;
 use std::alloc::Global;
 use std::process::Abort;
 use std::sync::Wait;
@@ -43,7 +46,7 @@ impl<'g, 'd, K: Naming, R: Wait + Abort> Course<'g, 'd, K, R> {
         match self.fill(&mut log, seat, ticket) {
             Ok(()) => Some(log),
             Err(fault) => {
-                assert!(self.rt; matches!(fault, FillFault::Memory), "no short turn");
+                holds(self.rt, matches!(fault, FillFault::Memory), "no short turn");
                 None
             }
         }
@@ -71,7 +74,7 @@ impl<'g, 'd, K: Naming, R: Wait + Abort> Course<'g, 'd, K, R> {
         requires turn { IsTurnLog K.named.code ticket.state ticket.time log.now }
         requires gave { GaveAll (IsRead K.named.code seat.old.fresh) log.now.reads }
     {
-        assert!(self.rt; ticket.tries() < 3, "refused three times");
+        holds(self.rt, ticket.tries() < 3, "refused three times");
         self.gate.commit(self.rt, self.alloc, seat, ticket, log)
     }
 
@@ -97,8 +100,8 @@ impl<'g, 'd, K: Naming, R: Wait + Abort> Course<'g, 'd, K, R> {
 
     /// The same, and the entry stands at this position.
     pub fn serve_at(&self, seat: &mut Seat<K>, ticket: Ticket<K>, position: u64) {
-        let reply = self.serve(seat, ticket);
-        assert!(self.rt; position_of(self.rt, reply) == position, "another position");
+        let grant = accepted(self.rt, self.serve(seat, ticket));
+        holds(self.rt, grant.position == position, "another position");
     }
 
     /// Gives up a turn that was evaluated without the lock and is too long.
@@ -106,13 +109,13 @@ impl<'g, 'd, K: Naming, R: Wait + Abort> Course<'g, 'd, K, R> {
         requires turn { IsNoTurn K.named.code ticket.state ticket.time log.now.reads TooLong }
         requires gave { GaveAll (IsRead K.named.code seat.old.fresh) log.now.reads }
     {
-        assert!(self.rt; ticket.tries() < 3, "refused three times");
+        holds(self.rt, ticket.tries() < 3, "refused three times");
         self.gate.too_long(self.rt, seat, ticket, log.reads())
     }
 
     /// Evaluates under the lock, and commits, the turn of a ticket that was refused three times.
     pub fn commit_held(&self, seat: &mut Seat<K>, ticket: Ticket<K>) -> Reply<K> {
-        assert!(self.rt; ticket.tries() == 3, "not refused three times");
+        holds(self.rt, ticket.tries() == 3, "not refused three times");
         let mut log = TurnLog::new(self.alloc);
         self.gate
             .commit_held(self.rt, self.alloc, &mut log, seat, ticket)
@@ -120,13 +123,12 @@ impl<'g, 'd, K: Naming, R: Wait + Abort> Course<'g, 'd, K, R> {
 
     /// What a seat reads of a register.
     pub fn read(&self, seat: &mut Seat<K>, register: RegId) -> Seen {
-        assert!(self.rt; register < self.design.registers(), "no such register");
+        holds(
+            self.rt,
+            register < self.design.registers(),
+            "no such register",
+        );
         self.gate.reader(self.rt, seat).read(register)
-    }
-
-    /// A seat reads this of a register.
-    pub fn read_as(&self, seat: &mut Seat<K>, register: RegId, wanted: &Seen) {
-        assert!(self.rt; self.read(seat, register) == *wanted, "another value");
     }
 }
 
@@ -139,7 +141,7 @@ pub fn design_of(rt: &impl Abort, alloc: Global, source: &str) -> Design {
 
 /// The first ticket of those that are left.
 pub fn first<K: Naming>(rt: &impl Abort, tickets: &mut Vec<Ticket<K>>) -> Ticket<K> {
-    assert!(rt; !tickets.is_empty(), "a ticket");
+    holds(rt, !tickets.is_empty(), "a ticket");
     tickets.remove(0)
 }
 
@@ -152,27 +154,57 @@ pub fn last<K: Naming>(rt: &impl Abort, tickets: &mut Vec<Ticket<K>>) -> Ticket<
 pub fn accepted<K: Naming>(rt: &impl Abort, reply: Reply<K>) -> Grant<K> {
     match reply {
         Reply::Accepted(grant) => grant,
-        _ => panic!(rt; "not accepted"),
+        _ => fail(rt, "not accepted"),
     }
-}
-
-/// The position of an accepted entry. Any other answer ends the test.
-pub fn position_of<K: Naming>(rt: &impl Abort, reply: Reply<K>) -> u64 {
-    accepted(rt, reply).position
 }
 
 /// The ticket of a turn that is stale for register 0, with so many tries. Any other answer ends the test.
 pub fn stale<K: Naming>(rt: &impl Abort, reply: Reply<K>, tries: u8) -> Ticket<K> {
     match reply {
         Reply::Stale(register, ticket) => {
-            assert!(rt;
-                register == 0 && ticket.tries() == tries,
-                "another stale turn"
-            );
+            holds(rt, register == 0, "another register");
+            holds(rt, ticket.tries() == tries, "other tries");
             ticket
         }
-        _ => panic!(rt; "not stale"),
+        _ => fail(rt, "not stale"),
     }
+}
+
+/// A run ended so, after so many entries of each seat.
+pub fn assert_closed(rt: &impl Abort, closed: &Closed, end: End, committed: &[u64]) {
+    holds(rt, closed.end() == end, "another end");
+    holds(
+        rt,
+        closed.committed() == committed,
+        "other numbers of entries",
+    );
+}
+
+/// A run left these entries and lines.
+pub fn assert_left(rt: &impl Abort, closed: &Closed, entries: &[Entry], lines: &str) {
+    holds(rt, closed.entries() == entries, "other entries");
+    holds(rt, closed.lines() == lines, "other lines");
+}
+
+/// The turn of this event stands at the position of the event's number, and made nothing active.
+pub fn assert_turn<K: Naming>(rt: &impl Abort, grant: &Grant<K>, event: u64) {
+    holds(rt, grant.position == event, "another position");
+    holds(rt, grant.entry == Entry::Turn(event), "another entry");
+    holds(rt, grant.tickets.is_empty(), "a ticket");
+}
+
+/// The journal has these entries, which the seat has then seen.
+pub fn assert_journal<K: Naming, R: Wait + Abort>(
+    course: &Course<'_, '_, K, R>,
+    seat: &mut Seat<K>,
+    wanted: &[Entry],
+) {
+    let rt = course.rt;
+    let journal = course
+        .gate
+        .snapshot(rt, course.alloc, seat)
+        .expect(rt, "memory");
+    holds(rt, journal.as_slice() == wanted, "another journal");
 }
 
 /// Puts tickets behind those that are there.
@@ -188,7 +220,7 @@ fn alone<K: Naming>(rt: &impl Abort, alloc: Global, seat: Seat<K>) -> Vec<Seat<K
 {
     match vec![in alloc; seat] {
         Ok(seats) => seats,
-        Err(_) => panic!(rt; "memory"),
+        Err(_) => fail(rt, "memory"),
     }
 }
 
@@ -198,7 +230,7 @@ fn both<K: Naming>(rt: &impl Abort, alloc: Global, one: Seat<K>, two: Seat<K>) -
 {
     match vec![in alloc; one, two] {
         Ok(seats) => seats,
-        Err(_) => panic!(rt; "memory"),
+        Err(_) => fail(rt, "memory"),
     }
 }
 
@@ -212,7 +244,7 @@ pub fn close_one<K: Naming, R: Wait + Abort>(
 ) -> Closed
     requires { K.named.workers ≡ 1 }
 {
-    assert!(rt; seat.worker() == 0, "another seat");
+    holds(rt, seat.worker() == 0, "another seat");
     let seats = alone(rt, alloc, seat);
     gate.close(rt, seats)
 }

@@ -4,9 +4,10 @@ ghost use Rattle.eventpool.specs.Ends.{owner_card, thief_card};
 ghost use Rattle.eventpool.specs.Pools.{cards_of, IsPool};
 
 use crate::alone::{Alone, play_alone};
+use crate::claims::{fail, holds};
 use crate::course::{Course, design_of, last};
 use commitgate::{Blank, Gate, Naming, Seat, Ticket};
-use eventpool::{Owner, Pool, PutFault, Stolen, Thief, close};
+use eventpool::{Owner, Pool, PutFault, Stolen, Tally, Thief, close};
 use hoard::Hoard;
 use model::end::{End, Limits};
 use std::alloc::{AllocError, Global};
@@ -94,6 +95,14 @@ fn fill<K: Naming>(owners: &mut Vec<Owner<Ticket<K>>>, d: usize, tickets: Vec<Ti
     all
 }
 
+// So many tickets were put, taken and stolen, and none is left.
+fn assert_tally(rt: &impl Abort, tally: &Tally, puts: u128, takes: u128, steals: u128) {
+    holds(rt, tally.puts() == puts, "other puts");
+    holds(rt, tally.takes() == takes, "other takes");
+    holds(rt, tally.steals() == steals, "other steals");
+    holds(rt, tally.left() == 0, "a ticket is left");
+}
+
 // Two tickets in one deque of two: the first is stolen, and the second taken.
 fn share_two<K: Naming>(
     rt: &impl Abort,
@@ -102,18 +111,19 @@ fn share_two<K: Naming>(
 ) -> Result<(), AllocError> {
     let (mut owners, mut thieves) = Pool::new::<Ticket<K>>(alloc, 2)?;
     let all = fill(&mut owners, 0, tickets);
-    assert!(rt; all);
+    holds(rt, all, "the puts");
     let first = steal_at(&mut thieves, 1, 0);
-    assert!(rt; is_one(&first, 0));
-    assert_eq!(rt; take_at(&mut owners, 0), Some(1));
-    assert_eq!(rt; take_at(&mut owners, 0), None);
-    let second = steal_at(&mut thieves, 1, 0);
-    assert!(rt; is_empty(&second));
-    let tally = close(owners, thieves);
-    assert_eq!(rt;
-        (tally.puts(), tally.takes(), tally.steals(), tally.left()),
-        (2, 1, 1, 0)
+    holds(rt, is_one(&first, 0), "the first ticket is stolen");
+    holds(
+        rt,
+        take_at(&mut owners, 0) == Some(1),
+        "the second ticket is taken",
     );
+    holds(rt, take_at(&mut owners, 0) == None, "none is left to take");
+    let second = steal_at(&mut thieves, 1, 0);
+    holds(rt, is_empty(&second), "none is left to steal");
+    let tally = close(owners, thieves);
+    assert_tally(rt, &tally, 2, 1, 1);
     Ok(())
 }
 
@@ -153,7 +163,7 @@ fn processes(rt: &impl Abort, alloc: Global, count: u32) -> String {
 fn play_pooled<R: Wait + Abort>(rt: &R, alloc: Global, count: u32, mut pooled: Pooled) {
     let source = processes(rt, alloc, count);
     let closed = play_alone(rt, alloc, source.as_str(), &mut pooled);
-    assert!(rt; closed.end() == End::Running, "another end");
+    holds(rt, closed.end() == End::Running, "another end");
 }
 
 #[test]
@@ -183,6 +193,14 @@ fn take_all<K: Naming, R: Wait>(
     (owners, got)
 }
 
+// These are so many events, from 0 on in rising number.
+fn assert_rising(rt: &impl Abort, events: &[u64], count: usize) {
+    holds(rt, events.len() == count, "another number of events");
+    for (place, event) in events.iter().enumerate() {
+        holds(rt, *event == place as u64, "another event");
+    }
+}
+
 // A deque has room for 64 tickets. The next put is refused where memory is, and then the ticket comes back, and the deque has
 // what it had.
 fn put_more<K: Naming, R: Wait + Abort>(
@@ -192,21 +210,20 @@ fn put_more<K: Naming, R: Wait + Abort>(
 ) -> Result<(), AllocError> {
     let (mut owners, _thieves) = Pool::new::<Ticket<K>>(alloc, 2)?;
     let more = last(rt, &mut tickets);
-    assert!(rt; fill(&mut owners, 0, tickets), "the first puts");
+    holds(rt, fill(&mut owners, 0, tickets), "the first puts");
     let hoard = Hoard::new(alloc, 0, 0)?;
     let back = put_at(&mut owners, 0, more).expect(rt, "memory was refused");
     let back = put_at(&mut owners, 0, back).expect(rt, "memory was refused");
     drop(hoard);
-    assert!(rt; back.event() == 64 && back.tries() == 0, "another ticket");
-    assert!(rt;
+    holds(rt, back.event() == 64, "another ticket");
+    holds(rt, back.tries() == 0, "another try");
+    holds(
+        rt,
         put_at(&mut owners, 0, back).is_none(),
-        "a put with more memory"
+        "a put with more memory",
     );
     let (_owners, got) = take_all(rt, alloc, owners, 0);
-    assert_eq!(rt; got.len(), 65);
-    for (place, event) in got.iter().enumerate() {
-        assert_eq!(rt; *event, place as u64);
-    }
+    assert_rising(rt, &got, 65);
     Ok(())
 }
 
@@ -325,16 +342,12 @@ fn race<K: Naming + Send, R: Threads + Wait + Sync>(
 // Each event of 256 stands once among those of four workers, and those of the owner rise.
 fn assert_got(rt: &impl Abort, got: Got) -> Result<(), AllocError> {
     let mut events = got.mine;
-    let rises = events.is_sorted();
-    assert!(rt; rises);
+    holds(rt, events.is_sorted(), "the owner's events rise");
     events.extend_from_slice(&got.first)?;
     events.extend_from_slice(&got.second)?;
     events.extend_from_slice(&got.third)?;
     events.sort_unstable();
-    assert_eq!(rt; events.len(), 256);
-    for event in 0..256usize {
-        assert_eq!(rt; events.get(event), Some(&(event as u64)));
-    }
+    assert_rising(rt, &events, 256);
     Ok(())
 }
 
@@ -346,18 +359,14 @@ fn share_all<K: Naming + Send, R: Threads + Wait + Abort + Sync>(
 ) -> Result<(), AllocError> {
     let (mut owners, thieves) = Pool::new::<Ticket<K>>(alloc, 4)?;
     let all = fill(&mut owners, 0, tickets);
-    assert!(rt; all);
+    holds(rt, all, "the puts");
     let raced = race(rt, alloc, owners, thieves);
-    assert!(rt; raced.is_some());
     let Some((owners, thieves, got)) = raced else {
-        return Ok(());
+        fail(rt, "memory")
     };
     let tally = close(owners, thieves);
     let stolen = got.first.len() + got.second.len() + got.third.len();
-    assert_eq!(rt;
-        (tally.puts(), tally.takes(), tally.steals(), tally.left()),
-        (256, got.mine.len() as u128, stolen as u128, 0)
-    );
+    assert_tally(rt, &tally, 256, got.mine.len() as u128, stolen as u128);
     assert_got(rt, got)
 }
 

@@ -3,6 +3,7 @@
 // 1. `worked` has journals that were written by hand, with their lines or the first entry that isn't lawful.
 // 2. `generated` has journals that a generator makes: lawful ones, and ones that were cut, shuffled or changed.
 
+use crate::claims::{fail, holds};
 use crate::course::design_of;
 use commitgate::Closed;
 use design::Design;
@@ -16,14 +17,21 @@ use std::sync::Wait;
 mod generated;
 mod worked;
 
-// The lines of a lawful journal.
-fn assert_lines(rt: &impl Abort, alloc: Global, design: &Design, entries: &[Entry], lines: &str) {
+/// The lines of a lawful journal.
+pub fn assert_lines(
+    rt: &impl Abort,
+    alloc: Global,
+    design: &Design,
+    entries: &[Entry],
+    lines: &str,
+) {
     let replayed = replay(alloc, design, entries)
         .ok()
         .expect(rt, "a lawful journal");
-    assert!(rt;
+    holds(
+        rt,
         replayed.lines.as_str() == lines,
-        "other lines than the replay's"
+        "other lines than the replay's",
     );
 }
 
@@ -32,7 +40,7 @@ fn assert_refused(rt: &impl Abort, alloc: Global, design: &Design, entries: &[En
     let fault = replay(alloc, design, entries)
         .err()
         .expect(rt, "no lawful journal");
-    assert!(rt; fault.entry == entry, "another entry than the replay's");
+    holds(rt, fault.entry == entry, "another entry than the replay's");
 }
 
 /// A journal that is led through a gate gives the lines of its replay, or the entry that the replay names. Answers those
@@ -43,10 +51,10 @@ fn answer<R: Abort + Wait>(
     design: &Design,
     entries: &[Entry],
 ) -> Result<Closed, u64> {
-    assert!(rt; entries.len() < 1_000_000, "a short journal");
+    holds(rt, entries.len() < 1_000_000, "a short journal");
     match drive(rt, alloc, design, entries) {
         Ok(closed) => {
-            assert!(rt; closed.entries() == entries, "the entries");
+            holds(rt, closed.entries() == entries, "the entries");
             assert_lines(rt, alloc, design, entries, closed.lines());
             Ok(closed)
         }
@@ -54,7 +62,7 @@ fn answer<R: Abort + Wait>(
             assert_refused(rt, alloc, design, entries, entry);
             Err(entry)
         }
-        Err(DriveFault::Memory) => panic!(rt; "memory"),
+        Err(DriveFault::Memory) => fail(rt, "memory"),
     }
 }
 

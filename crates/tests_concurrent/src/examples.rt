@@ -1,68 +1,598 @@
-// Worked examples: what each call answers, and what the gate leaves.
-ghost use Rattle.std.specs.Prelude.{◌≤◌};
+// Worked examples of one seat and of two: what each call answers, what the gate leaves, and what a stop changes.
 
 use crate::alone::{Alone, play_alone};
-use crate::between::mixed;
-use crate::course::{Course, accepted, design_of, first, last, position_of, stale};
+use crate::claims::holds;
+use crate::course::{
+    Course, accepted, assert_closed, assert_journal, assert_left, assert_turn, design_of, last,
+};
+use crate::driven::assert_lines;
 use crate::pair::{Pair, play_pair};
+use crate::steps::{Act, Led, Meanwhile, Side, Step, Told, assert_sees, lead};
 use commitgate::{Naming, Seat, Ticket};
-use design::RegId;
-use logic4::bits::Bits;
-use model::end::End;
+use model::end::{End, Why};
 use model::entry::Entry;
 use std::alloc::Global;
 use std::process::Abort;
 use std::sync::Wait;
-use turn::{Seen, TurnLog};
 
-// How two workers take turns once their gate is open.
+/// So many steps of the glitch, further steps, and what the gate leaves: how many tickets, its journal, how many of the entries are each seat's, how the
+/// run ends, and its lines.
 #[derive(Clone, Copy)]
-enum Example {
-    TooEarly,
-    FirstInstead,
-    ThreeTimes,
-    TwoMoments,
-    ThereAndBack,
-    EqualValue,
+struct Row<'a> {
+    source: &'a str,
+    max_entries: u32,
+    glitches: usize,
+    steps: &'a [&'a [Step<'a>]],
+    tickets: usize,
+    journal: &'a [Entry],
+    committed: [u64; 2],
+    end: End,
+    lines: &'a str,
 }
 
-// The only worker takes the only turn.
-fn take_one<K: Naming, R: Wait + Abort>(
-    course: &Course<'_, '_, K, R>,
-    seat: &mut Seat<K>,
-    ticket: Ticket<K>,
-) {
-    let rt = course.rt;
-    let grant = accepted(rt, course.serve(seat, ticket));
-    assert!(rt; grant.position == 0 && grant.entry == Entry::Turn(0) && grant.tickets.is_empty());
+const PLAIN: Row<'static> = Row {
+    source: COPY,
+    max_entries: 1_000,
+    glitches: 0,
+    steps: &[],
+    tickets: 0,
+    journal: &[],
+    committed: [0; 2],
+    end: End::Quiet,
+    lines: "",
+};
+
+/// The other seat does nothing meanwhile.
+const ALONE: Meanwhile<'static> = Meanwhile::Turns(&[]);
+
+/// The first seat stops the run.
+const STEP: Step<'static> = Step {
+    side: Side::One,
+    act: Act::Stop,
+    told: Told::Nothing,
+    read: &[],
+    sees: &[],
+};
+
+/// One process gives a register a value, and another reads it.
+pub const COPY: &str = "module t; reg a, b; initial a=1'b1; initial b=a; endmodule";
+
+/// A fourth process reads what three others write.
+pub const WRITERS: &str =
+    "module t; reg [1:0] a, b; initial a=2'd1; initial a=2'd2; initial a=2'd3; initial b=a; endmodule";
+
+/// A loop until two registers are the same, which another process makes so.
+const MOMENTS: &str =
+    "module t; reg a, b; initial begin a=1'b0; b=1'b0; end initial while (a!==b) begin end endmodule";
+
+/// A register is given a value, another and the first again, and read.
+const BACK: &str =
+    "module t; reg r, b; initial r=1'b0; initial r=1'b1; initial r=1'b0; initial b=r; endmodule";
+
+/// A strobe before a nonblocking assignment of the register that it shows, and another at the next time.
+const STROBES: &str =
+    "module t; reg a; initial begin a=1'b0; $strobe(\"s %b\",a); a<=1'b1; $display(\"d %b\",a); #1 $strobe(\"t %b\",a); end endmodule";
+
+/// A register goes down and up again within one turn, and what waits for it wakes.
+const GLITCH: &str =
+    "module t; reg a; initial begin a=1'b1; #1 a=1'b0; a=1'b1; end initial #0 @(posedge a) $display(\"glitch\"); endmodule";
+
+/// Three turns overtake the fourth, one after each of its evaluations.
+pub const THRICE: &[Step<'static>] = &[
+    Step {
+        side: Side::Two,
+        act: Act::Turn(3, Meanwhile::Turns(&[0])),
+        told: Told::Stale(1),
+        ..STEP
+    },
+    Step {
+        side: Side::Two,
+        act: Act::Turn(3, Meanwhile::Turns(&[1])),
+        told: Told::Stale(2),
+        ..STEP
+    },
+    Step {
+        side: Side::Two,
+        act: Act::Turn(3, Meanwhile::Turns(&[2])),
+        told: Told::Stale(3),
+        ..STEP
+    },
+];
+
+const EXAMPLES: &[Row<'static>] = &[
+    // a turn that reads a register before another turn writes it is refused, and evaluated again it stands
+    Row {
+        source: COPY,
+        steps: &[&[
+            Step {
+                side: Side::Two,
+                act: Act::Turn(1, Meanwhile::Turns(&[0])),
+                told: Told::Stale(1),
+                read: &[(0, 0, None)],
+                ..STEP
+            },
+            Step {
+                side: Side::Two,
+                act: Act::Turn(1, ALONE),
+                told: Told::Entry(Entry::Turn(1)),
+                sees: &[(1, 1, Some(1))],
+                ..STEP
+            },
+        ]],
+        journal: &[Entry::Turn(0), Entry::Turn(1)],
+        committed: [1, 1],
+        ..PLAIN
+    },
+    // the same turn is committed first: it gives x to a register that is x, which is no change
+    Row {
+        source: COPY,
+        steps: &[&[
+            Step {
+                side: Side::Two,
+                act: Act::Turn(1, ALONE),
+                told: Told::Entry(Entry::Turn(1)),
+                sees: &[(1, 0, None)],
+                ..STEP
+            },
+            Step {
+                act: Act::Turn(0, ALONE),
+                told: Told::Entry(Entry::Turn(0)),
+                ..STEP
+            },
+        ]],
+        journal: &[Entry::Turn(1), Entry::Turn(0)],
+        committed: [1, 1],
+        ..PLAIN
+    },
+    // a turn that is refused three times is evaluated under the lock
+    Row {
+        source: WRITERS,
+        steps: &[
+            THRICE,
+            &[Step {
+                side: Side::Two,
+                act: Act::Held(3),
+                told: Told::Entry(Entry::Turn(3)),
+                sees: &[(1, 1, Some(3))],
+                ..STEP
+            }],
+        ],
+        journal: &[
+            Entry::Turn(0),
+            Entry::Turn(1),
+            Entry::Turn(2),
+            Entry::Turn(3),
+        ],
+        committed: [3, 1],
+        ..PLAIN
+    },
+    // a turn never ends, since it saw one register before another turn and the other after it, and evaluated again it ends
+    Row {
+        source: MOMENTS,
+        steps: &[&[
+            Step {
+                side: Side::Two,
+                act: Act::Across(1, 0, ALONE),
+                told: Told::Stale(1),
+                read: &[(0, 0, None), (1, 1, Some(0))],
+                ..STEP
+            },
+            Step {
+                side: Side::Two,
+                act: Act::Turn(1, ALONE),
+                told: Told::Entry(Entry::Turn(1)),
+                sees: &[(0, 1, Some(0))],
+                ..STEP
+            },
+        ]],
+        journal: &[Entry::Turn(0), Entry::Turn(1)],
+        committed: [1, 1],
+        ..PLAIN
+    },
+    // a register that came back has changed
+    Row {
+        source: BACK,
+        steps: &[&[
+            Step {
+                act: Act::Turn(0, ALONE),
+                told: Told::Entry(Entry::Turn(0)),
+                ..STEP
+            },
+            Step {
+                side: Side::Two,
+                act: Act::Turn(3, Meanwhile::Turns(&[1, 2])),
+                told: Told::Stale(1),
+                ..STEP
+            },
+            Step {
+                side: Side::Two,
+                act: Act::Turn(3, ALONE),
+                told: Told::Entry(Entry::Turn(3)),
+                sees: &[(1, 1, Some(0))],
+                ..STEP
+            },
+        ]],
+        journal: &[
+            Entry::Turn(0),
+            Entry::Turn(1),
+            Entry::Turn(2),
+            Entry::Turn(3),
+        ],
+        committed: [3, 1],
+        ..PLAIN
+    },
+    // an equal value is no change
+    Row {
+        source: BACK,
+        steps: &[&[
+            Step {
+                act: Act::Turn(0, ALONE),
+                told: Told::Entry(Entry::Turn(0)),
+                ..STEP
+            },
+            Step {
+                side: Side::Two,
+                act: Act::Turn(3, Meanwhile::Turns(&[2])),
+                told: Told::Entry(Entry::Turn(3)),
+                ..STEP
+            },
+        ]],
+        tickets: 1,
+        journal: &[Entry::Turn(0), Entry::Turn(2), Entry::Turn(3)],
+        committed: [2, 1],
+        end: End::Running,
+        ..PLAIN
+    },
+    // the monitor region is emptied before an advance
+    Row {
+        source: STROBES,
+        steps: &[&[
+            Step {
+                act: Act::Turn(0, ALONE),
+                told: Told::Entry(Entry::Turn(0)),
+                ..STEP
+            },
+            Step {
+                act: Act::Rest,
+                told: Told::Entry(Entry::ActivateNba),
+                ..STEP
+            },
+            Step {
+                act: Act::Update,
+                told: Told::Entry(Entry::Update(1)),
+                ..STEP
+            },
+            Step {
+                act: Act::Rest,
+                told: Told::Entry(Entry::ActivateMonitor),
+                ..STEP
+            },
+            Step {
+                act: Act::Rest,
+                told: Told::Entry(Entry::Advance(1)),
+                ..STEP
+            },
+            Step {
+                act: Act::Turn(2, ALONE),
+                told: Told::Entry(Entry::Turn(2)),
+                ..STEP
+            },
+            Step {
+                act: Act::Rest,
+                told: Told::Entry(Entry::ActivateMonitor),
+                ..STEP
+            },
+        ]],
+        journal: &[
+            Entry::Turn(0),
+            Entry::ActivateNba,
+            Entry::Update(1),
+            Entry::ActivateMonitor,
+            Entry::Advance(1),
+            Entry::Turn(2),
+            Entry::ActivateMonitor,
+        ],
+        committed: [7, 0],
+        lines: "d 0\ns 1\nt 1\n",
+        ..PLAIN
+    },
+    // a stop comes before a turn under the lock
+    Row {
+        source: WRITERS,
+        steps: &[
+            THRICE,
+            &[
+                STEP,
+                Step {
+                    side: Side::Two,
+                    act: Act::Held(3),
+                    told: Told::Stopped(Why::Memory),
+                    ..STEP
+                },
+            ],
+        ],
+        journal: &[Entry::Turn(0), Entry::Turn(1), Entry::Turn(2)],
+        committed: [3, 0],
+        end: End::Stopped(Why::Memory),
+        ..PLAIN
+    },
+    // a stop comes before a turn that is too long is given up
+    Row {
+        source: MOMENTS,
+        steps: &[&[Step {
+            side: Side::Two,
+            act: Act::Across(1, 0, Meanwhile::Stop),
+            told: Told::Stopped(Why::Memory),
+            ..STEP
+        }]],
+        journal: &[Entry::Turn(0)],
+        committed: [1, 0],
+        end: End::Stopped(Why::Memory),
+        ..PLAIN
+    },
+    // a stop of a run whose journal is full changes nothing
+    Row {
+        source: GLITCH,
+        max_entries: 3,
+        steps: &[&[
+            Step {
+                act: Act::Turn(0, ALONE),
+                told: Told::Entry(Entry::Turn(0)),
+                ..STEP
+            },
+            Step {
+                side: Side::Two,
+                act: Act::Turn(1, ALONE),
+                told: Told::Entry(Entry::Turn(1)),
+                ..STEP
+            },
+            Step {
+                act: Act::Rest,
+                told: Told::Entry(Entry::ActivateInactive),
+                ..STEP
+            },
+            Step {
+                act: Act::Turn(3, ALONE),
+                told: Told::Stopped(Why::Entries),
+                ..STEP
+            },
+            Step {
+                act: Act::Update,
+                told: Told::Stopped(Why::Entries),
+                ..STEP
+            },
+            Step {
+                act: Act::Rest,
+                told: Told::Stopped(Why::Entries),
+                ..STEP
+            },
+            Step {
+                side: Side::Two,
+                ..STEP
+            },
+            STEP,
+            Step {
+                side: Side::Two,
+                act: Act::Update,
+                told: Told::Stopped(Why::Entries),
+                ..STEP
+            },
+            Step {
+                side: Side::Two,
+                act: Act::Rest,
+                told: Told::Stopped(Why::Entries),
+                ..STEP
+            },
+        ]],
+        journal: &[Entry::Turn(0), Entry::Turn(1), Entry::ActivateInactive],
+        committed: [2, 1],
+        end: End::Stopped(Why::Entries),
+        ..PLAIN
+    },
+];
+
+/// The steps of the glitch, of which the seats take turns, and its journal.
+const GLITCHES: [Step<'static>; 7] = [
+    Step {
+        act: Act::Turn(0, ALONE),
+        told: Told::Entry(Entry::Turn(0)),
+        ..STEP
+    },
+    Step {
+        side: Side::Two,
+        act: Act::Turn(1, ALONE),
+        told: Told::Entry(Entry::Turn(1)),
+        ..STEP
+    },
+    Step {
+        act: Act::Rest,
+        told: Told::Entry(Entry::ActivateInactive),
+        ..STEP
+    },
+    Step {
+        side: Side::Two,
+        act: Act::Turn(3, ALONE),
+        told: Told::Entry(Entry::Turn(3)),
+        ..STEP
+    },
+    Step {
+        act: Act::Rest,
+        told: Told::Entry(Entry::Advance(1)),
+        ..STEP
+    },
+    Step {
+        side: Side::Two,
+        act: Act::Turn(2, ALONE),
+        told: Told::Entry(Entry::Turn(2)),
+        ..STEP
+    },
+    Step {
+        act: Act::Turn(4, ALONE),
+        told: Told::Entry(Entry::Turn(4)),
+        ..STEP
+    },
+];
+
+const JOURNAL: [Entry; 7] = [
+    Entry::Turn(0),
+    Entry::Turn(1),
+    Entry::ActivateInactive,
+    Entry::Turn(3),
+    Entry::Advance(1),
+    Entry::Turn(2),
+    Entry::Turn(4),
+];
+
+/// Either seat is told that the run was stopped, after a stop by the first one too.
+const OVER: &[Step<'static>] = &[
+    STEP,
+    Step {
+        act: Act::Update,
+        told: Told::Stopped(Why::Memory),
+        ..STEP
+    },
+    Step {
+        act: Act::Rest,
+        told: Told::Stopped(Why::Memory),
+        ..STEP
+    },
+    Step {
+        side: Side::Two,
+        act: Act::Update,
+        told: Told::Stopped(Why::Memory),
+        ..STEP
+    },
+    Step {
+        side: Side::Two,
+        act: Act::Rest,
+        told: Told::Stopped(Why::Memory),
+        ..STEP
+    },
+];
+
+/// The second seat stops the run.
+const STOP: &[Step<'static>] = &[Step {
+    side: Side::Two,
+    ..STEP
+}];
+
+/// The first seat is told of a stop.
+const STOPPED: Step<'static> = Step {
+    told: Told::Stopped(Why::Memory),
+    ..STEP
+};
+
+/// After 0, 1, .. entries of the glitch: how the second seat stops the run, between the evaluation of the first seat's turn and its
+/// commit where there is a ticket; the tickets that are left are refused.
+const STOPS: [&[&[Step<'static>]]; 7] = [
+    &[
+        &[
+            Step {
+                act: Act::Turn(0, Meanwhile::Stop),
+                ..STOPPED
+            },
+            Step {
+                act: Act::Turn(1, ALONE),
+                ..STOPPED
+            },
+        ],
+        OVER,
+    ],
+    &[
+        &[Step {
+            act: Act::Turn(1, Meanwhile::Stop),
+            ..STOPPED
+        }],
+        OVER,
+    ],
+    &[STOP, OVER],
+    &[
+        &[Step {
+            act: Act::Turn(3, Meanwhile::Stop),
+            ..STOPPED
+        }],
+        OVER,
+    ],
+    &[STOP, OVER],
+    &[
+        &[Step {
+            act: Act::Turn(2, Meanwhile::Stop),
+            ..STOPPED
+        }],
+        OVER,
+    ],
+    &[
+        &[Step {
+            act: Act::Turn(4, Meanwhile::Stop),
+            ..STOPPED
+        }],
+        OVER,
+    ],
+];
+
+/// A stop of the run when it is quiet.
+const QUIET: &[&[Step<'static>]] = &[&[
+    Step {
+        side: Side::Two,
+        ..STEP
+    },
+    STEP,
+    Step {
+        act: Act::Update,
+        ..STEP
+    },
+    Step {
+        act: Act::Rest,
+        ..STEP
+    },
+    Step {
+        side: Side::Two,
+        act: Act::Update,
+        ..STEP
+    },
+    Step {
+        side: Side::Two,
+        act: Act::Rest,
+        ..STEP
+    },
+]];
+
+impl Pair for Row<'_> {
+    fn lead<K: Naming, R: Wait + Abort>(
+        &self,
+        course: &Course<'_, '_, K, R>,
+        one: &mut Seat<K>,
+        two: &mut Seat<K>,
+        tickets: Vec<Ticket<K>>,
+    ) {
+        let mut led = Led {
+            tickets,
+            entries: 0,
+        };
+        let glitches = GLITCHES.get(..self.glitches).expect(course.rt, "steps");
+        lead(course, one, two, &mut led, glitches);
+        for steps in self.steps {
+            lead(course, one, two, &mut led, steps);
+        }
+        holds(
+            course.rt,
+            led.tickets.len() == self.tickets,
+            "other tickets",
+        );
+        assert_journal(course, one, self.journal);
+    }
 }
 
-// It has then seen the turn's entry, and the value that the turn gave its register.
-fn look_back<K: Naming, R: Wait + Abort>(course: &Course<'_, '_, K, R>, seat: &mut Seat<K>) {
-    let rt = course.rt;
-    course.read_as(seat, 0, &seen_of(1, 4, 9));
-    assert!(rt;
-        course.gate.entries(rt, seat) == 1,
-        "another number of entries"
-    );
-    assert_journal(course, seat, &[Entry::Turn(0)]);
+// The run of a row leaves what it says, and its journal is replayed to its lines.
+fn assert_row<R: Wait + Abort>(rt: &R, alloc: Global, row: &Row<'_>) {
+    let design = design_of(rt, alloc, row.source);
+    let closed = play_pair(rt, alloc, &design, row.max_entries, row);
+    assert_left(rt, &closed, row.journal, row.lines);
+    assert_closed(rt, &closed, row.end, &row.committed);
+    assert_lines(rt, alloc, &design, closed.entries(), closed.lines());
 }
 
-/// The journal has these entries, which the seat has then seen.
-pub fn assert_journal<K: Naming, R: Wait + Abort>(
-    course: &Course<'_, '_, K, R>,
-    seat: &mut Seat<K>,
-    wanted: &[Entry],
-) {
-    let rt = course.rt;
-    let journal = course
-        .gate
-        .snapshot(rt, course.alloc, seat)
-        .expect(rt, "memory");
-    assert!(rt; journal.as_slice() == wanted, "another journal");
-}
-
-// The only worker takes one turn.
+// The only worker takes the only turn, and looks back.
 #[derive(Drop)]
 struct TakeOne;
 
@@ -73,199 +603,12 @@ impl Alone for TakeOne {
         seat: &mut Seat<K>,
         mut tickets: Vec<Ticket<K>>,
     ) {
-        take_one(course, seat, last(course.rt, &mut tickets));
-        look_back(course, seat);
-    }
-}
-
-// The second seat takes a turn, and its entry stands at this position. It then reads this of a register.
-fn take_at<K: Naming, R: Wait + Abort>(
-    course: &Course<'_, '_, K, R>,
-    two: &mut Seat<K>,
-    ticket: Ticket<K>,
-    position: u64,
-    wanted: (RegId, Seen),
-) {
-    course.serve_at(two, ticket, position);
-    course.read_as(two, wanted.0, &wanted.1);
-}
-
-/// A register's value and version.
-pub fn seen_of(version: u64, width: u32, value: u64) -> Seen
-    requires some { 1 ≤ width }
-    requires most { width ≤ 128 }
-{
-    Seen {
-        version,
-        value: Bits::from_u64(width, value),
-    }
-}
-
-/// Whether a turn read register 0 when it was all x.
-pub fn read_unknown(log: &TurnLog) -> bool {
-    match log.reads().get(&0) {
-        Some(seen) => seen.version == 0 && seen.value == Bits::unknown(1),
-        None => false,
-    }
-}
-
-// The second seat's turn reads a register before the first seat's turn writes it, so it is refused. Evaluated again it
-// stands.
-fn too_early<K: Naming, R: Wait + Abort>(
-    course: &Course<'_, '_, K, R>,
-    one: &mut Seat<K>,
-    two: &mut Seat<K>,
-    mut tickets: Vec<Ticket<K>>,
-) {
-    let rt = course.rt;
-    let late = last(rt, &mut tickets);
-    let log = course.evaluate(two, &late);
-    assert!(rt; read_unknown(&log), "a value that isn't x");
-    course.serve_at(one, first(rt, &mut tickets), 0);
-    let (count, reply) = course.look_and_commit(two, late, &log);
-    assert!(rt; count == 1, "another number of entries");
-    take_at(course, two, stale(rt, reply, 1), 1, (1, seen_of(1, 1, 1)));
-}
-
-// The same turn is committed before the other. It gives x to a register that is x, which is no change.
-fn first_instead<K: Naming, R: Wait + Abort>(
-    course: &Course<'_, '_, K, R>,
-    one: &mut Seat<K>,
-    two: &mut Seat<K>,
-    mut tickets: Vec<Ticket<K>>,
-) {
-    let unknown = Seen {
-        version: 0,
-        value: Bits::unknown(1),
-    };
-    let late = last(course.rt, &mut tickets);
-    take_at(course, two, late, 0, (1, unknown));
-    course.serve_at(one, first(course.rt, &mut tickets), 1);
-}
-
-// The first seat commits a turn between the second seat's evaluation and its commit, which is refused for register 0. The
-// ticket comes back with so many tries.
-fn overtake<K: Naming, R: Wait + Abort>(
-    course: &Course<'_, '_, K, R>,
-    one: &mut Seat<K>,
-    two: &mut Seat<K>,
-    tickets: &mut Vec<Ticket<K>>,
-    late: Ticket<K>,
-    tries: u8,
-) -> Ticket<K> {
-    let rt = course.rt;
-    let log = course.evaluate(two, &late);
-    accepted(rt, course.serve(one, first(rt, tickets)));
-    stale(rt, course.commit(two, late, &log), tries)
-}
-
-// The second seat's turn under the lock, after three refusals.
-fn take_held<K: Naming, R: Wait + Abort>(
-    course: &Course<'_, '_, K, R>,
-    two: &mut Seat<K>,
-    late: Ticket<K>,
-) {
-    let reply = course.commit_held(two, late);
-    assert!(course.rt; position_of(course.rt, reply) == 3, "another position");
-    course.read_as(two, 1, &seen_of(1, 2, 3));
-}
-
-/// Three turns overtake a fourth, one after each of its evaluations.
-pub fn overtake_thrice<K: Naming, R: Wait + Abort>(
-    course: &Course<'_, '_, K, R>,
-    one: &mut Seat<K>,
-    two: &mut Seat<K>,
-    mut tickets: Vec<Ticket<K>>,
-) -> Ticket<K> {
-    let late = last(course.rt, &mut tickets);
-    let late = overtake(course, one, two, &mut tickets, late, 1);
-    let late = overtake(course, one, two, &mut tickets, late, 2);
-    overtake(course, one, two, &mut tickets, late, 3)
-}
-
-// The fourth turn is then evaluated under the lock.
-fn three_times<K: Naming, R: Wait + Abort>(
-    course: &Course<'_, '_, K, R>,
-    one: &mut Seat<K>,
-    two: &mut Seat<K>,
-    tickets: Vec<Ticket<K>>,
-) {
-    let late = overtake_thrice(course, one, two, tickets);
-    take_held(course, two, late);
-}
-
-// Whether a turn read that register 0 was all x, and that register 1 was given 0.
-fn read_two_moments(log: &TurnLog) -> bool {
-    read_unknown(log) && log.reads().get(&1) == Some(&seen_of(1, 1, 0))
-}
-
-// A turn that never ends, since it saw one register before another turn and the other after it, is refused. Evaluated
-// again it ends.
-fn two_moments<K: Naming, R: Wait + Abort>(
-    course: &Course<'_, '_, K, R>,
-    one: &mut Seat<K>,
-    two: &mut Seat<K>,
-    mut tickets: Vec<Ticket<K>>,
-) {
-    let rt = course.rt;
-    let late = last(rt, &mut tickets);
-    let early = first(rt, &mut tickets);
-    let log = mixed(course, one, early, two, &late);
-    assert!(rt; read_two_moments(&log), "other values");
-    let late = stale(rt, course.give_up(two, late, &log), 1);
-    take_at(course, two, late, 1, (0, seen_of(1, 1, 0)));
-}
-
-// Two turns change a register and change it back after the second seat's turn read it, which is then refused.
-fn there_and_back<K: Naming, R: Wait + Abort>(
-    course: &Course<'_, '_, K, R>,
-    one: &mut Seat<K>,
-    two: &mut Seat<K>,
-    mut tickets: Vec<Ticket<K>>,
-) {
-    let rt = course.rt;
-    let late = last(rt, &mut tickets);
-    course.serve_at(one, first(rt, &mut tickets), 0);
-    let log = course.evaluate(two, &late);
-    course.serve_at(one, first(rt, &mut tickets), 1);
-    course.serve_at(one, first(rt, &mut tickets), 2);
-    let late = stale(rt, course.commit(two, late, &log), 1);
-    take_at(course, two, late, 3, (1, seen_of(1, 1, 0)));
-}
-
-// A turn gives a register the value that it has, which is no change, after the second seat's turn read it.
-fn equal_value<K: Naming, R: Wait + Abort>(
-    course: &Course<'_, '_, K, R>,
-    one: &mut Seat<K>,
-    two: &mut Seat<K>,
-    mut tickets: Vec<Ticket<K>>,
-) {
-    let rt = course.rt;
-    let late = last(rt, &mut tickets);
-    let same = last(rt, &mut tickets);
-    course.serve_at(one, first(rt, &mut tickets), 0);
-    let log = course.evaluate(two, &late);
-    course.serve_at(one, same, 1);
-    let reply = course.commit(two, late, &log);
-    assert!(rt; position_of(rt, reply) == 2, "another position");
-}
-
-impl Pair for Example {
-    fn lead<K: Naming, R: Wait + Abort>(
-        &self,
-        course: &Course<'_, '_, K, R>,
-        one: &mut Seat<K>,
-        two: &mut Seat<K>,
-        tickets: Vec<Ticket<K>>,
-    ) {
-        match self {
-            Example::TooEarly => too_early(course, one, two, tickets),
-            Example::FirstInstead => first_instead(course, one, two, tickets),
-            Example::ThreeTimes => three_times(course, one, two, tickets),
-            Example::TwoMoments => two_moments(course, one, two, tickets),
-            Example::ThereAndBack => there_and_back(course, one, two, tickets),
-            Example::EqualValue => equal_value(course, one, two, tickets),
-        }
+        let rt = course.rt;
+        let grant = accepted(rt, course.serve(seat, last(rt, &mut tickets)));
+        assert_turn(rt, &grant, 0);
+        assert_sees(course, seat, &[(0, 1, Some(9))]);
+        holds(rt, course.gate.entries(rt, seat) == 1, "other entries");
+        assert_journal(course, seat, &[Entry::Turn(0)]);
     }
 }
 
@@ -273,91 +616,42 @@ impl Pair for Example {
 fn a_turn_alone_stands(rt: HostRuntime) {
     let source = "module t; reg [3:0] r; initial r=4'd9; endmodule";
     let closed = play_alone(&rt, rt.alloc(), source, &mut TakeOne);
-    assert!(rt; closed.end() == End::Quiet && closed.committed() == [1].as_slice());
-}
-
-// An example of a source ends so, after so many entries of each seat.
-fn assert_ends<R: Wait + Abort>(
-    rt: &R,
-    alloc: Global,
-    source: &str,
-    example: Example,
-    end: End,
-    committed: [u64; 2],
-) {
-    let design = design_of(rt, alloc, source);
-    let closed = play_pair(rt, alloc, &design, 1_000, &example);
-    assert!(rt; closed.end() == end && closed.committed() == committed.as_slice());
-}
-
-/// One process gives a register a value, and another reads it.
-pub const COPY: &str = "module t; reg a, b; initial a=1'b1; initial b=a; endmodule";
-
-#[test]
-fn a_turn_that_read_too_early_is_stale(rt: HostRuntime) {
-    assert_ends(&rt, rt.alloc(), COPY, Example::TooEarly, End::Quiet, [1, 1]);
+    assert_closed(&rt, &closed, End::Quiet, &[1]);
 }
 
 #[test]
-fn the_same_turn_committed_first_stands(rt: HostRuntime) {
-    let design = design_of(&rt, rt.alloc(), COPY);
-    let closed = play_pair(&rt, rt.alloc(), &design, 1_000, &Example::FirstInstead);
-    let journal = [Entry::Turn(1), Entry::Turn(0)];
-    assert!(rt; closed.entries() == journal.as_slice());
+fn each_call_answers_as_it_stands(rt: HostRuntime) {
+    for row in EXAMPLES {
+        assert_row(&rt, rt.alloc(), row);
+    }
 }
 
 #[test]
-fn a_turn_refused_three_times_is_evaluated_under_the_lock(rt: HostRuntime) {
-    let source =
-        "module t; reg [1:0] a, b; initial a=2'd1; initial a=2'd2; initial a=2'd3; initial b=a; endmodule";
-    assert_ends(
-        &rt,
-        rt.alloc(),
-        source,
-        Example::ThreeTimes,
-        End::Quiet,
-        [3, 1],
-    );
+fn a_stop_after_any_entry_leaves_what_was_committed(rt: HostRuntime) {
+    for (entries, stop) in STOPS.iter().enumerate() {
+        let row = Row {
+            source: GLITCH,
+            glitches: entries,
+            steps: stop,
+            journal: JOURNAL.get(..entries).expect(&rt, "entries"),
+            committed: [entries.div_ceil(2) as u64, entries as u64 / 2],
+            end: End::Stopped(Why::Memory),
+            ..PLAIN
+        };
+        assert_row(&rt, rt.alloc(), &row);
+    }
 }
 
 #[test]
-fn a_turn_of_two_moments_is_stale(rt: HostRuntime) {
-    let source =
-        "module t; reg a, b; initial begin a=1'b0; b=1'b0; end initial while (a!==b) begin end endmodule";
-    assert_ends(
-        &rt,
-        rt.alloc(),
-        source,
-        Example::TwoMoments,
-        End::Quiet,
-        [1, 1],
-    );
-}
-
-/// A register is given a value, another and the first again, and read.
-const BACK: &str =
-    "module t; reg r, b; initial r=1'b0; initial r=1'b1; initial r=1'b0; initial b=r; endmodule";
-
-#[test]
-fn a_register_that_came_back_has_changed(rt: HostRuntime) {
-    assert_ends(
-        &rt,
-        rt.alloc(),
-        BACK,
-        Example::ThereAndBack,
-        End::Quiet,
-        [3, 1],
-    );
-}
-
-#[test]
-fn an_equal_value_is_no_change(rt: HostRuntime) {
-    assert_ends(
-        &rt,
-        rt.alloc(),
-        BACK,
-        Example::EqualValue,
-        End::Running,
-        [2, 1],
-    );
+fn a_stop_of_a_quiet_run_changes_nothing(rt: HostRuntime) {
+    let row = Row {
+        source: GLITCH,
+        glitches: GLITCHES.len(),
+        steps: QUIET,
+        journal: &JOURNAL,
+        committed: [4, 3],
+        lines: "glitch\n",
+        ..PLAIN
+    };
+    assert_row(&rt, rt.alloc(), &row);
 }

@@ -3,6 +3,7 @@ ghost use Rattle.std.specs.Prelude.{◌≡◌};
 ghost use Rattle.std.specs.Thread.{IsSend, IsSync};
 ghost use Rattle.design.specs.contracts.design.Design as design_rows;
 
+use crate::claims::{fail, holds};
 use crate::course::{Course, design_of, last};
 use commitgate::{Blank, Gate, Naming, Rest, Seat, Ticket, UpdatesEnd};
 use design::Design;
@@ -44,9 +45,10 @@ fn begin<K: Naming, R: Wait + Abort>(
     let rt = course.rt;
     course.serve_at(seat, last(rt, &mut tickets), 0);
     let rest = course.gate.rest(rt, course.alloc, seat);
-    assert!(rt;
+    holds(
+        rt,
         matches!(rest, Rest::Changed(_)),
-        "no change of the regions"
+        "no change of the regions",
     );
 }
 
@@ -58,7 +60,7 @@ fn wait_for(rt: &impl Abort, looks: &AtomicBool) {
         }
         yield_now();
     }
-    panic!(rt; "the other thread doesn't look");
+    fail(rt, "the other thread doesn't look");
 }
 
 // Makes all updates in one holding of the lock.
@@ -74,7 +76,8 @@ fn update_all<K: Naming, R: Wait + Abort>(
     let end = course
         .gate
         .update_all(rt, course.alloc, &mut one, &mut grants);
-    assert!(rt; matches!(end, UpdatesEnd::Nothing) && grants.len() == usize::from(UPDATES));
+    holds(rt, matches!(end, UpdatesEnd::Nothing), "an update is left");
+    holds(rt, grants.len() == usize::from(UPDATES), "other updates");
     one
 }
 
@@ -123,7 +126,7 @@ fn read_often<K: Naming, R: Wait + Abort>(
             return false;
         }
     }
-    panic!(course.rt; "the updates don't end")
+    fail(course.rt, "the updates don't end")
 }
 
 fn is_shared<T: Sync>()
@@ -203,5 +206,5 @@ fn registers_are_read_while_the_lock_is_held(rt: HostRuntime) {
             return;
         }
     }
-    panic!(rt; "{read} times of {HOLDINGS}");
+    fail(&rt, "too few readings of a held gate");
 }

@@ -1,9 +1,9 @@
 // A hoard leaves as much memory as was asked for.
 
+use crate::claims::holds;
 use hoard::{Hoard, LARGEST_PIECE};
 use std::alloc::Global;
 use std::process::Abort;
-use std::test::*;
 
 // The most bytes that can be had in one piece, in steps of 16.
 fn most(alloc: Global) -> usize {
@@ -18,25 +18,27 @@ fn most(alloc: Global) -> usize {
 
 // About so many bytes can be had, where they are left, and none before and after that.
 fn assert_left(rt: &impl Abort, alloc: Global, hoard: &mut Hoard, room: usize) {
-    assert!(rt; most(alloc) == 0, "nothing is left before {room}");
-    assert!(rt; hoard.leave(room), "a piece for {room}");
+    holds(rt, most(alloc) == 0, "nothing is left before");
+    holds(rt, hoard.leave(room), "a piece");
     let found = most(alloc);
-    assert!(rt;
-        found <= room && room <= found.saturating_add(64),
-        "{found} bytes of {room}"
-    );
+    holds(rt, found <= room, "too many bytes");
+    holds(rt, room <= found.saturating_add(64), "too few bytes");
     hoard.shut();
 }
 
+// Nothing can be had where all pieces are taken but one, then that one, and then no more.
+fn assert_shut(rt: &impl Abort, alloc: Global, hoard: &mut Hoard) {
+    holds(rt, most(alloc) == 0, "nothing is left");
+    holds(rt, hoard.open(), "the last piece");
+    holds(rt, most(alloc) == LARGEST_PIECE, "a whole piece");
+    holds(rt, !hoard.open(), "all pieces are gone");
+}
+
 #[test]
-fn leaves_what_it_says(rt: HostRuntime) -> Result<(), Fail> {
-    let mut hoard = Hoard::new(rt.alloc(), 5, LARGEST_PIECE)?;
+fn leaves_what_it_says(rt: HostRuntime) {
+    let mut hoard = Hoard::new(rt.alloc(), 5, LARGEST_PIECE).expect(&rt, "memory");
     for room in [1536, 4096, 61440, 2048] {
         assert_left(&rt, rt.alloc(), &mut hoard, room);
     }
-    assert!(rt; most(rt.alloc()) == 0, "nothing is left");
-    assert!(rt; hoard.open(), "a piece");
-    assert!(rt; most(rt.alloc()) == LARGEST_PIECE, "a whole piece");
-    assert!(rt; !hoard.open(), "all pieces are gone");
-    Ok(())
+    assert_shut(&rt, rt.alloc(), &mut hoard);
 }

@@ -1,6 +1,7 @@
 // Gates of two workers, from the opening to the end.
 ghost use Rattle.std.specs.Prelude.{◌≡◌};
 
+use crate::claims::holds;
 use crate::course::{Course, close_two};
 use commitgate::{Blank, Closed, Gate, Naming, Seat, Ticket};
 use design::Design;
@@ -56,7 +57,7 @@ pub fn play_pair<R: Wait + Abort, W: Pair>(
     max_entries: u32,
     work: &W,
 ) -> Closed {
-    assert!(rt; max_entries > 0, "room for an entry");
+    holds(rt, max_entries > 0, "room for an entry");
     let limits = Limits {
         until: None,
         max_entries,

@@ -4,9 +4,10 @@ ghost use Rattle.turn.specs.Reads.{GaveAll};
 ghost use Rattle.gateparts.specs.Histories.{IsRead};
 
 use crate::alone::{Alone, play_alone};
+use crate::claims::{fail, holds};
 use crate::course::{Course, first, keep};
 use crate::examples::COPY;
-use commitgate::{Grant, Naming, Reply, Rest, Seat, Ticket, UpdateReply};
+use commitgate::{Closed, Grant, Naming, Reply, Rest, Seat, Ticket, UpdateReply};
 use hoard::Hoard;
 use model::end::End;
 use std::alloc::Global;
@@ -64,7 +65,7 @@ fn came_of_update<K: Naming>(rt: &impl Abort, reply: UpdateReply<K>) -> Came<K> 
         UpdateReply::Accepted(grant) => Came::Entry(grant),
         UpdateReply::Nothing => Came::Nothing,
         UpdateReply::NoMemory => Came::NoMemory,
-        UpdateReply::Stopped(_) => panic!(rt; "a stop"),
+        UpdateReply::Stopped(_) => fail(rt, "a stop"),
     }
 }
 
@@ -73,7 +74,7 @@ fn came_of_rest<K: Naming>(rt: &impl Abort, rest: Rest<K>) -> Came<K> {
         Rest::Changed(grant) => Came::Entry(grant),
         Rest::Quiet => Came::Nothing,
         Rest::NoMemory => Came::NoMemory,
-        Rest::Busy | Rest::Stopped(_) => panic!(rt; "busy or stopped"),
+        Rest::Busy | Rest::Stopped(_) => fail(rt, "busy or stopped"),
     }
 }
 
@@ -86,13 +87,11 @@ pub fn granted<K: Naming>(
     match reply {
         Reply::Accepted(grant) => Ok(grant),
         Reply::NoMemory(back) => {
-            assert!(rt;
-                back.tries() == 0 && back.event() == event,
-                "another ticket"
-            );
+            holds(rt, back.tries() == 0, "another try");
+            holds(rt, back.event() == event, "another ticket");
             Err(back)
         }
-        _ => panic!(rt; "neither accepted nor refused memory"),
+        _ => fail(rt, "neither accepted nor refused memory"),
     }
 }
 
@@ -101,7 +100,7 @@ impl<'c, 'h, 'g, 'd, K: Naming, R: Wait + Abort> Starved<'c, 'h, 'g, 'd, K, R> {
     fn leave(&mut self, count: usize) {
         self.hoard.shut();
         let is_left = self.hoard.leave(count.saturating_mul(STEP));
-        assert!(self.course.rt; is_left, "a piece of memory");
+        holds(self.course.rt, is_left, "a piece of memory");
     }
 
     // The turn of a ticket, evaluated with more and more memory.
@@ -115,7 +114,7 @@ impl<'c, 'h, 'g, 'd, K: Naming, R: Wait + Abort> Starved<'c, 'h, 'g, 'd, K, R> {
             }
             self.refused.evaluations = self.refused.evaluations.saturating_add(1);
         }
-        panic!(self.course.rt; "no turn")
+        fail(self.course.rt, "no turn")
     }
 
     // The same turn, evaluated with memory enough.
@@ -123,7 +122,7 @@ impl<'c, 'h, 'g, 'd, K: Naming, R: Wait + Abort> Starved<'c, 'h, 'g, 'd, K, R> {
         ensures turn { IsTurnLog K.named.code ticket.now.state ticket.now.time result }
         ensures gave { GaveAll (IsRead K.named.code seat.new.fresh) result.reads }
     {
-        assert!(self.course.rt; self.hoard.open(), "a piece of memory");
+        holds(self.course.rt, self.hoard.open(), "a piece of memory");
         let log = self.course.evaluate(seat, ticket);
         self.hoard.shut();
         log
@@ -155,7 +154,7 @@ impl<'c, 'h, 'g, 'd, K: Naming, R: Wait + Abort> Starved<'c, 'h, 'g, 'd, K, R> {
             }
             self.refused.commits = self.refused.commits.saturating_add(1);
         }
-        panic!(self.course.rt; "not accepted")
+        fail(self.course.rt, "not accepted")
     }
 
     // What comes of a call in so little memory.
@@ -195,7 +194,7 @@ impl<'c, 'h, 'g, 'd, K: Naming, R: Wait + Abort> Starved<'c, 'h, 'g, 'd, K, R> {
             }
             self.count_refused(call);
         }
-        panic!(self.course.rt; "no answer")
+        fail(self.course.rt, "no answer")
     }
 
     // An update, or else a change of the regions.
@@ -222,13 +221,14 @@ impl<'c, 'h, 'g, 'd, K: Naming, R: Wait + Abort> Starved<'c, 'h, 'g, 'd, K, R> {
             let Some(grant) = self.step(seat, &mut tickets) else {
                 return;
             };
-            assert!(rt;
+            holds(
+                rt,
                 grant.position == position as u64,
-                "entries before this one"
+                "entries before this one",
             );
             keep(rt, &mut tickets, grant.tickets);
         }
-        panic!(rt; "no end")
+        fail(rt, "no end")
     }
 }
 
@@ -277,6 +277,13 @@ impl Alone for Starving {
     }
 }
 
+// A run is quiet after so many entries, with these lines.
+fn assert_quiet(rt: &impl Abort, closed: &Closed, entries: usize, lines: &str) {
+    holds(rt, closed.end() == End::Quiet, "the end");
+    holds(rt, closed.entries().len() == entries, "the entries");
+    holds(rt, closed.lines() == lines, "the lines");
+}
+
 // How often memory was refused to the gate of a source, whose run is quiet at last and has these lines.
 fn play<R: Wait + Abort>(
     rt: &R,
@@ -287,11 +294,7 @@ fn play<R: Wait + Abort>(
 ) -> Refused {
     let mut starving = Starving { refused: NONE_YET };
     let closed = play_alone(rt, alloc, source, &mut starving);
-    assert!(rt;
-        closed.end() == End::Quiet && closed.entries().len() == entries,
-        "the end"
-    );
-    assert!(rt; closed.lines() == lines, "the lines");
+    assert_quiet(rt, &closed, entries, lines);
     starving.refused
 }
 
@@ -300,10 +303,8 @@ fn a_swap_runs_through_refusals(rt: HostRuntime) {
     let source =
         "module t; reg a, b; initial begin a=1'b0; b=1'b1; #1 a<=b; b<=a; #1 $display(\"%b %b\",a,b); end endmodule";
     let refused = play(&rt, rt.alloc(), source, 8, "1 0\n");
-    assert!(rt;
-        refused.evaluations > 0 && refused.commits > 0,
-        "evaluations and commits"
-    );
+    holds(&rt, refused.evaluations > 0, "evaluations");
+    holds(&rt, refused.commits > 0, "commits");
 }
 
 #[test]
@@ -311,7 +312,9 @@ fn a_glitch_runs_through_refusals(rt: HostRuntime) {
     let source =
         "module t; reg a; initial begin a=1'b1; #1 a=1'b0; a=1'b1; end initial #0 @(posedge a) $display(\"glitch\"); endmodule";
     let refused = play(&rt, rt.alloc(), source, 7, "glitch\n");
-    assert!(rt; refused.evaluations > 0 && refused.commits > 0 && refused.rests > 0);
+    holds(&rt, refused.evaluations > 0, "evaluations");
+    holds(&rt, refused.commits > 0, "commits");
+    holds(&rt, refused.rests > 0, "rests");
 }
 
 #[test]
@@ -319,11 +322,12 @@ fn an_update_that_wakes_runs_through_refusals(rt: HostRuntime) {
     let source =
         "module t; reg a; initial begin a<=1'b0; a<=1'b1; end initial @(posedge a) $display(\"up %b\",a); endmodule";
     let refused = play(&rt, rt.alloc(), source, 6, "up 1\n");
-    assert!(rt; refused.updates > 0, "updates");
+    holds(&rt, refused.updates > 0, "updates");
 }
 
 #[test]
 fn a_copy_runs_through_refusals(rt: HostRuntime) {
     let refused = play(&rt, rt.alloc(), COPY, 2, "");
-    assert!(rt; refused.evaluations > 0 && refused.commits > 0);
+    holds(&rt, refused.evaluations > 0, "evaluations");
+    holds(&rt, refused.commits > 0, "commits");
 }

@@ -1,9 +1,11 @@
 // Calls that get more and more memory until one isn't refused any: a turn under the lock, a copy of the journal, and a journal
 // that is led through a gate. What was refused changes nothing.
 
-use crate::course::{Course, design_of};
-use crate::examples::{COPY, overtake_thrice};
+use crate::claims::{fail, holds};
+use crate::course::{Course, assert_closed, assert_left, design_of};
+use crate::examples::{COPY, THRICE, WRITERS};
 use crate::pair::{Pair, play_pair};
+use crate::steps::{Led, lead, ticket_of};
 use commitgate::{Naming, Reply, Seat, Ticket};
 use drive::{DriveFault, drive};
 use hoard::{Hoard, LARGEST_PIECE};
@@ -17,10 +19,6 @@ use std::sync::Wait;
 const STEP: usize = 48;
 
 const ROOMS: usize = 512;
-
-// A fourth process reads what three others write.
-const WRITERS: &str =
-    "module t; reg [1:0] a, b; initial a=2'd1; initial a=2'd2; initial a=2'd3; initial b=a; endmodule";
 
 const JOURNAL: [Entry; 4] = [
     Entry::Turn(0),
@@ -38,21 +36,22 @@ fn take_all(rt: &impl Abort, alloc: Global) -> Hoard {
 fn leave(rt: &impl Abort, hoard: &mut Hoard, count: usize) {
     hoard.shut();
     let is_left = hoard.leave(count.saturating_mul(STEP));
-    assert!(rt; is_left, "a piece of memory");
+    holds(rt, is_left, "a piece of memory");
 }
 
 // The ticket of a turn that was refused memory under the lock, with as many tries as before, or nothing where it was accepted.
 fn refused<K: Naming>(rt: &impl Abort, reply: Reply<K>) -> Option<Ticket<K>> {
     match reply {
         Reply::Accepted(grant) => {
-            assert!(rt; grant.position == 3, "another position");
+            holds(rt, grant.position == 3, "another position");
             None
         }
         Reply::NoMemory(back) => {
-            assert!(rt; back.tries() == 3 && back.event() == 3, "another ticket");
+            holds(rt, back.tries() == 3, "other tries");
+            holds(rt, back.event() == 3, "another ticket");
             Some(back)
         }
-        _ => panic!(rt; "neither accepted nor refused memory"),
+        _ => fail(rt, "neither accepted nor refused memory"),
     }
 }
 
@@ -70,12 +69,12 @@ fn commit_held<K: Naming, R: Wait + Abort>(
         match refused(course.rt, reply) {
             Some(back) => late = back,
             None => {
-                assert!(course.rt; count > 0, "memory was refused");
+                holds(course.rt, count > 0, "memory was refused");
                 return;
             }
         }
     }
-    panic!(course.rt; "not accepted")
+    fail(course.rt, "not accepted")
 }
 
 // Whether there is memory for a copy of the journal, which then has these entries.
@@ -85,7 +84,11 @@ fn is_copied<K: Naming, R: Wait + Abort>(
 ) -> bool {
     match course.gate.snapshot(course.rt, course.alloc, seat) {
         Ok(entries) => {
-            assert!(course.rt; entries.as_slice() == JOURNAL.as_slice(), "another journal");
+            holds(
+                course.rt,
+                entries.as_slice() == JOURNAL.as_slice(),
+                "another journal",
+            );
             true
         }
         Err(_) => false,
@@ -101,11 +104,11 @@ fn copy<K: Naming, R: Wait + Abort>(
     for count in 0..ROOMS {
         leave(course.rt, hoard, count);
         if is_copied(course, seat) {
-            assert!(course.rt; count > 0, "memory was refused");
+            holds(course.rt, count > 0, "memory was refused");
             return;
         }
     }
-    panic!(course.rt; "no copy")
+    fail(course.rt, "no copy")
 }
 
 // Three turns overtake a fourth one. It is then evaluated under the lock, and the journal is copied.
@@ -120,7 +123,12 @@ impl Pair for Starved {
         two: &mut Seat<K>,
         tickets: Vec<Ticket<K>>,
     ) {
-        let late = overtake_thrice(course, one, two, tickets);
+        let mut led = Led {
+            tickets,
+            entries: 0,
+        };
+        lead(course, one, two, &mut led, THRICE);
+        let late = ticket_of(course.rt, &mut led.tickets, 3);
         let mut hoard = take_all(course.rt, course.alloc);
         commit_held(course, &mut hoard, two, late);
         copy(course, &mut hoard, one);
@@ -131,29 +139,32 @@ impl Pair for Starved {
 fn a_turn_under_the_lock_and_a_copy_of_the_journal_are_refused_memory(rt: HostRuntime) {
     let design = design_of(&rt, rt.alloc(), WRITERS);
     let closed = play_pair(&rt, rt.alloc(), &design, 1_000, &Starved);
-    assert!(rt; closed.end() == End::Quiet && closed.committed() == [3, 1].as_slice());
+    assert_closed(&rt, &closed, End::Quiet, &[3, 1]);
 }
 
 // A journal is led through a gate with more and more memory.
-fn lead<R: Wait + Abort>(rt: &R, alloc: Global, source: &str, entries: &[Entry], lines: &str) {
-    assert!(rt; entries.len() < 1_000, "a short journal");
+fn assert_driven<R: Wait + Abort>(
+    rt: &R,
+    alloc: Global,
+    source: &str,
+    entries: &[Entry],
+    lines: &str,
+) {
+    holds(rt, entries.len() < 1_000, "a short journal");
     let design = design_of(rt, alloc, source);
     let mut hoard = take_all(rt, alloc);
     for count in 0..ROOMS {
         leave(rt, &mut hoard, count);
         match drive(rt, alloc, &design, entries) {
             Ok(closed) => {
-                assert!(rt;
-                    closed.entries() == entries && closed.lines() == lines,
-                    "{source}"
-                );
-                assert!(rt; count > 0, "memory was refused");
+                assert_left(rt, &closed, entries, lines);
+                holds(rt, count > 0, "memory was refused");
                 return;
             }
-            Err(fault) => assert!(rt; fault == DriveFault::Memory, "another fault"),
+            Err(fault) => holds(rt, fault == DriveFault::Memory, "another fault"),
         }
     }
-    panic!(rt; "no end")
+    fail(rt, "no end")
 }
 
 // Sources, the journal of a run of each, and its lines.
@@ -192,6 +203,6 @@ const LED: &[(&str, &[Entry], &str)] = &[
 #[test]
 fn journals_that_are_led_through_a_gate_are_refused_memory(rt: HostRuntime) {
     for &(source, entries, lines) in LED {
-        lead(&rt, rt.alloc(), source, entries, lines);
+        assert_driven(&rt, rt.alloc(), source, entries, lines);
     }
 }

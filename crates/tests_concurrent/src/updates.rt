@@ -1,7 +1,8 @@
 // A run whose updates are made several in one holding of the lock.
 
 use crate::alone::{Alone, play_alone};
-use crate::course::{Course, last};
+use crate::claims::{fail, holds};
+use crate::course::{Course, assert_closed, assert_left, last};
 use commitgate::{Grant, Naming, Rest, Seat, Ticket, UpdatesEnd};
 use model::end::End;
 use model::entry::Entry;
@@ -33,13 +34,15 @@ fn update<K: Naming, R: Wait + Abort>(
 ) -> UpdatesEnd {
     let rt = course.rt;
     let end = course.gate.update_all(rt, course.alloc, seat, grants);
-    assert!(rt; grants.len() == wanted.len(), "another number of updates");
+    holds(
+        rt,
+        grants.len() == wanted.len(),
+        "another number of updates",
+    );
     for (grant, wanted) in grants.iter().zip(wanted) {
-        assert!(rt;
-            grant.position == wanted.position
-                && grant.entry == wanted.entry
-                && grant.tickets.len() == wanted.tickets
-        );
+        holds(rt, grant.position == wanted.position, "another position");
+        holds(rt, grant.entry == wanted.entry, "another entry");
+        holds(rt, grant.tickets.len() == wanted.tickets, "other tickets");
     }
     end
 }
@@ -57,14 +60,14 @@ fn update_all<K: Naming, R: Wait + Abort>(
         tickets,
     };
     let end = update(course, seat, &mut grants, &[at(3, 2, 0), at(4, 3, 1)]);
-    assert!(rt; matches!(end, UpdatesEnd::Woke));
+    holds(rt, matches!(end, UpdatesEnd::Woke), "none woke");
     let mut woken = grants.pop().expect(rt, "a grant").tickets;
     let end = update(course, seat, &mut grants, &[at(5, 4, 0), at(6, 5, 0)]);
-    assert!(rt; matches!(end, UpdatesEnd::NoRoom));
+    holds(rt, matches!(end, UpdatesEnd::NoRoom), "room is left");
     let end = update(course, seat, &mut grants, &[at(7, 6, 0)]);
-    assert!(rt; matches!(end, UpdatesEnd::Nothing));
+    holds(rt, matches!(end, UpdatesEnd::Nothing), "an update is left");
     let end = update(course, seat, &mut grants, &[]);
-    assert!(rt; matches!(end, UpdatesEnd::Nothing));
+    holds(rt, matches!(end, UpdatesEnd::Nothing), "an update is left");
     last(rt, &mut woken)
 }
 
@@ -74,14 +77,14 @@ fn rests<K: Naming, R: Wait + Abort>(course: &Course<'_, '_, K, R>, seat: &mut S
     match course.gate.rest(rt, course.alloc, seat) {
         Rest::Changed(_) => true,
         Rest::Quiet => false,
-        _ => panic!(rt; "neither a change nor the end"),
+        _ => fail(rt, "neither a change nor the end"),
     }
 }
 
 // Room for the grants.
 fn room<K: Naming>(rt: &impl Abort, alloc: Global) -> Vec<Grant<K>> {
     let grants = Vec::with_capacity(alloc, ROOM).expect(rt, "memory");
-    assert!(rt; grants.capacity() == ROOM, "another room");
+    holds(rt, grants.capacity() == ROOM, "another room");
     grants
 }
 
@@ -99,10 +102,10 @@ impl Alone for Updates {
         let rt = course.rt;
         course.serve_at(seat, last(rt, &mut tickets), 0);
         course.serve_at(seat, last(rt, &mut tickets), 1);
-        assert!(rt; rests(course, seat), "no change of the regions");
+        holds(rt, rests(course, seat), "no change of the regions");
         let woken = update_all(course, seat);
         course.serve_at(seat, woken, 8);
-        assert!(rt; !rests(course, seat), "not quiet");
+        holds(rt, !rests(course, seat), "not quiet");
     }
 }
 
@@ -120,7 +123,6 @@ fn updates_are_made_in_order_up_to_one_that_wakes_a_process(rt: HostRuntime) {
         Entry::Update(6),
         Entry::Turn(7),
     ];
-    assert!(rt; closed.entries() == journal.as_slice());
-    assert!(rt; closed.lines() == "b is 1\n");
-    assert!(rt; closed.end() == End::Quiet && closed.committed() == [9].as_slice());
+    assert_left(&rt, &closed, &journal, "b is 1\n");
+    assert_closed(&rt, &closed, End::Quiet, &[9]);
 }

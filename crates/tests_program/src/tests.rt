@@ -1,5 +1,6 @@
 //! The program over files in memory, with exact bytes and statuses.
 
+use claims::{holds, holds_of};
 use design::Design;
 use files::Files;
 use frontend::read_design;
@@ -18,6 +19,7 @@ use std::thread::Threads;
 use std::{io, mem};
 
 mod bounds;
+mod claims;
 mod counts;
 mod journals;
 mod limits;
@@ -39,6 +41,8 @@ const RUN: &str = "vsimtx run t.v";
 const SAVE: &str = "vsimtx run t.v --journal OUT";
 
 const REPLAY: &str = "vsimtx replay t.v JOURNAL";
+
+const EXPLAIN: &str = "vsimtx explain t.v JOURNAL";
 
 const WAVES: &str = "vsimtx waves t.v JOURNAL --out OUT";
 
@@ -362,11 +366,11 @@ fn run_line<R: Abort + Threads + Wait + Sync>(
 }
 
 fn assert_status(rt: &impl Abort, what: &str, status: u8, wanted: u8) {
-    assert!(rt; status == wanted, "the status of {what}");
+    holds_of(rt, status == wanted, "the status", what);
 }
 
 fn assert_bytes(rt: &impl Abort, what: &str, bytes: &[u8], wanted: &[u8]) {
-    assert!(rt; bytes == wanted, "{what}");
+    holds(rt, bytes == wanted, what);
 }
 
 fn assert_left(rt: &impl Abort, what: &str, left: &Left, wanted: Wanted<'_>) {
@@ -379,7 +383,7 @@ fn assert_left(rt: &impl Abort, what: &str, left: &Left, wanted: Wanted<'_>) {
 fn assert_texts(rt: &impl Abort, source: &str, left: &Left, texts: Texts<'_>) {
     assert_status(rt, source, left.status, 0);
     assert_bytes(rt, source, left.err.as_slice(), b"");
-    assert!(rt; texts.has(left.out.as_slice()), "{source}");
+    holds(rt, texts.has(left.out.as_slice()), source);
 }
 
 /// A command line leaves this in a setting.

@@ -2,17 +2,13 @@
 //! their public calls. There are tests alone.
 //!
 //! `language`:
-//! 1. `vectors` compares each operation of `logic4` with a plain program over lists of digits, and has the edges
-//!    between worked values.
+//! 1. `vectors` has the edges between worked values.
 //! 2. `parsing` has sources that are accepted, and a page of source that is cut, and with each byte replaced.
-//! 3. `concatenations` has concatenations of one part and of more, as they are in a tree.
-//! 4. `elaboration` has modules that `elaborate` makes designs of.
-//! 5. `faults_told` has what is told of a source in too little memory, and where its processes stand.
-//! 6. `tasks` has calls of `$display` and `$strobe` in trees and designs.
+//! 3. `faults_told` has what is told of a source in too little memory, and where its processes stand.
+//! 4. `tasks` has formats that no source can spell.
 //!
 //! `runs`:
-//! 1. `turns` has what small processes do in a turn, and `worked` whole turns that are known. All are made by `turn` from a
-//!    source.
+//! 1. `turns` has what small processes do in a turn, and `too_long` turns that are too long. All are made by `turn` from a source.
 //! 2. `event_queue` has journals of small designs: which entries are permitted after each entry, and what is refused. Its `searched` and `keys`
 //!    have what a search of all orders asks: what may be next, copies, and keys of states that two orders of turns lead to.
 //! 3. `journal_text` has texts of journals of both versions with what `journal` reads, what it writes, and readers and writers
@@ -22,12 +18,14 @@
 //! 6. `dumps` has waves of small designs, and their dumps.
 //! 7. `replaced` has a source and its journal that are cut, and with each byte replaced.
 //!
-//! The faults of sources and of journals, the values of literals and operators, and the lines of whole journals are rows of
-//! `shown`.
+//! The faults of sources and of journals, the operations of vectors, the values of literals, operators and concatenations, and the
+//! lines of whole journals are rows of `shown`.
 //!
 //! `graph` is a small instance of the search of `explore`: the walks through a graph, of which the texts are counted by hand.
 #![tactic(auto)]
 
+#[cfg(test)]
+mod claims;
 pub mod graph;
 #[cfg(test)]
 mod language;

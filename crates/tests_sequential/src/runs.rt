@@ -10,5 +10,5 @@ mod replaced;
 mod replayed;
 mod replays;
 mod streams;
+mod too_long;
 mod turns;
-mod worked;

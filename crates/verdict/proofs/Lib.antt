@@ -1,2 +1,3 @@
--- Lemmas of texts.
+-- Lemmas of texts and their lines.
+pub mod LineLaws
 pub mod Pieces

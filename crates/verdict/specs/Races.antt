@@ -6,7 +6,7 @@ use Rattle.verdict.specs.declared.race.Role.{Role}
 use Rattle.verdict.specs.declared.race.Run.{Run}
 use Rattle.verdict.specs.declared.race.Site.{Site}
 use Rattle.verdict.specs.declared.race.Site.TheVariants.{Register, Printing, Strobing}
-use Rattle.verdict.specs.declared.source.Process.{Process}
+use Rattle.verdict.specs.declared.race.Process.{Process}
 
 -- for what two processes race
 abbrev pub site_text : Site → List ℕ

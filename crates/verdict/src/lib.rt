@@ -2,18 +2,19 @@
 //!
 //! 1. `claim` is what a search has come to: all lawful runs were followed, a limit was met, or random orders were tried.
 //! 2. `verdict` puts into words how many texts there are and what that means for other runs. `phrases` has its parts.
-//! 3. `race` puts a race into lines, and `source` finds in which line of a source a process of it begins.
+//! 3. `race` puts a race into lines, and `difference` finds the first line in which the texts of its two runs differ.
 //!
-//! What the layer above uses: `push_verdict`, whose text is pinned whole by `specs/Verdicts`.
+//! What the layer above uses: `push_verdict` and `push_race`, whose texts are pinned whole by `specs/Verdicts` and `specs/Races`, and
+//! `first_difference` (`specs/Lines`).
 #![tactic(auto)]
 
 mod claim;
+mod difference;
 mod phrases;
 mod race;
-mod source;
 mod verdict;
 
 pub use claim::{Claim, Met};
-pub use race::{Race, Role, Run, Site, push_race};
-pub use source::{Process, processes};
+pub use difference::{Difference, first_difference};
+pub use race::{Process, Race, Role, Run, Site, push_race};
 pub use verdict::{Verdict, push_verdict};

@@ -4,7 +4,6 @@ ghost use Rattle.std.specs.Prelude.{◌≡◌, ◌++◌, OnOk, Some, option_map}
 ghost use Rattle.verdict.specs.Races.{begin_text, in_quotes, journal_text, line_text, path_text, prefix_of, quoted_line, race_text, role_text, roles_text, run_text, runs_text, site_text, title_text};
 
 use crate::phrases::push_number;
-use crate::source::Process;
 use std::alloc::AllocError;
 
 /// What two processes race for: a register, the order of the lines that they print, or that of their strobes' lines.
@@ -13,6 +12,13 @@ pub enum Site<'a> {
     Register(&'a str),
     Printing,
     Strobing,
+}
+
+/// Where a process begins: whether with `always` or with `initial`, and in which line of the source, counted from 1.
+#[derive(Clone, Copy, Debug)]
+pub struct Process {
+    pub always: bool,
+    pub line: usize,
 }
 
 /// A process that races: its number, where it begins, if that is known, and what it does.
@@ -114,7 +120,7 @@ fn push_begin(text: &mut Vec<u8>, process: Process) -> Result<(), AllocError>
         false => b", initial at line ",
     };
     text.extend_from_slice(word)?;
-    push_number(text, process.line)
+    push_number(text, process.line as u64)
 }
 
 fn push_run(

@@ -17,7 +17,9 @@ use Rattle.workers.specs.declared.batch.Next.TheVariants.{Enough, Over}
 use Rattle.workers.specs.Batching.{IsOpen, Fills, Leads}
 use Rattle.workers.specs.Working.{turns_of, Goes, OnlyPuts, SameEnds, OverUnless, got_by_ends, Serves}
 use Rattle.workers.specs.declared.worker.Worker.{Worker}
+use Rattle.workers.specs.Keeping.{weigh_got, GotOne, Later, Within}
 use Rattle.workers.proofs.Rounds.{got_kept}
+use Rattle.workers.proofs.Onward.{got_puts_all, later_puts, later_taken, later_more}
 
 -- one more turn is offered, with its log behind those of the others
 pub offered_more : (code : Compiled) (fresh : List (List Vector)) (tickets : List TicketView) (ticket : TicketView) (logs : List LogView) (log : LogView) → length tickets < length logs
@@ -49,7 +51,7 @@ log_found P logs kept place at log same is holds found = holds log (found ∙ (�
 module _ {T : Type 0} where
   -- no evaluation is counted, and so many of the turns that wait are appended
   open_goes : (s s' : SeatView) (o o1 : Owning T) (r r1 : List (Stealing T)) (e turns tickets appended left : ℕ) → got_by_ends o1 r1 ≡ got_by_ends o r
-      → Goes appended s s' → appended + left ≤ turns → IsOpen s o r e turns tickets → IsOpen s' o1 r1 e left 0
+      → Goes appended appended s s' → appended + left ≤ turns → IsOpen s o r e turns tickets → IsOpen s' o1 r1 e left 0
   open_goes s s' o o1 r r1 e turns tickets appended left got goes few c =
       let t = goes.counted c.0 in (
         goes.positions c.0,
@@ -59,7 +61,7 @@ module _ {T : Type 0} where
 
   -- one more evaluation is counted, of a ticket in hand, and its turn waits, or doesn't
   open_begun : (s s' : SeatView) (o o1 : Owning T) (r r1 : List (Stealing T)) (e e' turns more : ℕ) → got_by_ends o1 r1 ≡ got_by_ends o r
-      → Goes 0 s s' → e' ≡ min (e + 1) (2 ^ 64 - 1) → more ≤ turns + 1 → IsOpen s o r e turns 1 → IsOpen s' o1 r1 e' more 0
+      → Goes 0 0 s s' → e' ≡ min (e + 1) (2 ^ 64 - 1) → more ≤ turns + 1 → IsOpen s o r e turns 1 → IsOpen s' o1 r1 e' more 0
   open_begun s s' o o1 r r1 e e' turns more got goes one few c =
       let t = goes.counted c.0 in (
         goes.positions c.0,
@@ -72,29 +74,40 @@ module _ {A : Type 0} where
   got_puts a b puts row = (λ i. got_by_ends b.owner (row i)) ∙ got_kept a.owner b.owner a.row.items puts
 
   -- a worker that puts tickets, and whose turns were appended
-  pub fills_goes : (a b : Worker A) (turns tickets appended left : ℕ) → Goes appended a.seat b.seat → appended + left ≤ turns → OnlyPuts a.owner b.owner
-      → b.row.items ≡ a.row.items → b.evaluations ≡ a.evaluations → Fills a b turns tickets left 0
+  pub fills_goes : (a b : Worker A) (turns tickets appended left : ℕ) → Goes appended appended a.seat b.seat → appended + left ≤ turns → OnlyPuts a.owner b.owner
+      → b.row.items ≡ a.row.items → b.evaluations ≡ a.evaluations → Fills a b turns tickets 0 left 0
   fills_goes a b turns tickets appended left goes few puts row same = record {
     worker = goes.worker;
     ends = (puts.0, ap (map thief_card) row);
+    later = later_puts a b goes puts row;
+    entries_few = (let f = goes.few in omega (arith, f, few));
+    tickets_few = (let g = got_puts_all a b (λ ticket. 1) puts row in omega (arith, g));
     counted = λ c. rw same (open_goes a.seat b.seat a.owner b.owner a.row.items b.row.items a.evaluations turns tickets appended left (got_puts a b puts row) goes few c);
   }
 
   -- a worker that begins with a ticket in hand
-  pub fills_begun : (a b : Worker A) (turns more : ℕ) → Goes 0 a.seat b.seat → b.evaluations ≡ min (a.evaluations + 1) (2 ^ 64 - 1) → more ≤ turns + 1
-      → OnlyPuts a.owner b.owner → b.row.items ≡ a.row.items → Fills a b turns 1 more 0
+  pub fills_begun : (a b : Worker A) (turns more : ℕ) → Goes 0 0 a.seat b.seat → b.evaluations ≡ min (a.evaluations + 1) (2 ^ 64 - 1) → more ≤ turns + 1
+      → OnlyPuts a.owner b.owner → b.row.items ≡ a.row.items → Fills a b turns 1 0 more 0
   fills_begun a b turns more goes one few puts row = record {
     worker = goes.worker;
     ends = (puts.0, ap (map thief_card) row);
+    later = later_puts a b goes puts row;
+    entries_few = (let f = goes.few in omega (arith, f, few));
+    tickets_few = (let g = got_puts_all a b (λ ticket. 1) puts row in omega (arith, g));
     counted = open_begun a.seat b.seat a.owner b.owner a.row.items b.row.items a.evaluations b.evaluations turns more (got_puts a b puts row) goes one few;
   }
 
   -- a worker that got a ticket, and goes on with it
-  pub fills_taken : (a b c : Worker A) (turns more left : ℕ) → b.seat ≡ a.seat → SameEnds a.owner a.row.items b.owner b.row.items
-      → got_by_ends b.owner b.row.items ≡ got_by_ends a.owner a.row.items + 1 → b.evaluations ≡ a.evaluations → Fills b c turns 1 more left → Fills a c turns 0 more left
-  fills_taken a b c turns more left seat ends got same fills = record {
+  pub fills_taken : (a b c : Worker A) (ticket : TicketView) (turns more left : ℕ) → b.seat ≡ a.seat → SameEnds a.owner a.row.items b.owner b.row.items
+      → got_by_ends b.owner b.row.items ≡ got_by_ends a.owner a.row.items + 1 → b.evaluations ≡ a.evaluations → b.owner.put ≡ a.owner.put
+      → GotOne a.owner a.row.items b.owner b.row.items ticket
+      → Fills b c turns 1 0 more left → Fills a c turns 0 1 more left
+  fills_taken a b c ticket turns more left seat ends got same put all fills = record {
     worker = fills.worker ∙ ap (λ s. s.worker) seat;
     ends = (fills.ends.0 ∙ ends.0, fills.ends.1 ∙ ends.1);
+    later = later_more a b c (later_taken a b ticket seat put all) fills.later;
+    entries_few = (let f = fills.entries_few in let l : length b.seat.mine ≡ length a.seat.mine = ap (λ (s : SeatView). length s.mine) seat in omega (arith, f, l));
+    tickets_few = (let f = fills.tickets_few in let g = all (λ ticket. 1) in omega (arith, f, g));
     counted = λ k. fills.counted (
       rw seat k.0,
       (λ lt. let t : turns_of b.seat ≡ turns_of a.seat = ap turns_of seat in let p = k.1 (omega (arith, same, lt)) in omega (arith, p, t, same)),
@@ -102,17 +115,21 @@ module _ {A : Type 0} where
     );
   }
 
-  pub fills_more : (a b c : Worker A) (turns tickets more left most last : ℕ) → Fills a b turns tickets more left → Fills b c more left most last → Fills a c turns tickets most last
-  fills_more a b c turns tickets more left most last f g = record {
+  pub fills_more : (a b c : Worker A) (turns tickets taken got more left most last : ℕ) → Fills a b turns tickets taken more left → Fills b c more left got most last
+      → Fills a c turns tickets (taken + got) most last
+  fills_more a b c turns tickets taken got more left most last f g = record {
     worker = g.worker ∙ f.worker;
     ends = (g.ends.0 ∙ f.ends.0, g.ends.1 ∙ f.ends.1);
+    later = later_more a b c f.later g.later;
+    entries_few = (let p = f.entries_few in let q = g.entries_few in omega (arith, p, q));
+    tickets_few = (let p = f.tickets_few in let q = g.tickets_few in omega (arith, p, q));
     counted = λ x. g.counted (f.counted x);
   }
 
   -- the same, by a worker that goes on without the ticket
-  pub fills_begun_more : (a b c : Worker A) (turns more most : ℕ) → Fills b c more 0 most 0 → Goes 0 a.seat b.seat → b.evaluations ≡ min (a.evaluations + 1) (2 ^ 64 - 1)
-      → more ≤ turns + 1 → OnlyPuts a.owner b.owner → b.row.items ≡ a.row.items → Fills a c turns 1 most 0
-  fills_begun_more a b c turns more most f goes one few puts row = fills_more a b c turns 1 more 0 most 0 (fills_begun a b turns more goes one few puts row) f
+  pub fills_begun_more : (a b c : Worker A) (turns more most : ℕ) → Fills b c more 0 0 most 0 → Goes 0 0 a.seat b.seat → b.evaluations ≡ min (a.evaluations + 1) (2 ^ 64 - 1)
+      → more ≤ turns + 1 → OnlyPuts a.owner b.owner → b.row.items ≡ a.row.items → Fills a c turns 1 0 most 0
+  fills_begun_more a b c turns more most f goes one few puts row = fills_more a b c turns 1 0 0 more 0 most 0 (fills_begun a b turns more goes one few puts row) f
 
   -- what comes of a ticket of which the gate was told: the batch is empty, or the run is over
   pub leads_told : (n : Named) (goes_on : Bool) (batch : Batch A) (w : Worker A) → (goes_on ≡ true → batch.tickets.items ≡ []) → OverUnless n goes_on w.seat
@@ -121,11 +138,18 @@ module _ {A : Type 0} where
   leads_told n false batch w empty over = over refl
 
   -- a ticket is served where a batch that it began was filled and committed
-  pub serves_fills : (a b : Worker A) (left : ℕ) → Fills a b 0 1 left 0 → Serves a b
-  serves_fills a b left f = record {
+  pub serves_fills : (a b : Worker A) (taken left : ℕ) → Fills a b 0 1 taken left 0 → Serves a b
+  serves_fills a b taken left f = record {
     worker = f.worker;
     ends = f.ends;
     counted = λ k.
         let c = f.counted (k.0, (λ lt. let p = k.1 lt in omega (arith, p)), k.2) in
         (c.0, (λ lt. let p = c.1 lt in omega (arith, p)), (let q = c.2 in omega (arith, q)));
+  }
+
+  pub within_fills : (a b : Worker A) (taken left : ℕ) → taken ≤ 15 → Fills a b 0 1 taken left 0 → Within 16 15 a b
+  within_fills a b taken left few f = record {
+    later = f.later;
+    entries_few = (let p = f.entries_few in omega (arith, p, few));
+    tickets_few = (let p = f.tickets_few in omega (arith, p, few));
   }

@@ -8,8 +8,8 @@ use Rattle.workers.specs.declared.worker.Worker.{Worker}
 use Rattle.workers.proofs.Told.{GoesOn}
 
 module _ {T : Type 0} where
-  counted_idle : (s s' : SeatView) (o o1 : Owning T) (r r1 : List (Stealing T)) (e e' : ℕ)
-      → got_by_ends o1 r1 ≡ got_by_ends o r → Goes 0 s s' → e' ≡ e → IsCounted s o r e → IsCounted s' o1 r1 e'
+  counted_idle : {entries : ℕ} (s s' : SeatView) (o o1 : Owning T) (r r1 : List (Stealing T)) (e e' : ℕ)
+      → got_by_ends o1 r1 ≡ got_by_ends o r → Goes 0 entries s s' → e' ≡ e → IsCounted s o r e → IsCounted s' o1 r1 e'
   counted_idle s s' o o1 r r1 e e' got goes same c =
       let t = goes.counted c.0 in (
         goes.positions c.0,
@@ -35,7 +35,7 @@ module _ {T : Type 0} where
 
 module _ {A : Type 0} where
   -- a worker that got no ticket
-  pub works_idle : (a b : Worker A) → Goes 0 a.seat b.seat → SameEnds a.owner a.row.items b.owner b.row.items
+  pub works_idle : {entries : ℕ} (a b : Worker A) → Goes 0 entries a.seat b.seat → SameEnds a.owner a.row.items b.owner b.row.items
       → got_by_ends b.owner b.row.items ≡ got_by_ends a.owner a.row.items → b.evaluations ≡ a.evaluations → Works a b
   works_idle a b goes ends got same = record {
     worker = goes.worker;
@@ -44,7 +44,7 @@ module _ {A : Type 0} where
   }
 
   -- a worker that puts tickets alone
-  pub works_puts : (a b : Worker A) → Goes 0 a.seat b.seat → OnlyPuts a.owner b.owner → b.row.items ≡ a.row.items → b.evaluations ≡ a.evaluations → Works a b
+  pub works_puts : {entries : ℕ} (a b : Worker A) → Goes 0 entries a.seat b.seat → OnlyPuts a.owner b.owner → b.row.items ≡ a.row.items → b.evaluations ≡ a.evaluations → Works a b
   works_puts a b goes puts row same =
       works_idle a b goes (puts.0, ap (map thief_card) row)
       ((λ i. got_by_ends b.owner (row i)) ∙ got_kept a.owner b.owner a.row.items puts) same

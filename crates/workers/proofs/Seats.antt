@@ -1,5 +1,5 @@
 -- What a seat's calls keep.
-use Rattle.std.proofs.Common.{◌≡◌, ℕ, zero, suc, ◌+◌, ◌<◌, ◌≤◌, Bool, true, false, List, [], ◌∷◌, ◌++◌, length, Option, Some, refl, sym, ap, ◌∙◌, subst, arith, append_assoc, length-append, inl, inr, ⊎_elim}
+use Rattle.std.proofs.Common.{◌≡◌, ℕ, zero, suc, ◌+◌, ◌<◌, ◌≤◌, Bool, true, false, List, [], ◌∷◌, ◌++◌, length, Option, Some, refl, sym, ap, ◌∙◌, subst, arith, append_assoc, append-nil, length-append, inl, inr, ⊎_elim}
 use Rattle.std.specs.Prelude.{slice_get, IsSome, Result, MatchResult}
 use Rattle.std.specs.List.{AllByRecursion}
 use mathlib.Core.List.{IsPrefix}
@@ -25,12 +25,12 @@ module _ {A : Type 0} where
   pub begins_more : (xs ys zs : List A) → IsPrefix xs ys → IsPrefix ys zs → IsPrefix xs zs
   begins_more xs ys zs p q = (p.0 ++ q.0, sym (append_assoc xs p.0 q.0) ∙ ap (λ l. l ++ q.0) p.1 ∙ q.1)
 
-  get_before : (xs ys : List A) (i : ℕ) → i < length xs → slice_get (xs ++ ys) i ≡ slice_get xs i
+  pub get_before : (xs ys : List A) (i : ℕ) → i < length xs → slice_get (xs ++ ys) i ≡ slice_get xs i
   get_before [] ys i lt = absurd (omega arith)
   get_before (x ∷ xs) ys zero lt = refl
   get_before (x ∷ xs) ys (suc i) lt = get_before xs ys i (omega arith)
 
-  get_last : (xs : List A) (x : A) → slice_get (xs ++ x ∷ []) (length xs) ≡ Some x
+  pub get_last : (xs : List A) (x : A) → slice_get (xs ++ x ∷ []) (length xs) ≡ Some x
   get_last [] x = refl
   get_last (y ∷ ys) x = get_last ys x
 
@@ -41,20 +41,20 @@ entries_append (x ∷ xs) ys = ap (λ l. entry_in x.1 ++ l) (entries_append xs y
 pub entries_begin : (xs ys : Log) → IsPrefix xs ys → IsPrefix (entries_of xs) (entries_of ys)
 entries_begin xs ys p = (entries_of p.0, sym (entries_append xs p.0) ∙ ap entries_of p.1)
 
-items_entry : (k : ℕ) (entry : Entry) (finished : Bool) → entries_of (items_of k entry finished) ≡ entry ∷ []
+pub items_entry : (k : ℕ) (entry : Entry) (finished : Bool) → entries_of (items_of k entry finished) ≡ entry ∷ []
 items_entry k entry true = refl
 items_entry k entry false = refl
 
 -- positions in a beginning
-below_longer : (n m : ℕ) (ps : List ℕ) → n ≤ m → AllByRecursion (λ p. p < n) ps → AllByRecursion (λ p. p < m) ps
+pub below_longer : (n m : ℕ) (ps : List ℕ) → n ≤ m → AllByRecursion (λ p. p < n) ps → AllByRecursion (λ p. p < m) ps
 below_longer n m [] le h = tt
 below_longer n m (p ∷ ps) le h = (let lt = h.0 in omega arith, below_longer n m ps le h.1)
 
-below_snoc : (n p : ℕ) (ps : List ℕ) → p < n → AllByRecursion (λ q. q < n) ps → AllByRecursion (λ q. q < n) (ps ++ p ∷ [])
+pub below_snoc : (n p : ℕ) (ps : List ℕ) → p < n → AllByRecursion (λ q. q < n) ps → AllByRecursion (λ q. q < n) (ps ++ p ∷ [])
 below_snoc n p [] lt h = (lt, tt)
 below_snoc n p (q ∷ qs) lt h = (h.0, below_snoc n p qs lt h.1)
 
-begins_length : (xs ys : List Entry) → IsPrefix xs ys → length xs ≤ length ys
+pub begins_length : (xs ys : List Entry) → IsPrefix xs ys → length xs ≤ length ys
 begins_length xs ys p = omega (arith, sym (ap length p.1) ∙ length-append xs p.0)
 
 turns_before : (J K : List Entry) (ps : List ℕ) → AllByRecursion (λ p. p < length J) ps → turns_at (J ++ K) ps ≡ turns_at J ps
@@ -69,39 +69,44 @@ turns_snoc J [] p = let one : turns_at J (p ∷ []) ≡ turn_count_at (slice_get
 turns_snoc J (q ∷ qs) p = let rest = turns_snoc J qs p in omega (arith, rest)
 
 -- a seat that looks on
-pub goes_kept : (old new : SeatView) → new.worker ≡ old.worker → IsPrefix old.seen new.seen → new.mine ≡ old.mine → Goes 0 old new
+pub goes_kept : (old new : SeatView) → new.worker ≡ old.worker → IsPrefix old.seen new.seen → new.mine ≡ old.mine → Goes 0 0 old new
 goes_kept old new worker later mine =
     let p = entries_begin old.seen new.seen later in record {
       worker = worker;
+      seen = later;
+      mine = ([], append-nil old.mine ∙ sym mine);
+      few = (let l = ap length mine in omega (arith, l));
       positions = λ h. subst (λ ps. AllByRecursion (λ q. q < length (entries_of new.seen)) ps) (sym mine)
           (below_longer (length (entries_of old.seen)) (length (entries_of new.seen)) old.mine (begins_length (entries_of old.seen) (entries_of new.seen) p) h);
       counted = λ h. ap (turns_at (entries_of new.seen)) mine ∙ turns_begin (entries_of old.seen) (entries_of new.seen) old.mine p h ∙ (let t = turns_of old in omega arith);
     }
 
-pub goes_self : (s : SeatView) → Goes 0 s s
-goes_self s = goes_kept s s refl ([], append_none s.seen) refl
-  where
-    append_none : (xs : Log) → xs ++ [] ≡ xs
-    append_none [] = refl
-    append_none (x ∷ xs) = ap (λ l. x ∷ l) (append_none xs)
+pub goes_self : (s : SeatView) → Goes 0 0 s s
+goes_self s = goes_kept s s refl ([], append-nil s.seen) refl
 
-pub goes_more : (a b : ℕ) (x y z : SeatView) → Goes a x y → Goes b y z → Goes (a + b) x z
-goes_more a b x y z f g = record {
+pub goes_more : (a b e d : ℕ) (x y z : SeatView) → Goes a e x y → Goes b d y z → Goes (a + b) (e + d) x z
+goes_more a b e d x y z f g = record {
   worker = g.worker ∙ f.worker;
+  seen = begins_more x.seen y.seen z.seen f.seen g.seen;
+  mine = begins_more x.mine y.mine z.mine f.mine g.mine;
+  few = (let p = f.few in let q = g.few in omega (arith, p, q));
   positions = λ h. g.positions (f.positions h);
   counted = λ h. let p = f.counted h in let q = g.counted (f.positions h) in omega (arith, p, q);
 }
 
-pub goes_then : (a : ℕ) (x y z : SeatView) → Goes a x y → Goes 0 y z → Goes a x z
-goes_then a x y z f g = record {
+pub goes_then : (a e : ℕ) (x y z : SeatView) → Goes a e x y → Goes 0 0 y z → Goes a e x z
+goes_then a e x y z f g = record {
   worker = g.worker ∙ f.worker;
+  seen = begins_more x.seen y.seen z.seen f.seen g.seen;
+  mine = begins_more x.mine y.mine z.mine f.mine g.mine;
+  few = (let p = f.few in let q = g.few in omega (arith, p, q));
   positions = λ h. g.positions (f.positions h);
   counted = λ h. let p = f.counted h in let q = g.counted (f.positions h) in omega (arith, p, q);
 }
 
 -- a seat that appended an entry
 pub goes_appended : (n : Named) (old : SeatView) (entry : Entry) (position : ℕ) (named : Entry) (tickets : List TicketView) (new : SeatView)
-    → IsAppended n old entry position named tickets new → Goes (turn_count entry) old new
+    → IsAppended n old entry position named tickets new → Goes (turn_count entry) 1 old new
 goes_appended n old entry position named tickets new a =
     let J : List Entry = entries_of a.before in
     let whole : entries_of new.seen ≡ J ++ entry ∷ [] =
@@ -112,6 +117,9 @@ goes_appended n old entry position named tickets new a =
     let last : slice_get (entries_of new.seen) position ≡ Some entry = (λ i. slice_get (whole i) (a.position_is i)) ∙ get_last J entry in
     let all : IsPrefix (entries_of old.seen) (entries_of new.seen) = begins_more (entries_of old.seen) J (entries_of new.seen) later (entry ∷ [], sym whole) in record {
       worker = a.follows.worker;
+      seen = a.follows.later;
+      mine = (position ∷ [], sym a.mine);
+      few = (let l : length new.mine ≡ length old.mine + 1 = ap length a.mine ∙ length-append old.mine (position ∷ []) in omega (arith, l));
       positions = λ h. subst (λ ps. AllByRecursion (λ q. q < length (entries_of new.seen)) ps) (sym a.mine)
           (below_snoc (length (entries_of new.seen)) position old.mine (omega (arith, long, a.position_is))
           (below_longer (length (entries_of old.seen)) (length (entries_of new.seen)) old.mine (omega (arith, long, short)) h));
@@ -119,10 +127,10 @@ goes_appended n old entry position named tickets new a =
           ∙ (λ i. turns_begin (entries_of old.seen) (entries_of new.seen) old.mine all h i + turn_count_at (last i));
     }
 
-pub goes_refused : (n : Named) (old new : SeatView) → IsRefused n old new → Goes 0 old new
+pub goes_refused : (n : Named) (old new : SeatView) → IsRefused n old new → Goes 0 0 old new
 goes_refused n old new r = goes_kept old new r.looks_on.follows.worker r.looks_on.follows.later r.looks_on.mine
 
-pub goes_stopped : (n : Named) (causes : Why → Type 0) (old : SeatView) (why : Why) (new : SeatView) → IsStopped n causes old why new → Goes 0 old new
+pub goes_stopped : (n : Named) (causes : Why → Type 0) (old : SeatView) (why : Why) (new : SeatView) → IsStopped n causes old why new → Goes 0 0 old new
 goes_stopped n causes old why new s = goes_kept old new s.follows.worker s.follows.later s.mine
 
 pub over_stopped : (n : Named) (causes : Why → Type 0) (old : SeatView) (why : Why) (new : SeatView) → IsStopped n causes old why new → IsOver n new
@@ -131,12 +139,23 @@ over_stopped n causes old why new s = (s.stays, inl (subst (λ (o : Option Why).
 pub over_quiet : (n : Named) (old new : SeatView) → IsQuietTo n old new → IsOver n new
 over_quiet n old new q = (q.stays, inr q.quiet)
 
-pub told : (n : Named) (old new : SeatView) → StoppedTo n old new → Goes 0 old new × IsOver n new
+pub told : (n : Named) (old new : SeatView) → StoppedTo n old new → Goes 0 0 old new × IsOver n new
 told n old new s =
     ⊎_elim
     (λ (q : IsQuietTo n old new). (goes_refused n old new q.refused, over_quiet n old new q))
     (λ (t : (why : Why) × IsStopped n _ old why new). (goes_stopped n _ old t.0 new t.1, over_stopped n _ old t.0 new t.1))
     s
+
+-- it may append more
+pub goes_few : (a e d : ℕ) (x y : SeatView) → e ≤ d → Goes a e x y → Goes a d x y
+goes_few a e d x y le f = record {
+  worker = f.worker;
+  seen = f.seen;
+  mine = f.mine;
+  few = (let p = f.few in omega (arith, p, le));
+  positions = f.positions;
+  counted = f.counted;
+}
 
 -- what the reader gave, the seat gave
 pub given_by : (code : Compiled) (s t : List (List Vector)) (log : LogView) (r : Result (Unit {0}) FillFault) → t ≡ s
@@ -145,16 +164,22 @@ pub given_by : (code : Compiled) (s t : List (List Vector)) (log : LogView) (r :
 given_by code s t log r e m =
     subst (λ fresh. MatchResult r (λ _. GaveAll (IsRead code fresh) log.reads) (λ f. f ≡ fault.TooLong → GaveAll (IsRead code fresh) log.reads)) (sym e) m
 
-pub goes_first : (b : ℕ) (x y z : SeatView) → Goes 0 x y → Goes b y z → Goes b x z
-goes_first b x y z f g = record {
+pub goes_first : (b d : ℕ) (x y z : SeatView) → Goes 0 0 x y → Goes b d y z → Goes b d x z
+goes_first b d x y z f g = record {
   worker = g.worker ∙ f.worker;
+  seen = begins_more x.seen y.seen z.seen f.seen g.seen;
+  mine = begins_more x.mine y.mine z.mine f.mine g.mine;
+  few = (let p = f.few in let q = g.few in omega (arith, p, q));
   positions = λ h. g.positions (f.positions h);
   counted = λ h. let p = f.counted h in let q = g.counted (f.positions h) in omega (arith, p, q);
 }
 
-pub goes_read : (old new : SeatView) → ReadsOn old new → Goes 0 old new
+pub goes_read : (old new : SeatView) → ReadsOn old new → Goes 0 0 old new
 goes_read old new r = record {
   worker = r.worker;
+  seen = ([], append-nil old.seen ∙ sym r.seen);
+  mine = ([], append-nil old.mine ∙ sym r.mine);
+  few = (let l = ap length r.mine in omega (arith, l));
   positions = λ h. subst (λ (p : Log × List ℕ). AllByRecursion (λ q. q < length (entries_of p.0)) p.1) (λ i. (sym r.seen i, sym r.mine i)) h;
   counted = λ h. (λ i. turns_at (entries_of (r.seen i)) (r.mine i)) ∙ (let t = turns_of old in omega arith);
 }

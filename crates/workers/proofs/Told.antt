@@ -21,17 +21,17 @@ use Rattle.commitgate.specs.Tickets.{TicketView}
 use Rattle.commitgate.specs.Answers.{IsRegionChange}
 use Rattle.commitgate.specs.Told.{CommitCauses, AnsweredTo, LongAnsweredTo, HeldAnsweredTo, IsUpdatedTo, IsChangedTo}
 use Rattle.workers.specs.Counting.{turn_count}
-use Rattle.workers.specs.Working.{Goes}
+use Rattle.workers.specs.Working.{Goes, IsSettled}
 use Rattle.turn.specs.Logs.{LogView}
 use Rattle.commitgate.specs.Batches.{AreUpdatedTo, UpdatesEndedTo, UpdatesAnsweredTo, AreAnsweredTo, AnswersEnd, HadMemory}
 use Rattle.commitgate.specs.declared.reply.UpdatesEnd.{UpdatesEnd}
 use Rattle.commitgate.specs.declared.reply.UpdatesEnd.TheVariants as ends
 use Rattle.commitgate.specs.declared.reply.Grant.{Grant}
-use Rattle.workers.proofs.Seats.{goes_appended, goes_refused, goes_stopped, goes_self, goes_first, goes_then, goes_more, begins_more}
+use Rattle.workers.proofs.Seats.{goes_appended, goes_refused, goes_stopped, goes_self, goes_first, goes_then, goes_more, goes_few, begins_more}
 
 -- the seat goes on, with one more turn at most
 abbrev pub GoesOn : SeatView → SeatView → Type 0
-GoesOn old new = (turns : ℕ) × (turns ≤ 1) × Goes turns old new
+GoesOn old new = (turns : ℕ) × (turns ≤ 1) × Goes turns turns old new
 
 module _ {A : Type 0} where
   pub answered : (n : Named) (causes : Why → Type 0) (old : SeatView) (ticket : TicketView) (reads : List (ℕ × Seen)) (new : SeatView) (r : Reply A)
@@ -44,7 +44,7 @@ module _ {A : Type 0} where
 
   -- a turn that is too long isn't appended
   pub long_goes : (n : Named) (old : SeatView) (ticket : TicketView) (reads : List (ℕ × Seen)) (new : SeatView) (r : Reply A)
-      → LongAnsweredTo n old ticket reads new r → Goes 0 old new
+      → LongAnsweredTo n old ticket reads new r → Goes 0 0 old new
   long_goes n old ticket reads new (Accepted grant) a = absurd a
   long_goes n old ticket reads new (Stale r back) a = goes_refused n old new a.refused
   long_goes n old ticket reads new Gone a = goes_refused n old new a.refused
@@ -63,7 +63,7 @@ module _ {A : Type 0} where
   held_answered n old ticket new (Stopped why) a = (0, omega arith, goes_stopped n _ old why new a)
   held_answered n old ticket new (NoMemory back) a = (0, omega arith, goes_refused n old new a.0)
 
-pub updated : (n : Named) (old : SeatView) (position : ℕ) (named : Entry) (tickets : List TicketView) (new : SeatView) → IsUpdatedTo n old position named tickets new → Goes 0 old new
+pub updated : (n : Named) (old : SeatView) (position : ℕ) (named : Entry) (tickets : List TicketView) (new : SeatView) → IsUpdatedTo n old position named tickets new → Goes 0 1 old new
 updated n old position named tickets new u = goes_appended n old (Update u.number) position named tickets new u.appended
 
 no_turn : (entry : Entry) → IsRegionChange entry → turn_count entry ≡ 0
@@ -74,37 +74,38 @@ no_turn ActivateNba h = refl
 no_turn ActivateMonitor h = refl
 no_turn (Advance time) h = refl
 
-pub changed : (n : Named) (old : SeatView) (position : ℕ) (named : Entry) (tickets : List TicketView) (new : SeatView) → IsChangedTo n old position named tickets new → Goes 0 old new
-changed n old position named tickets new c = subst (λ (k : ℕ). Goes k old new) (no_turn c.change c.is_change) (goes_appended n old c.change position named tickets new c.appended)
+pub changed : (n : Named) (old : SeatView) (position : ℕ) (named : Entry) (tickets : List TicketView) (new : SeatView) → IsChangedTo n old position named tickets new → Goes 0 1 old new
+changed n old position named tickets new c = subst (λ (k : ℕ). Goes k 1 old new) (no_turn c.change c.is_change) (goes_appended n old c.change position named tickets new c.appended)
 
-pub first_on : (a b c : SeatView) → Goes 0 a b → GoesOn b c → GoesOn a c
-first_on a b c f g = (g.0, g.1, goes_first g.0 a b c f g.2)
+pub first_on : (a b c : SeatView) → Goes 0 0 a b → GoesOn b c → GoesOn a c
+first_on a b c f g = (g.0, g.1, goes_first g.0 g.0 a b c f g.2)
 
-pub on_then : (a b c : SeatView) → GoesOn a b → Goes 0 b c → GoesOn a c
-on_then a b c f g = (f.0, f.1, goes_then f.0 a b c f.2 g)
+pub on_then : (a b c : SeatView) → GoesOn a b → Goes 0 0 b c → GoesOn a c
+on_then a b c f g = (f.0, f.1, goes_then f.0 f.0 a b c f.2 g)
 
 -- a seat that appended updates
-appended_go : {A : Type 0} → (n : Named) (old : SeatView) (grants : List (Grant A)) (new : SeatView) → AreUpdatedTo n old grants new → Goes 0 old new
-appended_go n old [] new same = subst (λ (s : SeatView). Goes 0 old s) (sym same) (goes_self old)
+appended_go : {A : Type 0} → (n : Named) (old : SeatView) (grants : List (Grant A)) (new : SeatView) → AreUpdatedTo n old grants new → Goes 0 (length grants) old new
+appended_go n old [] new same = subst (λ (s : SeatView). Goes 0 0 old s) (sym same) (goes_self old)
 appended_go n old (grant ∷ grants) new chain =
-    goes_then 0 old chain.0 new (updated n old grant.position grant.entry grant.tickets.items chain.0 chain.1) (appended_go n chain.0 grants new chain.2)
+    goes_few 0 (1 + length grants) (length (grant ∷ grants)) old new (omega arith)
+    (goes_more 0 0 1 (length grants) old chain.0 new (updated n old grant.position grant.entry grant.tickets.items chain.0 chain.1) (appended_go n chain.0 grants new chain.2))
 
 -- the same behind them, by why there are no more
-ended_go : (n : Named) (old : SeatView) (end : UpdatesEnd) (new : SeatView) → UpdatesEndedTo n old end new → Goes 0 old new
-ended_go n old ends.Woke new same = subst (λ (s : SeatView). Goes 0 old s) (sym same) (goes_self old)
+ended_go : (n : Named) (old : SeatView) (end : UpdatesEnd) (new : SeatView) → UpdatesEndedTo n old end new → Goes 0 0 old new
+ended_go n old ends.Woke new same = subst (λ (s : SeatView). Goes 0 0 old s) (sym same) (goes_self old)
 ended_go n old ends.Nothing new a = goes_refused n old new a.0
 ended_go n old (ends.Stopped why) new a = goes_stopped n CommitCauses old why new a
 ended_go n old ends.NoMemory new a = goes_refused n old new a
-ended_go n old ends.NoRoom new same = subst (λ (s : SeatView). Goes 0 old s) (sym same) (goes_self old)
+ended_go n old ends.NoRoom new same = subst (λ (s : SeatView). Goes 0 0 old s) (sym same) (goes_self old)
 
-pub updates_go : {A : Type 0} → (n : Named) (old : SeatView) (grants : List (Grant A)) (end : UpdatesEnd) (new : SeatView) → UpdatesAnsweredTo n old grants end new → Goes 0 old new
-updates_go n old grants end new all = goes_then 0 old all.0 new (appended_go n old grants all.0 all.1) (ended_go n all.0 end new all.2)
+pub updates_go : {A : Type 0} → (n : Named) (old : SeatView) (grants : List (Grant A)) (end : UpdatesEnd) (new : SeatView) → UpdatesAnsweredTo n old grants end new → Goes 0 (length grants) old new
+updates_go n old grants end new all = goes_then 0 (length grants) old all.0 new (appended_go n old grants all.0 all.1) (ended_go n all.0 end new all.2)
 
 -- a seat that was answered several tickets: it appended at most as many turns
 pub answers_go : {A : Type 0} → (n : Named) (old : SeatView) (tickets : List TicketView) (logs : List LogView) (replies : List (Reply A)) (left : List TicketView) (new : SeatView)
-    → AreAnsweredTo n old tickets logs replies left new → (turns : ℕ) × (turns + length left ≤ length tickets) × Goes turns old new
+    → AreAnsweredTo n old tickets logs replies left new → (turns : ℕ) × (turns + length left ≤ length tickets) × Goes turns turns old new
 answers_go n old tickets logs [] left new same =
-    (0, (let l : length left ≡ length tickets = ap length same.0 in omega (arith, l)), subst (λ (s : SeatView). Goes 0 old s) (sym same.1) (goes_self old))
+    (0, (let l : length left ≡ length tickets = ap length same.0 in omega (arith, l)), subst (λ (s : SeatView). Goes 0 0 old s) (sym same.1) (goes_self old))
 answers_go n old [] logs (r ∷ rs) left new a = absurd a
 answers_go n old (t ∷ ts) [] (r ∷ rs) left new a = absurd a
 answers_go n old (t ∷ ts) (l ∷ ls) (r ∷ rs) left new a =
@@ -112,7 +113,7 @@ answers_go n old (t ∷ ts) (l ∷ ls) (r ∷ rs) left new a =
     let more = answers_go n a.0 ts ls rs left new a.2 in
     let few = one.1 in
     let most = more.1 in
-    (one.0 + more.0, omega (arith, few, most), goes_more one.0 more.0 old a.0 new one.2 more.2)
+    (one.0 + more.0, omega (arith, few, most), goes_more one.0 more.0 one.0 more.0 old a.0 new one.2 more.2)
 
 rises_self : (fresh : List (List Vector)) → Rises fresh fresh
 rises_self fresh r = ([], append-nil (fresh_of fresh r))
@@ -144,7 +145,15 @@ few_answers n old [] logs (r ∷ rs) left new a = absurd a
 few_answers n old (t ∷ ts) [] (r ∷ rs) left new a = absurd a
 few_answers n old (t ∷ ts) (l ∷ ls) (r ∷ rs) left new a = let few = few_answers n a.0 ts ls rs left new a.2 in omega (arith, few)
 
--- no ticket is left where memory was refused for none
-pub none_left : {A : Type 0} → (replies : List (Reply A)) (left : List TicketView) → AnswersEnd replies left → All HadMemory replies → left ≡ []
+-- memory was refused for none that is settled
+had_memory : {A : Type 0} → (reply : Reply A) → IsSettled reply → HadMemory reply
+had_memory (Accepted grant) is = is
+had_memory (Stale r back) is = is
+had_memory Gone is = is
+had_memory (Stopped why) is = tt
+had_memory (NoMemory back) is = is
+
+-- no ticket is left where each is settled
+pub none_left : {A : Type 0} → (replies : List (Reply A)) (left : List TicketView) → AnswersEnd replies left → All IsSettled replies → left ≡ []
 none_left replies left (inl end) all = end.1
-none_left replies left (inr end) all = absurd (end.4 (All-pop HadMemory replies end.0 (Some end.1) end.2 all).1)
+none_left replies left (inr end) all = absurd (end.4 (had_memory end.1 (All-pop IsSettled replies end.0 (Some end.1) end.2 all).1))

@@ -15,6 +15,7 @@ use Rattle.workers.specs.declared.batch.Batch.{Batch}
 use Rattle.workers.specs.declared.batch.Next.{Next}
 use Rattle.workers.specs.declared.batch.Next.TheVariants.{More, Enough, Over}
 use Rattle.workers.specs.declared.worker.Worker.{Worker}
+use Rattle.workers.specs.Keeping.{weigh_got, Later, KeepsAll}
 use Rattle.workers.specs.Working.{HasPositions, turns_of, SameEnds, IsOver, got_by_ends}
 
 -- the most of them
@@ -43,14 +44,24 @@ Leads n More batch worker = IsOffered n batch worker
 Leads n Enough batch worker = IsOffered n batch worker
 Leads n Over batch worker = IsOver n worker.seat
 
+-- a ticket that leads on is kept: where the worker had the first tickets in hand before, it has the others after it
+abbrev pub KeepsOn : {A : Type 0} → Named → Next → Worker A → List TicketView → Worker A → List TicketView → Type 0
+KeepsOn n More old hand new hand' = KeepsAll n old hand new hand'
+KeepsOn n Enough old hand new hand' = KeepsAll n old hand new hand'
+KeepsOn n Over old hand new hand' = Unit {0}
+
 -- What a worker counts, of which so many turns were evaluated and aren't committed yet, and of so many tickets that its ends
 -- got no evaluation was begun.
 abbrev pub IsOpen : {T : Type 0} → SeatView → Owning T → List (Stealing T) → ℕ → ℕ → ℕ → Type 0
 IsOpen s owner row evaluations turns tickets =
     HasPositions s × (evaluations < 2 ^ 64 - 1 → turns_of s + turns ≤ evaluations) × (evaluations + tickets ≤ got_by_ends owner row)
 
--- A worker stays the same worker, and goes on to count: with so many turns and tickets before, and with these after.
-pub record Fills {A : Type 0} (old new : Worker A) (turns tickets more left : ℕ) : Type 0 where
+-- A worker stays the same worker, and goes on to count: with so many turns and tickets before, and with these after. Its ends got at
+-- most so many tickets meanwhile, and each entry that it appended is of one of the turns or of the tickets.
+pub record Fills {A : Type 0} (old new : Worker A) (turns tickets taken more left : ℕ) : Type 0 where
   pub worker : new.seat.worker ≡ old.seat.worker
   pub ends : SameEnds old.owner old.row.items new.owner new.row.items
+  pub later : Later old new
+  pub entries_few : length new.seat.mine + (more + left) ≤ length old.seat.mine + (turns + tickets + taken)
+  pub tickets_few : weigh_got (λ ticket. 1) new.owner new.row.items ≤ weigh_got (λ ticket. 1) old.owner old.row.items + taken
   pub counted : IsOpen old.seat old.owner old.row.items old.evaluations turns tickets → IsOpen new.seat new.owner new.row.items new.evaluations more left

@@ -1,3 +1,4 @@
 pub mod Working
 pub mod Counting
+pub mod Keeping
 pub mod Batching

@@ -1,13 +1,14 @@
 //! Several turns at once: a worker whose turns are short evaluates the tickets of its own deque, one after another, and commits
 //! their turns in one holding of the lock.
-ghost use Rattle.std.specs.Prelude.{◌≡◌, ◌+◌, ◌<◌, ◌≤◌, ◌++◌, [], true, if◌then◌else◌, length, IfOk, IfErr, MatchResult};
+ghost use Rattle.std.specs.Prelude.{◌≡◌, ℕ, ◌+◌, ◌<◌, ◌≤◌, ◌++◌, List, [], ◌∷◌, true, if◌then◌else◌, length, IfOk, IfErr, MatchResult};
 ghost use Rattle.std.specs.List.{All};
-ghost use Rattle.commitgate.specs.Tickets.{most_tries};
-ghost use Rattle.commitgate.specs.Batches.{AreOffered, HadMemory};
+ghost use Rattle.commitgate.specs.Batches.{AreOffered};
 ghost use Rattle.regcells.specs.Meetings.{Rises};
 ghost use Rattle.turn.specs.declared.log.FillFault.TheVariants.{TooLong};
-ghost use Rattle.workers.specs.Working.{Goes, OverUnless, OnlyPuts, Serves, tickets_of};
-ghost use Rattle.workers.specs.Batching.{most_turns, HasRoom, IsOffered, IsLong, Leads, Fills};
+ghost use Rattle.commitgate.specs.Tickets.{TicketView, most_tries};
+ghost use Rattle.workers.specs.Working.{Goes, OverUnless, OnlyPuts, Serves, IsSettled, tickets_of};
+ghost use Rattle.workers.specs.Keeping.{KeepsAll, Within};
+ghost use Rattle.workers.specs.Batching.{most_turns, HasRoom, IsOffered, IsLong, Leads, KeepsOn, Fills};
 ghost use Rattle.workers.specs.declared.batch.Next.TheVariants.{Enough, Over};
 
 use crate::deques::put;
@@ -81,10 +82,10 @@ fn add<K: Naming, P: Probe, R: Wait>(
     requires few { length batch.old.tickets.items < most_turns }
     requires tries { ticket.tries < most_tries }
     requires offered { AreOffered K.named.code seat.old.fresh batch.old.tickets.items batch.old.logs.items }
-    ensures goes { Goes 0 seat.old seat.new }
+    ensures goes { Goes 0 0 seat.old seat.new }
     ensures room { HasRoom batch.new }
     ensures offered { AreOffered K.named.code seat.new.fresh batch.new.tickets.items batch.new.logs.items }
-    ensures added { MatchResult result (λ _. length batch.new.tickets.items ≡ length batch.old.tickets.items + 1) (λ e. (batch.new.tickets ≡ batch.old.tickets) × (e.0 ≡ ticket)) }
+    ensures added { MatchResult result (λ _. batch.new.tickets.items ≡ batch.old.tickets.items ++ ticket ∷ []) (λ e. (batch.new.tickets ≡ batch.old.tickets) × (e.0 ≡ ticket)) }
     ensures long { IfErr result (λ e. e.1 ≡ TooLong → IsLong K.named batch.new ticket seat.new) }
 {
     let place = batch.tickets.len();
@@ -139,7 +140,8 @@ fn tell_long<K: Naming, P: Probe, R: Wait>(
     ensures room { HasRoom batch.new }
     ensures few { length batch.new.tickets.items ≤ length batch.old.tickets.items }
     ensures empty { result ≡ true → batch.new.tickets.items ≡ [] }
-    ensures fills { Fills worker.old worker.new (length batch.old.tickets.items) 0 (length batch.new.tickets.items) 0 }
+    ensures fills { Fills worker.old worker.new (length batch.old.tickets.items) 0 0 (length batch.new.tickets.items) 0 }
+    ensures keeps { result ≡ true → KeepsAll K.named worker.old (batch.old.tickets.items ++ ticket ∷ []) worker.new [] }
     ensures over { OverUnless K.named result worker.new.seat }
 {
     let place = batch.tickets.len();
@@ -169,7 +171,8 @@ fn start<K: Naming, P: Probe, R: Wait>(
     requires offered { IsOffered K.named batch.old worker.old }
     ensures room { HasRoom batch.new }
     ensures few { length batch.new.tickets.items ≤ length batch.old.tickets.items + 1 }
-    ensures fills { Fills worker.old worker.new (length batch.old.tickets.items) 1 (length batch.new.tickets.items) 0 }
+    ensures fills { Fills worker.old worker.new (length batch.old.tickets.items) 1 0 (length batch.new.tickets.items) 0 }
+    ensures keeps { KeepsOn K.named result worker.old (batch.old.tickets.items ++ ticket ∷ []) worker.new batch.new.tickets.items }
     ensures leads { Leads K.named result batch.new worker.new }
 {
     worker.evaluations = worker.evaluations.saturating_add(1);
@@ -211,7 +214,8 @@ fn begin<K: Naming, P: Probe, R: Wait>(
     requires offered { IsOffered K.named batch.old worker.old }
     ensures room { HasRoom batch.new }
     ensures few { length batch.new.tickets.items ≤ length batch.old.tickets.items + 1 }
-    ensures fills { Fills worker.old worker.new (length batch.old.tickets.items) 1 (length batch.new.tickets.items) 0 }
+    ensures fills { Fills worker.old worker.new (length batch.old.tickets.items) 1 0 (length batch.new.tickets.items) 0 }
+    ensures keeps { KeepsOn K.named result worker.old (batch.old.tickets.items ++ ticket ∷ []) worker.new batch.new.tickets.items }
     ensures leads { Leads K.named result batch.new worker.new }
 {
     if ticket.tries() < MAX_TRIES {
@@ -237,7 +241,8 @@ fn extend<K: Naming, P: Probe, R: Wait>(
     requires offered { IsOffered K.named batch.old worker.old }
     ensures room { HasRoom batch.new }
     ensures few { length batch.new.tickets.items ≤ length batch.old.tickets.items + 1 }
-    ensures fills { Fills worker.old worker.new (length batch.old.tickets.items) 0 (length batch.new.tickets.items) 0 }
+    ensures fills { Fills worker.old worker.new (length batch.old.tickets.items) 0 1 (length batch.new.tickets.items) 0 }
+    ensures keeps { KeepsOn K.named result worker.old batch.old.tickets.items worker.new batch.new.tickets.items }
     ensures leads { Leads K.named result batch.new worker.new }
 {
     match worker.owner.take() {
@@ -259,7 +264,8 @@ fn fill<K: Naming, P: Probe, R: Wait>(
     requires empty { batch.old.tickets.items ≡ [] }
     ensures room { HasRoom batch.new }
     ensures few { length batch.new.tickets.items ≤ most_turns }
-    ensures fills { Fills worker.old worker.new 0 1 (length batch.new.tickets.items) 0 }
+    ensures fills { (taken : ℕ) × (taken ≤ 15) × Fills worker.old worker.new 0 1 taken (length batch.new.tickets.items) 0 }
+    ensures keeps { result ≡ true → KeepsAll K.named worker.old (ticket ∷ []) worker.new batch.new.tickets.items }
     ensures offered { result ≡ true → IsOffered K.named batch.new worker.new }
     ensures over { OverUnless K.named result worker.new.seat }
 {
@@ -294,12 +300,12 @@ fn settle_all<K: Naming, P: Probe, R: Wait>(
     ensures room { HasRoom batch.new }
     ensures tickets { batch.new.tickets ≡ batch.old.tickets }
     ensures logs { batch.new.logs ≡ batch.old.logs }
-    ensures goes { Goes 0 seat.old seat.new }
+    ensures goes { Goes 0 0 seat.old seat.new }
     ensures kept { result ≡ true → seat.new ≡ seat.old }
     ensures puts { OnlyPuts owner.old owner.new }
     ensures all { result ≡ true → owner.new.put ≡ owner.old.put ++ tickets_of batch.old.replies.items }
     ensures over { OverUnless K.named result seat.new }
-    ensures had { result ≡ true → All HadMemory batch.old.replies.items }
+    ensures settled { result ≡ true → All IsSettled batch.old.replies.items }
 {
     for place in 0..MOST_TURNS {
         let event = batch.events[place];
@@ -329,7 +335,8 @@ fn commit<K: Naming, P: Probe, R: Wait>(
     ensures empty { result ≡ true → batch.new.tickets.items ≡ [] }
     ensures logs { batch.new.logs ≡ batch.old.logs }
     ensures rises { result ≡ true → Rises worker.old.seat.fresh worker.new.seat.fresh }
-    ensures fills { Fills worker.old worker.new (length batch.old.tickets.items) 0 (length batch.new.tickets.items) 0 }
+    ensures fills { Fills worker.old worker.new (length batch.old.tickets.items) 0 0 (length batch.new.tickets.items) 0 }
+    ensures keeps { result ≡ true → (rest : List TicketView) → KeepsAll K.named worker.old (batch.old.tickets.items ++ rest) worker.new rest }
     ensures over { OverUnless K.named result worker.new.seat }
 {
     let Batch {
@@ -358,6 +365,8 @@ pub(crate) fn serve_several<K: Naming, P: Probe, R: Wait>(
     ensures room { HasRoom batch.new }
     ensures empty { result ≡ true → batch.new.tickets.items ≡ [] }
     ensures serves { Serves worker.old worker.new }
+    ensures keeps { result ≡ true → KeepsAll K.named worker.old (ticket ∷ []) worker.new [] }
+    ensures within { Within 16 15 worker.old worker.new }
     ensures over { OverUnless K.named result worker.new.seat }
 {
     if !fill(run, batch, pace, worker, ticket) {

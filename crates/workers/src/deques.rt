@@ -2,6 +2,7 @@
 ghost use Rattle.std.specs.Prelude.{◌≡◌, ◌+◌, ◌++◌, true, [], ◌∷◌, map, length, IfSome, IfNone};
 ghost use Rattle.std.specs.List.{sum_by};
 ghost use Rattle.eventpool.specs.Ends.{thief_card};
+ghost use Rattle.workers.specs.Keeping.{StoleOne, StoleNone, GotOne, GotNone};
 ghost use Rattle.workers.specs.Working.{Goes, OverUnless, OnlyPuts, SameEnds, got_by_ends};
 
 use commitgate::{Gate, Naming, Seat, Ticket};
@@ -18,6 +19,8 @@ fn steal_one<T: Drop, R: Wait>(rt: &R, thief: &mut Thief<T>) -> Option<T>
     ensures end { thief_card thief.new ≡ thief_card thief.old }
     ensures some { IfSome result (λ _. length thief.new.stolen ≡ length thief.old.stolen + 1) }
     ensures none { IfNone result (length thief.new.stolen ≡ length thief.old.stolen) }
+    ensures got { IfSome result (λ x. thief.new.stolen ≡ thief.old.stolen ++ x ∷ []) }
+    ensures same { IfNone result (thief.new.stolen ≡ thief.old.stolen) }
 {
     for _ in rt.forever() {
         match thief.steal() {
@@ -34,6 +37,8 @@ fn steal<T: Drop, R: Wait>(rt: &R, row: &mut Vec<Thief<T>>) -> Option<T>
     ensures ends { map thief_card row.new.items ≡ map thief_card row.old.items }
     ensures some { IfSome result (λ _. sum_by (λ t. length t.stolen) row.new.items ≡ sum_by (λ t. length t.stolen) row.old.items + 1) }
     ensures none { IfNone result (sum_by (λ t. length t.stolen) row.new.items ≡ sum_by (λ t. length t.stolen) row.old.items) }
+    ensures got { IfSome result (λ x. StoleOne row.old.items row.new.items x) }
+    ensures same { IfNone result (StoleNone row.old.items row.new.items) }
 {
     for i in 0..row.len() {
         if let Some(ticket) = steal_one(rt, &mut row[i]) {
@@ -52,6 +57,9 @@ pub(crate) fn take<T: Drop, R: Wait>(
     ensures ends { SameEnds owner.old row.old.items owner.new row.new.items }
     ensures some { IfSome result (λ _. got_by_ends owner.new row.new.items ≡ got_by_ends owner.old row.old.items + 1) }
     ensures none { IfNone result (got_by_ends owner.new row.new.items ≡ got_by_ends owner.old row.old.items) }
+    ensures got { IfSome result (λ x. GotOne owner.old row.old.items owner.new row.new.items x) }
+    ensures same { IfNone result (GotNone owner.old row.old.items owner.new row.new.items) }
+    ensures put { owner.new.put ≡ owner.old.put }
 {
     match owner.take() {
         Some(ticket) => Some(ticket),
@@ -70,6 +78,9 @@ pub(crate) fn take_soon<T: Drop, R: Wait>(
     ensures ends { SameEnds owner.old row.old.items owner.new row.new.items }
     ensures some { IfSome result (λ _. got_by_ends owner.new row.new.items ≡ got_by_ends owner.old row.old.items + 1) }
     ensures none { IfNone result (got_by_ends owner.new row.new.items ≡ got_by_ends owner.old row.old.items) }
+    ensures got { IfSome result (λ x. GotOne owner.old row.old.items owner.new row.new.items x) }
+    ensures same { IfNone result (GotNone owner.old row.old.items owner.new row.new.items) }
+    ensures put { owner.new.put ≡ owner.old.put }
 {
     if row.is_empty() {
         return None;
@@ -92,7 +103,7 @@ pub(crate) fn put<K: Naming, R: Wait>(
     owner: &mut Owner<Ticket<K>>,
     ticket: Ticket<K>,
 ) -> bool
-    ensures goes { Goes 0 seat.old seat.new }
+    ensures goes { Goes 0 0 seat.old seat.new }
     ensures kept { result ≡ true → seat.new ≡ seat.old }
     ensures puts { OnlyPuts owner.old owner.new }
     ensures all { result ≡ true → owner.new.put ≡ owner.old.put ++ ticket ∷ [] }
@@ -115,7 +126,7 @@ pub(crate) fn put_all<K: Naming, R: Wait>(
     owner: &mut Owner<Ticket<K>>,
     mut tickets: Vec<Ticket<K>>,
 ) -> bool
-    ensures goes { Goes 0 seat.old seat.new }
+    ensures goes { Goes 0 0 seat.old seat.new }
     ensures kept { result ≡ true → seat.new ≡ seat.old }
     ensures puts { OnlyPuts owner.old owner.new }
     ensures all { result ≡ true → owner.new.put ≡ owner.old.put ++ tickets.items }

@@ -64,6 +64,6 @@ impl State {
     pub fn controls(&self) -> &[Control]
         ensures { result.now ≡ self.entry.now.controls }
     {
-        self.queue.controls.as_slice()
+        self.queue.shared.controls.as_slice()
     }
 }

@@ -2,6 +2,7 @@
 ghost use Rattle.std.specs.Prelude.{◌<◌};
 
 use super::entry_refused;
+use crate::claims::holds;
 use crate::course::design_of;
 use design::Design;
 use model::entry::Entry;
@@ -159,6 +160,6 @@ fn a_journal_is_answered_as_its_replay(rt: HostRuntime) {
         let count = count_refused(&rt, rt.alloc(), source, &mut numbers);
         refused = refused.saturating_add(count);
     }
-    assert!(rt; refused >= 50, "journals that aren't lawful: {refused}");
-    assert!(rt; refused <= 250, "lawful journals: {refused}");
+    holds(&rt, refused >= 50, "too few journals that aren't lawful");
+    holds(&rt, refused <= 250, "too few lawful journals");
 }

@@ -1,6 +1,7 @@
 // Journals that were written by hand.
 
 use super::{answer, entry_refused};
+use crate::claims::holds;
 use crate::course::design_of;
 use model::entry::{Entry, Refusal};
 use replay::{Cause, ReplayFault, replay};
@@ -174,7 +175,7 @@ fn assert_driven<R: Abort + Wait>(
 ) {
     let design = design_of(rt, alloc, source);
     let closed = answer(rt, alloc, &design, entries).ok().expect(rt, source);
-    assert!(rt; closed.lines() == lines, "{source}");
+    holds(rt, closed.lines() == lines, source);
 }
 
 #[test]
@@ -204,7 +205,7 @@ fn assert_entry<R: Abort + Wait>(
     entries: &[Entry],
     entry: u64,
 ) {
-    assert!(rt; entry_of(rt, alloc, source, entries) == entry, "{source}");
+    holds(rt, entry_of(rt, alloc, source, entries) == entry, source);
 }
 
 #[test]
@@ -237,7 +238,7 @@ fn assert_barred<R: Abort + Wait>(
     assert_entry(rt, alloc, source, entries, entry);
     let cause = Cause::Refused(refusal);
     let fault = fault_of(rt, alloc, source, entries);
-    assert!(rt; fault == Some(ReplayFault { entry, cause }), "{source}");
+    holds(rt, fault == Some(ReplayFault { entry, cause }), source);
 }
 
 #[test]
@@ -269,5 +270,5 @@ fn delays(rt: &impl Abort, alloc: Global) -> Vec<Entry> {
 fn no_time_is_past_the_last(rt: HostRuntime) {
     let source = "module t; always #4294967295 ; endmodule";
     let entries = delays(&rt, rt.alloc());
-    assert!(rt; entry_of(&rt, rt.alloc(), source, &entries) == 131_074);
+    assert_entry(&rt, rt.alloc(), source, &entries, 131_074);
 }

@@ -1,5 +1,6 @@
 //! Modules with as many registers and processes as there may be.
 
+use super::claims::holds;
 use super::{append, decimal, design_of, joined, repeated};
 use std::alloc::Global;
 use std::process::Abort;
@@ -27,12 +28,12 @@ fn starting(rt: &impl Abort, alloc: Global, times: usize) -> String {
 
 fn assert_registers(rt: &impl Abort, alloc: Global, source: &str, registers: u32) {
     let design = design_of(rt, alloc, source);
-    assert!(rt; design.registers() == registers, "the registers");
+    holds(rt, design.registers() == registers, "the registers");
 }
 
 fn assert_processes(rt: &impl Abort, alloc: Global, source: &str, processes: u32) {
     let design = design_of(rt, alloc, source);
-    assert!(rt; design.processes() == processes, "the processes");
+    holds(rt, design.processes() == processes, "the processes");
 }
 
 #[test]

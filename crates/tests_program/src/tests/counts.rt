@@ -1,5 +1,6 @@
 //! Counts that workers share, waits for them, and the evaluations of a run.
 
+use super::claims::holds;
 use design::RegId;
 use simulate::{Probe, ReplyKind};
 use std::alloc::Global;
@@ -91,7 +92,7 @@ impl Evaluations {
         let mut sum = 0u64;
         for count in self.of_events.iter() {
             let times = count.get();
-            assert!(rt; times <= 4, "an event was evaluated {times} times");
+            holds(rt, times <= 4, "an event was evaluated too often");
             sum = sum.saturating_add(times);
         }
         sum

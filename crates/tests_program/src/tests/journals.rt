@@ -1,5 +1,6 @@
 //! The journal of a run, which stands in OUT, in version 2, before the first line is written.
 
+use super::claims::holds;
 use super::replays::CUTS;
 use super::{
     CANNOT_WRITE, OLD, RUN, SAVE, Setting, Wanted, assert_bytes, assert_cut, assert_left,
@@ -60,7 +61,7 @@ fn assert_cut_journal<R: Abort + Threads + Wait + Sync>(rt: &R, alloc: Global, r
 
 #[test]
 fn writes_no_line_after_a_cut_journal(rt: HostRuntime) {
-    assert!(rt; JOURNAL.len() == 25);
+    holds(&rt, JOURNAL.len() == 25, "another journal");
     for room in 0..JOURNAL.len() {
         assert_cut_journal(&rt, rt.alloc(), room);
     }

@@ -1,6 +1,7 @@
 //! Where tickets are put, and in which order workers look for them. Probes hold workers, so that each ticket can be got in
 //! one way alone.
 
+use super::claims::{holds, holds_as};
 use super::counts::Count;
 use super::{design_of, outcome_of};
 use design::RegId;
@@ -40,15 +41,11 @@ impl Looked {
     }
 
     fn assert(&self, rt: &impl Abort, digits: &[u64; 4]) {
-        assert!(rt; self.given_up.get() == 0, "the waits ended");
+        holds(rt, self.given_up.get() == 0, "the waits ended");
         for (worker, wanted) in self.workers.iter().zip(digits) {
-            assert_digits(rt, worker.get(), *wanted);
+            holds_as(rt, "another order", worker.get(), *wanted);
         }
     }
-}
-
-fn assert_digits(rt: &impl Abort, digits: u64, wanted: u64) {
-    assert!(rt; digits == wanted, "{digits} and not {wanted}");
 }
 
 /// Keeps the evaluation of each event open until so many evaluations have begun as the list has at its number.
@@ -101,9 +98,9 @@ fn run<P: Probe, R: Abort + Threads + Wait + Sync>(
 
 /// So many tickets were put, of which so many were stolen, and none is left.
 fn assert_tally(rt: &impl Abort, outcome: &Outcome, puts: u128, steals: u128) {
-    assert!(rt; outcome.tally.puts() == puts, "the puts");
-    assert!(rt; outcome.tally.steals() == steals, "the steals");
-    assert!(rt; outcome.tally.left() == 0, "what is left");
+    holds(rt, outcome.tally.puts() == puts, "the puts");
+    holds(rt, outcome.tally.steals() == steals, "the steals");
+    holds(rt, outcome.tally.left() == 0, "what is left");
 }
 
 /// A source, on two or four workers, how long its evaluations are held, and what comes of it.

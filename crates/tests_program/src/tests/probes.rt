@@ -1,6 +1,7 @@
 //! Runs on two workers, one of which a probe holds: evaluations overlap, and a turn that read what has changed since is
 //! evaluated again.
 
+use super::claims::holds;
 use super::counts::Count;
 use super::threads::total;
 use super::{Texts, design_of, outcome_of, replayed};
@@ -37,12 +38,12 @@ fn assert_raced(
 ) {
     let closed = &outcome.closed;
     let evaluations = total(outcome.evaluations.as_slice());
-    assert!(rt; evaluations <= raced.evaluations, "the evaluations");
-    assert!(rt; closed.entries().len() == raced.entries, "the entries");
-    assert!(rt; closed.end() == End::Quiet, "the end");
-    assert!(rt; raced.texts.has(closed.lines().as_bytes()), "the lines");
+    holds(rt, evaluations <= raced.evaluations, "the evaluations");
+    holds(rt, closed.entries().len() == raced.entries, "the entries");
+    holds(rt, closed.end() == End::Quiet, "the end");
+    holds(rt, raced.texts.has(closed.lines().as_bytes()), "the lines");
     let again = replayed(rt, alloc, design, closed.entries());
-    assert!(rt; again.lines.as_str() == closed.lines(), "the replay");
+    holds(rt, again.lines.as_str() == closed.lines(), "the replay");
 }
 
 /// A run on two workers.
@@ -87,10 +88,11 @@ fn assert_overlap<R: Abort + Threads + Wait + Sync>(rt: &R, alloc: Global, raced
         given_up: Count::new(),
     };
     run(rt, alloc, raced, &probe);
-    assert!(rt; probe.given_up.get() == 0, "another reply came in time");
-    assert!(rt;
+    holds(rt, probe.given_up.get() == 0, "another reply came in time");
+    holds(
+        rt,
         probe.evaluations.get() == probe.replies.get(),
-        "a reply to each evaluation"
+        "a reply to each evaluation",
     );
 }
 
@@ -184,12 +186,17 @@ fn assert_stale<R: Abort + Threads + Wait + Sync>(rt: &R, alloc: Global) {
         given_up: Count::new(),
     };
     run(rt, alloc, &MOMENTS, &probe);
-    assert!(rt; probe.given_up.get() == 0, "the waits ended");
-    assert!(rt;
+    holds(rt, probe.given_up.get() == 0, "the waits ended");
+    holds(
+        rt,
         probe.stale_at_first.get() == 1,
-        "the first reply to event 1"
+        "the first reply to event 1",
     );
-    assert!(rt; probe.second_replies.get() == 2, "the replies to event 1");
+    holds(
+        rt,
+        probe.second_replies.get() == 2,
+        "the replies to event 1",
+    );
 }
 
 #[test]

@@ -1,6 +1,7 @@
 //! Runs on one worker in too little memory: each ends before its first entry, is stopped for memory with a beginning of its
 //! journal, or is whole.
 
+use super::claims::{fail, holds};
 use super::{design_of, outcome_of, replayed};
 use commitgate::Closed;
 use design::Design;
@@ -55,20 +56,20 @@ fn assert_end(rt: &impl Abort, end: End, is_whole: bool) {
         End::Quiet => is_whole,
         _ => end == End::Stopped(Why::Memory),
     };
-    assert!(rt; is_end, "the end");
+    holds(rt, is_end, "the end");
 }
 
 /// A journal replays to these lines.
 fn assert_lines(rt: &impl Abort, alloc: Global, design: &Design, entries: &[Entry], lines: &str) {
     let again = replayed(rt, alloc, design, entries);
-    assert!(rt; again.lines.as_str() == lines, "the lines");
+    holds(rt, again.lines.as_str() == lines, "the lines");
 }
 
 /// A run of one worker has one journal, of which the run that was stopped has a beginning, with its lines.
 fn assert_begun(rt: &impl Abort, alloc: Global, design: &Design, whole: &[Entry], closed: Closed) {
     let (entries, lines, end, _committed) = closed.into_parts();
     let entries = entries.as_slice();
-    assert!(rt; whole.starts_with(entries), "a beginning of the journal");
+    holds(rt, whole.starts_with(entries), "a beginning of the journal");
     assert_end(rt, end, entries.len() == whole.len());
     assert_lines(rt, alloc, design, entries, lines.as_str());
 }
@@ -86,9 +87,9 @@ fn run_within<R: Abort + Threads + Wait + Sync>(
     hoard: &mut Hoard,
     room: usize,
 ) -> Result<Outcome, SimFault> {
-    assert!(rt; hoard.leave(room), "a piece of memory");
+    holds(rt, hoard.leave(room), "a piece of memory");
     let answer = simulate(rt, alloc, design, ONE_WORKER, &Unobserved);
-    assert!(rt; hoard.open(), "a piece of memory");
+    holds(rt, hoard.open(), "a piece of memory");
     answer
 }
 
@@ -108,7 +109,11 @@ fn try_within<R: Abort + Threads + Wait + Sync>(
             reached
         }
         Err(fault) => {
-            assert!(rt; fault == SimFault::Memory, "memory before the first worker");
+            holds(
+                rt,
+                fault == SimFault::Memory,
+                "memory before the first worker",
+            );
             Reached::Nothing
         }
     }
@@ -135,7 +140,7 @@ fn run_starved<R: Abort + Threads + Wait + Sync>(
         }
         hoard.shut();
     }
-    panic!(rt; "no whole run")
+    fail(rt, "no whole run")
 }
 
 /// A source is refused memory before its run begins, and while it goes on.
@@ -143,7 +148,7 @@ fn assert_starved<R: Abort + Threads + Wait + Sync>(rt: &R, alloc: Global, sourc
     let design = design_of(rt, alloc, source);
     let whole = run(rt, alloc, &design);
     let refused = run_starved(rt, alloc, &design, whole.closed.entries());
-    assert!(rt; refused.begins > 0 && refused.stops > 0, "{source}");
+    holds(rt, refused.begins > 0 && refused.stops > 0, source);
 }
 
 #[test]

@@ -1,7 +1,8 @@
 //! Replays of journals that break off, of one that goes past the last time, and of files that can't be read.
 
 use super::{
-    REPLAY, append, assert_cut, assert_in, assert_line, decimal, joined, over_journal, tells,
+    EXPLAIN, REPLAY, append, assert_cut, assert_in, assert_line, decimal, joined, over_journal,
+    tells,
 };
 use std::alloc::Global;
 use std::process::Abort;
@@ -26,6 +27,16 @@ const FILE_FAULTS: &[(&str, u8, &str)] = &[
     ("vsimtx replay large.v JOURNAL", 6, "vsimtx: memory\n"),
     (
         "vsimtx replay t.v BROKEN",
+        3,
+        "vsimtx: P2 syntax at token 1\n",
+    ),
+    (
+        "vsimtx explain broken.v JOURNAL",
+        1,
+        "vsimtx: cannot read broken.v\n",
+    ),
+    (
+        "vsimtx explain t.v BROKEN",
         3,
         "vsimtx: P2 syntax at token 1\n",
     ),
@@ -62,6 +73,19 @@ fn assert_broken<R: Abort + Threads + Wait + Sync>(rt: &R, alloc: Global, journa
 fn tells_that_a_journal_breaks_off(rt: HostRuntime) {
     assert_broken(&rt, rt.alloc(), ONE);
     assert_broken(&rt, rt.alloc(), TWO);
+}
+
+/// What there may be room for of a journal in words.
+const WORDS_CUT: &[&str] = &[
+    "",
+    "1  time 0  active  turn of process 0, initial at line 1",
+];
+
+#[test]
+fn tells_that_words_are_cut(rt: HostRuntime) {
+    for &out in WORDS_CUT {
+        assert_cut(&rt, rt.alloc(), EXPLAIN, over_journal(HI, TWO), out);
+    }
 }
 
 /// What there may be room for of a line.

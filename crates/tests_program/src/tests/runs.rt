@@ -1,6 +1,7 @@
 //! Sources that race, each with the texts that it may print, and runs that stop. The journal of a run replays to the lines
 //! that the run printed.
 
+use super::claims::holds;
 use super::{
     Left, SAVE, Texts, assert_bytes, assert_cut, assert_left, assert_replayed, assert_texts,
     either, over, run_line, tells,
@@ -103,9 +104,9 @@ fn assert_last_time<R: Abort + Threads + Wait + Sync>(rt: &R, alloc: Global) {
     let left = run_twice(rt, alloc, source);
     assert_left(rt, source, &left, tells(4, "vsimtx: stopped: time\n"));
     let journal = left.made.as_slice();
-    assert!(rt; lines_in(journal) == 131_075, "the lines");
+    holds(rt, lines_in(journal) == 131_075, "the lines");
     let last = b"A 281474976645120\nT 65536\nE 131073\n".as_slice();
-    assert!(rt; journal.ends_with(last), "the last lines");
+    holds(rt, journal.ends_with(last), "the last lines");
 }
 
 #[test]

@@ -5,7 +5,8 @@
 //! `J` at its end, `O` where OUT is begun, and `o` at the first byte of a search's output. At one of them it loses all memory but a
 //! rest.
 
-use super::{REPLAY, Shared, Target, WAVES, repeated, words_of};
+use super::claims::{fail, holds, holds_as, holds_of};
+use super::{EXPLAIN, REPLAY, Shared, Target, WAVES, repeated, words_of};
 use files::Files;
 use hoard::Hoard;
 use journal::Counted;
@@ -218,7 +219,7 @@ fn open(hoard: &RefCell<Hoard>) -> bool {
 /// Gives so many pieces back.
 fn open_all(rt: &impl Abort, hoard: &RefCell<Hoard>, pieces: usize) {
     for _ in 0..pieces {
-        assert!(rt; open(hoard), "a piece of memory");
+        holds(rt, open(hoard), "a piece of memory");
     }
 }
 
@@ -269,6 +270,11 @@ const LOSSES: &[(&str, u8, &str, &str)] = &[
     (REPLAY, b'F', "sfF", "vsimtx: P6 memory\n"),
     (REPLAY, b'j', "sfFj", "vsimtx: Q5 memory\n"),
     (REPLAY, b'J', "sfFjJ", "vsimtx: entry 0: memory\n"),
+    (EXPLAIN, b's', "s", "vsimtx: memory\n"),
+    (EXPLAIN, b'f', "sf", "vsimtx: memory\n"),
+    (EXPLAIN, b'F', "sfF", "vsimtx: P6 memory\n"),
+    (EXPLAIN, b'j', "sfFj", "vsimtx: Q5 memory\n"),
+    (EXPLAIN, b'J', "sfFjJ", "vsimtx: memory\n"),
     (WAVES, b's', "s", "vsimtx: memory\n"),
     (WAVES, b'f', "sf", "vsimtx: memory\n"),
     (WAVES, b'F', "sfF", "vsimtx: P6 memory\n"),
@@ -278,14 +284,13 @@ const LOSSES: &[(&str, u8, &str, &str)] = &[
 
 /// A command passed these marks, wrote this line alone, and had the status of memory.
 fn assert_told(rt: &impl Abort, places: &Places, status: u8, passed: &str, line: &str) {
-    assert!(rt; status == 6, "the status of {passed}");
-    assert!(rt;
-        has(&places.passed, passed.as_bytes()),
-        "the marks of {passed}"
-    );
-    assert!(rt; has(&places.err, line.as_bytes()), "the line of {passed}");
+    holds_of(rt, status == 6, "the status", passed);
+    let is_passed = has(&places.passed, passed.as_bytes());
+    holds_of(rt, is_passed, "the marks", passed);
+    let is_told = has(&places.err, line.as_bytes());
+    holds_of(rt, is_told, "the line", passed);
     let is_silent = has(&places.out, b"") && has(&places.made, b"");
-    assert!(rt; is_silent, "nothing else of {passed}");
+    holds_of(rt, is_silent, "nothing else", passed);
 }
 
 /// What a command line tells that loses all memory at a mark.
@@ -355,7 +360,7 @@ fn has_one(place: &Shared, texts: &[&str]) -> bool {
 fn assert_stopped(rt: &impl Abort, places: &Places, line: &[u8]) {
     let is_begun = has_one(&places.made, BEGUN) && has(&places.out, line);
     let is_empty = has(&places.made, NO_ENTRY) && has(&places.out, b"");
-    assert!(rt; is_begun || is_empty, "a beginning");
+    holds(rt, is_begun || is_empty, "a beginning");
 }
 
 /// How many of these were told one after another, each with the marks that were passed.
@@ -373,7 +378,7 @@ fn told_after(wanted: &[(&str, &str)], count: usize, places: &Places) -> usize {
 /// A command that wasn't done told that memory was refused.
 fn assert_refused(rt: &impl Abort, places: &Places, status: u8, line: &[u8]) {
     let is_memory = status == 6 && has_one(&places.err, MEMORY);
-    assert!(rt; is_memory, "the line of memory");
+    holds(rt, is_memory, "the line of memory");
     if has(&places.err, STOPPED) {
         assert_stopped(rt, places, line);
     }
@@ -419,7 +424,7 @@ fn told_in_all<R: Abort + Threads + Wait + Sync>(
         assert_refused(rt, places, status, asked.line);
         told = told_after(wanted, told, places);
     }
-    panic!(rt; "never done")
+    fail(rt, "never done")
 }
 
 /// A command tells these in too little memory, one after another as it gets more, and at last is done.
@@ -439,7 +444,8 @@ fn assert_all_told<R: Abort + Threads + Wait + Sync>(
         line: shown.as_bytes(),
     };
     let told = told_in_all(rt, alloc, asked, &places, wanted);
-    assert!(rt; told == wanted.len(), "{told} of the lines of memory");
+    let told = told as u64;
+    holds_as(rt, "lines of memory", told, wanted.len() as u64);
 }
 
 /// There is no memory for the tree of a source, then for a run before its first worker, and then for its entries.
@@ -557,8 +563,8 @@ fn tells_races_before_the_search(rt: HostRuntime) {
 
 /// The race is told alone, and then that memory was refused.
 fn assert_named(rt: &impl Abort, places: &Places, status: u8) {
-    assert!(rt; status == 6, "the status of memory");
-    assert!(rt; has(&places.passed, b"fFo"), "the marks");
-    assert!(rt; has(&places.out, NAMED), "the race alone");
-    assert!(rt; has(&places.err, b"vsimtx: memory\n"), "the line");
+    holds(rt, status == 6, "the status of memory");
+    holds(rt, has(&places.passed, b"fFo"), "the marks");
+    holds(rt, has(&places.out, NAMED), "the race alone");
+    holds(rt, has(&places.err, b"vsimtx: memory\n"), "the line");
 }

@@ -3,6 +3,7 @@
 
 ghost use Rattle.std.specs.Prelude.{◌≤◌};
 
+use super::claims::holds;
 use super::counts::Evaluations;
 use super::{Texts, design_of, either, only, outcome_of, replayed};
 use commitgate::Closed;
@@ -53,15 +54,15 @@ fn active_in(state: &State) -> u64 {
 fn active_after(rt: &impl Abort, alloc: Global, design: &Design, closed: &Closed) -> u64 {
     let again = replayed(rt, alloc, design, closed.entries());
     let lines = again.lines.as_str();
-    assert!(rt; lines == closed.lines(), "the lines of the replay");
+    holds(rt, lines == closed.lines(), "the lines of the replay");
     active_in(&again.state)
 }
 
 /// There is an evaluation of each turn, and at most four of each turn and of each evaluation that is still active at the end.
 fn assert_evaluations(rt: &impl Abort, turns: u64, active: u64, evaluations: u64) {
-    assert!(rt; turns <= evaluations, "evaluations of all turns");
+    holds(rt, turns <= evaluations, "evaluations of all turns");
     let most = turns.saturating_add(active).saturating_mul(4);
-    assert!(rt; evaluations <= most, "four evaluations of a turn");
+    holds(rt, evaluations <= most, "four evaluations of a turn");
 }
 
 /// A run prints one of the texts, and replays to it.
@@ -74,12 +75,13 @@ fn assert_outcome(
     texts: Texts<'_>,
 ) {
     let closed = &outcome.closed;
-    assert!(rt; texts.has(closed.lines().as_bytes()), "the lines");
+    holds(rt, texts.has(closed.lines().as_bytes()), "the lines");
     let active = active_after(rt, alloc, design, closed);
     let counted = evaluations.assert_few(rt);
-    assert!(rt;
+    holds(
+        rt,
         counted == total(outcome.evaluations.as_slice()),
-        "the evaluations"
+        "the evaluations",
     );
     assert_evaluations(rt, turns_in(closed.entries()), active, counted);
 }

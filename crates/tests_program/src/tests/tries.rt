@@ -1,5 +1,6 @@
 //! How often an event is evaluated: four times at most, also by a worker that commits several turns at once.
 
+use super::claims::{holds, holds_as};
 use super::counts::{Count, Evaluations};
 use super::{append, decimal, design_of, joined, outcome_of, repeated};
 use design::RegId;
@@ -138,15 +139,11 @@ fn endless(rt: &impl Abort, alloc: Global, times: u32) -> String {
 /// An event was evaluated so often, and none more than four times.
 fn assert_times(rt: &impl Abort, evaluations: &Evaluations, event: u64, wanted: u64) {
     evaluations.assert_few(rt);
-    let times = evaluations.of(event);
-    assert!(rt;
-        times == wanted,
-        "the last event was evaluated {times} times"
-    );
+    holds_as(rt, "evaluations", evaluations.of(event), wanted);
 }
 
 fn assert_end(rt: &impl Abort, end: End, wanted: End) {
-    assert!(rt; end == wanted, "the end");
+    holds(rt, end == wanted, "the end");
 }
 
 /// The last process reads values of two moments three times, and is then evaluated under the lock.
@@ -157,7 +154,7 @@ fn assert_mixed<R: Abort + Threads + Wait + Sync>(rt: &R, alloc: Global, times: 
     let outcome = run_on_two(rt, alloc, source.as_str(), &probe);
     assert_end(rt, outcome.closed.end(), End::Quiet);
     assert_times(rt, &probe.evaluations, event, 4);
-    assert!(rt; probe.given_up.get() == 0, "the waits ended");
+    holds(rt, probe.given_up.get() == 0, "the waits ended");
 }
 
 /// The last process stops the run at its first evaluation, behind the turns of all others.
@@ -168,7 +165,7 @@ fn assert_endless<R: Abort + Threads + Wait + Sync>(rt: &R, alloc: Global, times
     let outcome = run_on_one(rt, alloc, source.as_str(), &probe);
     let closed = &outcome.closed;
     assert_end(rt, closed.end(), End::Stopped(Why::TooLong(times)));
-    assert!(rt; closed.entries().len() == times as usize, "the entries");
+    holds(rt, closed.entries().len() == times as usize, "the entries");
     assert_times(rt, &probe, event, 1);
 }
 

@@ -1,5 +1,6 @@
 //! Small graphs, of which the texts are counted by hand.
 use super::*;
+use crate::claims::holds;
 
 /// What came of a search: how many texts are shown, and whether they are all.
 fn found(
@@ -85,15 +86,31 @@ fn only_walk(alloc: Global) -> Result<bool, AllocError> {
 
 #[test]
 fn shows_each_text_once(rt: HostRuntime) {
-    assert!(rt; diamond(rt.alloc(), 100, 100) == Ok((3, true)));
-    assert!(rt; only_walk(rt.alloc()) == Ok(true));
+    holds(
+        &rt,
+        diamond(rt.alloc(), 100, 100) == Ok((3, true)),
+        "three texts",
+    );
+    holds(&rt, only_walk(rt.alloc()) == Ok(true), "the only walk");
 }
 
 #[test]
 fn covers_nothing_past_its_bounds(rt: HostRuntime) {
-    assert!(rt; diamond(rt.alloc(), 100, 2) == Ok((2, false)));
-    assert!(rt; diamond(rt.alloc(), 5, 100) == Ok((2, false)));
-    assert!(rt; diamond(rt.alloc(), 6, 3) == Ok((3, true)));
+    holds(
+        &rt,
+        diamond(rt.alloc(), 100, 2) == Ok((2, false)),
+        "room for two texts",
+    );
+    holds(
+        &rt,
+        diamond(rt.alloc(), 5, 100) == Ok((2, false)),
+        "room for five nodes",
+    );
+    holds(
+        &rt,
+        diamond(rt.alloc(), 6, 3) == Ok((3, true)),
+        "room for all",
+    );
 }
 
 /// Two vertices lead to one another, and print at each step: each walk has another text, so no bound is enough.
@@ -119,7 +136,11 @@ fn an_endless_text_is_not_covered(rt: HostRuntime) {
         },
     ]
     .expect(&rt, "memory");
-    assert!(rt; found(alloc, forks, 1000, 10) == Ok((0, false)));
+    holds(
+        &rt,
+        found(alloc, forks, 1000, 10) == Ok((0, false)),
+        "no text",
+    );
 }
 
 /// Two vertices lead to one another in silence, and one of them to the end: the walks are endless in number, and their
@@ -144,10 +165,10 @@ fn merging_ends_a_cycle(rt: HostRuntime) {
         },
     ]
     .expect(&rt, "memory");
-    assert!(rt; found(alloc, forks, 3, 1) == Ok((1, true)));
+    holds(&rt, found(alloc, forks, 3, 1) == Ok((1, true)), "one text");
 }
 
 #[test]
 fn follows_a_long_path(rt: HostRuntime) {
-    assert!(rt; path(rt.alloc(), 100_000) == Ok((1, true)));
+    holds(&rt, path(rt.alloc(), 100_000) == Ok((1, true)), "one text");
 }

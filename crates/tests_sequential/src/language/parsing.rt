@@ -1,5 +1,6 @@
 //! Sources that are accepted, and a page of source that is cut, and with each of its bytes replaced.
 
+use crate::claims::{holds, holds_at, repeated};
 use model::tree::Module;
 use std::alloc::Global;
 use std::process::Abort;
@@ -9,37 +10,20 @@ use vparse::{ParseFault, parse};
 const PAGE: &[u8] =
     b"module t; // a\nreg [7:0] a, b$1; /* ** */ reg _c;\ninitial begin a = 8'hz1 & &b$1; _c <= #1 {a[0], 1'bx} <= !a; #5 @(posedge a or b$1, negedge _c) ; if (a === 4'd9) begin end else begin $display(\"%b\\n\\\"\", a, ~_c); $strobe(\"\"); end while (a < b$1) begin a = a ? b$1 : (a - 8'd1) << 2'd1; end if (a) begin end $finish; end\nalways ; endmodule\n";
 
-/// A text between two others, so many times.
-fn repeated(
-    rt: &impl Abort,
-    alloc: Global,
-    front: &[u8],
-    text: &[u8],
-    times: usize,
-    back: &[u8],
-) -> Vec<u8> {
-    let mut all = Vec::from_slice(alloc, front).expect(rt, "memory");
-    for _turn in 0..times {
-        all.extend_from_slice(text).expect(rt, "memory");
-    }
-    all.extend_from_slice(back).expect(rt, "memory");
-    all
-}
-
 /// The fault of a text, or nothing where it is accepted.
 fn fault(alloc: Global, text: &[u8]) -> Option<ParseFault> {
     parse(alloc, text).err()
 }
 
 fn assert_accepted(rt: &impl Abort, alloc: Global, text: &[u8]) {
-    assert_eq!(rt; fault(alloc, text), None);
+    holds(rt, fault(alloc, text).is_none(), "no fault");
 }
 
 /// The name and the counts of the page's module.
 fn assert_page(rt: &impl Abort, page: &Module) {
-    assert!(rt; page.name.as_str() == "t");
-    assert!(rt; page.regs.len() == 2);
-    assert!(rt; page.procs.len() == 2);
+    holds(rt, page.name.as_str() == "t", "another name");
+    holds(rt, page.regs.len() == 2, "other declarations");
+    holds(rt, page.procs.len() == 2, "other processes");
 }
 
 #[test]
@@ -94,7 +78,7 @@ fn reads_the_deepest_statement(rt: HostRuntime) {
 fn says_that_memory_is_missing(rt: HostRuntime) {
     let fault = ParseFault::Memory;
     let line = format!(in rt.alloc(); "{fault}").expect(&rt, "memory");
-    assert!(rt; line.as_str() == "P6 memory");
+    holds(&rt, line.as_str() == "P6 memory", "another line");
 }
 
 /// Whether a fault names a byte of the text, or a token that so long a text may have.
@@ -113,7 +97,7 @@ fn is_named(fault: Option<ParseFault>, len: usize) -> bool {
 fn reads_or_refuses_each_cut_of_a_page(rt: HostRuntime) {
     for len in 0..PAGE.len() {
         let found = fault(rt.alloc(), &PAGE[..len]);
-        assert!(rt; is_named(found, len), "cut at {len}");
+        holds_at(&rt, is_named(found, len), "cut at", len);
     }
 }
 
@@ -124,7 +108,7 @@ fn assert_each_byte(rt: &impl Abort, alloc: Global, text: &mut [u8], place: usiz
             text[place] = byte;
         }
         let found = fault(alloc, text);
-        assert!(rt; is_named(found, text.len()), "{byte} at {place}");
+        holds_at(rt, is_named(found, text.len()), "another byte at", place);
     }
 }
 

@@ -1,10 +1,9 @@
-//! Tests against a plain digit-list program, and edges between worked values.
+//! Edges between worked values. The other operations are rows of `shown`, and outside the gate `tools/vectors/run` compares them with a plain
+//! program over lists of digits.
 
 mod edges;
-mod pairs;
-mod plain;
-mod random;
 
+use crate::claims::holds;
 use logic4::bits::Bits;
 use logic4::digit::Digit;
 use std::process::Abort;
@@ -29,6 +28,10 @@ fn digit(letter: u8) -> Digit {
 }
 
 fn joined(rt: &impl Abort, high: Bits, low: Bits) -> Bits {
-    assert!(rt; high.width() + low.width() <= Bits::MAX_WIDTH, "too wide");
+    holds(
+        rt,
+        high.width() + low.width() <= Bits::MAX_WIDTH,
+        "too wide",
+    );
     Bits::concat(high, low)
 }

@@ -1,29 +1,30 @@
-//! Comparisons that tests share. Each is proved here once, and not again in each test, beside the values that it owns.
+//! Comparisons that tests share.
 
+use crate::claims::{holds, holds_at};
 use model::entry::Entry;
 use std::process::Abort;
 
 /// A text is the one that is wanted.
 pub fn assert_text(rt: &impl Abort, found: &str, wanted: &str) {
-    assert_eq!(rt; found, wanted);
+    holds(rt, found == wanted, found);
 }
 
 /// The text of a row of a table is the one that is wanted.
 pub fn assert_row(rt: &impl Abort, found: &str, wanted: &str, row: usize) {
-    assert!(rt; found == wanted, "row {row}: {found}");
+    holds_at(rt, found == wanted, found, row);
 }
 
 /// A number is the one that is wanted.
 pub fn assert_number(rt: &impl Abort, found: u64, wanted: u64) {
-    assert_eq!(rt; found, wanted);
+    holds(rt, found == wanted, "another number");
 }
 
 /// A length is the one that is wanted.
 pub fn assert_length(rt: &impl Abort, found: usize, wanted: usize) {
-    assert_eq!(rt; found, wanted);
+    holds_at(rt, found == wanted, "another length", found);
 }
 
 /// Entries are those that are wanted.
 pub fn assert_entries(rt: &impl Abort, found: &[Entry], wanted: &[Entry]) {
-    assert!(rt; found == wanted, "the entries");
+    holds(rt, found == wanted, "the entries");
 }

@@ -1,5 +1,6 @@
 //! Registers that a test holds, and turns of the first process of a source on them.
 
+use crate::claims::{holds, holds_at};
 use design::{Design, ProcState, RegId};
 use frontend::{SourceFault, read_design};
 use indexmap::IndexMap;
@@ -63,7 +64,7 @@ pub fn text_of_fault(rt: &impl Abort, alloc: Global, fault: &SourceFault) -> Str
 
 /// Where the first process of a design begins.
 pub fn beginning(rt: &impl Abort, design: &Design) -> ProcState {
-    assert!(rt; design.processes() > 0, "no process");
+    holds(rt, design.processes() > 0, "no process");
     design.first(0)
 }
 
@@ -74,18 +75,19 @@ pub fn assert_read_at(
     register: RegId,
     place: usize,
 ) {
-    assert!(rt; reads.get_index_of(&register) == Some(place), "{register}");
+    let is = reads.get_index_of(&register) == Some(place);
+    holds_at(rt, is, "another place of register", register as usize);
 }
 
 /// The first turn of the first process of a source, at a time below 2 to the 32.
 pub fn try_first_turn(
     rt: &impl Abort,
     alloc: Global,
-    source: &str,
+    source: &[u8],
     now: u32,
     held: &mut Held,
 ) -> Result<TurnLog, TurnFault> {
-    let design = design_of(rt, alloc, source.as_bytes());
+    let design = design_of(rt, alloc, source);
     let state = beginning(rt, &design);
     // The answer tells that there are at most 1,024, which is what the reader takes.
     let _registers = design.registers();
@@ -114,7 +116,7 @@ pub struct Taken {
 }
 
 /// The first turn of the first process of a source, at time 7, where every register has the same value.
-pub fn first_turn(rt: &impl Abort, alloc: Global, source: &str, value: Bits) -> Taken {
+pub fn first_turn(rt: &impl Abort, alloc: Global, source: &[u8], value: Bits) -> Taken {
     let mut held = Held::all(value);
     let turn = try_first_turn(rt, alloc, source, 7, &mut held);
     let log = turn.ok().expect(rt, "a short turn");

@@ -1,8 +1,10 @@
-//! Calls from bytes to bytes in too little memory: each answers as it has to, or tells of memory, and then nothing was written
-//! but a beginning.
+//! Calls in too little memory: each answers as it has to, or tells of memory, and then nothing was written but a beginning.
 
 use super::compare::{assert_entries, assert_number};
+use super::dumps::{self, DUMPS, is_dumped};
 use super::held::text_of_fault;
+use crate::claims::{fail, holds};
+use crate::language::faults_told::is_told;
 use frontend::read_design;
 use hoard::Hoard;
 use journal::{Counted, ReadFault, WriteFault, read_journal, write_journal};
@@ -39,12 +41,13 @@ pub const ENTRIES: [Entry; 8] = [
     Entry::Turn(4),
 ];
 
-/// A source, how many registers it has, and of one of its runs the journal's text in version 1, the entries and the lines.
+/// A source, how many registers it has, and of one of its runs the journal's text in both versions, the entries and the lines.
 #[derive(Clone, Copy)]
 struct Row<'a> {
     source: &'a [u8],
     registers: u64,
     text: &'a [u8],
+    written: &'a [u8],
     entries: &'a [Entry],
     lines: &'a [u8],
 }
@@ -55,6 +58,7 @@ const ROWS: &[Row<'static>] = &[
         source: SWAP,
         registers: 2,
         text: JOURNAL,
+        written: b"vsimtx-journal 2\nT 0\nA 1\nT 1\nN\nU 2\nU 3\nA 2\nT 4\nE 8\n",
         entries: &ENTRIES,
         lines: b"1 0\n",
     },
@@ -62,6 +66,7 @@ const ROWS: &[Row<'static>] = &[
         source: b"module t; reg a; initial begin a=1'b1; #1 a=1'b0; a=1'b1; end initial #0 @(posedge a) $display(\"glitch\"); endmodule",
         registers: 1,
         text: b"vsimtx-journal 1\nT 0\nT 1\nI\nT 3\nA 1\nT 2\nT 4\n",
+        written: b"vsimtx-journal 2\nT 0\nT 1\nI\nT 3\nA 1\nT 2\nT 4\nE 7\n",
         entries: &[
             Entry::Turn(0),
             Entry::Turn(1),
@@ -77,30 +82,39 @@ const ROWS: &[Row<'static>] = &[
         source: b"module t; reg a, b; initial a=1'b1; initial b=a; endmodule",
         registers: 2,
         text: b"vsimtx-journal 1\nT 1\nT 0\n",
+        written: b"vsimtx-journal 2\nT 1\nT 0\nE 2\n",
         entries: &[Entry::Turn(1), Entry::Turn(0)],
         lines: b"",
     },
 ];
 
-// Takes all memory but so many pieces.
-fn take_all(rt: &impl Abort, alloc: Global, pieces: usize) -> Hoard {
-    Hoard::new(alloc, pieces, PIECE).expect(rt, "memory")
+/// A call, with a row where it has one.
+#[derive(Clone, Copy)]
+enum Call<'a> {
+    Design(&'a Row<'a>),
+    Read(&'a Row<'a>),
+    Write(&'a Row<'a>),
+    Replay(&'a Row<'a>),
+    Dump(&'a dumps::Row<'a>),
+    Fault,
 }
 
-// Room for any of the texts.
-fn room(rt: &impl Abort, alloc: Global) -> Vec<u8> {
+// Room for any of the texts. Behind that all memory is taken again.
+fn room(rt: &impl Abort, alloc: Global, hoard: &mut Hoard) -> Vec<u8> {
+    holds(rt, hoard.open(), "a piece of memory");
     Vec::with_capacity(alloc, TEXT).expect(rt, "memory")
 }
 
-// Leaves memory for a call that is made again and again.
-fn leave(rt: &impl Abort, hoard: &mut Hoard, count: usize) {
+/// Leaves memory for a call that is made again and again.
+pub fn leave(rt: &impl Abort, hoard: &mut Hoard, count: usize) {
+    hoard.shut();
     let is_left = hoard.leave(count.saturating_mul(STEP));
-    assert!(rt; is_left, "a piece of memory");
+    holds(rt, is_left, "a piece of memory");
 }
 
 // The text of the fault of a source tells of memory alone.
 fn assert_memory(rt: &impl Abort, told: &str) {
-    assert!(rt; told == "P6 memory" || told == "E10 memory", "{told}");
+    holds(rt, (told == "P6 memory") | (told == "E10 memory"), told);
 }
 
 // Whether a design is read.
@@ -113,7 +127,7 @@ fn is_design(
 ) -> bool {
     leave(rt, hoard, count);
     let answer = read_design(alloc, row.source);
-    assert!(rt; hoard.open(), "a piece of memory");
+    holds(rt, hoard.open(), "a piece of memory");
     match answer {
         Ok(design) => {
             assert_number(rt, u64::from(design.registers()), row.registers);
@@ -123,27 +137,6 @@ fn is_design(
             assert_memory(rt, text_of_fault(rt, alloc, &fault).as_str());
             false
         }
-    }
-}
-
-// A source is read with more and more memory.
-fn assert_design(rt: &impl Abort, alloc: Global, row: &Row<'_>) {
-    let mut hoard = take_all(rt, alloc, 2 * ROOMS);
-    for count in 0..ROOMS {
-        let is_read = is_design(rt, alloc, &mut hoard, row, count);
-        hoard.shut();
-        if is_read {
-            assert!(rt; count > 0, "memory was refused");
-            return;
-        }
-    }
-    panic!(rt; "no design");
-}
-
-#[test]
-fn a_source_is_read_or_refused_memory(rt: HostRuntime) {
-    for row in ROWS {
-        assert_design(&rt, rt.alloc(), row);
     }
 }
 
@@ -162,38 +155,21 @@ fn is_journal(
             true
         }
         Err(fault) => {
-            assert!(rt; fault == ReadFault::Memory, "another fault");
+            holds(rt, fault == ReadFault::Memory, "another fault");
             false
         }
     }
 }
 
-// A journal is read with more and more memory.
-fn assert_journal(rt: &impl Abort, alloc: Global, row: &Row<'_>) {
-    let mut hoard = take_all(rt, alloc, ROOMS);
-    for count in 0..ROOMS {
-        let is_read = is_journal(rt, alloc, &mut hoard, row, count);
-        hoard.shut();
-        if is_read {
-            assert!(rt; count > 0, "memory was refused");
-            return;
+// A text is whole, or the beginning that went out before memory was refused.
+fn assert_begun(rt: &impl Abort, fault: Option<WriteFault>, out: &[u8], whole: &[u8]) {
+    match fault {
+        None => holds(rt, out == whole, "another text"),
+        Some(fault) => {
+            holds(rt, fault == WriteFault::Memory, "another fault");
+            holds(rt, whole.starts_with(out), "another beginning");
         }
     }
-    panic!(rt; "no journal");
-}
-
-#[test]
-fn a_journal_is_read_or_refused_memory(rt: HostRuntime) {
-    for row in ROWS {
-        assert_journal(&rt, rt.alloc(), row);
-    }
-}
-
-// The text of a journal.
-fn whole_text(rt: &impl Abort, alloc: Global, row: &Row<'_>) -> Vec<u8> {
-    let mut out = Counted::new(Vec::new(alloc));
-    assert!(rt; write_journal(alloc, &mut out, row.entries).is_ok());
-    out.into_inner()
 }
 
 // Whether a journal is written, into room that is there already.
@@ -201,61 +177,22 @@ fn is_written(
     rt: &impl Abort,
     alloc: Global,
     hoard: &mut Hoard,
-    out: Vec<u8>,
-    both: (&[Entry], &[u8]),
+    row: &Row<'_>,
     count: usize,
-) -> (Vec<u8>, bool) {
-    let (entries, whole) = both;
+) -> bool {
+    let mut out = Counted::new(room(rt, alloc, hoard));
     leave(rt, hoard, count);
-    let mut out = Counted::new(out);
-    let answer = write_journal(alloc, &mut out, entries);
-    hoard.shut();
-    let mut out = out.into_inner();
-    match answer {
-        Ok(()) => assert!(rt; out.as_slice() == whole, "the text"),
-        Err(fault) => {
-            assert!(rt; fault == WriteFault::Memory, "another fault");
-            assert!(rt; whole.starts_with(out.as_slice()), "a beginning");
-        }
-    }
-    out.clear();
-    (out, answer.is_ok())
-}
-
-// A journal is written with more and more memory.
-fn assert_written(rt: &impl Abort, alloc: Global, row: &Row<'_>) {
-    let whole = whole_text(rt, alloc, row);
-    let both = (row.entries, whole.as_slice());
-    let mut out = room(rt, alloc);
-    let mut hoard = take_all(rt, alloc, ROOMS);
-    for count in 0..ROOMS {
-        let (left, is_whole) = is_written(rt, alloc, &mut hoard, out, both, count);
-        out = left;
-        if is_whole {
-            assert!(rt; count > 0, "memory was refused");
-            return;
-        }
-    }
-    panic!(rt; "no text");
-}
-
-#[test]
-fn a_journal_is_written_or_refused_memory(rt: HostRuntime) {
-    for row in ROWS {
-        assert_written(&rt, rt.alloc(), row);
-    }
-}
-
-// A text tells of memory.
-fn assert_told(rt: &impl Abort, told: &str) {
-    assert!(rt; told.ends_with("memory"), "{told}");
+    let fault = write_journal(alloc, &mut out, row.entries).err();
+    assert_begun(rt, fault, &out.into_inner(), row.written);
+    fault.is_none()
 }
 
 // The text of the fault of a replay tells of memory, and no lines were written.
 fn assert_refused_replay(rt: &impl Abort, alloc: Global, fault: &BytesFault, out: &[u8]) {
     let told = format!(in alloc; "{fault}").expect(rt, "memory for a line");
-    assert_told(rt, told.as_str());
-    assert!(rt; out.is_empty(), "lines before a fault");
+    let told = told.as_str();
+    holds(rt, told.ends_with("memory"), told);
+    holds(rt, out.is_empty(), "lines before a fault");
 }
 
 // Whether the lines of a replay are written, into room that is there already.
@@ -263,43 +200,79 @@ fn is_replayed(
     rt: &impl Abort,
     alloc: Global,
     hoard: &mut Hoard,
-    out: Vec<u8>,
     row: &Row<'_>,
     count: usize,
-) -> (Vec<u8>, bool) {
+) -> bool {
+    let mut out = Counted::new(room(rt, alloc, hoard));
     leave(rt, hoard, count);
-    let mut out = Counted::new(out);
     let answer = replay_bytes(alloc, row.source, &mut Counted::new(row.text), &mut out);
-    assert!(rt; hoard.open(), "a piece of memory");
-    let mut out = out.into_inner();
-    let is_whole = answer.is_ok();
+    holds(rt, hoard.open(), "a piece of memory");
+    let out = out.into_inner();
     match answer {
-        Ok(()) => assert!(rt; out.as_slice() == row.lines, "the lines"),
-        Err(fault) => assert_refused_replay(rt, alloc, &fault, &out),
+        Ok(()) => {
+            holds(rt, out.as_slice() == row.lines, "the lines");
+            true
+        }
+        Err(fault) => {
+            assert_refused_replay(rt, alloc, &fault, &out);
+            false
+        }
     }
-    out.clear();
-    (out, is_whole)
 }
 
-// A journal is replayed with more and more memory.
-fn assert_replayed(rt: &impl Abort, alloc: Global, row: &Row<'_>) {
-    let mut out = room(rt, alloc);
-    let mut hoard = take_all(rt, alloc, 2 * ROOMS);
+// Whether a call is done in so much memory. If not, it tells of memory.
+fn is_done(
+    rt: &impl Abort,
+    alloc: Global,
+    hoard: &mut Hoard,
+    call: Call<'_>,
+    count: usize,
+) -> bool {
+    match call {
+        Call::Design(row) => is_design(rt, alloc, hoard, row, count),
+        Call::Read(row) => is_journal(rt, alloc, hoard, row, count),
+        Call::Write(row) => is_written(rt, alloc, hoard, row, count),
+        Call::Replay(row) => is_replayed(rt, alloc, hoard, row, count),
+        Call::Dump(row) => is_dumped(rt, alloc, hoard, row, count),
+        Call::Fault => {
+            leave(rt, hoard, count);
+            is_told(rt, alloc)
+        }
+    }
+}
+
+// A call gets more and more memory, of which there is too little at first.
+fn assert_done(rt: &impl Abort, alloc: Global, call: Call<'_>) {
+    let mut hoard = Hoard::new(alloc, 3 * ROOMS, PIECE).expect(rt, "memory");
     for count in 0..ROOMS {
-        let (left, is_whole) = is_replayed(rt, alloc, &mut hoard, out, row, count);
-        hoard.shut();
-        out = left;
-        if is_whole {
-            assert!(rt; count > 0, "memory was refused");
+        if is_done(rt, alloc, &mut hoard, call, count) {
+            holds(rt, count > 0, "memory was refused");
             return;
         }
     }
-    panic!(rt; "no replay");
+    fail(rt, "never done");
 }
 
 #[test]
-fn a_journal_is_replayed_or_refused_memory(rt: HostRuntime) {
+fn sources_and_journals_are_read_or_refused_memory(rt: HostRuntime) {
     for row in ROWS {
-        assert_replayed(&rt, rt.alloc(), row);
+        assert_done(&rt, rt.alloc(), Call::Design(row));
+        assert_done(&rt, rt.alloc(), Call::Read(row));
     }
+}
+
+#[test]
+fn journals_are_written_and_replayed_or_refused_memory(rt: HostRuntime) {
+    for row in ROWS {
+        assert_done(&rt, rt.alloc(), Call::Write(row));
+        assert_done(&rt, rt.alloc(), Call::Replay(row));
+    }
+}
+
+#[test]
+fn dumps_and_faults_are_told_or_refused_memory(rt: HostRuntime) {
+    for row in DUMPS {
+        assert_done(&rt, rt.alloc(), Call::Dump(row));
+    }
+    assert_done(&rt, rt.alloc(), Call::Fault);
 }

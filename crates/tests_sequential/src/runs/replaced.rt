@@ -3,6 +3,7 @@
 use super::held::design_of;
 use super::refused::{ENTRIES, JOURNAL, SWAP};
 use super::replayed::outcome;
+use crate::claims::{holds, holds_at};
 use design::Design;
 use elaborate::{ElabFault, elaborate};
 use journal::{Counted, ReadFault, read_journal};
@@ -31,15 +32,13 @@ fn assert_replayed(rt: &impl Abort, alloc: Global, design: &Design, entries: &[E
     match outcome(rt, alloc, design, entries) {
         Ok(printed) => {
             let is_whole = count == ENTRIES.len();
-            assert!(rt;
-                count == entries.len() && printed.is_over == is_whole,
-                "{count} lawful entries"
-            );
+            holds_at(rt, count == entries.len(), "lawful entries", count);
+            holds_at(rt, printed.is_over == is_whole, "the end behind", count);
         }
-        Err(fault) => assert!(rt;
-            fault.entry == (count as u64).saturating_add(1),
-            "{count} lawful entries: {fault}"
-        ),
+        Err(fault) => {
+            let entry = (count as u64).saturating_add(1);
+            holds_at(rt, fault.entry == entry, "a fault behind", count);
+        }
     }
 }
 
@@ -66,10 +65,11 @@ fn assert_read(
     match read_journal(alloc, &mut Counted::new(text)) {
         Ok(entries) => {
             let count = entries.len() as u64;
-            assert!(rt; wanted.is_none() && count == lines, "{count} entries");
+            holds(rt, wanted.is_none(), "no fault");
+            holds(rt, count == lines, "another number of entries");
             assert_replayed(rt, alloc, design, &entries);
         }
-        Err(fault) => assert!(rt; wanted == Some(fault), "{fault}"),
+        Err(fault) => holds(rt, wanted == Some(fault), "another fault"),
     }
 }
 
@@ -192,26 +192,25 @@ fn may_be_faulty(fault: &ElabFault) -> bool {
 /// The swap's journal replays on this design to its end, or one of its entries is refused by the rules.
 fn assert_led(rt: &impl Abort, alloc: Global, design: &Design) {
     match outcome(rt, alloc, design, &ENTRIES) {
-        Ok(printed) => assert!(rt; printed.is_over, "events are left"),
+        Ok(printed) => holds(rt, printed.is_over, "events are left"),
         Err(fault) => {
             let is_refused = matches!(fault.cause, Cause::Refused(_));
-            assert!(rt;
-                is_refused && fault.entry <= ENTRIES.len() as u64,
-                "{fault}"
-            );
+            holds(rt, is_refused, "another cause");
+            holds(rt, fault.entry <= ENTRIES.len() as u64, "another entry");
         }
     }
 }
 
 /// A module of one declaration and one process has a design, or one of the faults that a byte may bring about.
 fn assert_elaborated(rt: &impl Abort, alloc: Global, module: &Module) {
-    assert!(rt;
+    holds(
+        rt,
         module.regs.len() == 1 && module.procs.len() == 1,
-        "another module"
+        "another module",
     );
     match elaborate(alloc, module) {
         Ok(design) => assert_led(rt, alloc, &design),
-        Err(fault) => assert!(rt; may_be_faulty(&fault), "{fault}"),
+        Err(fault) => holds(rt, may_be_faulty(&fault), "another fault of a module"),
     }
 }
 
@@ -219,10 +218,10 @@ fn assert_elaborated(rt: &impl Abort, alloc: Global, module: &Module) {
 fn assert_source(rt: &impl Abort, alloc: Global, text: &[u8], place: usize, new: u8) {
     match parse(alloc, text) {
         Ok(module) => {
-            assert!(rt; !is_foreign(new), "{new} at {place}");
+            holds_at(rt, !is_foreign(new), "a foreign byte at", place);
             assert_elaborated(rt, alloc, &module);
         }
-        Err(fault) => assert!(rt; may_refuse(fault, place, new), "{new} at {place}: {fault}"),
+        Err(fault) => holds_at(rt, may_refuse(fault, place, new), "another fault at", place),
     }
 }
 
@@ -252,6 +251,6 @@ fn a_cut_source_is_no_module(rt: HostRuntime) {
     for len in 0..SWAP.len() {
         let text = SWAP.get(..len).expect(&rt, "a beginning");
         let fault = parse(rt.alloc(), text).err().expect(&rt, "a fault");
-        assert!(rt; may_refuse(fault, len, b' '), "cut at {len}: {fault}");
+        holds_at(&rt, may_refuse(fault, len, b' '), "cut at", len);
     }
 }

@@ -2,6 +2,7 @@
 
 use super::compare::assert_text;
 use super::held::design_of;
+use crate::claims::holds;
 use design::Design;
 use model::entry::{Entry, Refusal};
 use replay::{Cause, ReplayFault, Replayed, replay};
@@ -74,5 +75,9 @@ pub fn assert_refuses(
 ) {
     let fault = outcome_of_source(rt, alloc, source, journal).err();
     let cause = Cause::Refused(refusal);
-    assert!(rt; fault == Some(ReplayFault { entry, cause }));
+    holds(
+        rt,
+        fault == Some(ReplayFault { entry, cause }),
+        "another fault",
+    );
 }

@@ -1,8 +1,10 @@
 //! What a fault prints, and replays from bytes to bytes: their lines, or the line that tells of the fault.
 
 use super::compare::{assert_row, assert_text};
+use super::refused::{JOURNAL, SWAP};
 use super::replayed::{assert_prints, assert_refuses};
 use super::streams::{ByteReader, ByteWriter};
+use crate::claims::holds;
 use journal::Counted;
 use model::entry::{Entry, Refusal};
 use replay::{BytesFault, Cause, ReplayFault, replay_bytes};
@@ -104,7 +106,7 @@ fn replays_entries(rt: HostRuntime) {
         Entry::Turn(3),
     ];
     let is_over = assert_prints(&rt, rt.alloc(), RACE, &journal, "0\n");
-    assert!(rt; is_over, "nothing is left to do");
+    holds(&rt, is_over, "nothing is left to do");
     journal[4] = Entry::Turn(4);
     assert_refuses(&rt, rt.alloc(), RACE, &journal, 5, Refusal::NotActive);
 }
@@ -122,49 +124,37 @@ fn assert_left_of(
     assert_row(rt, left.as_str(), want, place);
 }
 
+/// Sources with a journal, and what is left where a writer fails after 0, 1, .. bytes.
+const FAILED: &[(&[u8], &[u8], &[&str])] = &[
+    (HI, b"vsimtx-journal 1\nT 0\n", &["cannot write"]),
+    (
+        HI,
+        b"vsimtx-journal 2\nT 0\nE 1\n",
+        &["cannot write", "hcannot write", "hicannot write", "hi\n"],
+    ),
+    (
+        SWAP,
+        JOURNAL,
+        &[
+            "cannot write",
+            "1cannot write",
+            "1 cannot write",
+            "1 0cannot write",
+            "1 0\n",
+        ],
+    ),
+];
+
 // By a reader that fails after so few bytes that the text of the journal isn't read to its end, only that is told.
-fn assert_failed_reads(rt: &impl Abort, alloc: Global, both: (&[u8], &[u8])) {
-    for reads in 0..=both.1.len() {
-        assert_left_of(
-            rt,
-            alloc,
-            both,
-            (reads, 100),
-            "Q4 journal read error",
-            reads,
-        );
-    }
-}
-
-// By a writer that fails after 0, 1, .. bytes, these are left.
-fn assert_failed_writes(rt: &impl Abort, alloc: Global, both: (&[u8], &[u8]), wants: &[&str]) {
-    for (writes, want) in wants.iter().enumerate() {
-        assert_left_of(rt, alloc, both, (100, writes), want, writes);
-    }
-}
-
 #[test]
 fn a_failed_read_or_write_is_told(rt: HostRuntime) {
-    let one: &[u8] = b"vsimtx-journal 1\nT 0\n";
-    let text: &[u8] = b"vsimtx-journal 2\nT 0\nE 1\n";
-    assert_failed_reads(&rt, rt.alloc(), (HI, one));
-    assert_failed_reads(&rt, rt.alloc(), (HI, text));
-    let wants = ["cannot write", "hcannot write", "hicannot write", "hi\n"];
-    assert_failed_writes(&rt, rt.alloc(), (HI, text), &wants);
-}
-
-#[test]
-fn a_longer_journal_that_breaks_off_is_told(rt: HostRuntime) {
-    let source: &[u8] =
-        b"module t; reg a, b; initial begin a=1'b0; b=1'b1; #1 a<=b; b<=a; #1 $display(\"%b %b\",a,b); end endmodule";
-    let text: &[u8] = b"vsimtx-journal 1\nT 0\nA 1\nT 1\nN\nU 2\nU 3\nA 2\nT 4\n";
-    assert_failed_reads(&rt, rt.alloc(), (source, text));
-    let wants = [
-        "cannot write",
-        "1cannot write",
-        "1 cannot write",
-        "1 0cannot write",
-        "1 0\n",
-    ];
-    assert_failed_writes(&rt, rt.alloc(), (source, text), &wants);
+    let told = "Q4 journal read error";
+    for &(source, text, wants) in FAILED {
+        for reads in 0..=text.len() {
+            assert_left_of(&rt, rt.alloc(), (source, text), (reads, 100), told, reads);
+        }
+        for (writes, want) in wants.iter().enumerate() {
+            assert_left_of(&rt, rt.alloc(), (source, text), (100, writes), want, writes);
+        }
+    }
 }

@@ -1,4 +1,5 @@
-//! What small processes do in a turn.
+//! What small processes do in their first turn: a row for each, which says what the turn is. Then turns in a log that is kept,
+//! and a turn that goes on behind a wait.
 
 ghost use Rattle.std.specs.Prelude.{◌≡◌, ℕ, [], ◌∷◌};
 ghost use Rattle.logic4.specs.Vector.{vector};
@@ -10,6 +11,7 @@ ghost use Rattle.design.specs.Steps.{below, piece, run_ops};
 
 use super::compare::{assert_length, assert_number, assert_text};
 use super::held::{Held, Taken, assert_read_at, beginning, design_of, first_turn, turn_from};
+use crate::claims::holds;
 use design::{Design, ProcState, RegId};
 use hoard::Hoard;
 use logic4::bits::Bits;
@@ -17,13 +19,284 @@ use std::alloc::Global;
 use std::process::Abort;
 use turn::{Net, Suspend, TurnLog, fill_turn};
 
-fn three() -> Held {
-    Held::all(Bits::from_u64(4, 3))
+/// The first turn of the first process of a source, which ends with it.
+#[derive(Clone, Copy)]
+struct Row<'a> {
+    source: &'a str,
+    /// What each register has: a number of so many digits, or one digit that is unknown.
+    held: Option<(u32, u64)>,
+    lines: &'a str,
+    /// The counted steps, the place behind the last one, and how many reads were made.
+    count: u32,
+    place: usize,
+    made: u64,
+    /// The registers that were read, in the order of their first use, and the strobes.
+    reads: &'a [RegId],
+    strobes: &'a [usize],
+    /// How many writes and nets there are. Where they are told: the register, the number of digits and the number of each
+    /// write, and the register, the first value, the number of changes and the last value of each net, of four digits.
+    sizes: (usize, usize),
+    writes: &'a [(RegId, u32, u64)],
+    nets: &'a [(RegId, u64, u64, u64)],
 }
 
-// The first turn of a source, where every register is 3.
-fn turn_on_three(rt: &impl Abort, alloc: Global, source: &str) -> Taken {
-    first_turn(rt, alloc, source, Bits::from_u64(4, 3))
+/// Where every register is unknown, nothing is read or written, and nothing is printed later.
+const PLAIN: Row<'static> = Row {
+    source: "",
+    held: None,
+    lines: "",
+    count: 0,
+    place: 0,
+    made: 0,
+    reads: &[],
+    strobes: &[],
+    sizes: (0, 0),
+    writes: &[],
+    nets: &[],
+};
+
+const TURNS: &[Row<'static>] = &[
+    // strobes read and print nothing
+    Row {
+        source: "module t; reg a, b; initial begin $strobe(\"%b\", a); $display(\"%b\", b); if (b) begin $strobe(\"no\"); end $strobe(\"s\"); end endmodule",
+        lines: "x\n",
+        count: 4,
+        place: 5,
+        made: 1,
+        reads: &[1],
+        strobes: &[0, 4],
+        ..PLAIN
+    },
+    // what a loop adds
+    Row {
+        source: "module t; reg [7:0] i, s; initial begin i=8'd0; s=8'd0; while (i<8'd5) begin i=i+8'd1; s=s+i; end $display(\"%0d %0d\",i,s); end endmodule",
+        lines: "5 15\n",
+        count: 19,
+        place: 6,
+        sizes: (12, 2),
+        ..PLAIN
+    },
+    // an assignment has the size of its context, and an argument its own
+    Row {
+        source: "module t; reg [4:0] s; initial begin s = 4'hf+4'h1; $display(\"%0d %0d\", s, 4'hf+4'h1); end endmodule",
+        lines: "16 0\n",
+        count: 2,
+        place: 2,
+        sizes: (1, 1),
+        ..PLAIN
+    },
+    // literals, sums, shifts, concatenations and registers of up to 128 digits
+    Row {
+        source: "module t; initial $display(\"%0d\", 128'hffffffffffffffffffffffffffffffff); endmodule",
+        lines: "340282366920938463463374607431768211455\n",
+        count: 1,
+        place: 1,
+        ..PLAIN
+    },
+    Row {
+        source: "module t; initial $display(\"%0d\", 128'hffffffffffffffffffffffffffffffff+128'h1); endmodule",
+        lines: "0\n",
+        count: 1,
+        place: 1,
+        ..PLAIN
+    },
+    Row {
+        source: "module t; initial $display(\"%h\", 128'h1<<8'd127); endmodule",
+        lines: "80000000000000000000000000000000\n",
+        count: 1,
+        place: 1,
+        ..PLAIN
+    },
+    Row {
+        source: "module t; initial $display(\"%h\", {64'hfedcba9876543210, 64'h1}); endmodule",
+        lines: "fedcba98765432100000000000000001\n",
+        count: 1,
+        place: 1,
+        ..PLAIN
+    },
+    Row {
+        source: "module t; initial $display(\"%b\", 128'd170141183460469231731687303715884105728>>8'd126); endmodule",
+        lines: "00000000000000000000000000000000000000000000000000000000000000000000000000000000000000000000000000000000000000000000000000000010\n",
+        count: 1,
+        place: 1,
+        ..PLAIN
+    },
+    Row {
+        source: "module t; reg [64:0] a; initial begin a = 64'hffffffffffffffff+64'h1; $display(\"%0d\",a); end endmodule",
+        lines: "18446744073709551616\n",
+        count: 2,
+        place: 2,
+        sizes: (1, 1),
+        ..PLAIN
+    },
+    Row {
+        source: "module t; reg [127:0] a; initial begin a = 128'bz; $display(\"%h %0d\",a,a[127]); end endmodule",
+        lines: "zzzzzzzzzzzzzzzzzzzzzzzzzzzzzzzz z\n",
+        count: 2,
+        place: 2,
+        sizes: (1, 1),
+        ..PLAIN
+    },
+    // digits that are unknown are the same
+    Row {
+        source: DIFFER,
+        count: 1,
+        place: 1,
+        made: 2,
+        reads: &[0, 1],
+        ..PLAIN
+    },
+    // a register is read once
+    Row {
+        source: "module t; reg [7:0] a, b, q; initial q = b + a + b; endmodule",
+        held: Some((4, 3)),
+        count: 1,
+        place: 1,
+        made: 2,
+        reads: &[1, 0],
+        sizes: (1, 1),
+        writes: &[(2, 8, 9)],
+        ..PLAIN
+    },
+    // a turn knows what it wrote
+    Row {
+        source: "module t; reg [3:0] a, b; initial begin b = 4'd5; $display(\"%0d\", b); end endmodule",
+        held: Some((4, 3)),
+        lines: "5\n",
+        count: 2,
+        place: 2,
+        sizes: (1, 1),
+        ..PLAIN
+    },
+    Row {
+        source: "module t; reg [3:0] a, b; initial begin b = 4'd5; $display(\"%0d %0d\", b, a); end endmodule",
+        held: Some((4, 3)),
+        lines: "5 3\n",
+        count: 2,
+        place: 2,
+        made: 1,
+        reads: &[0],
+        sizes: (1, 1),
+        ..PLAIN
+    },
+    // nets of two registers, in the order of their first writes
+    Row {
+        source: "module t; reg [3:0] a, b; initial begin b = 4'd5; a = 4'd1; b = 4'd5; b = 4'd6; a = 4'd1; b = 4'd5; end endmodule",
+        held: Some((4, 3)),
+        count: 6,
+        place: 6,
+        sizes: (6, 2),
+        nets: &[(1, 5, 2, 5), (0, 1, 0, 1)],
+        ..PLAIN
+    },
+    // a line
+    Row {
+        source: "module t; reg [5:0] a; initial $display(\"a%b %h%0d\", a, a, a); endmodule",
+        held: Some((6, 43)),
+        lines: "a101011 2b43\n",
+        count: 1,
+        place: 1,
+        made: 1,
+        reads: &[0],
+        ..PLAIN
+    },
+    // a loop to its end
+    Row {
+        source: "module t; reg [3:0] r; initial while (r < 4'd5) begin r = r + 4'd1; end endmodule",
+        held: Some((4, 3)),
+        count: 5,
+        place: 2,
+        made: 1,
+        reads: &[0],
+        sizes: (2, 1),
+        ..PLAIN
+    },
+];
+
+/// A loop until two registers are the same.
+pub const DIFFER: &str = "module t; reg a, b; initial while (a!==b) begin end endmodule";
+
+// The value that each register of a row has.
+fn value(row: &Row<'_>) -> Bits {
+    match row.held {
+        Some((width, number)) => Bits::from_u64(width.clamp(1, Bits::MAX_WIDTH), number),
+        None => Bits::unknown(1),
+    }
+}
+
+// A turn has these lines and counts.
+fn assert_counts(rt: &impl Abort, taken: &Taken, row: &Row<'_>) {
+    let log = &taken.log;
+    assert_text(rt, log.lines(), row.lines);
+    assert_number(rt, u64::from(log.count()), u64::from(row.count));
+    assert_length(rt, log.next().place, row.place);
+    assert_number(rt, taken.held.reads, row.made);
+    holds(rt, log.strobes() == row.strobes, row.source);
+    holds(rt, matches!(log.suspend(), Suspend::Ended), row.source);
+    holds(rt, !log.is_finish(), row.source);
+}
+
+/// A turn read these registers, in this order.
+pub fn assert_reads(rt: &impl Abort, log: &TurnLog, wanted: &[RegId]) {
+    assert_length(rt, log.reads().len(), wanted.len());
+    for (place, register) in wanted.iter().enumerate() {
+        assert_read_at(rt, log.reads(), *register, place);
+    }
+}
+
+// A turn made these writes.
+fn assert_writes(rt: &impl Abort, log: &TurnLog, wanted: &[(RegId, u32, u64)]) {
+    for (write, wanted) in log.writes().iter().zip(wanted) {
+        let width = write.1.width();
+        assert_number(rt, u64::from(write.0), u64::from(wanted.0));
+        assert_number(rt, u64::from(width), u64::from(wanted.1));
+        holds(
+            rt,
+            write.1 == Bits::from_u64(width, wanted.2),
+            "another value",
+        );
+    }
+}
+
+// A net is of this register, first value, number of changes, and last value.
+fn assert_net(rt: &impl Abort, net: &Net, wanted: &(RegId, u64, u64, u64)) {
+    assert_number(rt, u64::from(net.register), u64::from(wanted.0));
+    holds(
+        rt,
+        net.first == Bits::from_u64(4, wanted.1),
+        "another first value",
+    );
+    assert_number(rt, net.changes, wanted.2);
+    holds(
+        rt,
+        net.last == Bits::from_u64(4, wanted.3),
+        "another last value",
+    );
+}
+
+// A turn has so many writes and nets, and these where they are told.
+fn assert_wrote(rt: &impl Abort, log: &TurnLog, row: &Row<'_>) {
+    assert_length(rt, log.writes().len(), row.sizes.0);
+    assert_length(rt, log.nets().len(), row.sizes.1);
+    assert_writes(rt, log, row.writes);
+    for (net, wanted) in log.nets().iter().zip(row.nets) {
+        assert_net(rt, net, wanted);
+    }
+}
+
+fn assert_turn(rt: &impl Abort, taken: &Taken, row: &Row<'_>) {
+    assert_counts(rt, taken, row);
+    assert_reads(rt, &taken.log, row.reads);
+    assert_wrote(rt, &taken.log, row);
+}
+
+#[test]
+fn first_turns(rt: HostRuntime) {
+    one_value_is_left();
+    for row in TURNS {
+        let taken = first_turn(&rt, rt.alloc(), row.source.as_bytes(), value(row));
+        assert_turn(&rt, &taken, row);
+    }
 }
 
 /// The steps of `b + a + b` leave one vector on an empty stack, and so nothing below it.
@@ -31,24 +304,8 @@ fn one_value_is_left()
     ensures { (values : Store) → below (run_ops values (Load 1 8 ∷ BinaryRegister Add 8 8 0 8 ∷ BinaryRegister Add 8 8 1 8 ∷ []) []) ≡ [] }
 {}
 
-// The writes of a turn.
-fn assert_writes(rt: &impl Abort, log: &TurnLog, wanted: &[(RegId, Bits)]) {
-    assert!(rt; log.writes() == wanted);
-}
-
-// A turn read register 1 and then register 0, each once, and wrote their sum.
-fn assert_reads_two(rt: &impl Abort, taken: &Taken) {
-    assert_number(rt, taken.held.reads, 2);
-    assert_read_at(rt, taken.log.reads(), 1, 0);
-    assert_read_at(rt, taken.log.reads(), 0, 1);
-    assert_writes(rt, &taken.log, &[(2, Bits::from_u64(8, 9))]);
-}
-
-#[test]
-fn reads_a_register_once(rt: HostRuntime) {
-    one_value_is_left();
-    let source = "module t; reg [7:0] a, b, q; initial q = b + a + b; endmodule";
-    assert_reads_two(&rt, &turn_on_three(&rt, rt.alloc(), source));
+fn three() -> Held {
+    Held::all(Bits::from_u64(4, 3))
 }
 
 // The first turn of the first process, in a log that is kept.
@@ -57,7 +314,7 @@ fn turn_in(rt: &impl Abort, alloc: Global, log: &mut TurnLog, source: &str, held
     let state = beginning(rt, &design);
     let _registers = design.registers();
     let turn = fill_turn(log, &design, &state, 7, held);
-    assert!(rt; turn.is_ok(), "a short turn");
+    holds(rt, turn.is_ok(), "a short turn");
 }
 
 /// Writes one of two registers, and shows both.
@@ -67,34 +324,6 @@ const TWO: &str =
 /// The same with three registers.
 const THREE: &str =
     "module t; reg [3:0] a, b, c; initial begin a = 4'd5; $display(\"%0d %0d\", a, b); end endmodule";
-
-// In a log that is kept a turn shows both values. So many reads were made by then.
-fn assert_shows(
-    rt: &impl Abort,
-    alloc: Global,
-    log: &mut TurnLog,
-    source: &str,
-    held: &mut Held,
-    reads: u64,
-) {
-    turn_in(rt, alloc, log, source, held);
-    assert_text(rt, log.lines(), "5 3\n");
-    assert_number(rt, held.reads, reads);
-}
-
-// In a log that is kept each turn reads the other register anew.
-fn assert_reads_anew(rt: &impl Abort, alloc: Global, log: &mut TurnLog, held: &mut Held) {
-    assert_shows(rt, alloc, log, TWO, held, 1);
-    assert_shows(rt, alloc, log, TWO, held, 2);
-    assert_shows(rt, alloc, log, THREE, held, 3);
-    assert_shows(rt, alloc, log, TWO, held, 4);
-}
-
-#[test]
-fn knows_nothing_of_the_turn_before(rt: HostRuntime) {
-    let mut log = TurnLog::new(rt.alloc());
-    assert_reads_anew(&rt, rt.alloc(), &mut log, &mut three());
-}
 
 /// One read, one write, one nonblocking assignment and one line.
 const FULL: &str =
@@ -116,32 +345,35 @@ fn sizes(log: &TurnLog) -> [usize; 5] {
 
 // A log has so many of each.
 fn assert_sizes(rt: &impl Abort, log: &TurnLog, wanted: [usize; 5]) {
-    assert!(rt; sizes(log) == wanted);
+    holds(rt, sizes(log) == wanted, "other sizes");
 }
 
-// A turn in a log that is kept, which then has so many of each.
-fn assert_fills(
-    rt: &impl Abort,
-    alloc: Global,
-    log: &mut TurnLog,
-    source: &str,
-    wanted: [usize; 5],
-) {
-    turn_in(rt, alloc, log, source, &mut three());
-    assert_sizes(rt, log, wanted);
-}
+/// Turns of sources one behind the other in a log that is kept: how many reads were made by then, how many reads, writes, nets,
+/// nonblocking assignments and bytes the log then has, and its lines. Each reads anew, and none leaves anything.
+const KEPT: &[(&str, u64, [usize; 5], &str)] = &[
+    (TWO, 1, [1, 1, 1, 0, 4], "5 3\n"),
+    (TWO, 2, [1, 1, 1, 0, 4], "5 3\n"),
+    (THREE, 3, [1, 1, 1, 0, 4], "5 3\n"),
+    (TWO, 4, [1, 1, 1, 0, 4], "5 3\n"),
+    (FULL, 5, [1, 1, 1, 1, 2], "3\n"),
+    (EMPTY, 5, [0; 5], ""),
+    (FULL, 6, [1, 1, 1, 1, 2], "3\n"),
+];
 
-// A log that is kept is empty after a turn that does nothing.
-fn assert_empties(rt: &impl Abort, alloc: Global, log: &mut TurnLog) {
-    assert_fills(rt, alloc, log, FULL, [1, 1, 1, 1, 2]);
-    assert_fills(rt, alloc, log, EMPTY, [0; 5]);
-    assert_fills(rt, alloc, log, FULL, [1, 1, 1, 1, 2]);
+// The turns of these rows, in one log.
+fn assert_kept(rt: &impl Abort, alloc: Global, log: &mut TurnLog, held: &mut Held) {
+    for &(source, reads, sizes, lines) in KEPT {
+        turn_in(rt, alloc, log, source, held);
+        assert_sizes(rt, log, sizes);
+        assert_text(rt, log.lines(), lines);
+        assert_number(rt, held.reads, reads);
+    }
 }
 
 #[test]
-fn empties_a_log_that_is_kept(rt: HostRuntime) {
+fn knows_nothing_of_the_turn_before(rt: HostRuntime) {
     let mut log = TurnLog::new(rt.alloc());
-    assert_empties(&rt, rt.alloc(), &mut log);
+    assert_kept(&rt, rt.alloc(), &mut log, &mut three());
 }
 
 // Whether the first turn of the first process is over, in a log that is kept, where all other memory is taken.
@@ -160,14 +392,17 @@ fn is_over_without_memory(
 
 // A turn that is refused memory in a new log takes none in one that an earlier turn has grown.
 fn assert_grows(rt: &impl Abort, alloc: Global, design: &Design, log: &mut TurnLog) {
-    assert!(rt;
+    holds(
+        rt,
         !is_over_without_memory(rt, alloc, design, log),
-        "a new log"
+        "a new log",
     );
-    assert_fills(rt, alloc, log, FULL, [1, 1, 1, 1, 2]);
-    assert!(rt;
+    turn_in(rt, alloc, log, FULL, &mut three());
+    assert_sizes(rt, log, [1, 1, 1, 1, 2]);
+    holds(
+        rt,
         is_over_without_memory(rt, alloc, design, log),
-        "a grown log"
+        "a grown log",
     );
     assert_sizes(rt, log, [1, 1, 1, 1, 2]);
 }
@@ -184,62 +419,6 @@ fn takes_no_memory_in_a_log_that_has_grown(rt: HostRuntime) {
     assert_grown(&rt, rt.alloc(), &design);
 }
 
-// After a write of `b` a turn shows values, of which it reads so many, and ends behind its two statements.
-fn assert_known(rt: &impl Abort, alloc: Global, source: &str, line: &str, reads: u64) {
-    assert_wrote_one(rt, &turn_on_three(rt, alloc, source), line, reads);
-}
-
-// A turn of two statements wrote one register, shows this line, and read so many.
-fn assert_wrote_one(rt: &impl Abort, taken: &Taken, line: &str, reads: u64) {
-    let log = &taken.log;
-    assert_number(rt, taken.held.reads, reads);
-    assert_text(rt, log.lines(), line);
-    assert_length(rt, log.next().place, 2);
-    assert_length(rt, log.writes().len(), 1);
-    assert_length(rt, log.nets().len(), 1);
-}
-
-#[test]
-fn knows_what_it_wrote(rt: HostRuntime) {
-    let source =
-        "module t; reg [3:0] a, b; initial begin b = 4'd5; $display(\"%0d\", b); end endmodule";
-    assert_known(&rt, rt.alloc(), source, "5\n", 0);
-    let source =
-        "module t; reg [3:0] a, b; initial begin b = 4'd5; $display(\"%0d %0d\", b, a); end endmodule";
-    assert_known(&rt, rt.alloc(), source, "5 3\n", 1);
-}
-
-// A value has these binary digits.
-fn assert_digits(rt: &impl Abort, alloc: Global, value: &Bits, wanted: &str) {
-    let digits = value.show_b(alloc).expect(rt, "memory");
-    assert_text(rt, digits.as_str(), wanted);
-}
-
-// A net is of this register, first value, number of changes, and last value.
-fn assert_net(rt: &impl Abort, alloc: Global, net: Option<&Net>, wanted: (RegId, &str, u64, &str)) {
-    let net = net.expect(rt, "a net");
-    assert_number(rt, u64::from(net.register), u64::from(wanted.0));
-    assert_number(rt, net.changes, wanted.2);
-    assert_digits(rt, alloc, &net.first, wanted.1);
-    assert_digits(rt, alloc, &net.last, wanted.3);
-}
-
-// Six writes are the nets of two registers, in the order of their first writes.
-fn assert_two_nets(rt: &impl Abort, alloc: Global, log: &TurnLog) {
-    assert_length(rt, log.writes().len(), 6);
-    assert_length(rt, log.nets().len(), 2);
-    assert_net(rt, alloc, log.nets().get(0), (1, "0101", 2, "0101"));
-    assert_net(rt, alloc, log.nets().get(1), (0, "0001", 0, "0001"));
-}
-
-#[test]
-fn nets_of_two_registers(rt: HostRuntime) {
-    let source =
-        "module t; reg [3:0] a, b; initial begin b = 4'd5; a = 4'd1; b = 4'd5; b = 4'd6; a = 4'd1; b = 4'd5; end endmodule";
-    let taken = turn_on_three(&rt, rt.alloc(), source);
-    assert_two_nets(&rt, rt.alloc(), &taken.log);
-}
-
 /// The steps of an expression are a part of all steps: none where its ends are turned, or past the last step. More than 128
 /// digits aren't joined. No design has such a part, or such digits.
 fn parts_are_known()
@@ -254,40 +433,6 @@ fn takes_a_part_or_none(_rt: HostRuntime) {
     parts_are_known();
 }
 
-#[test]
-fn prints_a_line(rt: HostRuntime) {
-    let source = "module t; reg [5:0] a; initial $display(\"a%b %h%0d\", a, a, a); endmodule";
-    let taken = first_turn(&rt, rt.alloc(), source, Bits::from_u64(6, 43));
-    assert_prints(&rt, &taken.log, "a101011 2b43\n");
-}
-
-// A turn of one statement prints this.
-fn assert_prints(rt: &impl Abort, log: &TurnLog, lines: &str) {
-    assert_text(rt, log.lines(), lines);
-    assert_length(rt, log.next().place, 1);
-}
-
-// A process is over, and the simulation isn't.
-fn assert_ended(rt: &impl Abort, log: &TurnLog) {
-    assert!(rt; matches!(log.suspend(), Suspend::Ended) && !log.is_finish());
-}
-
-// A loop of two turns is over.
-fn assert_two_turns(rt: &impl Abort, taken: &Taken) {
-    let log = &taken.log;
-    assert_number(rt, taken.held.reads, 1);
-    assert_number(rt, u64::from(log.count()), 5);
-    assert_length(rt, log.writes().len(), 2);
-    assert_ended(rt, log);
-}
-
-#[test]
-fn loops_to_the_end(rt: HostRuntime) {
-    let source =
-        "module t; reg [3:0] r; initial while (r < 4'd5) begin r = r + 4'd1; end endmodule";
-    assert_two_turns(&rt, &turn_on_three(&rt, rt.alloc(), source));
-}
-
 /// When the first nonblocking assignment is due.
 fn first_due(log: &TurnLog) -> u64 {
     match log.nbas().first() {
@@ -298,7 +443,11 @@ fn first_due(log: &TurnLog) -> u64 {
 
 // A turn waits until time 10.
 fn assert_waits(rt: &impl Abort, log: &TurnLog) {
-    assert!(rt; matches!(log.suspend(), Suspend::Until(10)));
+    holds(
+        rt,
+        matches!(log.suspend(), Suspend::Until(10)),
+        "another wait",
+    );
 }
 
 // The first turn, at time 7, waits until time 10. This is where the process goes on.
@@ -311,8 +460,16 @@ fn wait(rt: &impl Abort, alloc: Global, design: &Design, held: &mut Held) -> Pro
 
 // A turn waits for the inactive region, to assign 3 to the second register.
 fn assert_pending(rt: &impl Abort, log: &TurnLog) {
-    assert!(rt; matches!(log.suspend(), Suspend::Inactive));
-    assert!(rt; log.next().pending == Some((1, Bits::from_u64(4, 3))));
+    holds(
+        rt,
+        matches!(log.suspend(), Suspend::Inactive),
+        "no wait for the inactive region",
+    );
+    holds(
+        rt,
+        log.next().pending == Some((1, Bits::from_u64(4, 3))),
+        "another assignment",
+    );
 }
 
 // The turn at time 10 assigns at time 12, and waits for the inactive region to assign the value of the first register.

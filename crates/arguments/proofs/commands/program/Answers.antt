@@ -19,5 +19,6 @@ returns c =
     let with_replay = c.in_ok-subcommand-2.ensures.shape c.in_ok-replay_command.ensures.rules.local ∙ ap₂ with_subcommand with_run (ap (λ (a : App). a.top) c.in_ok-replay_command.ensures.app) in
     let with_races = c.in_ok-subcommand-3.ensures.shape c.in_ok-races_command.ensures.rules.local ∙ ap₂ with_subcommand with_replay (ap (λ (a : App). a.top) c.in_ok-races_command.ensures.app) in
     let with_check = c.in_ok-subcommand-4.ensures.shape c.in_ok-check_command.ensures.rules.local ∙ ap₂ with_subcommand with_races (ap (λ (a : App). a.top) c.in_ok-check_command.ensures.app) in
-    if_ok (AddsSubcommand c.in_ok-subcommand-4.field-0 c.in_ok-waves_command.field-0) (λ d. app_of d ≡ whole_app) c.subcommand-5.result
-    (λ d added. added.shape c.in_ok-waves_command.ensures.rules.local ∙ ap₂ with_subcommand with_check (ap (λ (a : App). a.top) c.in_ok-waves_command.ensures.app)) c.subcommand-5.ensures
+    let with_explain = c.in_ok-subcommand-5.ensures.shape c.in_ok-explain_command.ensures.rules.local ∙ ap₂ with_subcommand with_check (ap (λ (a : App). a.top) c.in_ok-explain_command.ensures.app) in
+    if_ok (AddsSubcommand c.in_ok-subcommand-5.field-0 c.in_ok-waves_command.field-0) (λ d. app_of d ≡ whole_app) c.subcommand-6.result
+    (λ d added. added.shape c.in_ok-waves_command.ensures.rules.local ∙ ap₂ with_subcommand with_explain (ap (λ (a : App). a.top) c.in_ok-waves_command.ensures.app)) c.subcommand-6.ensures

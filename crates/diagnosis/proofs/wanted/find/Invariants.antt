@@ -1,6 +1,6 @@
 -- A token of what is left is one of all.
 use Rattle.std.proofs.Common.{ℕ, map, length}
-use Rattle.diagnosis.specs.PlainSpots.{plain_spot}
+use Rattle.places.specs.PlainSpots.{plain_spot}
 use Rattle.diagnosis.specs.Told.{wants, IsSpotAt}
 use Rattle.diagnosis.proofs.wanted.find.Given as goal
 

@@ -16,7 +16,7 @@ returns-clause-quiet c =
     let old = c.args.turns.now.items in
     let turned : Turned = c.in-Some.turned in
     let quiet : IsQuietTurn code s turned = subst (λ (o : Option Turned). IfSome o (IsQuietTurn code s)) c.in-Some.is c.in_ok-turned.ensures.quiet in
-    let apart = subst (λ (ts : List Turned). All (λ one. ArePair code s one turned) ts) c.as_slice.ensures.value (c.is_apart.ensures c.if-not-is_apart.false) in
+    let apart = subst (λ (ts : List Turned). All (λ one. ArePair code s one turned) ts) c.as_slice.ensures.value (c.is_apart_from.ensures.apart c.if-not-is_apart_from.false) in
     record {
       each = subst (All (IsQuietTurn code s)) (sym c.in_ok-push.ensures.items) (All-push (IsQuietTurn code s) old turned c.requires.quiet.each quiet);
       pairs = subst (AllPairs (ArePair code s)) (sym c.in_ok-push.ensures.items) (all_pairs_push (ArePair code s) old turned c.requires.quiet.pairs (λ k d within. apart k d within));

@@ -2,8 +2,9 @@
 use Rattle.std.proofs.Common.{◌≡◌, ◌⊎◌, ◌≤◌, ◌∙◌, sym, subst, ℕ}
 use Rattle.journal.specs.Counted.{held}
 use Rattle.arguments.specs.Words.{texts_of}
+use Rattle.program.specs.Printed.{IsUnprinted}
 use Rattle.program.specs.Told.{IsTold}
-use Rattle.program.proofs.Ended.{IsSourceStatus, done_by_status, right_by_status, refused_by_status, stopped_by_status, several_by_status, nothing_by_status, unsaved_by_status, silent_by_status, told_by_status, refused_done, refused_wrong, not_of_refusal, kept}
+use Rattle.program.proofs.Ended.{IsSourceStatus, done_by_status, right_by_status, faulty_by_status, refused_by_status, stopped_by_status, several_by_status, nothing_by_status, unsaved_by_status, silent_by_status, source_status, told_by_status, refused_done, refused_wrong, not_of_refusal, kept}
 use Rattle.program.proofs.Statuses.{at_most_seven}
 use Rattle.program.proofs.program.command.Goals as goal
 
@@ -24,6 +25,10 @@ returns-in-Ok-clause-refused g c = λ e begins.
     refused_by_status (texts_of c.args.words.now) (g.O.Write.contents (held c.args.out.now)) (g.O.Write.contents (held c.perform-ended.new.out)) (g.F.Files.made c.args.files.now) (g.F.Files.made c.perform-ended.new.files) c.perform-ended.result (c.perform-ended.ensures.ended (texts_of c.args.words.now) c.in-Ok.ensures.asked)
     (c.perform-ended.ensures.checked (texts_of c.args.words.now) c.in-Ok.ensures.asked begins) (sym c.finish.ensures.status ∙ e)
 
+pub returns-in-Ok-clause-faulty : goal.returns-in-Ok-clause-faulty
+returns-in-Ok-clause-faulty g c = λ e begins.
+    faulty_by_status c.perform-ended.result _ (c.perform-ended.ensures.refused (texts_of c.args.words.now) c.in-Ok.ensures.asked begins) (sym c.finish.ensures.status ∙ e)
+
 pub returns-in-Ok-clause-stopped : goal.returns-in-Ok-clause-stopped
 returns-in-Ok-clause-stopped g c = λ e.
     stopped_by_status (texts_of c.args.words.now) (g.O.Write.contents (held c.args.out.now)) (g.O.Write.contents (held c.perform-ended.new.out)) (g.F.Files.made c.args.files.now) (g.F.Files.made c.perform-ended.new.files) g.E.Write.contents c.args.err.now c.finish.new.err c.perform-ended.result (c.perform-ended.ensures.ended (texts_of c.args.words.now) c.in-Ok.ensures.asked) c.finish.ensures.told (sym c.finish.ensures.status ∙ e)
@@ -34,7 +39,8 @@ returns-in-Ok-clause-several g c = λ e.
 
 pub returns-in-Ok-clause-nothing : goal.returns-in-Ok-clause-nothing
 returns-in-Ok-clause-nothing g c = λ e.
-    nothing_by_status (texts_of c.args.words.now) (g.O.Write.contents (held c.args.out.now)) (g.O.Write.contents (held c.perform-ended.new.out)) (g.F.Files.made c.args.files.now) (g.F.Files.made c.perform-ended.new.files) c.perform-ended.result (c.perform-ended.ensures.ended (texts_of c.args.words.now) c.in-Ok.ensures.asked) c.perform-ended.ensures.nothing (subst IsSourceStatus c.finish.ensures.status e)
+    nothing_by_status (texts_of c.args.words.now) (g.O.Write.contents (held c.args.out.now)) (g.O.Write.contents (held c.perform-ended.new.out)) (g.F.Files.made c.args.files.now) (g.F.Files.made c.perform-ended.new.files) c.perform-ended.result (c.perform-ended.ensures.ended (texts_of c.args.words.now) c.in-Ok.ensures.asked)
+    (c.perform-ended.ensures.nothing (texts_of c.args.words.now) c.in-Ok.ensures.asked) (subst (IsUnprinted (texts_of c.args.words.now)) c.finish.ensures.status e)
 
 pub returns-in-Ok-clause-unsaved : goal.returns-in-Ok-clause-unsaved
 returns-in-Ok-clause-unsaved g c = λ e.
@@ -59,3 +65,6 @@ returns-in-Err-clause-done g c =
 
 pub returns-in-Err-clause-told : goal.returns-in-Err-clause-told
 returns-in-Err-clause-told g c = c.refuse.ensures.told (texts_of c.args.words.now) c.in-Err.ensures.refused
+
+pub returns-in-Err-clause-nothing : goal.returns-in-Err-clause-nothing
+returns-in-Err-clause-nothing g c = λ e. c.refuse.ensures.nothing (source_status (texts_of c.args.words.now) c.refuse.result e)

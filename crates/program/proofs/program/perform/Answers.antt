@@ -2,10 +2,10 @@
 use Rattle.std.proofs.Common.{◌≡◌, ap, subst}
 use Rattle.std.specs.Io.KnownBytes.{Keeps}
 use Rattle.journal.specs.Counted.{held}
-use Rattle.arguments.specs.Words.{Asks}
+use Rattle.arguments.specs.Words.{Asks, AsksExplain}
 use Rattle.program.specs.Program.{status_of}
 use Rattle.files.specs.Saved.{KeepsFiles}
-use Rattle.program.proofs.Ended.{check_alone, if_err, is_check, kept, one_only, output_same, unless_one, version_performed}
+use Rattle.program.proofs.Ended.{check_alone, explain_alone, if_err, if_read, is_check, is_explain, kept, one_only, output_same, unless_one, unless_told, version_performed}
 use Rattle.program.proofs.program.perform.Goals as goal
 
 pub returns-in-Run-clause-checked : goal.returns-in-Run-clause-checked
@@ -18,19 +18,55 @@ pub returns-in-Races-clause-checked : goal.returns-in-Races-clause-checked
 returns-in-Races-clause-checked g c = λ words asks begins. absurd (check_alone words c.args.request.now (ap is_check c.in-Races.is) asks begins)
 
 pub returns-in-Run-clause-nothing : goal.returns-in-Run-clause-nothing
-returns-in-Run-clause-nothing g c =
-    unless_one (Keeps (g.O.Write.contents (held c.args.out.now)) (g.O.Write.contents (held c.perform_run.new.out))) c.perform_run.result c.perform_run.ensures.nothing
+returns-in-Run-clause-nothing g c = λ words asks.
+    unless_one (Keeps (g.O.Write.contents (held c.args.out.now)) (g.O.Write.contents (held c.perform_run.new.out))) words c.perform_run.result c.perform_run.ensures.nothing
 
 pub returns-in-Replay-clause-nothing : goal.returns-in-Replay-clause-nothing
-returns-in-Replay-clause-nothing g c =
-    unless_one (Keeps (g.O.Write.contents (held c.args.out.now)) (g.O.Write.contents (held c.perform_replay.new.out))) c.perform_replay.result c.perform_replay.ensures.nothing
+returns-in-Replay-clause-nothing g c = λ words asks.
+    unless_one (Keeps (g.O.Write.contents (held c.args.out.now)) (g.O.Write.contents (held c.perform_replay.new.out))) words c.perform_replay.result c.perform_replay.ensures.nothing
+
+pub returns-in-Races-clause-nothing : goal.returns-in-Races-clause-nothing
+returns-in-Races-clause-nothing g c = λ words asks.
+    if_read (Keeps (g.O.Write.contents (held c.args.out.now)) (g.O.Write.contents (held c.perform_races.new.out))) words c.perform_races.result c.perform_races.ensures.nothing
+
+pub returns-in-Explain-clause-checked : goal.returns-in-Explain-clause-checked
+returns-in-Explain-clause-checked g c = λ words asks begins. absurd (check_alone words c.args.request.now (ap is_check c.in-Explain.is) asks begins)
+
+pub returns-in-Explain-clause-refused : goal.returns-in-Explain-clause-refused
+returns-in-Explain-clause-refused g c = λ words asks begins. c.perform_explain.ensures.refused words (subst (Asks words) c.in-Explain.is asks)
+
+pub returns-in-Explain-clause-nothing : goal.returns-in-Explain-clause-nothing
+returns-in-Explain-clause-nothing g c = λ words asks.
+    let own : AsksExplain words c.in-Explain.request = subst (Asks words) c.in-Explain.is asks in
+    unless_told (Keeps (g.O.Write.contents (held c.args.out.now)) (g.O.Write.contents (held c.perform_explain.new.out))) words c.perform_explain.result own.begins c.perform_explain.ensures.nothing
+
+pub returns-in-Explain-clause-unsaved : goal.returns-in-Explain-clause-unsaved
+returns-in-Explain-clause-unsaved g c = if_err _ c.perform_explain.result (λ f source. c.perform_explain.ensures.unsaved)
+
+pub returns-in-Run-clause-refused : goal.returns-in-Run-clause-refused
+returns-in-Run-clause-refused g c = λ words asks begins. absurd (explain_alone words c.args.request.now (ap is_explain c.in-Run.is) asks begins)
+
+pub returns-in-Replay-clause-refused : goal.returns-in-Replay-clause-refused
+returns-in-Replay-clause-refused g c = λ words asks begins. absurd (explain_alone words c.args.request.now (ap is_explain c.in-Replay.is) asks begins)
+
+pub returns-in-Races-clause-refused : goal.returns-in-Races-clause-refused
+returns-in-Races-clause-refused g c = λ words asks begins. absurd (explain_alone words c.args.request.now (ap is_explain c.in-Races.is) asks begins)
+
+pub returns-in-Check-clause-refused : goal.returns-in-Check-clause-refused
+returns-in-Check-clause-refused g c = λ words asks begins. absurd (explain_alone words c.args.request.now (ap is_explain c.in-Check.is) asks begins)
+
+pub returns-in-Waves-clause-refused : goal.returns-in-Waves-clause-refused
+returns-in-Waves-clause-refused g c = λ words asks begins. absurd (explain_alone words c.args.request.now (ap is_explain c.in-Waves.is) asks begins)
+
+pub returns-in-Version-clause-refused : goal.returns-in-Version-clause-refused
+returns-in-Version-clause-refused g c = λ words asks begins. absurd (explain_alone words c.args.request.now (ap is_explain c.in-Version.is) asks begins)
 
 pub returns-in-Check-clause-checked : goal.returns-in-Check-clause-checked
 returns-in-Check-clause-checked g c = λ words asks begins. c.perform_check.ensures.fault
 
 pub returns-in-Check-clause-nothing : goal.returns-in-Check-clause-nothing
-returns-in-Check-clause-nothing g c =
-    unless_one (Keeps (g.O.Write.contents (held c.args.out.now)) (g.O.Write.contents (held c.perform_check.new.out))) c.perform_check.result c.perform_check.ensures.nothing
+returns-in-Check-clause-nothing g c = λ words asks.
+    unless_one (Keeps (g.O.Write.contents (held c.args.out.now)) (g.O.Write.contents (held c.perform_check.new.out))) words c.perform_check.result c.perform_check.ensures.nothing
 
 pub returns-in-Check-clause-unsaved : goal.returns-in-Check-clause-unsaved
 returns-in-Check-clause-unsaved g c = if_err _ c.perform_check.result (λ f source. c.perform_check.ensures.unsaved)
@@ -42,7 +78,7 @@ pub returns-in-Waves-clause-checked : goal.returns-in-Waves-clause-checked
 returns-in-Waves-clause-checked g c = λ words asks begins. absurd (check_alone words c.args.request.now (ap is_check c.in-Waves.is) asks begins)
 
 pub returns-in-Waves-clause-nothing : goal.returns-in-Waves-clause-nothing
-returns-in-Waves-clause-nothing g c = if_err _ c.perform_waves.result (λ f other. output_same (g.O.Write.contents (held c.args.out.now)))
+returns-in-Waves-clause-nothing g c = λ words asks. if_err _ c.perform_waves.result (λ f other. output_same (g.O.Write.contents (held c.args.out.now)))
 
 pub returns-in-Version-clause-ended : goal.returns-in-Version-clause-ended
 returns-in-Version-clause-ended g c = λ words asks.
@@ -53,9 +89,9 @@ pub returns-in-Version-clause-checked : goal.returns-in-Version-clause-checked
 returns-in-Version-clause-checked g c = λ words asks begins. absurd (check_alone words c.args.request.now (ap is_check c.in-Version.is) asks begins)
 
 pub returns-in-Version-clause-nothing : goal.returns-in-Version-clause-nothing
-returns-in-Version-clause-nothing g c =
+returns-in-Version-clause-nothing g c = λ words asks.
     let left = Keeps (g.O.Write.contents (held c.args.out.now)) (g.O.Write.contents (held c.perform_version.new.out)) in
-    unless_one left c.perform_version.result (one_only left c.perform_version.result c.perform_version.ensures.fault)
+    unless_one left words c.perform_version.result (one_only left c.perform_version.result c.perform_version.ensures.fault)
 
 pub returns-in-Version-clause-unsaved : goal.returns-in-Version-clause-unsaved
 returns-in-Version-clause-unsaved g c = if_err _ c.perform_version.result (λ f source. kept (g.F.Files.made c.args.files.now))

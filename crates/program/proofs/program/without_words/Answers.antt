@@ -1,7 +1,11 @@
--- Want of memory is told.
+-- Want of memory is told, and no words ask for nothing that is printed at a fault.
 use Rattle.program.specs.declared.fault.Fault.TheVariants as fault
 use Rattle.program.specs.Told.{of_fault}
+use Rattle.program.proofs.Ended.{unprinted_without}
 use Rattle.program.proofs.program.without_words.Goals as goal
 
 pub returns-in-OutOfMemory-clause-told : goal.returns-in-OutOfMemory-clause-told
 returns-in-OutOfMemory-clause-told g c = of_fault fault.Memory c.tell_fault.ensures.status c.tell_fault.ensures.told
+
+pub returns-in_default-clause-nothing : goal.returns-in_default-clause-nothing
+returns-in_default-clause-nothing g c = λ e. c.command.ensures.nothing (unprinted_without c.command.result e)

@@ -1,51 +1,90 @@
 -- Where a run rests, branches, or goes on with no choice.
-use Rattle.std.proofs.Common.{◌≡◌, ◌<◌, length, sym, subst}
+use Rattle.std.proofs.Common.{◌≡◌, ◌<◌, ◌∙◌, ap, length, sym, subst}
 use Rattle.std.proofs.lemmas.Result.{IfOk-weaker}
-use Rattle.model.specs.States.{State}
-use Rattle.regions.specs.Machine.{state_at}
-use Rattle.seeded.specs.Resting.{GoesOn}
-use Rattle.races.proofs.Walks.{walked_nowhere}
+use Rattle.design.specs.Compiled.{design_of}
+use Rattle.regions.specs.Machine.{Position, state_at}
+use Rattle.seeded.specs.Resting.{GoesOn, RestsAt}
+use Rattle.walks.specs.Walking.{HasWalked}
+use Rattle.walks.proofs.Walks.{walked_nowhere}
 use Rattle.races.proofs.Expansions.{both_ok, no_elements, empty_is_none, not_empty_is_some, rested_sound, rested_all, branched_next, branched_sound, branched_all, arrived_next, arrived_all}
 use Rattle.races.proofs.expand.expand.Goals as goal
 
 pub returns-in-Some-clause-sound : goal.returns-in-Some-clause-sound
 returns-in-Some-clause-sound c =
-    IfOk-weaker c.rests.result _ _ (λ x is. rested_sound c.args.machine.code c.args.limits (state_at c.args.machine) c.in-Some.end x.ended.items c.requires.bounded.some_entry c.in-Some.ensures.rests is) c.rests.ensures.one
+    let m = c.args.machine.value in
+    let rests = subst (λ (p : Position). RestsAt (design_of p.code) c.args.limits (state_at p) c.in-Some.end) c.deref.ensures c.in-Some.ensures.rests in
+    IfOk-weaker c.rests.result _ _ (λ x is. rested_sound m.code c.args.limits (state_at m) c.in-Some.end x.ended.items c.requires.bounded.some_entry rests is) c.rests.ensures.one
 
 pub returns-in-Some-clause-all : goal.returns-in-Some-clause-all
 returns-in-Some-clause-all c =
-    IfOk-weaker c.rests.result _ _ (λ x (is, none) whole. rested_all c.args.machine.code c.args.limits (state_at c.args.machine) c.in-Some.end x.successors.items x.ended.items c.in-Some.ensures.rests is none)
+    let m = c.args.machine.value in
+    let rests = subst (λ (p : Position). RestsAt (design_of p.code) c.args.limits (state_at p) c.in-Some.end) c.deref.ensures c.in-Some.ensures.rests in
+    IfOk-weaker c.rests.result _ _ (λ x (is, none) whole. rested_all m.code c.args.limits (state_at m) c.in-Some.end x.successors.items x.ended.items rests is none)
     (both_ok c.rests.result _ _ c.rests.ensures.one c.rests.ensures.none)
 
 pub branch-alloc-requires-clause-goes_on : goal.branch-alloc-requires-clause-goes_on
 branch-alloc-requires-clause-goes_on c =
-    let none : length c.in_ok-walk.walk.moves.items ≡ 0 = empty_is_none c.in_ok-walk.walk.moves c.is_empty.result c.is_empty.ensures c.if-is_empty.true in
-    let there = walked_nowhere c.args.limits (state_at c.args.machine) c.in_ok-walk.walk c.in_ok-walk.ensures.walked (no_elements c.in_ok-walk.walk.moves.items none) in
-    subst (λ (s : State). GoesOn c.args.limits s) (sym there.0) c.in-None.ensures.goes_on
+    let moves = c.in_ok-moves.moves in
+    let none : length moves.items ≡ 0 = empty_is_none moves c.is_empty.result c.is_empty.ensures c.if-is_empty.true in
+    let there = walked_nowhere c.args.limits (state_at c.deref_mut.result.now) c.walk_on.new.machine moves.items c.in_ok-moves.ensures.walked (no_elements moves.items none) in
+    let on = subst (λ (p : Position). GoesOn c.args.limits (state_at p)) (c.deref.ensures ∙ sym c.deref_mut.ensures.value) c.in-None.ensures.goes_on in
+    subst (GoesOn c.args.limits) (sym (ap state_at c.deref-then-is_empty.ensures ∙ there.0)) on
+
+pub branch-alloc-requires-clause-silent : goal.branch-alloc-requires-clause-silent
+branch-alloc-requires-clause-silent c =
+    let moves = c.in_ok-moves.moves in
+    let none : length moves.items ≡ 0 = empty_is_none moves c.is_empty.result c.is_empty.ensures c.if-is_empty.true in
+    let there = walked_nowhere c.args.limits (state_at c.deref_mut.result.now) c.walk_on.new.machine moves.items c.in_ok-moves.ensures.walked (no_elements moves.items none) in
+    ap (λ (p : Position). p.lines) c.deref-then-is_empty.ensures ∙ there.1
 
 pub returns-then-is_empty-clause-next : goal.returns-then-is_empty-clause-next
 returns-then-is_empty-clause-next c =
-    let none : length c.in_ok-walk.walk.moves.items ≡ 0 = empty_is_none c.in_ok-walk.walk.moves c.is_empty.result c.is_empty.ensures c.if-is_empty.true in
-    let there = walked_nowhere c.args.limits (state_at c.args.machine) c.in_ok-walk.walk c.in_ok-walk.ensures.walked (no_elements c.in_ok-walk.walk.moves.items none) in
-    IfOk-weaker c.branch-alloc.result _ _ (λ x on. branched_next c.args.machine.code c.in_ok-walk.walk.machine.code c.args.limits (state_at c.args.machine) (state_at c.in_ok-walk.walk.machine) x.successors.items c.in_ok-walk.ensures.code there.0 on) c.branch-alloc.ensures.next
+    let m = c.args.machine.value in
+    let new = c.deref-then-is_empty.result.now in
+    let moves = c.in_ok-moves.moves in
+    let none : length moves.items ≡ 0 = empty_is_none moves c.is_empty.result c.is_empty.ensures c.if-is_empty.true in
+    let there = walked_nowhere c.args.limits (state_at c.deref_mut.result.now) c.walk_on.new.machine moves.items c.in_ok-moves.ensures.walked (no_elements moves.items none) in
+    let code : new.code ≡ m.code = ap (λ (p : Position). p.code) c.deref-then-is_empty.ensures ∙ (c.walk_on.ensures.code ∙ ap (λ (p : Position). p.code) c.deref_mut.ensures.value) in
+    let state : state_at new ≡ state_at m = ap state_at c.deref-then-is_empty.ensures ∙ (there.0 ∙ ap state_at c.deref_mut.ensures.value) in
+    IfOk-weaker c.branch-alloc.result _ _ (λ x on. branched_next m.code new.code c.args.limits (state_at m) (state_at new) x.successors.items code state on) c.branch-alloc.ensures.next
 
 pub returns-then-is_empty-clause-sound : goal.returns-then-is_empty-clause-sound
 returns-then-is_empty-clause-sound c =
-    let none : length c.in_ok-walk.walk.moves.items ≡ 0 = empty_is_none c.in_ok-walk.walk.moves c.is_empty.result c.is_empty.ensures c.if-is_empty.true in
-    let there = walked_nowhere c.args.limits (state_at c.args.machine) c.in_ok-walk.walk c.in_ok-walk.ensures.walked (no_elements c.in_ok-walk.walk.moves.items none) in
-    IfOk-weaker c.branch-alloc.result _ _ (λ x to. branched_sound c.args.machine.code c.in_ok-walk.walk.machine.code c.args.limits (state_at c.args.machine) (state_at c.in_ok-walk.walk.machine) x.ended.items c.in_ok-walk.ensures.code there.0 to) c.branch-alloc.ensures.sound
+    let m = c.args.machine.value in
+    let new = c.deref-then-is_empty.result.now in
+    let moves = c.in_ok-moves.moves in
+    let none : length moves.items ≡ 0 = empty_is_none moves c.is_empty.result c.is_empty.ensures c.if-is_empty.true in
+    let there = walked_nowhere c.args.limits (state_at c.deref_mut.result.now) c.walk_on.new.machine moves.items c.in_ok-moves.ensures.walked (no_elements moves.items none) in
+    let code : new.code ≡ m.code = ap (λ (p : Position). p.code) c.deref-then-is_empty.ensures ∙ (c.walk_on.ensures.code ∙ ap (λ (p : Position). p.code) c.deref_mut.ensures.value) in
+    let state : state_at new ≡ state_at m = ap state_at c.deref-then-is_empty.ensures ∙ (there.0 ∙ ap state_at c.deref_mut.ensures.value) in
+    IfOk-weaker c.branch-alloc.result _ _ (λ x to. branched_sound m.code new.code c.args.limits (state_at m) (state_at new) x.ended.items code state to) c.branch-alloc.ensures.sound
 
 pub returns-then-is_empty-clause-all : goal.returns-then-is_empty-clause-all
 returns-then-is_empty-clause-all c =
-    let none : length c.in_ok-walk.walk.moves.items ≡ 0 = empty_is_none c.in_ok-walk.walk.moves c.is_empty.result c.is_empty.ensures c.if-is_empty.true in
-    let there = walked_nowhere c.args.limits (state_at c.args.machine) c.in_ok-walk.walk c.in_ok-walk.ensures.walked (no_elements c.in_ok-walk.walk.moves.items none) in
-    IfOk-weaker c.branch-alloc.result _ _ (λ x all whole. branched_all c.args.machine.code c.in_ok-walk.walk.machine.code c.args.limits (state_at c.args.machine) (state_at c.in_ok-walk.walk.machine) x.successors.items x.ended.items c.in_ok-walk.ensures.code there.0 (all whole)) c.branch-alloc.ensures.all
+    let m = c.args.machine.value in
+    let new = c.deref-then-is_empty.result.now in
+    let moves = c.in_ok-moves.moves in
+    let none : length moves.items ≡ 0 = empty_is_none moves c.is_empty.result c.is_empty.ensures c.if-is_empty.true in
+    let there = walked_nowhere c.args.limits (state_at c.deref_mut.result.now) c.walk_on.new.machine moves.items c.in_ok-moves.ensures.walked (no_elements moves.items none) in
+    let code : new.code ≡ m.code = ap (λ (p : Position). p.code) c.deref-then-is_empty.ensures ∙ (c.walk_on.ensures.code ∙ ap (λ (p : Position). p.code) c.deref_mut.ensures.value) in
+    let state : state_at new ≡ state_at m = ap state_at c.deref-then-is_empty.ensures ∙ (there.0 ∙ ap state_at c.deref_mut.ensures.value) in
+    IfOk-weaker c.branch-alloc.result _ _ (λ x all whole. branched_all m.code new.code c.args.limits (state_at m) (state_at new) x.successors.items x.ended.items code state (all whole)) c.branch-alloc.ensures.all
 
 pub returns-clause-next : goal.returns-clause-next
 returns-clause-next c =
-    IfOk-weaker c.arrive.result _ _ (λ x one. arrived_next c.args.machine.code c.args.limits (state_at c.args.machine) c.in_ok-walk.walk x.successors.items c.in_ok-walk.ensures.code c.in_ok-walk.ensures.walked one) c.arrive.ensures.one
+    let m = c.args.machine.value in
+    let new = c.walk_on.new.machine in
+    let moves = c.in_ok-moves.moves in
+    let walked = subst (λ (p : Position). HasWalked c.args.limits (state_at p) new moves.items) c.deref_mut.ensures.value c.in_ok-moves.ensures.walked in
+    let code : new.code ≡ m.code = c.walk_on.ensures.code ∙ ap (λ (p : Position). p.code) c.deref_mut.ensures.value in
+    IfOk-weaker c.arrive.result _ _ (λ x one. arrived_next m.code c.args.limits (state_at m) new moves.items x.successors.items code walked one) c.arrive.ensures.one
 
 pub returns-clause-all : goal.returns-clause-all
 returns-clause-all c =
-    let some : 0 < length c.in_ok-walk.walk.moves.items = not_empty_is_some c.in_ok-walk.walk.moves c.is_empty.result c.is_empty.ensures c.if-is_empty.false in
-    IfOk-weaker c.arrive.result _ _ (λ x one whole. arrived_all c.args.machine.code c.args.limits (state_at c.args.machine) c.in_ok-walk.walk x.successors.items x.ended.items c.in_ok-walk.ensures.code c.in_ok-walk.ensures.walked some one) c.arrive.ensures.one
+    let m = c.args.machine.value in
+    let new = c.walk_on.new.machine in
+    let moves = c.in_ok-moves.moves in
+    let some : 0 < length moves.items = not_empty_is_some moves c.is_empty.result c.is_empty.ensures c.if-is_empty.false in
+    let walked = subst (λ (p : Position). HasWalked c.args.limits (state_at p) new moves.items) c.deref_mut.ensures.value c.in_ok-moves.ensures.walked in
+    let code : new.code ≡ m.code = c.walk_on.ensures.code ∙ ap (λ (p : Position). p.code) c.deref_mut.ensures.value in
+    IfOk-weaker c.arrive.result _ _ (λ x one whole. arrived_all m.code c.args.limits (state_at m) new moves.items x.successors.items x.ended.items code walked some one) c.arrive.ensures.one

@@ -1,12 +1,6 @@
 -- Nodes that are followed are covered.
-use Rattle.races.proofs.Searches.{step_goes_on, ways_go_on, entries_lead_to_next, entries_lead_to_end, covering_is_covered, following_is_covered}
+use Rattle.races.proofs.Searches.{entries_lead_to_next, entries_lead_to_end, covering_is_covered, following_is_covered}
 use Rattle.races.proofs.laws.followed_nodes_are_covered.Goals as goal
-
-pub returns-clause-step : goal.returns-clause-step
-returns-clause-step c = step_goes_on
-
-pub returns-clause-ways : goal.returns-clause-ways
-returns-clause-ways c = ways_go_on
 
 pub returns-clause-next : goal.returns-clause-next
 returns-clause-next c = entries_lead_to_next

@@ -2,6 +2,7 @@
 
 use super::super::held::design_of;
 use super::{apply_all, start};
+use crate::claims::holds;
 use design::Design;
 use model::entry::Entry;
 use regions::Machine;
@@ -100,7 +101,7 @@ fn have_one_key(rt: &impl Abort, alloc: Global, design: &Design) -> bool {
 // What a row says.
 fn assert_keys(rt: &impl Abort, alloc: Global, source: &str, wanted: bool) {
     let design = design_of(rt, alloc, source.as_bytes());
-    assert!(rt; have_one_key(rt, alloc, &design) == wanted, "{source}");
+    holds(rt, have_one_key(rt, alloc, &design) == wanted, source);
 }
 
 #[test]

@@ -2,7 +2,10 @@
 
 use super::super::compare::assert_text;
 use super::super::held::design_of;
-use super::{NUMBERED, SWAP, SWAP_JOURNAL, apply, apply_all, assert_next_entries, start};
+use super::{
+    Known, NUMBERED, SWAP, SWAP_JOURNAL, apply, apply_all, assert_after, assert_next_entries, start,
+};
+use crate::claims::holds;
 use design::Design;
 use logic4::bits::Bits;
 use model::entry::Entry;
@@ -29,48 +32,32 @@ const RACE: &str = "module t; reg a, b; initial a = 1'b0; initial a = 1'b1; endm
 const PRINTED: &str =
     "module t; reg a, b; initial begin $display(\"first\"); #1 $display(\"second\"); end endmodule";
 
-// After so many entries of a run of a design, these may be next.
-fn assert_after(
-    rt: &impl Abort,
-    alloc: Global,
-    design: &Design,
-    entries: &[Entry],
-    wanted: &[Entry],
-) {
-    let mut run = start(rt, alloc, design);
-    apply_all(rt, &mut run, entries);
-    assert_next_entries(rt, alloc, &run, wanted);
-}
-
-// The same of a source.
-fn assert_lists(rt: &impl Abort, alloc: Global, source: &str, entries: &[Entry], wanted: &[Entry]) {
-    let design = design_of(rt, alloc, source.as_bytes());
-    assert_after(rt, alloc, &design, entries, wanted);
-}
-
-// The first entries of the journal of the swap.
-fn first(rt: &impl Abort, count: usize) -> &'static [Entry] {
-    SWAP_JOURNAL.get(..count).expect(rt, "so many entries")
-}
+/// Sources, entries of each, and what may be next then.
+const LISTS: &[(&str, &[Entry], &[Entry])] = &[
+    (NUMBERED, &[], &[Entry::Turn(0), Entry::Turn(1)]),
+    (
+        SWAP,
+        &[Entry::Turn(0), Entry::Advance(1), Entry::Turn(1)],
+        &[Entry::ActivateNba],
+    ),
+    (WOKEN, &WOKEN_JOURNAL, &[Entry::Turn(4), Entry::Update(3)]),
+    (SWAP, &SWAP_JOURNAL, &[]),
+];
 
 #[test]
 fn all_that_may_be_next_is_listed(rt: HostRuntime) {
-    let alloc = rt.alloc();
-    assert_lists(&rt, alloc, NUMBERED, &[], &[Entry::Turn(0), Entry::Turn(1)]);
-    assert_lists(&rt, alloc, SWAP, first(&rt, 3), &[Entry::ActivateNba]);
-    assert_lists(
-        &rt,
-        alloc,
-        WOKEN,
-        &WOKEN_JOURNAL,
-        &[Entry::Turn(4), Entry::Update(3)],
-    );
-    assert_lists(&rt, alloc, SWAP, &SWAP_JOURNAL, &[]);
+    for &(source, entries, wanted) in LISTS {
+        assert_after(&rt, rt.alloc(), source, entries, Known::Lists(wanted));
+    }
 }
 
 // A register has a value.
 fn assert_value(rt: &impl Abort, run: &Machine<'_>, wanted: u64) {
-    assert!(rt; run.value(0) == Some(Bits::from_u64(1, wanted)));
+    holds(
+        rt,
+        run.value(0) == Some(Bits::from_u64(1, wanted)),
+        "another value",
+    );
 }
 
 // A run and its copy take two turns, each in another order.
@@ -128,15 +115,15 @@ fn the_lines_of_each_entry_are_taken_out(rt: HostRuntime) {
 // What is due, and the evaluations that were made, after some entries.
 fn assert_due(rt: &impl Abort, alloc: Global, design: &Design) {
     let mut run = start(rt, alloc, design);
-    assert!(rt; run.due().is_none());
-    apply_all(rt, &mut run, first(rt, 1));
-    assert!(rt; run.due() == Some(Entry::Advance(1)));
-    assert!(rt; run.next_time() == Some(1));
-    apply_all(rt, &mut run, &[Entry::Advance(1)]);
-    assert!(rt; run.time() == 1);
-    assert!(rt; run.made().len() == 1);
-    assert!(rt; !run.is_quiet());
-    assert!(rt; !run.is_finished());
+    holds(rt, run.due().is_none(), "nothing is due");
+    apply(rt, &mut run, Entry::Turn(0));
+    holds(rt, run.due() == Some(Entry::Advance(1)), "time 1 is due");
+    holds(rt, run.next_time() == Some(1), "time 1 is next");
+    apply(rt, &mut run, Entry::Advance(1));
+    holds(rt, run.time() == 1, "time 1");
+    holds(rt, run.made().len() == 1, "one evaluation was made");
+    holds(rt, !run.is_quiet(), "events are left");
+    holds(rt, !run.is_finished(), "it goes on");
 }
 
 #[test]

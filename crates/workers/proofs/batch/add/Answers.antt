@@ -26,6 +26,9 @@ returns-in-Ok-clause-offered g c =
     subst (λ (p : List TicketView × ℕ). AreOffered code fresh p.0 (slice_set logs p.1 c.evaluate.new.log)) (λ i. (sym c.push_back_reserved.ensures.items i, sym at i))
     (offered_more code fresh tickets c.args.ticket logs c.evaluate.new.log (omega (arith, few, room)) later c.requires.tries c.in-Ok.ensures.turn c.in-Ok.ensures.gave)
 
+pub returns-in-Ok-clause-goes : goal.returns-in-Ok-clause-goes
+returns-in-Ok-clause-goes g c = goes_read _ _ c.evaluate.ensures.reads_on
+
 pub returns-in-Err-clause-goes : goal.returns-in-Err-clause-goes
 returns-in-Err-clause-goes g c = goes_read _ _ c.evaluate.ensures.reads_on
 

@@ -1,5 +1,5 @@
 -- The turns of the batch are appended, and the one that is too long isn't.
-use Rattle.std.proofs.Common.{◌≡◌, length, ap, subst, sym, refl, arith, rules}
+use Rattle.std.proofs.Common.{◌≡◌, [], ◌∷◌, length, ap, subst, sym, refl, arith, rules}
 use Rattle.turn.specs.Logs.{LogView}
 use Rattle.turn.specs.Reads.{GaveAll}
 use Rattle.turn.specs.Answers.{IsNoTurn}
@@ -8,15 +8,17 @@ use Rattle.gateparts.specs.Histories.{IsRead}
 use Rattle.workers.proofs.Batching.{fills_goes, fills_more, log_found}
 use Rattle.workers.proofs.Seats.{goes_then}
 use Rattle.workers.proofs.Told.{gave_later, long_goes}
+use Rattle.workers.proofs.Kept.{settled, long_deals}
+use Rattle.workers.proofs.Hands.{keeps_behind}
 use Rattle.workers.proofs.batch.tell_long.Goals as goal
 
 pub returns-clause-fills : goal.returns-clause-fills
 returns-clause-fills g c =
     let before = length c.args.batch.now.tickets.items in
     let left = length c.commit.new.batch.tickets.items in
-    fills_more c.args.worker.now c.commit.new.worker _ before 0 left 0 left 0 c.commit.ensures.fills
+    fills_more c.args.worker.now c.commit.new.worker _ before 0 0 0 left 0 left 0 c.commit.ensures.fills
     (fills_goes c.commit.new.worker _ left 0 0 left
-    (goes_then 0 _ _ _ (long_goes g.K.Naming.named c.commit.new.worker.seat c.args.ticket _ c.too_long-reply.new.seat _ c.too_long-reply.ensures) c.finish.ensures.goes)
+    (goes_then 0 0 _ _ _ (long_goes g.K.Naming.named c.commit.new.worker.seat c.args.ticket _ c.too_long-reply.new.seat _ c.too_long-reply.ensures) c.finish.ensures.goes)
     (omega arith) c.finish.ensures.puts refl refl)
 
 pub too_long-reply-requires-clause-turn : goal.too_long-reply-requires-clause-turn
@@ -45,3 +47,14 @@ too_long-reply-requires-clause-recorded g c =
     (ap (λ logs. logs.items) c.commit.ensures.logs) at (λ l is. (c.requires.long l is).1) c.index.ensures in
     subst (λ rs. GaveAll (IsRead code c.commit.new.worker.seat.fresh) rs) (sym c.reads-reads.ensures)
     (gave_later code fresh c.commit.new.worker.seat.fresh log.reads (c.commit.ensures.rises c.if-not-commit.false) gave)
+
+pub returns-clause-keeps : goal.returns-clause-keeps
+returns-clause-keeps g c on =
+    let n = g.K.Naming.named in
+    let worker = c.commit.new.worker in
+    keeps_behind n c.args.worker.now worker _ c.args.batch.now.tickets.items c.args.ticket (c.commit.ensures.keeps c.if-not-commit.false)
+    (record {
+      all = λ placed k.
+          settled n placed worker.seat c.too_long-reply.new.seat c.finish.new.seat worker.owner c.finish.new.owner worker.row.items c.args.ticket [] _
+          (long_deals n worker.seat c.args.ticket _ c.too_long-reply.new.seat _ c.too_long-reply.ensures) (c.finish.ensures.settled on) (c.finish.ensures.kept on) (c.finish.ensures.all on) c.finish.ensures.puts.1 k;
+    })

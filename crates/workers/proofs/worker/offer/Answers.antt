@@ -1,9 +1,10 @@
-use Rattle.std.proofs.Common.{sym, subst, arith}
+use Rattle.std.proofs.Common.{[], ◌∷◌, sym, subst, arith}
 use Rattle.turn.specs.Answers.{IsNoTurn}
 use Rattle.turn.specs.declared.log.FillFault.{FillFault}
 use Rattle.turn.specs.declared.log.FillFault.TheVariants.{TooLong}
 use Rattle.workers.proofs.Seats.{goes_read, told}
 use Rattle.workers.proofs.Told.{answered, long_answered, first_on, on_then}
+use Rattle.workers.proofs.Kept.{settled, kept_read, answered_deals, long_deals}
 use Rattle.workers.proofs.worker.offer.Goals as goal
 
 pub returns-in-Ok-clause-goes : goal.returns-in-Ok-clause-goes
@@ -28,3 +29,18 @@ too_long-reply-requires-clause-turn g c =
     let ticket = c.args.ticket in
     let turn = subst (λ (fault : FillFault). IsNoTurn code ticket.state ticket.time c.evaluate.new.log.reads fault) c.in-Err-TooLong.field-0-is c.in-Err-TooLong.ensures.turn in
     subst (λ reads. IsNoTurn code ticket.state ticket.time reads TooLong) (sym c.reads.ensures) turn
+
+pub returns-in-Ok-clause-keeps : goal.returns-in-Ok-clause-keeps
+returns-in-Ok-clause-keeps g c on placed row k =
+    let n = g.K.Naming.named in
+    settled n placed c.evaluate.new.seat c.commit-reply.new.seat c.finish.new.seat c.args.owner.now c.finish.new.owner row c.args.ticket [] _
+    (answered_deals n _ c.evaluate.new.seat c.args.ticket _ c.commit-reply.new.seat _ c.commit-reply.ensures) (c.finish.ensures.settled on) (c.finish.ensures.kept on) (c.finish.ensures.all on) c.finish.ensures.puts.1
+    (kept_read n placed c.args.seat.now c.evaluate.new.seat c.args.owner.now row [] (c.args.ticket ∷ []) c.evaluate.ensures.reads_on k)
+
+pub returns-in-Err-TooLong-clause-keeps : goal.returns-in-Err-TooLong-clause-keeps
+returns-in-Err-TooLong-clause-keeps g c on placed row k =
+    let n = g.K.Naming.named in
+    let finish = c.finish-in-Err-TooLong in
+    settled n placed c.evaluate.new.seat c.too_long-reply.new.seat finish.new.seat c.args.owner.now finish.new.owner row c.args.ticket [] _
+    (long_deals n c.evaluate.new.seat c.args.ticket _ c.too_long-reply.new.seat _ c.too_long-reply.ensures) (finish.ensures.settled on) (finish.ensures.kept on) (finish.ensures.all on) finish.ensures.puts.1
+    (kept_read n placed c.args.seat.now c.evaluate.new.seat c.args.owner.now row [] (c.args.ticket ∷ []) c.evaluate.ensures.reads_on k)

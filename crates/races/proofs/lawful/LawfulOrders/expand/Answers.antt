@@ -10,12 +10,12 @@ expand-requires-clause-silent c = c.requires.1.2.ready.silent
 
 pub returns-clause-next : goal.returns-clause-next
 returns-clause-next c run stands =
-    place_next c.args.self.now.design.now c.args.self.now.limits c.args.node run c.in_ok-expanded.expanded.successors.items stands c.in_ok-expanded.ensures.next
+    place_next c.args.self.now.networked c.args.self.now.limits c.args.node run c.in_ok-expanded.expanded.successors.items stands c.in_ok-expanded.ensures.next
 
 pub returns-clause-sound : goal.returns-clause-sound
 returns-clause-sound c run stands =
-    place_ended c.args.self.now.design.now c.args.self.now.limits c.args.node run c.in_ok-expanded.expanded.ended.items stands c.in_ok-expanded.ensures.sound
+    place_ended c.args.self.now.networked c.args.self.now.limits c.args.node run c.in_ok-expanded.expanded.ended.items stands c.in_ok-expanded.ensures.sound
 
 pub returns-clause-cover : goal.returns-clause-cover
 returns-clause-cover c whole run stands =
-    place_covered c.args.self.now.design.now c.args.self.now.limits c.args.node run c.in_ok-expanded.expanded.successors.items c.in_ok-expanded.expanded.ended.items stands (c.in_ok-expanded.ensures.all whole)
+    place_covered c.args.self.now.networked c.args.self.now.limits c.args.node run c.in_ok-expanded.expanded.successors.items c.in_ok-expanded.expanded.ended.items stands (c.in_ok-expanded.ensures.all whole)

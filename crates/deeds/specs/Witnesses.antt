@@ -1,0 +1,51 @@
+-- What a machine sees that is led along a journal.
+use Rattle.std.specs.Prelude.{◌≡◌, ℕ, List, [], ◌∷◌, ◌++◌, Some}
+use Rattle.std.specs.List.{All}
+use Rattle.model.specs.declared.entry.Entry.{Entry}
+use Rattle.model.specs.Design.{Design}
+use Rattle.model.specs.States.{State}
+use Rattle.model.specs.Runs.{after}
+use Rattle.design.specs.Compiled.{design_of}
+use Rattle.regions.specs.Machine.{Position, state_at}
+use Rattle.deeds.specs.declared.role.Site.{Site}
+use Rattle.deeds.specs.declared.role.Role.{Role}
+use Rattle.deeds.specs.declared.pair.Pair.{Pair}
+use Rattle.deeds.specs.Roles.{IsEvent, HasRole, IsOfRole, IsOneBehind, IsRoleBehind}
+
+-- behind whatever journal the machine stood, it stands behind that journal with these entries
+abbrev pub IsLed : Position → List Entry → Position → Type 0
+IsLed old entries new =
+    (before : List Entry) → after (design_of old.code) before ≡ Some (state_at old) → after (design_of old.code) (before ++ entries) ≡ Some (state_at new)
+
+-- Two entries stand in a journal: this before the first, and this from the first on before the second, without a change of the
+-- regions.
+pub record IsPair (journal before stretch : List Entry) (one other : Entry) : Type 0 where
+  pub between : List Entry
+  pub behind : List Entry
+  pub stretch_is : stretch ≡ one ∷ between
+  pub journal_is : journal ≡ before ++ (stretch ++ (other ∷ behind))
+  pub events : All IsEvent stretch
+
+-- at this time an entry does at a site what a role says
+abbrev pub HasRoleAt : Design → State → Entry → Site → ℕ → Role → Type 0
+HasRoleAt design s entry site time role = (s.time ≡ time) × HasRole design s entry site role
+
+-- two entries, the first behind one journal, the second behind that with this stretch, do what a pair says
+pub record SeesBoth (design : Design) (before stretch : List Entry) (one other : Entry) (p : Pair) : Type 0 where
+  pub first : IsRoleBehind design before one p.site p.time p.first
+  pub second : IsRoleBehind design (before ++ stretch) other p.site p.time p.second
+
+-- An entry stands in a second journal behind the same entries, then these, without a change of the regions, and then another one.
+pub record IsSwapped (exchanged before needed : List Entry) (other one : Entry) : Type 0 where
+  pub behind : List Entry
+  pub exchanged_is : exchanged ≡ before ++ (needed ++ (other ∷ one ∷ behind))
+  pub events : All IsEvent needed
+
+-- at this time an entry is one of a role
+abbrev pub IsOneAt : State → Entry → Site → ℕ → Role → Type 0
+IsOneAt s entry site time role = (s.time ≡ time) × IsOfRole s entry site role
+
+-- two entries, the second role's behind these journals and the first one's right behind it, are of the roles of a pair
+pub record SeesSwapped (design : Design) (before needed : List Entry) (other one : Entry) (p : Pair) : Type 0 where
+  pub second : IsOneBehind design (before ++ needed) other p.site p.time p.second
+  pub first : IsOneBehind design ((before ++ needed) ++ other ∷ []) one p.site p.time p.first

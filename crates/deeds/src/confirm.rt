@@ -1,0 +1,67 @@
+//! Whether two entries of a run do what a pair says of them, and come the other way round in a second run.
+ghost use Rattle.std.specs.Prelude.{IsTrue, IfOk};
+ghost use Rattle.design.specs.Compiled.{design_of};
+ghost use Rattle.deeds.specs.Roles.{HasBothOrders};
+ghost use Rattle.deeds.specs.Witnesses.{SeesBoth, SeesSwapped};
+
+use crate::pair::Pair;
+use crate::split::{Split, Swapped, split_of, swapped_of};
+use crate::witness::Witness;
+use design::Design;
+use model::entry::Entry;
+use std::alloc::{AllocError, Global};
+
+// Whether the two entries do in the first run what the pair says.
+fn sees_both(
+    alloc: Global,
+    design: &Design,
+    split: Split<'_>,
+    pair: Pair,
+) -> Result<bool, AllocError>
+    ensures { IfOk result (λ sees. IsTrue sees → SeesBoth (design_of design.now) split.entry.before.now split.entry.stretch.now split.entry.one split.entry.other pair) }
+{
+    let mut witness = Witness::start(alloc, design)?;
+    Ok(witness.sees(design, split, pair))
+}
+
+// Whether the two entries come the other way round in the second run.
+fn sees_swapped(
+    alloc: Global,
+    design: &Design,
+    split: Split<'_>,
+    swapped: Swapped<'_>,
+    pair: Pair,
+) -> Result<bool, AllocError>
+    ensures { IfOk result (λ sees. IsTrue sees → SeesSwapped (design_of design.now) split.entry.before.now swapped.entry.needed.now swapped.entry.other split.entry.one pair) }
+{
+    let mut witness = Witness::start(alloc, design)?;
+    Ok(witness.sees_swapped(design, split, swapped, pair))
+}
+
+/// Whether two entries of a run's journal do what a pair says of them, and come the other way round in that of a second run. In
+/// the first each is a turn of the process that does this at the site, or an update of its register, at this time, and no change
+/// of the regions comes between them. In the second there are so many entries in place of the earlier one, then one of the
+/// later one's process or the update, and then the earlier one. Fails where memory is refused.
+pub fn is_confirmed(
+    alloc: Global,
+    design: &Design,
+    journal: &[Entry],
+    exchanged: &[Entry],
+    pair: Pair,
+    needed: usize,
+) -> Result<bool, AllocError>
+    ensures { IfOk result (λ confirmed. IsTrue confirmed → HasBothOrders (design_of design.now) journal.now exchanged.now pair.site pair.time pair.first pair.second) }
+{
+    let split = match split_of(journal, pair) {
+        Some(split) => split,
+        None => return Ok(false),
+    };
+    let swapped = match swapped_of(exchanged, split, needed) {
+        Some(swapped) => swapped,
+        None => return Ok(false),
+    };
+    if !sees_both(alloc, design, split, pair)? {
+        return Ok(false);
+    }
+    sees_swapped(alloc, design, split, swapped, pair)
+}

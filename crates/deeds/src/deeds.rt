@@ -1,0 +1,138 @@
+//! What the entries of a run do, by the turns that they have where they stand.
+ghost use Rattle.std.specs.Prelude.{◌≡◌, ◌==◌, IfSome};
+ghost use Rattle.std.specs.List.{list_any};
+ghost use Rattle.model.specs.Turns.{Turn};
+ghost use Rattle.turn.specs.Logs.{wait_of};
+ghost use Rattle.turn.specs.Reads.{registers};
+ghost use Rattle.regions.specs.Machine.{state_at};
+ghost use Rattle.deeds.specs.Roles as roles;
+ghost use Rattle.deeds.specs.Logs.{IsTurnLogged, IsLogged, IsUpdateOf};
+
+use crate::role::{Does, Site};
+use design::{Control, Design, RegId};
+use regions::{Machine, State, turn_on};
+use turn::{Suspend, TurnLog};
+
+/// Fills a log with the turn of an active evaluation, and answers its process. None where there is no such evaluation, its
+/// turn is too long, or memory is refused.
+pub fn fill(log: &mut TurnLog, design: &Design, machine: &Machine<'_>, number: u64) -> Option<u32>
+    requires code { machine.now.code ≡ design.now }
+    ensures { IfSome result (λ process. IsTurnLogged design.now (state_at machine.now) number process log.new) }
+{
+    if machine.is_finished() {
+        return None;
+    }
+    let (process, place) = match machine.state().evaluation(number) {
+        Some(evaluation) => evaluation,
+        None => return None,
+    };
+    machine.stands();
+    match turn_on(log, design, &place, machine.time(), machine.store()) {
+        Ok(()) => Some(process),
+        Err(_) => None,
+    }
+}
+
+// Whether a turn wrote a register.
+fn writes(log: &TurnLog, register: RegId) -> bool
+    ensures { result ≡ list_any (λ w. w.0 == register) log.now.writes }
+{
+    log.writes().iter().any(|write| write.0 == register)
+}
+
+// Whether a turn made a nonblocking assignment to a register.
+fn assigns(log: &TurnLog, register: RegId) -> bool
+    ensures { result ≡ list_any (λ n. n.reg == register) log.now.nbas }
+{
+    log.nbas().iter().any(|nba| nba.reg == register)
+}
+
+// Whether a turn read a register.
+fn reads(log: &TurnLog, register: RegId) -> bool
+    ensures { result ≡ list_any (λ u. register == u) (registers log.now.reads) }
+{
+    log.reads().contains_key(&register)
+}
+
+// Whether an event control waits for changes of a register.
+fn has_trigger(control: &Control, register: RegId) -> bool
+    ensures { result ≡ list_any (λ t. t.1 == register) control.now }
+{
+    control
+        .triggers()
+        .iter()
+        .any(|trigger| trigger.1 == register)
+}
+
+// Whether the process of a turn goes on to wait for a register, where these are the event controls.
+fn waits(log: &TurnLog, controls: &[Control], register: RegId) -> bool
+    ensures { result ≡ roles.waits_for register (wait_of controls.now log.now.suspend) }
+{
+    match log.suspend() {
+        Suspend::Event(control) => match controls.get(control) {
+            Some(control) => has_trigger(control, register),
+            None => false,
+        },
+        Suspend::Ended | Suspend::Inactive | Suspend::Until(_) => false,
+    }
+}
+
+// Whether a turn does this to a register.
+fn does_to(log: &TurnLog, controls: &[Control], register: RegId, does: Does) -> bool
+    ensures { (turn : Turn) → IsLogged controls.now log.now turn → result ≡ roles.does_to register does turn }
+{
+    match does {
+        Does::Writes => writes(log, register),
+        Does::Assigns => assigns(log, register),
+        Does::Reads => reads(log, register),
+        Does::Waits => waits(log, controls, register),
+        Does::Updates | Does::Prints | Does::Strobes | Does::Finishes => false,
+    }
+}
+
+// Whether a turn does this where lines are printed.
+fn does_print(log: &TurnLog, controls: &[Control], does: Does) -> bool
+    ensures { (turn : Turn) → IsLogged controls.now log.now turn → result ≡ roles.does_print does turn }
+{
+    match does {
+        Does::Prints => !log.lines().is_empty(),
+        Does::Finishes => log.is_finish(),
+        Does::Writes | Does::Assigns | Does::Updates | Does::Reads => false,
+        Does::Waits | Does::Strobes => false,
+    }
+}
+
+// Whether a turn does this where the lines of `$strobe` statements are put in order.
+fn does_strobe(log: &TurnLog, controls: &[Control], does: Does) -> bool
+    ensures { (turn : Turn) → IsLogged controls.now log.now turn → result ≡ roles.does_strobe does turn }
+{
+    match does {
+        Does::Strobes => !log.strobes().is_empty(),
+        Does::Writes | Does::Assigns | Does::Updates | Does::Reads => false,
+        Does::Waits | Does::Prints | Does::Finishes => false,
+    }
+}
+
+/// Whether a turn does this at a site, where these are the event controls.
+pub(crate) fn does_at(log: &TurnLog, controls: &[Control], site: Site, does: Does) -> bool
+    ensures { (turn : Turn) → IsLogged controls.now log.now turn → result ≡ roles.does_at site does turn }
+{
+    match site {
+        Site::Register(register) => does_to(log, controls, register, does),
+        Site::Printing => does_print(log, controls, does),
+        Site::Strobing => does_strobe(log, controls, does),
+    }
+}
+
+/// The register of the first active update, where it has this number.
+pub(crate) fn updated(state: &State, number: u64) -> Option<RegId>
+    ensures { IfSome result (λ register. IsUpdateOf state.now.active number register) }
+{
+    if state.first_update() != Some(number) {
+        return None;
+    }
+    match state.first_updated() {
+        Some((register, _)) => Some(register),
+        None => None,
+    }
+}

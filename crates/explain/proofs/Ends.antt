@@ -1,0 +1,141 @@
+-- Which fault a call ends with that reads no source and no journal.
+use Rattle.std.proofs.Common.{◌≡◌, subst, refl, sym, ap, ◌∙◌, ℕ, List, Option, Some, None, Result, Ok, Err, OnOk, IfErr}
+use Rattle.std.specs.Prelude.{IsSome}
+use Rattle.std.specs.Io.KnownBytes.{Keeps}
+use Rattle.model.specs.declared.entry.Entry.{Entry}
+use Rattle.model.specs.Runs.{Effect, run, IsLawful}
+use Rattle.design.specs.Compiled.{Compiled, design_of}
+use Rattle.places.specs.Places.{AreProcesses}
+use Rattle.frontend.specs.declared.source.SourceFault.{SourceFault}
+use Rattle.journal.specs.declared.fault.ReadFault.{ReadFault}
+use Rattle.replay.specs.declared.fault.ReplayFault.{ReplayFault}
+use Rattle.replay.specs.Faults.{IsFaultOf}
+use Rattle.replay.specs.Bytes.{AreRead, IsReplayFault}
+use Rattle.explain.specs.declared.failure.ExplainFault.{ExplainFault}
+use Rattle.explain.specs.declared.failure.ExplainFault.TheVariants.{Source, Read, Replay, CannotWrite, Memory}
+use Rattle.explain.specs.declared.telling.Window.{Window}
+use Rattle.explain.specs.declared.telling.Telling.{Telling}
+use Rattle.explain.specs.Texts.{told_design, TellsAll, TellsFault, IsTelling, Explains, ExplainsFault, ExplainsText, ExplainsTextFault}
+use Rattle.explain.specs.Explained.{IsLawfulText, IsOfEntries, IsNoFault, IfSource, IfRead, IfReplay, UnlessBegun}
+
+-- want of memory and a failed write are no fault of a journal
+pub no_replay : (fault : ExplainFault) (P : ReplayFault → Type 0) → IsNoFault fault → IfReplay {X = Unit {0}} (Err fault) P
+no_replay (Source f) P is = tt
+no_replay (Read f) P is = tt
+no_replay (Replay f) P is = absurd is
+no_replay CannotWrite P is = tt
+no_replay Memory P is = tt
+
+pub no_replay_if : {X : Type 0} (r : Result X ExplainFault) (P : ReplayFault → Type 0) → IfErr r IsNoFault → IfReplay r P
+no_replay_if (Ok x) P is = tt
+no_replay_if (Err fault) P is = no_replay fault P is
+
+-- nor is any other fault that is none
+pub no_replay_but : (fault other : ExplainFault) (P : ReplayFault → Type 0) → fault ≡ other → ((f : ReplayFault) → fault ≡ Replay f → ⊥) → IfReplay {X = Unit {0}} (Err other) P
+no_replay_but fault (Source f) P same other_than = tt
+no_replay_but fault (Read f) P same other_than = tt
+no_replay_but fault (Replay f) P same other_than = absurd (other_than f same)
+no_replay_but fault CannotWrite P same other_than = tt
+no_replay_but fault Memory P same other_than = tt
+
+-- and they come once source and journal are read
+pub of_entries : (fault : ExplainFault) → IsNoFault fault → IsOfEntries fault
+of_entries (Source f) is = absurd is
+of_entries (Read f) is = absurd is
+of_entries (Replay f) is = tt
+of_entries CannotWrite is = tt
+of_entries Memory is = tt
+
+pub of_entries_if : {X : Type 0} (r : Result X ExplainFault) → IfErr r IsNoFault → IfErr r IsOfEntries
+of_entries_if (Ok x) is = tt
+of_entries_if (Err fault) is = of_entries fault is
+
+-- once source and journal are read, neither has a fault
+pub no_source_if : {X : Type 0} (r : Result X ExplainFault) (P : SourceFault → Type 0) → IfErr r IsOfEntries → IfSource r P
+no_source_if (Ok x) P is = tt
+no_source_if (Err (Source f)) P is = absurd is
+no_source_if (Err (Read f)) P is = tt
+no_source_if (Err (Replay f)) P is = tt
+no_source_if (Err CannotWrite) P is = tt
+no_source_if (Err Memory) P is = tt
+
+pub no_read_if : {X : Type 0} (r : Result X ExplainFault) (P : ReadFault → Type 0) → IfErr r IsOfEntries → IfRead r P
+no_read_if (Ok x) P is = tt
+no_read_if (Err (Source f)) P is = tt
+no_read_if (Err (Read f)) P is = absurd is
+no_read_if (Err (Replay f)) P is = tt
+no_read_if (Err CannotWrite) P is = tt
+no_read_if (Err Memory) P is = tt
+
+pub begun_if : {X : Type 0} (r : Result X ExplainFault) (P : Type 0) → IfErr r IsOfEntries → UnlessBegun r P
+begun_if (Ok x) P is = tt
+begun_if (Err (Source f)) P is = absurd is
+begun_if (Err (Read f)) P is = absurd is
+begun_if (Err (Replay f)) P is = tt
+begun_if (Err CannotWrite) P is = tt
+begun_if (Err Memory) P is = tt
+
+-- nothing was written
+pub keeps : (now : Option (List ℕ)) → Keeps now now
+keeps None = tt
+keeps (Some xs) = refl
+
+-- by these names and this window
+pub explains_if : {X E : Type 0} (r : Result X E) (source : List ℕ) (code : Compiled) (window : Window) (journal : List Entry) (old new : Option (List ℕ)) (t : Telling)
+    → IsTelling source code window t → OnOk r (TellsAll t journal old new) → OnOk r (Explains source code window journal old new)
+explains_if (Ok u) source code window journal old new t is tells = record { telling = t; is_telling = is; tells = tells }
+explains_if (Err e) source code window journal old new t is tells = tt
+
+pub explains_fault_if : {X : Type 0} (r : Result X ExplainFault) (source : List ℕ) (code : Compiled) (window : Window) (journal : List Entry) (old new : Option (List ℕ)) (t : Telling)
+    → IsTelling source code window t → IfReplay r (TellsFault t journal old new) → IfReplay r (ExplainsFault source code window journal old new)
+explains_fault_if (Ok u) source code window journal old new t is tells = tt
+explains_fault_if (Err (Source f)) source code window journal old new t is tells = tt
+explains_fault_if (Err (Read f)) source code window journal old new t is tells = tt
+explains_fault_if (Err (Replay f)) source code window journal old new t is tells = record { telling = t; is_telling = is; tells = tells }
+explains_fault_if (Err CannotWrite) source code window journal old new t is tells = tt
+explains_fault_if (Err Memory) source code window journal old new t is tells = tt
+
+-- on the design of the source
+pub text_if : {X E : Type 0} (r : Result X E) (source : List ℕ) (code : Compiled) (window : Window) (journal : List Entry) (left old new : Option (List ℕ))
+    → AreRead source left code journal → OnOk r (Explains source code window journal old new) → OnOk r (ExplainsText source window left old new)
+text_if (Ok u) source code window journal left old new read explains = record { design = code; journal = journal; are_read = read; explains = explains }
+text_if (Err e) source code window journal left old new read explains = tt
+
+pub text_fault_if : {X : Type 0} (r : Result X ExplainFault) (source : List ℕ) (code : Compiled) (window : Window) (journal : List Entry) (left old new : Option (List ℕ))
+    → AreRead source left code journal → IfReplay r (ExplainsFault source code window journal old new) → IfReplay r (ExplainsTextFault source window left old new)
+text_fault_if (Ok u) source code window journal left old new read explains = tt
+text_fault_if (Err (Source f)) source code window journal left old new read explains = tt
+text_fault_if (Err (Read f)) source code window journal left old new read explains = tt
+text_fault_if (Err (Replay f)) source code window journal left old new read explains = record { design = code; journal = journal; are_read = read; explains = explains }
+text_fault_if (Err CannotWrite) source code window journal left old new read explains = tt
+text_fault_if (Err Memory) source code window journal left old new read explains = tt
+
+-- a journal that is told to its end is lawful
+lawful : (code : Compiled) (journal : List Entry) (e : Effect) → run (design_of code) journal ≡ Some e → IsLawful (design_of code) journal
+lawful code journal e ran = subst (λ (o : Option Effect). IsSome o) (sym ran) refl
+
+pub lawful_if : {X E : Type 0} (r : Result X E) (source : List ℕ) (code : Compiled) (window : Window) (journal : List Entry) (left old new : Option (List ℕ))
+    → AreRead source left code journal → OnOk r (Explains source code window journal old new) → OnOk r (IsLawfulText source left)
+lawful_if (Ok u) source code window journal left old new read explains = record {
+  design = code;
+  journal = journal;
+  are_read = read;
+  lawful = lawful code journal explains.tells.effect
+      (ap (λ (c : Compiled). run (design_of c) journal) (sym explains.is_telling.design_is) ∙ explains.tells.is_run);
+}
+lawful_if (Err e) source code window journal left old new read explains = tt
+
+-- a fault that is told is one of the journal
+pub replay_if : {X : Type 0} (r : Result X ExplainFault) (source : List ℕ) (code : Compiled) (window : Window) (journal : List Entry) (left old new : Option (List ℕ))
+    → AreRead source left code journal → IfReplay r (ExplainsFault source code window journal old new) → IfReplay r (IsReplayFault source left)
+replay_if (Ok u) source code window journal left old new read explains = tt
+replay_if (Err (Source f)) source code window journal left old new read explains = tt
+replay_if (Err (Read f)) source code window journal left old new read explains = tt
+replay_if (Err (Replay f)) source code window journal left old new read explains = record {
+  design = code;
+  journal = journal;
+  are_read = read;
+  is_fault = subst (λ (c : Compiled). IsFaultOf c journal f) explains.is_telling.design_is explains.tells.is_fault;
+}
+replay_if (Err CannotWrite) source code window journal left old new read explains = tt
+replay_if (Err Memory) source code window journal left old new read explains = tt

@@ -1,0 +1,61 @@
+-- Which fault a journal in words ends with.
+use Rattle.std.specs.Prelude.{ℕ, List, Option, Result, Ok, Err}
+use Rattle.model.specs.declared.entry.Entry.{Entry}
+use Rattle.model.specs.Runs.{IsLawful}
+use Rattle.design.specs.Compiled.{Compiled, design_of}
+use Rattle.frontend.specs.declared.source.SourceFault.{SourceFault}
+use Rattle.journal.specs.declared.fault.ReadFault.{ReadFault}
+use Rattle.replay.specs.declared.fault.ReplayFault.{ReplayFault}
+use Rattle.replay.specs.Bytes.{AreRead}
+use Rattle.replay.specs.Faults.{IsFaultOf}
+use Rattle.explain.specs.declared.failure.ExplainFault.{ExplainFault}
+use Rattle.explain.specs.declared.failure.ExplainFault.TheVariants.{Source, Read, Replay, CannotWrite, Memory}
+
+-- The source describes a design, and what was left to read is the text of a journal that is lawful for it.
+pub record IsLawfulText (source : List ℕ) (left : Option (List ℕ)) : Type 0 where
+  pub design : Compiled
+  pub journal : List Entry
+  pub are_read : AreRead source left design journal
+  pub lawful : IsLawful (design_of design) journal
+
+-- A fault of a replay is one of these entries.
+abbrev pub IsFaultOfEntries : Compiled → List Entry → ExplainFault → Type 0
+IsFaultOfEntries code entries (Replay fault) = IsFaultOf code entries fault
+IsFaultOfEntries code entries fault = Unit {0}
+
+-- a fault that comes once source and journal are read
+abbrev pub IsOfEntries : ExplainFault → Type 0
+IsOfEntries (Source fault) = ⊥
+IsOfEntries (Read fault) = ⊥
+IsOfEntries (Replay fault) = Unit {0}
+IsOfEntries CannotWrite = Unit {0}
+IsOfEntries Memory = Unit {0}
+
+-- no fault of source or journal: a write failed, or memory was refused
+abbrev pub IsNoFault : ExplainFault → Type 0
+IsNoFault (Source fault) = ⊥
+IsNoFault (Read fault) = ⊥
+IsNoFault (Replay fault) = ⊥
+IsNoFault CannotWrite = Unit {0}
+IsNoFault Memory = Unit {0}
+
+-- P of the fault of the source, where one is answered
+abbrev pub IfSource : {X : Type 0} → Result X ExplainFault → (SourceFault → Type 0) → Type 0
+IfSource (Err (Source fault)) P = P fault
+IfSource result P = Unit {0}
+
+-- P of the fault of reading, where one is answered
+abbrev pub IfRead : {X : Type 0} → Result X ExplainFault → (ReadFault → Type 0) → Type 0
+IfRead (Err (Read fault)) P = P fault
+IfRead result P = Unit {0}
+
+-- P of the fault of the journal, where one is answered
+abbrev pub IfReplay : {X : Type 0} → Result X ExplainFault → (ReplayFault → Type 0) → Type 0
+IfReplay (Err (Replay fault)) P = P fault
+IfReplay result P = Unit {0}
+
+-- P, where the answer is a fault of the source or of reading
+abbrev pub UnlessBegun : {X : Type 0} → Result X ExplainFault → Type 0 → Type 0
+UnlessBegun (Err (Source fault)) P = P
+UnlessBegun (Err (Read fault)) P = P
+UnlessBegun result P = Unit {0}

@@ -1,0 +1,53 @@
+-- The parts of the lines: values, names and quoted text.
+use Rattle.std.specs.Prelude.{ℕ, ◌==◌, Bool, true, false, nat_lt, if◌then◌else◌, List, [], ◌∷◌, ◌++◌, length, slice_get, Option, Some, None, codes, decimal}
+use Rattle.logic4.specs.Vector.{Vector}
+use Rattle.logic4.specs.Display.{binary_text}
+use Rattle.model.specs.Syntax.{Text}
+use Rattle.places.specs.declared.place.Process.{Process}
+use Rattle.explain.specs.declared.phrases.Names.{Names}
+
+-- the size of a literal, of one digit none
+abbrev pub size_text : ℕ → List ℕ
+size_text width = if nat_lt 1 width then decimal width ++ codes "'b" else []
+
+-- a value: one digit alone, and more of them as a sized binary literal (3.5.1)
+abbrev pub value_text : Vector → List ℕ
+value_text v = size_text (length v) ++ binary_text v
+
+-- a byte of a printed text as it stands in a string (3.6)
+abbrev pub escaped : ℕ → List ℕ
+escaped byte =
+    if byte == 10 then codes "\\n"
+    else (if byte == 9 then codes "\\t" else (if byte == 92 then codes "\\\\" else (if byte == 34 then codes "\\\"" else byte ∷ [])))
+
+-- so all of its bytes
+abbrev pub escaped_text : List ℕ → List ℕ
+escaped_text [] = []
+escaped_text (byte ∷ bytes) = escaped byte ++ escaped_text bytes
+
+-- a printed text between quotation marks
+abbrev pub quoted_text : List ℕ → List ℕ
+quoted_text printed = codes "\"" ++ escaped_text printed ++ codes "\""
+
+-- a name, where there is one
+abbrev pub known_name : Option Text → List ℕ
+known_name (Some name) = name
+known_name None = []
+
+-- the name of a register
+abbrev pub register_text : Names → ℕ → List ℕ
+register_text names r = known_name (slice_get names.design.now.names r)
+
+-- the word that a process begins with
+abbrev pub word_text : Bool → List ℕ
+word_text true = codes "always"
+word_text false = codes "initial"
+
+-- the word and the line of a process, where they are known
+abbrev pub place_text : Option Process → List ℕ
+place_text (Some process) = codes ", " ++ word_text process.always ++ codes " at line " ++ decimal process.place.line
+place_text None = []
+
+-- a process: its number, its word and its line
+abbrev pub process_text : Names → ℕ → List ℕ
+process_text names p = codes "process " ++ decimal p ++ place_text (slice_get names.processes.now p)

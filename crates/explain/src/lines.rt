@@ -1,0 +1,221 @@
+//! The line of an entry.
+
+ghost use Rattle.std.specs.Prelude.{◌≡◌, ◌++◌, OnOk, codes};
+ghost use Rattle.model.specs.Runs.{has_any};
+ghost use Rattle.explain.specs.Phrases.{quoted_text};
+ghost use Rattle.steps.specs.Told.{account_of};
+ghost use Rattle.explain.specs.Lines.{assigned_text, assignment_text, change_text, changes_text, deed_text, entry_text, lead, mark, parts_text, printed_text, reading_text, reads_text, region_text, update_text};
+
+use crate::phrases::{Names, push_number, push_process, push_quoted, push_register, push_value};
+use design::RegId;
+use logic4::bits::Bits;
+use model::entry::Entry;
+use std::alloc::AllocError;
+use steps::{Changed, Deed, Reading, Told};
+use turn::Nba;
+
+// The mark before the first part of a kind.
+fn mark(behind: bool) -> &'static str
+    ensures { result.now ≡ mark behind }
+{
+    match behind {
+        true => "; ",
+        false => ": ",
+    }
+}
+
+// Puts what stands before a part behind a text: before the first of a kind its word, before others a comma.
+fn push_lead(text: &mut Vec<u8>, place: usize, behind: bool, word: &str) -> Result<(), AllocError>
+    ensures { OnOk result (text.new.items ≡ text.old.items ++ lead place behind word.now) }
+{
+    if place > 0 {
+        return text.extend_from_slice(b", ");
+    }
+    text.extend_from_slice(mark(behind).as_bytes())?;
+    text.extend_from_slice(word.as_bytes())
+}
+
+fn push_reading(text: &mut Vec<u8>, names: &Names<'_>, read: &Reading) -> Result<(), AllocError>
+    ensures { OnOk result (text.new.items ≡ text.old.items ++ reading_text names.entry.now read.now) }
+{
+    push_register(text, names, read.register)?;
+    text.extend_from_slice(b"=")?;
+    push_value(text, read.value)?;
+    text.extend_from_slice(b" (version ")?;
+    push_number(text, read.version)?;
+    text.extend_from_slice(b")")
+}
+
+fn push_reads(
+    text: &mut Vec<u8>,
+    names: &Names<'_>,
+    reads: &[Reading],
+    behind: bool,
+) -> Result<(), AllocError>
+    ensures { OnOk result (text.new.items ≡ text.old.items ++ reads_text names.entry.now behind 0 reads.now) }
+{
+    for place in 0..reads.len() {
+        push_lead(text, place, behind, "reads ")?;
+        push_reading(text, names, &reads[place])?;
+    }
+    Ok(())
+}
+
+fn push_change(text: &mut Vec<u8>, names: &Names<'_>, change: &Changed) -> Result<(), AllocError>
+    ensures { OnOk result (text.new.items ≡ text.old.items ++ change_text names.entry.now change.now) }
+{
+    push_register(text, names, change.register)?;
+    text.extend_from_slice(b" ")?;
+    push_value(text, change.before)?;
+    text.extend_from_slice(b" -> ")?;
+    push_value(text, change.after)
+}
+
+fn push_changes(
+    text: &mut Vec<u8>,
+    names: &Names<'_>,
+    changes: &[Changed],
+    behind: bool,
+) -> Result<(), AllocError>
+    ensures { OnOk result (text.new.items ≡ text.old.items ++ changes_text names.entry.now behind 0 changes.now) }
+{
+    for place in 0..changes.len() {
+        push_lead(text, place, behind, "writes ")?;
+        push_change(text, names, &changes[place])?;
+    }
+    Ok(())
+}
+
+fn push_assignment(text: &mut Vec<u8>, names: &Names<'_>, assigned: &Nba) -> Result<(), AllocError>
+    ensures { OnOk result (text.new.items ≡ text.old.items ++ assignment_text names.entry.now assigned.now) }
+{
+    push_register(text, names, assigned.reg)?;
+    text.extend_from_slice(b" <= ")?;
+    push_value(text, assigned.value)?;
+    text.extend_from_slice(b" for time ")?;
+    push_number(text, assigned.due)
+}
+
+fn push_assigned(
+    text: &mut Vec<u8>,
+    names: &Names<'_>,
+    assigned: &[Nba],
+    behind: bool,
+) -> Result<(), AllocError>
+    ensures { OnOk result (text.new.items ≡ text.old.items ++ assigned_text names.entry.now behind 0 assigned.now) }
+{
+    for place in 0..assigned.len() {
+        push_lead(text, place, behind, "assigns ")?;
+        push_assignment(text, names, &assigned[place])?;
+    }
+    Ok(())
+}
+
+fn push_printed(text: &mut Vec<u8>, printed: &[u8], behind: bool) -> Result<(), AllocError>
+    ensures { OnOk result (text.new.items ≡ text.old.items ++ printed_text behind printed.now) }
+{
+    match printed {
+        [] => Ok(()),
+        _ => push_prints(text, printed, behind),
+    }
+}
+
+fn push_prints(text: &mut Vec<u8>, printed: &[u8], behind: bool) -> Result<(), AllocError>
+    ensures { OnOk result (text.new.items ≡ text.old.items ++ (mark behind ++ codes "prints " ++ quoted_text printed.now)) }
+{
+    text.extend_from_slice(mark(behind).as_bytes())?;
+    text.extend_from_slice(b"prints ")?;
+    push_quoted(text, printed)
+}
+
+/// Puts an update behind a text.
+pub(crate) fn push_update(
+    text: &mut Vec<u8>,
+    names: &Names<'_>,
+    register: RegId,
+    value: Bits,
+) -> Result<(), AllocError>
+    ensures { OnOk result (text.new.items ≡ text.old.items ++ update_text names.entry.now register value) }
+{
+    text.extend_from_slice(b"update of ")?;
+    push_register(text, names, register)?;
+    text.extend_from_slice(b" to ")?;
+    push_value(text, value)
+}
+
+// What an entry is called that is a change of the regions (11.3).
+fn region_change(entry: Entry) -> &'static str
+    ensures { result.now ≡ region_text entry }
+{
+    match entry {
+        Entry::ActivateInactive => "activates the inactive events",
+        Entry::ActivateNba => "activates the nonblocking updates",
+        Entry::ActivateMonitor => "makes the lines of the monitor region",
+        Entry::Advance(_) => "advances",
+        Entry::Turn(_) => "turn",
+        Entry::Update(_) => "update",
+    }
+}
+
+fn push_deed(
+    text: &mut Vec<u8>,
+    names: &Names<'_>,
+    entry: Entry,
+    deed: Deed,
+) -> Result<(), AllocError>
+    ensures { OnOk result (text.new.items ≡ text.old.items ++ deed_text names.entry.now entry deed) }
+{
+    match deed {
+        Deed::Turn(process) => {
+            text.extend_from_slice(b"active  turn of ")?;
+            push_process(text, names, process)
+        }
+        Deed::Update(register, value) => {
+            text.extend_from_slice(b"active  ")?;
+            push_update(text, names, register, value)
+        }
+        Deed::Regions => text.extend_from_slice(region_change(entry).as_bytes()),
+    }
+}
+
+fn has_any<T>(list: &[T]) -> bool
+    ensures { result ≡ has_any list.now }
+{
+    match list {
+        [] => false,
+        _ => true,
+    }
+}
+
+// Puts what is read, changed, assigned and printed behind a text.
+fn push_parts(text: &mut Vec<u8>, names: &Names<'_>, told: &Told) -> Result<(), AllocError>
+    ensures { OnOk result (text.new.items ≡ text.old.items ++ parts_text names.entry.now (account_of told.now)) }
+{
+    let reads = has_any(&told.reads);
+    let changes = reads | has_any(&told.changes);
+    let assigned = changes | has_any(&told.assigned);
+    push_reads(text, names, &told.reads, false)?;
+    push_changes(text, names, &told.changes, reads)?;
+    push_assigned(text, names, &told.assigned, changes)?;
+    push_printed(text, told.lines.as_bytes(), assigned)
+}
+
+/// Puts the line of an entry behind a text: its number, counted from 1, the time, who does it, and what it reads, changes, assigns
+/// and prints.
+pub(crate) fn push_entry(
+    text: &mut Vec<u8>,
+    names: &Names<'_>,
+    number: u64,
+    entry: Entry,
+    told: &Told,
+) -> Result<(), AllocError>
+    ensures { OnOk result (text.new.items ≡ text.old.items ++ entry_text names.entry.now number entry (account_of told.now)) }
+{
+    push_number(text, number)?;
+    text.extend_from_slice(b"  time ")?;
+    push_number(text, told.time)?;
+    text.extend_from_slice(b"  ")?;
+    push_deed(text, names, entry, told.deed)?;
+    push_parts(text, names, told)?;
+    text.extend_from_slice(b"\n")
+}

@@ -1,0 +1,161 @@
+//! Parts of the lines: numbers, values, names and quoted text.
+
+ghost use Rattle.std.specs.Prelude.{◌≡◌, ◌++◌, OnOk, Some, decimal, slice_get};
+ghost use Rattle.logic4.specs.Display.{binary_text, digit_text};
+ghost use Rattle.explain.specs.Phrases.{escaped, escaped_text, known_name, place_text, process_text, quoted_text, register_text, size_text, value_text, word_text};
+
+use design::{Design, RegId};
+use itoa::Buffer;
+use logic4::bits::Bits;
+use logic4::digit::Digit;
+use places::Process;
+use std::alloc::AllocError;
+
+/// What registers and processes are called by: a source with its design, and its processes.
+#[derive(Clone, Copy)]
+pub struct Names<'a> {
+    pub source: &'a [u8],
+    pub design: &'a Design,
+    pub processes: &'a [Process],
+}
+
+/// Puts a number behind a text.
+pub(crate) fn push_number(text: &mut Vec<u8>, number: u64) -> Result<(), AllocError>
+    ensures { OnOk result (text.new.items ≡ text.old.items ++ decimal number) }
+{
+    let mut digits = Buffer::new();
+    text.extend_from_slice(digits.format(number).as_bytes())
+}
+
+// The letter of a digit.
+fn letter(digit: Digit) -> &'static str
+    ensures { result.now ≡ digit_text digit }
+{
+    match digit {
+        Digit::Zero => "0",
+        Digit::One => "1",
+        Digit::X => "x",
+        Digit::Z => "z",
+    }
+}
+
+// Puts the digits of a value behind a text, the most significant one first.
+fn push_digits(text: &mut Vec<u8>, value: Bits) -> Result<(), AllocError>
+    ensures { OnOk result (text.new.items ≡ text.old.items ++ binary_text value) }
+{
+    for index in (0..value.width()).rev() {
+        text.extend_from_slice(letter(value.digit(index)).as_bytes())?;
+    }
+    Ok(())
+}
+
+// Puts the size of a literal behind a text, but none of one digit.
+fn push_size(text: &mut Vec<u8>, width: u32) -> Result<(), AllocError>
+    ensures { OnOk result (text.new.items ≡ text.old.items ++ size_text width) }
+{
+    if width <= 1 {
+        return Ok(());
+    }
+    push_number(text, u64::from(width))?;
+    text.extend_from_slice(b"'b")
+}
+
+/// Puts a value behind a text: one digit alone, and more of them as a sized binary literal (3.5.1).
+pub(crate) fn push_value(text: &mut Vec<u8>, value: Bits) -> Result<(), AllocError>
+    ensures { OnOk result (text.new.items ≡ text.old.items ++ value_text value) }
+{
+    push_size(text, value.width())?;
+    push_digits(text, value)
+}
+
+// Puts a byte behind a text, as it stands in a string (3.6).
+fn push_escaped(text: &mut Vec<u8>, byte: u8) -> Result<(), AllocError>
+    ensures { OnOk result (text.new.items ≡ text.old.items ++ escaped byte) }
+{
+    match byte {
+        b'\n' => text.extend_from_slice(b"\\n"),
+        b'\t' => text.extend_from_slice(b"\\t"),
+        b'\\' => text.extend_from_slice(b"\\\\"),
+        b'"' => text.extend_from_slice(b"\\\""),
+        other => text.extend_from_slice(&[other]),
+    }
+}
+
+fn push_each_escaped(text: &mut Vec<u8>, printed: &[u8]) -> Result<(), AllocError>
+    ensures { OnOk result (text.new.items ≡ text.old.items ++ escaped_text printed.now) }
+{
+    for byte in printed {
+        push_escaped(text, *byte)?;
+    }
+    Ok(())
+}
+
+/// Puts a printed text behind a text, between quotation marks, with the escapes of a string (3.6).
+pub(crate) fn push_quoted(text: &mut Vec<u8>, printed: &[u8]) -> Result<(), AllocError>
+    ensures { OnOk result (text.new.items ≡ text.old.items ++ quoted_text printed.now) }
+{
+    text.extend_from_slice(b"\"")?;
+    push_each_escaped(text, printed)?;
+    text.extend_from_slice(b"\"")
+}
+
+// The name of a register, or nothing where there is no such register.
+fn name_of(design: &Design, register: RegId) -> &str
+    ensures { result.now ≡ known_name (slice_get design.entry.now.names register) }
+{
+    if register < design.registers() {
+        design.name(register)
+    } else {
+        ""
+    }
+}
+
+/// Puts the name of a register behind a text.
+pub(crate) fn push_register(
+    text: &mut Vec<u8>,
+    names: &Names<'_>,
+    register: RegId,
+) -> Result<(), AllocError>
+    ensures { OnOk result (text.new.items ≡ text.old.items ++ register_text names.entry.now register) }
+{
+    text.extend_from_slice(name_of(names.design, register).as_bytes())
+}
+
+// The word that a process begins with.
+fn word_of(process: &Process) -> &'static str
+    ensures { result.now ≡ word_text process.now.always }
+{
+    if process.always { "always" } else { "initial" }
+}
+
+fn push_place(text: &mut Vec<u8>, process: &Process) -> Result<(), AllocError>
+    ensures { OnOk result (text.new.items ≡ text.old.items ++ place_text (Some process.now)) }
+{
+    text.extend_from_slice(b", ")?;
+    text.extend_from_slice(word_of(process).as_bytes())?;
+    text.extend_from_slice(b" at line ")?;
+    push_number(text, process.place.line as u64)
+}
+
+// Puts the word and the line of a process behind a text.
+fn push_begin(text: &mut Vec<u8>, names: &Names<'_>, process: u32) -> Result<(), AllocError>
+    ensures { OnOk result (text.new.items ≡ text.old.items ++ place_text (slice_get names.entry.now.processes.now process)) }
+{
+    match names.processes.get(process as usize) {
+        Some(process) => push_place(text, process),
+        None => Ok(()),
+    }
+}
+
+/// Puts a process behind a text: its number, its word and its line.
+pub(crate) fn push_process(
+    text: &mut Vec<u8>,
+    names: &Names<'_>,
+    process: u32,
+) -> Result<(), AllocError>
+    ensures { OnOk result (text.new.items ≡ text.old.items ++ process_text names.entry.now process) }
+{
+    text.extend_from_slice(b"process ")?;
+    push_number(text, u64::from(process))?;
+    push_begin(text, names, process)
+}

@@ -1,0 +1,4 @@
+pub mod Lines
+pub mod Spots
+pub mod PlainSpots
+pub mod Places

@@ -1,0 +1,16 @@
+//! Where bytes, tokens and processes stand in a source, for people.
+//!
+//! 1. `lines` has the line and the column of a byte, as a terminal shows them.
+//! 2. `spot` passes white space and comments, and has each token with its byte.
+//! 3. `place` answers where a byte, a token or a process stands.
+//!
+//! What the layer above uses: `place_of_byte` and `processes`, whose answers `specs/Places` pins.
+#![tactic(auto)]
+
+mod lines;
+mod place;
+mod spot;
+
+pub use lines::last_line;
+pub use place::{Place, Process, before, is_process, place_of_byte, place_of_token, processes};
+pub use spot::{Spot, behind_skipped, line_span, spots};

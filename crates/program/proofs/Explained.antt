@@ -1,0 +1,72 @@
+-- What is left of a journal that was told, and of one with a fault.
+use Rattle.std.proofs.Common.{◌≡◌, ◌∙◌, ap, subst, inl, inr, ℕ, List, ◌++◌, Option, Some, None, unwrap_or, Err, codes, drop}
+use Rattle.std.specs.Io.KnownBytes.{Appends, Keeps}
+use Rattle.clap.specs.Words.{Text}
+use Rattle.arguments.specs.declared.request.ExplainRequest.{ExplainRequest}
+use Rattle.arguments.specs.Words.{AsksExplain, explain_rows, number_given}
+use Rattle.explain.specs.declared.failure.ExplainFault.{ExplainFault}
+use Rattle.explain.specs.declared.failure.ExplainFault.TheVariants as explaining
+use Rattle.explain.specs.declared.telling.Window.{Window}
+use Rattle.explain.specs.Explained.{IfReplay, IsLawfulText, UnlessBegun}
+use Rattle.explain.specs.Texts.{ExplainsText, ExplainsTextFault}
+use Rattle.program.specs.declared.fault.Fault.{Fault}
+use Rattle.program.specs.Printed.{HasExplained, HasExplainedSome, HasTold, window_in, window_of}
+use Rattle.program.specs.Program.{explain_fault, status_of}
+use Rattle.files.specs.Saved.{KeepsFiles, Made}
+
+-- what was written, and then sent off
+pub appends_kept : (a b c : Option (List ℕ)) (xs : List ℕ) → Appends a b xs → Keeps b c → Appends a c xs
+appends_kept None b c xs h k = tt
+appends_kept (Some a) None c xs h k = absurd h
+appends_kept (Some a) (Some b) None xs h k = absurd k
+appends_kept (Some a) (Some b) (Some c) xs h k = k ∙ h
+
+told_on : (source : List ℕ) (window : Window) (left a b c : Option (List ℕ)) → ExplainsText source window left a b → Keeps b c → ExplainsText source window left a c
+told_on source window left a b c h k = record {
+  design = h.design;
+  journal = h.journal;
+  are_read = h.are_read;
+  explains = record {
+    telling = h.explains.telling;
+    is_telling = h.explains.is_telling;
+    tells = record {
+      effect = h.explains.tells.effect;
+      is_run = h.explains.tells.is_run;
+      lines = h.explains.tells.lines;
+      are_lines = h.explains.tells.are_lines;
+      ending = h.explains.tells.ending;
+      is_ending = h.explains.tells.is_ending;
+      grown = appends_kept a b c (h.explains.tells.lines ++ h.explains.tells.ending) h.explains.tells.grown k;
+    };
+  };
+}
+
+pub explained_by : (source : List ℕ) (window : Window) (left a b c : Option (List ℕ)) → IsLawfulText source left → ExplainsText source window left a b → Keeps b c → HasExplained window a c
+explained_by source window left a b c lawful h k = record { source = source; left = left; lawful = lawful; explains = told_on source window left a b c h k }
+
+-- no journal was read, or one was told up to its fault
+pub refused_of : (source : List ℕ) (window : Window) (left a b : Option (List ℕ)) (f : ExplainFault) → UnlessBegun {X = Unit {0}} (Err f) (Keeps a b)
+    → IfReplay {X = Unit {0}} (Err f) (ExplainsTextFault source window left a b) → status_of (explain_fault f) ≡ 5 → HasExplainedSome window a b
+refused_of source window left a b (explaining.Source f) h t e = inl h
+refused_of source window left a b (explaining.Read f) h t e = inl h
+refused_of source window left a b (explaining.Replay f) h t e = inr (record { source = source; left = left; fault = f; explains = t })
+refused_of source window left a b explaining.CannotWrite h t e = cc
+refused_of source window left a b explaining.Memory h t e = cc
+
+-- the window of a request is that of its words
+window_asked : (words : List Text) (explain : ExplainRequest) → AsksExplain words explain → window_of explain.from explain.to ≡ window_in words
+window_asked words explain asks =
+    ap (λ (from : ℕ). window_of from explain.to) asks.is_explain.from
+    ∙ ap (window_of (unwrap_or (number_given (codes "from") (explain_rows (drop 1 words))) 1)) asks.is_explain.to
+
+pub told_performed : (words : List Text) (explain : ExplainRequest) (old new : Option (List ℕ)) (files files' : Option (List Made)) → AsksExplain words explain
+    → HasExplained (window_of explain.from explain.to) old new → KeepsFiles files files' → HasTold words old new files files'
+told_performed words explain old new files files' asks h k = record {
+  begins = asks.begins;
+  explained = subst (λ (w : Window). HasExplained w old new) (window_asked words explain asks) h;
+  unsaved = k;
+}
+
+pub refused_performed : (words : List Text) (explain : ExplainRequest) (old new : Option (List ℕ)) (f : Fault) → AsksExplain words explain
+    → (status_of f ≡ 5 → HasExplainedSome (window_of explain.from explain.to) old new) → status_of f ≡ 5 → HasExplainedSome (window_in words) old new
+refused_performed words explain old new f asks h e = subst (λ (w : Window). HasExplainedSome w old new) (window_asked words explain asks) (h e)

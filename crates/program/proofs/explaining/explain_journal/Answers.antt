@@ -1,0 +1,12 @@
+-- The window is that of the request.
+use Rattle.std.proofs.Common.{◌≡◌, subst, IfErr}
+use Rattle.explain.specs.declared.telling.Window.{Window}
+use Rattle.program.specs.declared.fault.Fault.{Fault}
+use Rattle.program.specs.Printed.{HasExplainedSome}
+use Rattle.program.specs.Program.{status_of}
+use Rattle.program.proofs.explaining.explain_journal.Goals as goal
+
+pub returns-clause-refused : goal.returns-clause-refused
+returns-clause-refused g c =
+    subst (λ (w : Window). IfErr c.explain_bytes.result (λ (fault : Fault). status_of fault ≡ 5 → HasExplainedSome w (g.O.Write.contents c.args.out.now) (g.O.Write.contents c.explain_bytes.new.out)))
+    c.window_of.ensures c.explain_bytes.ensures.refused

@@ -1,0 +1,93 @@
+//! `explain FILE JOURNAL`: FILE is read and JOURNAL opened. Then the journal is told in words, entry by entry, as it is taken.
+
+ghost use Rattle.std.specs.Prelude.{◌≡◌, IfErr, OnOk, unwrap_or};
+ghost use Rattle.std.specs.Io.KnownBytes.{Keeps};
+ghost use Rattle.files.specs.Saved.{KeepsFiles};
+ghost use Rattle.program.specs.Printed.{HasExplained, HasExplainedSome, window_of};
+ghost use Rattle.program.specs.Program.{explain_fault, status_of};
+
+use crate::fault::Fault;
+use arguments::ExplainRequest;
+use explain::{ExplainFault, Window, explain};
+use files::{Files, open_file, read_file, send_off};
+use journal::Counted;
+use replay::BytesFault;
+use std::alloc::Global;
+use std::io::{Read, Write};
+
+/// Tells JOURNAL on FILE in words.
+pub fn explain_journal<'a, F: Files, O: Write>(
+    alloc: Global,
+    request: &ExplainRequest<'a>,
+    files: &mut F,
+    out: &mut O,
+) -> Result<(), Fault<'a>>
+    ensures explained { OnOk result (HasExplained (window_of request.now.from request.now.to) (O.contents out.old) (O.contents out.new)) }
+    ensures refused { IfErr result (λ fault. status_of fault ≡ 5 → HasExplainedSome (window_of request.now.from request.now.to) (O.contents out.old) (O.contents out.new)) }
+    ensures nothing { IfErr result (λ fault. status_of fault ≡ 3 → Keeps (O.contents out.old) (O.contents out.new)) }
+    ensures unsaved { KeepsFiles (F.made files.old) (F.made files.new) }
+{
+    let source = read_file(alloc, request.file, files)?;
+    let mut journal = Counted::new(open_file(request.journal, files)?);
+    explain_bytes(
+        alloc,
+        source.as_slice(),
+        &mut journal,
+        window_of(request.from, request.to),
+        out,
+    )
+}
+
+/// Tells a journal that is left to read on the design of a source.
+fn explain_bytes<R: Read, O: Write>(
+    alloc: Global,
+    source: &[u8],
+    journal: &mut Counted<R>,
+    window: Window,
+    out: &mut O,
+) -> Result<(), Fault<'static>>
+    ensures explained { OnOk result (HasExplained window (O.contents out.old) (O.contents out.new)) }
+    ensures refused { IfErr result (λ fault. status_of fault ≡ 5 → HasExplainedSome window (O.contents out.old) (O.contents out.new)) }
+    ensures nothing { IfErr result (λ fault. status_of fault ≡ 3 → Keeps (O.contents out.old) (O.contents out.new)) }
+{
+    match explain(alloc, source, journal, window, out) {
+        Ok(()) => {
+            send_off(out)?;
+            Ok(())
+        }
+        Err(fault) => Err(told_fault(fault)),
+    }
+}
+
+/// The entries that are told.
+fn window_of(from: u32, to: Option<u32>) -> Window
+    ensures { result ≡ window_of from to }
+{
+    Window {
+        from: u64::from(from),
+        to: last_of(to),
+    }
+}
+
+/// The last entry that is told.
+fn last_of(to: Option<u32>) -> u64
+    ensures { result ≡ unwrap_or to 18446744073709551615 }
+{
+    match to {
+        Some(to) => u64::from(to),
+        None => u64::MAX,
+    }
+}
+
+/// A fault of a journal that was told, as one of the program: that of a replay, where a replay has it.
+fn told_fault(fault: ExplainFault) -> Fault<'static>
+    ensures { result ≡ explain_fault fault }
+{
+    match fault {
+        ExplainFault::Source(fault) => Fault::Replay(BytesFault::Source(fault)),
+        ExplainFault::Read(fault) => Fault::Replay(BytesFault::Read(fault)),
+        ExplainFault::Replay(fault) => Fault::Replay(BytesFault::Replay(fault)),
+        ExplainFault::CannotWrite => Fault::Replay(BytesFault::CannotWrite),
+        ExplainFault::Memory => Fault::Memory,
+    }
+}

@@ -1,0 +1,7 @@
+-- The proofs that tests tell a phase.
+pub mod Listed
+pub mod Leaving
+pub mod Places
+pub mod Standings
+pub mod Phases
+pub mod Tested

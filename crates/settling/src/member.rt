@@ -1,0 +1,164 @@
+//! Whether a process is combinational, and pending or settled.
+ghost use Rattle.std.specs.Prelude.{◌≡◌, ◌≢◌, ◌≤◌, ℕ, true, false, Some, None, [], ◌∷◌, map, slice_get, IfOk, IfSome};
+ghost use Rattle.model.specs.Turns.{contains};
+ghost use Rattle.model.specs.Laws.{evaluations_in};
+ghost use Rattle.design.specs.Compiled.{design_of};
+ghost use Rattle.combinational.specs.declared.block.Logic.{Logic as Found};
+ghost use Rattle.combinational.specs.Found.{AreFound};
+ghost use Rattle.regions.specs.Machine.{state_at};
+ghost use Rattle.regions.specs.Queue.{evaluation_event};
+ghost use Rattle.settling.specs.Settling.{IsMember, AreMembers};
+ghost use Rattle.settling.specs.Standing.{StandsBehind, HasLeft, StandsAs};
+
+use crate::consistent::leaves_values;
+use combinational::{Logic, Network, is_among};
+use design::Design;
+use flat::evaluate;
+use regions::{Evaluation, Machine, Progress};
+use std::alloc::{AllocError, Global};
+use std::collections::VecDeque;
+
+/// The logic of a process, where it has some.
+pub(crate) fn logic_at(network: &Network, process: u32) -> Option<&Logic>
+    ensures found { IfSome result (λ logic. slice_get network.now.logics.items process ≡ Some (Some logic.now)) }
+    ensures none { result ≡ None → (logic : Found) → slice_get network.now.logics.items process ≢ Some (Some logic) }
+{
+    if process as usize >= network.logics.len() {
+        return None;
+    }
+    match &network.logics[process as usize] {
+        Some(logic) => Some(logic),
+        None => None,
+    }
+}
+
+// 1 where an event evaluates a process, and 0 where it doesn't.
+fn one_if(evaluation: Evaluation, process: u32) -> usize
+    ensures times { result ≡ evaluations_in process (evaluation_event evaluation ∷ []) }
+    ensures few { result ≤ 1 }
+{
+    if evaluation.process == process { 1 } else { 0 }
+}
+
+// How many of these events evaluate a process.
+fn times(evaluations: &VecDeque<Evaluation>, process: u32) -> usize
+    ensures { result ≡ evaluations_in process (map evaluation_event evaluations.now.items) }
+{
+    let mut times = 0;
+    for at in 0..evaluations.len() {
+        let evaluation = evaluations[at];
+        times += one_if(evaluation, process);
+    }
+    times
+}
+
+// Whether a process goes on behind the wait of this logic.
+fn is_behind(progress: &Progress, logic: &Logic) -> bool
+    ensures { result ≡ true → StandsBehind progress.now logic.now }
+{
+    progress.state.place == logic.place && progress.state.pending.is_none()
+}
+
+// Whether the turn of a process leaves every value as it is.
+fn is_consistent(
+    alloc: Global,
+    design: &Design,
+    machine: &Machine<'_>,
+    process: u32,
+) -> Result<bool, AllocError>
+    requires code { machine.now.code ≡ design.now }
+    ensures { IfOk result (λ consistent. consistent ≡ true → HasLeft (design_of machine.now.code) (state_at machine.now) process) }
+{
+    let evaluation = Evaluation { number: 0, process };
+    match evaluate(alloc, design, machine, evaluation)? {
+        Some(turned) => Ok(leaves_values(machine.store(), turned.log.writes())),
+        None => Ok(false),
+    }
+}
+
+// Whether a process of this logic is pending, or has settled, where it stands so.
+fn stands_as(
+    alloc: Global,
+    design: &Design,
+    machine: &Machine<'_>,
+    logic: &Logic,
+    process: u32,
+    waits: Option<usize>,
+) -> Result<bool, AllocError>
+    requires code { machine.now.code ≡ design.now }
+    ensures { IfOk result (λ stands. stands ≡ true → StandsAs (design_of machine.now.code) (state_at machine.now) process logic.now.control waits) }
+{
+    let times = times(machine.state().active().1, process);
+    match waits {
+        None => Ok(times == 1),
+        Some(control) => {
+            if control != logic.control {
+                return Ok(false);
+            }
+            if times != 0 {
+                return Ok(false);
+            }
+            is_consistent(alloc, design, machine, process)
+        }
+    }
+}
+
+/// Whether a process is combinational, and pending or settled.
+pub(crate) fn is_member(
+    alloc: Global,
+    design: &Design,
+    machine: &Machine<'_>,
+    network: &Network,
+    process: u32,
+) -> Result<bool, AllocError>
+    requires code { machine.now.code ≡ design.now }
+    requires found { AreFound machine.now.code network.now }
+    ensures { IfOk result (λ member. member ≡ true → IsMember machine.now.code (state_at machine.now) network.now process) }
+{
+    let logic = match logic_at(network, process) {
+        Some(logic) => logic,
+        None => return Ok(false),
+    };
+    let progress = match machine.state().processes().get(process as usize) {
+        Some(progress) => *progress,
+        None => return Ok(false),
+    };
+    if !is_behind(&progress, logic) {
+        return Ok(false);
+    }
+    machine.stands();
+    stands_as(alloc, design, machine, logic, process, progress.waits)
+}
+
+/// Whether each of these processes is.
+pub(crate) fn are_members(
+    alloc: Global,
+    design: &Design,
+    machine: &Machine<'_>,
+    network: &Network,
+    members: &[u32],
+) -> Result<bool, AllocError>
+    requires code { machine.now.code ≡ design.now }
+    requires found { AreFound machine.now.code network.now }
+    ensures { IfOk result (λ all. all ≡ true → AreMembers machine.now.code (state_at machine.now) network.now members.now) }
+{
+    for member in members {
+        if !is_member(alloc, design, machine, network, *member)? {
+            return Ok(false);
+        }
+    }
+    Ok(true)
+}
+
+/// Whether each of these evaluations is of one of these processes.
+pub(crate) fn are_inside(evaluations: &VecDeque<Evaluation>, members: &[u32]) -> bool
+    ensures { result ≡ true → (p : ℕ) → contains members.now p ≡ false → evaluations_in p (map evaluation_event evaluations.now.items) ≡ 0 }
+{
+    for at in 0..evaluations.len() {
+        let evaluation = evaluations[at];
+        if !is_among(members, evaluation.process) {
+            return false;
+        }
+    }
+    true
+}

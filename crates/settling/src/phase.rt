@@ -1,0 +1,208 @@
+//! Whether the state of a machine is a phase.
+ghost use Rattle.std.specs.Prelude.{◌≡◌, ℕ, true, false, map, Some, slice_get, IfOk, IfSome};
+ghost use Rattle.model.specs.Turns.{contains};
+ghost use Rattle.orders.specs.Alike.{updates_in};
+ghost use Rattle.combinational.specs.Found.{AreFound};
+ghost use Rattle.combinational.specs.declared.block.Logic.{Logic as Found};
+ghost use Rattle.regions.specs.Machine.{state_at};
+ghost use Rattle.regions.specs.Queue.{update_event};
+ghost use Rattle.settling.specs.Settling.{HaveOutputs, IsPhaseOf};
+
+use crate::awaited::{is_one, others_sleep};
+use crate::member::{are_inside, are_members, logic_at};
+use combinational::{Network, is_among};
+use design::{Control, Design, RegId};
+use regions::{Evaluation, Machine, Progress, Update};
+use std::alloc::{AllocError, Global};
+use std::collections::VecDeque;
+
+// Whether two lists have a register in common.
+fn share(registers: &[RegId], others: &[RegId]) -> bool
+    ensures { result ≡ false → (r : ℕ) → contains registers.now r ≡ true → contains others.now r ≡ false }
+{
+    for register in registers {
+        if is_among(others, *register) {
+            return true;
+        }
+    }
+    false
+}
+
+// The registers of updates, in order.
+fn updated(alloc: Global, updates: &VecDeque<Update>) -> Result<Vec<RegId>, AllocError>
+    ensures { IfOk result (λ registers. registers.items ≡ map (λ u. u.0) (updates_in (map update_event updates.now.items))) }
+{
+    let mut registers = Vec::new(alloc);
+    for at in 0..updates.len() {
+        let update = updates[at];
+        registers.push(update.register)?;
+    }
+    Ok(registers)
+}
+
+// The outputs of a process, where it has logic.
+fn outputs_at(network: &Network, process: u32) -> &[RegId]
+    ensures { (logic : Found) → slice_get network.now.logics.items process ≡ Some (Some logic) → result.now ≡ logic.outputs.items }
+{
+    match logic_at(network, process) {
+        Some(logic) => logic.outputs.as_slice(),
+        None => &[],
+    }
+}
+
+// The outputs of these processes.
+fn outputs(alloc: Global, network: &Network, members: &[u32]) -> Result<Vec<RegId>, AllocError>
+    ensures { IfOk result (λ registers. HaveOutputs network.now members.now registers.items) }
+{
+    let mut registers = Vec::new(alloc);
+    for member in members {
+        registers.extend_from_slice(outputs_at(network, *member))?;
+    }
+    Ok(registers)
+}
+
+// Whether a process waits for one of these registers.
+fn waits_for(controls: &[Control], progress: &Progress, registers: &[RegId]) -> bool {
+    match progress.waits {
+        Some(number) => match controls.get(number) {
+            Some(control) => control
+                .triggers()
+                .iter()
+                .any(|trigger| is_among(registers, trigger.1)),
+            None => false,
+        },
+        None => false,
+    }
+}
+
+// Adds the process at a place, unless it is there.
+fn add_once(members: &mut Vec<u32>, place: usize) -> Result<(), AllocError> {
+    if is_one(members.as_slice(), place) {
+        return Ok(());
+    }
+    if let Ok(process) = u32::try_from(place) {
+        members.push(process)?;
+    }
+    Ok(())
+}
+
+// Adds the processes that wait for one of these registers to others, each once.
+fn add_waiting(
+    members: &mut Vec<u32>,
+    controls: &[Control],
+    processes: &[Progress],
+    registers: &[RegId],
+) -> Result<(), AllocError> {
+    for at in 0..processes.len() {
+        if waits_for(controls, &processes[at], registers) {
+            add_once(members, at)?;
+        }
+    }
+    Ok(())
+}
+
+// The processes that are evaluated, each once.
+fn evaluated(alloc: Global, evaluations: &VecDeque<Evaluation>) -> Result<Vec<u32>, AllocError> {
+    let mut members = Vec::new(alloc);
+    for at in 0..evaluations.len() {
+        let evaluation = evaluations[at];
+        add_once(&mut members, evaluation.process as usize)?;
+    }
+    Ok(members)
+}
+
+// The processes that may have a turn before all that is active has settled: those that are evaluated, those that wait for what is
+// updated, and those that wait for an output of these.
+fn reached(
+    alloc: Global,
+    controls: &[Control],
+    processes: &[Progress],
+    network: &Network,
+    evaluations: &VecDeque<Evaluation>,
+    registers: &[RegId],
+) -> Result<Vec<u32>, AllocError> {
+    let mut members = evaluated(alloc, evaluations)?;
+    add_waiting(&mut members, controls, processes, registers)?;
+    for at in 0..processes.len() {
+        match members.get(at) {
+            Some(member) => {
+                let outputs = outputs_at(network, *member);
+                add_waiting(&mut members, controls, processes, outputs)?;
+            }
+            None => return Ok(members),
+        }
+    }
+    Ok(members)
+}
+
+// Whether a turn met `$finish`.
+fn is_over(machine: &Machine<'_>) -> bool
+    ensures { result ≡ false → (state_at machine.now).finished ≡ false }
+{
+    machine.is_finished()
+}
+
+// Whether the state of a machine is a phase of these processes, where these registers are updated.
+fn is_phase(
+    alloc: Global,
+    design: &Design,
+    machine: &Machine<'_>,
+    network: &Network,
+    members: &[u32],
+    registers: &[RegId],
+) -> Result<bool, AllocError>
+    requires code { machine.now.code ≡ design.now }
+    requires found { AreFound machine.now.code network.now }
+    requires registers { registers.now ≡ map (λ u. u.0) (updates_in (state_at machine.now).active) }
+    ensures { IfOk result (λ is. is ≡ true → IsPhaseOf machine.now.code (state_at machine.now) network.now members.now) }
+{
+    let state = machine.state();
+    let controls = design.event_controls();
+    let outputs = outputs(alloc, network, members)?;
+    if is_over(machine) {
+        return Ok(false);
+    }
+    if share(registers, &outputs) {
+        return Ok(false);
+    }
+    if !are_inside(state.active().1, members) {
+        return Ok(false);
+    }
+    machine.stands();
+    if !others_sleep(controls, state.processes(), members, registers) {
+        return Ok(false);
+    }
+    if !others_sleep(controls, state.processes(), members, &outputs) {
+        return Ok(false);
+    }
+    are_members(alloc, design, machine, network, members)
+}
+
+/// The processes that settle from the state of a machine, where it is a phase: all that is active are updates and turns of combinational
+/// processes, and nobody else waits for what these may change. None where that isn't told.
+pub fn phase_of(
+    alloc: Global,
+    design: &Design,
+    machine: &Machine<'_>,
+    network: &Network,
+) -> Result<Option<Vec<u32>>, AllocError>
+    requires code { machine.now.code ≡ design.now }
+    requires found { AreFound machine.now.code network.now }
+    ensures { IfOk result (λ found. IfSome found (λ members. IsPhaseOf machine.now.code (state_at machine.now) network.now members.items)) }
+{
+    let state = machine.state();
+    let (updates, evaluations) = state.active();
+    let registers = updated(alloc, updates)?;
+    let members = reached(
+        alloc,
+        design.event_controls(),
+        state.processes(),
+        network,
+        evaluations,
+        &registers,
+    )?;
+    if !is_phase(alloc, design, machine, network, &members, &registers)? {
+        return Ok(None);
+    }
+    Ok(Some(members))
+}

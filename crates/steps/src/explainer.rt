@@ -1,0 +1,111 @@
+//! A machine that tells of each entry that it takes.
+ghost use Rattle.std.specs.Prelude.{◌≡◌, ◌+◌, ◌<◌, List, [], IfOk, IfErr, OnOk, OnErr};
+ghost use Rattle.model.specs.declared.entry.Entry.{Entry};
+ghost use Rattle.regions.specs.Machine.{most_entries, state_at};
+ghost use Rattle.steps.specs.Told.{account_of};
+ghost use Rattle.steps.specs.Standing.{IsBehind, IsExplained, IsNotExplained};
+
+use crate::cells::{Cell, first_cells};
+use crate::fault::StepFault;
+use crate::noting::note;
+use crate::told::Told;
+use design::Design;
+use model::entry::Entry;
+use regions::Machine;
+use std::alloc::{AllocError, Global};
+use std::marker::Model;
+use turn::TurnLog;
+
+/// A machine (11.4) with the version of each register, which tells of the last entry that it took. What is told, and the log of a
+/// turn, are kept from one entry to the next.
+#[derive(Drop)]
+pub struct Explainer<'d> {
+    design: &'d Design,
+    machine: Machine<'d>,
+    cells: Vec<Cell>,
+    log: TurnLog,
+    told: Told,
+}
+
+impl<'d> Model for Explainer<'d> {
+    ghost use Rattle.steps.specs.Standing.{Standing, standing_of, IsKept};
+
+    ghost Value = { Standing };
+
+    ghost use Rattle.std.specs.Coded.{codes};
+    ghost use Rattle.design.specs.contracts.tree.Statement as statements;
+
+    ghost coded = { Prim.hlevel (codes, statements.the_row.coded) };
+
+    ghost view = { λ e. standing_of e.machine e.cells.items e.told };
+
+    ghost invariant = { λ e. IsKept e.design.now e.machine e.cells.items };
+}
+
+impl<'d> Explainer<'d> {
+    /// The start of a design's run (11.3): every register is all x, at version 0. Fails where memory is refused.
+    pub fn start(alloc: Global, design: &'d Design) -> Result<Explainer<'d>, AllocError>
+        ensures behind { IfOk result (IsBehind []) }
+        ensures code { IfOk result (λ e. e.position.code ≡ design.now) }
+        ensures entries { IfOk result (λ e. e.position.core.entries ≡ 0) }
+    {
+        let machine = Machine::start(alloc, design)?;
+        let cells = first_cells(alloc, design)?;
+        Ok(Explainer {
+            design,
+            machine,
+            cells,
+            log: TurnLog::new(alloc),
+            told: Told::new(alloc),
+        })
+    }
+
+    /// Takes an entry (11.4), and tells of it. After an `Err` the machine stands where it stood, but no other entry is to be told.
+    pub fn step(&mut self, entry: Entry) -> Result<(), StepFault>
+        // It is one step of the rules, and what is told of it is what comes of that step.
+        ensures told { OnOk result ((journal : List Entry) → IsBehind journal self.old → IsExplained journal entry self.old self.new) }
+        ensures entries { OnOk result (self.new.position.core.entries ≡ self.old.position.core.entries + 1) }
+        ensures few { OnOk result (self.old.position.core.entries < most_entries) }
+        ensures code { self.new.position.code ≡ self.old.position.code }
+        // Each fault has its reason.
+        ensures fault { IfErr result (IsNotExplained self.old.position entry) }
+        ensures err { OnErr result (state_at self.new.position ≡ state_at self.old.position) }
+    {
+        note(
+            self.design,
+            &self.machine,
+            &mut self.log,
+            &mut self.cells,
+            &mut self.told,
+            entry,
+        )?;
+        match self.machine.take(entry) {
+            Ok(()) => {}
+            Err(fault) => return Err(StepFault::NotTaken(fault)),
+        }
+        self.told.lines = self.machine.take_lines();
+        self.told.time = self.machine.time();
+        Ok(())
+    }
+
+    /// What is told of the last entry.
+    pub fn told(&self) -> &Told
+        ensures { account_of result.now ≡ self.entry.now.account }
+    {
+        &self.told
+    }
+
+    /// The machine.
+    pub fn machine(&self) -> &Machine<'d>
+        ensures { result.now ≡ self.entry.now.position }
+    {
+        &self.machine
+    }
+
+    /// The design.
+    pub fn design(&self) -> &'d Design
+        ensures { result.now ≡ self.entry.now.position.code }
+    {
+        self.design
+    }
+}

@@ -1,0 +1,203 @@
+//! What is noted of an entry before it is taken.
+ghost use Rattle.std.specs.Prelude.{◌≡◌, ◌<◌, [], ◌∷◌, map, length, slice_get, Some, None, MatchOption, IfOk, IfErr, OnOk};
+ghost use Rattle.model.specs.declared.entry.Entry.TheVariants as entries;
+ghost use Rattle.model.specs.Runs.{Effect, action_in, step};
+ghost use Rattle.design.specs.Compiled.{design_of};
+ghost use Rattle.turn.specs.Reads.{registers, AreDeclared};
+ghost use Rattle.regions.specs.Queue.{update_event};
+ghost use Rattle.regions.specs.Machine.{state_at};
+ghost use Rattle.steps.specs.declared.told.Deed.TheVariants as deeds;
+ghost use Rattle.steps.specs.Told.{account_of};
+ghost use Rattle.steps.specs.Cells.{values_at, reading_in, AreWritten, AreWritesIn};
+ghost use Rattle.steps.specs.Standing.{update_of, IsNoted, IsProcessLogged, IsSoundState};
+
+use crate::cells::{Cell, change, change_all, reading};
+use crate::fault::StepFault;
+use crate::told::{Deed, Reading, Told};
+use design::{Design, RegId};
+use indexmap::IndexMap;
+use model::entry::Entry;
+use regions::{Machine, Update, turn_on};
+use std::alloc::AllocError;
+use std::collections::VecDeque;
+use turn::{FillFault, Seen, TurnLog};
+
+// The register that was read at a place.
+fn register_at(reads: &IndexMap<RegId, Seen>, place: usize) -> RegId
+    requires { place < length reads.now.entries }
+    ensures { slice_get (registers reads.now.entries) place ≡ Some result }
+{
+    match reads.get_index(place) {
+        Some((register, _)) => *register,
+        None => unreachable!(),
+    }
+}
+
+// Tells the registers that were read, as they are known.
+fn tell_reads(
+    told: &mut Vec<Reading>,
+    cells: &[Cell],
+    reads: &IndexMap<RegId, Seen>,
+) -> Result<(), AllocError>
+    requires empty { told.old.items ≡ [] }
+    requires declared { AreDeclared (length cells.now) reads.now.entries }
+    ensures { OnOk result (told.new.items ≡ map (reading_in cells.now) (registers reads.now.entries)) }
+{
+    for place in 0..reads.len() {
+        told.push(reading(cells, register_at(reads, place)))?;
+    }
+    Ok(())
+}
+
+// Tells what a turn reads, assigns and changes.
+fn tell_turn(told: &mut Told, cells: &mut Vec<Cell>, log: &TurnLog) -> Result<(), AllocError>
+    requires reads { told.old.reads.items ≡ [] }
+    requires changes { told.old.changes.items ≡ [] }
+    requires assigned { told.old.assigned.items ≡ [] }
+    requires declared { AreDeclared (length cells.old.items) log.now.reads }
+    requires writes { AreWritesIn (length cells.old.items) log.now.writes }
+    ensures reads { OnOk result (told.new.reads.items ≡ map (reading_in cells.old.items) (registers log.now.reads)) }
+    ensures assigned { OnOk result (told.new.assigned.items ≡ log.now.nbas) }
+    ensures written { OnOk result (AreWritten cells.old.items log.now.writes [] cells.new.items told.new.changes.items) }
+    ensures deed { told.new.deed ≡ told.old.deed }
+    ensures registers { length cells.new.items ≡ length cells.old.items }
+{
+    tell_reads(&mut told.reads, cells, log.reads())?;
+    told.assigned.extend_from_slice(log.nbas())?;
+    change_all(cells, &mut told.changes, log.writes())
+}
+
+// Fills a log with the turn that takes an event, and answers its process. None where the event has no short turn.
+fn log_turn(
+    design: &Design,
+    machine: &Machine<'_>,
+    log: &mut TurnLog,
+    number: u64,
+) -> Result<Option<u32>, StepFault>
+    requires code { machine.now.code ≡ design.now }
+    ensures logged { IfOk result (IsProcessLogged design.now (state_at machine.now) number log.new) }
+    ensures fault { IfErr result (λ fault. fault ≡ StepFault.Memory) }
+{
+    if machine.is_finished() {
+        return Ok(None);
+    }
+    match machine.state().evaluation(number) {
+        Some((process, place)) => {
+            machine.stands();
+            let now = machine.time();
+            match turn_on(log, design, &place, now, machine.store()) {
+                Ok(()) => Ok(Some(process)),
+                Err(FillFault::TooLong) => Ok(None),
+                Err(FillFault::Memory) => Err(StepFault::Memory),
+            }
+        }
+        None => Ok(None),
+    }
+}
+
+// Notes a turn.
+fn note_turn(
+    design: &Design,
+    machine: &Machine<'_>,
+    log: &mut TurnLog,
+    cells: &mut Vec<Cell>,
+    told: &mut Told,
+    number: u64,
+) -> Result<(), StepFault>
+    requires code { machine.now.code ≡ design.now }
+    requires sound { IsSoundState design.now (state_at machine.now) }
+    requires cells { length cells.old.items ≡ length design.now.widths }
+    requires reads { told.old.reads.items ≡ [] }
+    requires changes { told.old.changes.items ≡ [] }
+    requires assigned { told.old.assigned.items ≡ [] }
+    ensures noted { OnOk result ((effect : Effect) → values_at cells.old.items ≡ machine.now.values → step (design_of design.now) (state_at machine.now) (entries.Turn number) ≡ Some effect → IsNoted design.now (state_at machine.now) cells.old.items (entries.Turn number) effect cells.new.items (account_of told.new)) }
+    ensures sound { OnOk result ((effect : Effect) → step (design_of design.now) (state_at machine.now) (entries.Turn number) ≡ Some effect → IsSoundState design.now effect.state) }
+    ensures registers { length cells.new.items ≡ length cells.old.items }
+    ensures fault { IfErr result (λ fault. fault ≡ StepFault.Memory) }
+{
+    match log_turn(design, machine, log, number)? {
+        Some(process) => {
+            told.deed = Deed::Turn(process);
+            Ok(tell_turn(told, cells, log)?)
+        }
+        None => Ok(()),
+    }
+}
+
+// The update with a number, where one of these has it.
+fn update_numbered(updates: &VecDeque<Update>, number: u64) -> Option<&Update>
+    ensures { MatchOption result (update_of (action_in (map update_event updates.entry.now.items) number) ≡ None) (λ u. update_of (action_in (map update_event updates.entry.now.items) number) ≡ Some (u.now.register, u.now.value)) }
+{
+    for i in 0..updates.len() {
+        let update = &updates[i];
+        if update.number == number {
+            return Some(update);
+        }
+    }
+    None
+}
+
+// Notes an update.
+fn note_update(
+    machine: &Machine<'_>,
+    cells: &mut Vec<Cell>,
+    told: &mut Told,
+    number: u64,
+) -> Result<(), StepFault>
+    requires sound { IsSoundState machine.now.code (state_at machine.now) }
+    requires cells { length cells.old.items ≡ length machine.now.code.widths }
+    requires reads { told.old.reads.items ≡ [] }
+    requires changes { told.old.changes.items ≡ [] }
+    requires assigned { told.old.assigned.items ≡ [] }
+    ensures noted { OnOk result ((effect : Effect) → values_at cells.old.items ≡ machine.now.values → step (design_of machine.now.code) (state_at machine.now) (entries.Update number) ≡ Some effect → IsNoted machine.now.code (state_at machine.now) cells.old.items (entries.Update number) effect cells.new.items (account_of told.new)) }
+    ensures sound { OnOk result ((effect : Effect) → step (design_of machine.now.code) (state_at machine.now) (entries.Update number) ≡ Some effect → IsSoundState machine.now.code effect.state) }
+    ensures registers { length cells.new.items ≡ length cells.old.items }
+    ensures fault { IfErr result (λ fault. fault ≡ StepFault.Memory) }
+{
+    match update_numbered(machine.state().active().0, number) {
+        Some(update) => {
+            told.deed = Deed::Update(update.register, update.value);
+            Ok(change(cells, &mut told.changes, update.register, update.value)?)
+        }
+        None => Ok(()),
+    }
+}
+
+// Forgets what was told of another entry.
+fn clear(told: &mut Told)
+    ensures reads { told.new.reads.items ≡ [] }
+    ensures changes { told.new.changes.items ≡ [] }
+    ensures assigned { told.new.assigned.items ≡ [] }
+    ensures deed { told.new.deed ≡ deeds.Regions }
+{
+    told.deed = Deed::Regions;
+    told.reads.clear();
+    told.changes.clear();
+    told.assigned.clear();
+}
+
+/// Notes an entry before the machine takes it: who does it, what it reads, assigns and changes. After an `Err` the registers may
+/// have changed.
+pub fn note(
+    design: &Design,
+    machine: &Machine<'_>,
+    log: &mut TurnLog,
+    cells: &mut Vec<Cell>,
+    told: &mut Told,
+    entry: Entry,
+) -> Result<(), StepFault>
+    requires code { machine.now.code ≡ design.now }
+    requires sound { IsSoundState design.now (state_at machine.now) }
+    requires cells { length cells.old.items ≡ length design.now.widths }
+    ensures noted { OnOk result ((effect : Effect) → values_at cells.old.items ≡ machine.now.values → step (design_of design.now) (state_at machine.now) entry ≡ Some effect → IsNoted design.now (state_at machine.now) cells.old.items entry effect cells.new.items (account_of told.new)) }
+    ensures sound { OnOk result ((effect : Effect) → step (design_of design.now) (state_at machine.now) entry ≡ Some effect → IsSoundState design.now effect.state) }
+    ensures registers { length cells.new.items ≡ length cells.old.items }
+    ensures fault { IfErr result (λ fault. fault ≡ StepFault.Memory) }
+{
+    clear(told);
+    match entry {
+        Entry::Turn(number) => note_turn(design, machine, log, cells, told, number),
+        Entry::Update(number) => note_update(machine, cells, told, number),
+        _ => Ok(()),
+    }
+}

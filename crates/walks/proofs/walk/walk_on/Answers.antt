@@ -1,0 +1,18 @@
+-- A walk begins where its machine stands, and goes on step by step.
+use Rattle.std.proofs.Common.{◌∙◌, refl}
+use Rattle.regions.specs.Machine.{state_at}
+use Rattle.walks.proofs.Walks.{walk_begins}
+use Rattle.walks.proofs.walk.walk_on.Goals as goal
+
+pub loop-init : goal.loop-init
+loop-init c = record { code = refl; walked = walk_begins c.args.limits c.args.machine.now c.new-moves.result.items c.new-moves.ensures.items c.requires.silent }
+
+pub returns-then-not-branch-clause-walked : goal.returns-then-not-branch-clause-walked
+returns-then-not-branch-clause-walked c = c.in_ok-go_on.ensures.walked (state_at c.args.machine.now) c.loop.invariant.walked
+
+pub loop-preserved : goal.loop-preserved
+loop-preserved c =
+    record {
+      code = c.in_ok-go_on.ensures.code ∙ c.loop.invariant.code;
+      walked = c.in_ok-go_on.ensures.walked (state_at c.args.machine.now) c.loop.invariant.walked;
+    }

@@ -1,0 +1,9 @@
+pub mod Journals
+pub mod Cover
+pub mod Going
+pub mod LongTurns
+pub mod FlatWays
+pub mod OnlyWay
+pub mod Sole
+pub mod Walking
+pub mod Passing

@@ -1,0 +1,123 @@
+//! A step of a walk through a phase of combinational processes, up to its end.
+ghost use Rattle.std.specs.Prelude.{◌≡◌, true, [], None, IfOk, IfSome};
+ghost use Rattle.phases.specs.Phase.{TakesEvent};
+ghost use Rattle.regions.specs.Machine.{state_at};
+ghost use Rattle.walks.specs.Walking.{IsSoleWay};
+ghost use Rattle.walks.specs.Passing.{HasAdded, HasPassed, HasPassedBehind, StandsInPhase};
+
+use crate::settle::{Ahead, copy_of, take_all};
+use model::entry::Entry;
+use regions::Machine;
+use settling::{Networked, phase_of};
+use std::alloc::{AllocError, Global};
+
+// The most events of one phase that a walk takes.
+const MOST_EVENTS: u32 = 65_536;
+
+// The first update that is active, or else the first evaluation.
+fn first_active(machine: &Machine<'_>) -> Option<Entry>
+    ensures event { IfSome result TakesEvent }
+    ensures none { result ≡ None → (state_at machine.now).active ≡ [] }
+{
+    let (updates, evaluations) = machine.state().active();
+    match updates.front() {
+        Some(update) => return Some(Entry::Update(update.number)),
+        None => {}
+    }
+    match evaluations.front() {
+        Some(evaluation) => Some(Entry::Turn(evaluation.number)),
+        None => None,
+    }
+}
+
+// Takes an entry behind others. Answers whether it did.
+fn take_one(
+    machine: &mut Machine<'_>,
+    moves: &mut Vec<Entry>,
+    entry: Entry,
+) -> Result<bool, AllocError>
+    ensures added { IfOk result (λ taken. taken ≡ true → HasAdded machine.old machine.new moves.old.items entry moves.new.items) }
+    ensures code { machine.new.code ≡ machine.old.code }
+{
+    moves.push(entry)?;
+    take_all(machine, &[entry])
+}
+
+// Takes what is active, one event after another, until nothing is. Answers whether it came to that.
+fn take_active(machine: &mut Machine<'_>, moves: &mut Vec<Entry>) -> Result<bool, AllocError>
+    ensures passed { IfOk result (λ all. all ≡ true → HasPassed machine.old machine.new moves.old.items moves.new.items) }
+    ensures code { machine.new.code ≡ machine.old.code }
+{
+    for _ in 0..MOST_EVENTS {
+        let entry = match first_active(machine) {
+            Some(entry) => entry,
+            None => return Ok(true),
+        };
+        if !take_one(machine, moves, entry)? {
+            return Ok(false);
+        }
+    }
+    Ok(false)
+}
+
+// Whether the state of a machine is a phase.
+fn is_phase(
+    alloc: Global,
+    networked: &Networked<'_>,
+    machine: &Machine<'_>,
+) -> Result<bool, AllocError>
+    requires code { machine.now.code ≡ networked.now }
+    ensures { IfOk result (λ is. is ≡ true → StandsInPhase machine.now) }
+{
+    let network = networked.network();
+    let found = phase_of(alloc, networked.design(), machine, network)?;
+    Ok(found.is_some())
+}
+
+/// Activates the nonblocking updates, and takes them and what they cause, where that is a phase. Answers whether it did.
+pub(crate) fn take_phase(
+    alloc: Global,
+    networked: &Networked<'_>,
+    machine: &mut Machine<'_>,
+    moves: &mut Vec<Entry>,
+) -> Result<bool, AllocError>
+    requires code { machine.old.code ≡ networked.now }
+    ensures passed { IfOk result (λ all. all ≡ true → HasPassedBehind machine.old machine.new moves.old.items moves.new.items) }
+    ensures code { machine.new.code ≡ machine.old.code }
+{
+    if !take_one(machine, moves, Entry::ActivateNba)? {
+        return Ok(false);
+    }
+    if !is_phase(alloc, networked, machine)? {
+        return Ok(false);
+    }
+    take_active(machine, moves)
+}
+
+/// The way that stands for all from where a machine stands, where its state is a phase in which something is active, and where it leads:
+/// to the end of the phase.
+pub(crate) fn phase_way<'d>(
+    alloc: Global,
+    networked: &Networked<'_>,
+    machine: &Machine<'d>,
+) -> Result<Option<Ahead<'d>>, AllocError>
+    requires code { machine.now.code ≡ networked.now }
+    ensures sole { IfOk result (λ found. IfSome found (λ ahead. IsSoleWay machine.now ahead.machine.value ahead.moves.items)) }
+    ensures code { IfOk result (λ found. IfSome found (λ ahead. ahead.machine.value.code ≡ machine.now.code)) }
+{
+    if !machine.state().is_active() {
+        return Ok(None);
+    }
+    if !is_phase(alloc, networked, machine)? {
+        return Ok(None);
+    }
+    let mut moves = Vec::new(alloc);
+    let mut ahead = copy_of(alloc, machine)?;
+    if !take_active(&mut ahead, &mut moves)? {
+        return Ok(None);
+    }
+    Ok(Some(Ahead {
+        machine: ahead,
+        moves,
+    }))
+}

@@ -1,0 +1,153 @@
+//! A walk on from a machine, as long as one order stands for all.
+ghost use Rattle.std.specs.Prelude.{◌≡◌, ◌<◌, [], false, None, IfOk, IfSome, OnOk};
+ghost use Rattle.model.specs.States.{State};
+ghost use Rattle.model.specs.declared.end.Limits.{Limits};
+ghost use Rattle.model.specs.Runs.{refusal, step};
+ghost use Rattle.design.specs.Compiled.{design_of};
+ghost use Rattle.regions.specs.Machine.{most_entries, state_at, IsNotTaken};
+ghost use Rattle.walks.specs.Walking.{HasWalked, IsOnlyEntry, IsWithoutTurns};
+
+use crate::settle::take_sole;
+use model::end::Limits;
+use model::entry::Entry;
+use regions::{Machine, TakeFault};
+use seeded::resting::is_timely;
+use settling::Networked;
+use std::alloc::{AllocError, Global};
+
+// The most steps of one walk: a search looks for a state that it has seen at the end of each.
+const MOST_STEPS: u32 = 256;
+
+/// Tells that an entry, which the rules permit, wasn't taken since it is a turn that isn't short. Fails where memory was refused to it
+/// instead.
+pub fn tell_long(machine: &Machine<'_>, entry: Entry, fault: TakeFault) -> Result<(), AllocError>
+    requires permitted { refusal (state_at machine.now) entry ≡ None }
+    requires few { machine.now.core.entries < most_entries }
+    requires fault { IsNotTaken machine.now entry fault }
+    ensures { IfOk result (λ nothing. step (design_of machine.now.code) (state_at machine.now) entry ≡ None) }
+{
+    match fault {
+        TakeFault::TooLong => Ok(()),
+        TakeFault::ApplyMemory => Err(AllocError),
+        TakeFault::Memory => Err(AllocError),
+        TakeFault::Refused(_) => unreachable!(),
+        TakeFault::TooMany => unreachable!(),
+    }
+}
+
+// The change of the regions that is due, where it is in time: nothing else is permitted where nothing is active.
+fn only_change(limits: Limits, machine: &Machine<'_>) -> Option<Entry>
+    requires rests { machine.now.core.active ≡ [] }
+    ensures { IfSome result (IsOnlyEntry limits (state_at machine.now)) }
+{
+    match machine.due() {
+        Some(change) => {
+            if is_timely(limits, change) {
+                Some(change)
+            } else {
+                None
+            }
+        }
+        None => None,
+    }
+}
+
+// The first active update: nothing else is permitted where no evaluation is active.
+fn only_update(machine: &Machine<'_>) -> Option<Entry>
+    requires going { machine.now.core.finished ≡ false }
+    requires none { IsWithoutTurns (state_at machine.now) }
+    ensures { (limits : Limits) → IfSome result (IsOnlyEntry limits (state_at machine.now)) }
+{
+    match machine.state().first_update() {
+        Some(number) => Some(Entry::Update(number)),
+        None => None,
+    }
+}
+
+// The only entry that the rules permit, where they permit just one, and that one is in time.
+fn only_entry(limits: Limits, machine: &Machine<'_>) -> Option<Entry>
+    ensures { IfSome result (IsOnlyEntry limits (state_at machine.now)) }
+{
+    if machine.is_finished() {
+        return None;
+    }
+    let (updates, evaluations) = machine.state().active();
+    if evaluations.is_empty() {
+        if updates.is_empty() {
+            return only_change(limits, machine);
+        }
+        return only_update(machine);
+    }
+    if updates.is_empty() && evaluations.len() == 1 {
+        return Some(Entry::Turn(evaluations[0].number));
+    }
+    None
+}
+
+// Takes the only entry, where there is one and the journal has room for it. Answers whether it did.
+fn step(
+    limits: Limits,
+    machine: &mut Machine<'_>,
+    moves: &mut Vec<Entry>,
+) -> Result<bool, AllocError>
+    ensures walked { OnOk result ((s : State) → HasWalked limits s machine.old moves.old.items → HasWalked limits s machine.new moves.new.items) }
+    ensures code { machine.new.code ≡ machine.old.code }
+{
+    if machine.state().entries() >= u64::from(limits.max_entries) {
+        return Ok(false);
+    }
+    let entry = match only_entry(limits, machine) {
+        Some(entry) => entry,
+        None => return Ok(false),
+    };
+    match machine.take(entry) {
+        Ok(()) => {
+            moves.push(entry)?;
+            Ok(true)
+        }
+        Err(fault) => {
+            tell_long(machine, entry, fault)?;
+            Ok(false)
+        }
+    }
+}
+
+// Goes on by the only entry, or else by the turns of a flat state or through a phase. Answers whether it did.
+fn go_on(
+    alloc: Global,
+    networked: &Networked<'_>,
+    limits: Limits,
+    machine: &mut Machine<'_>,
+    moves: &mut Vec<Entry>,
+) -> Result<bool, AllocError>
+    requires code { machine.old.code ≡ networked.now }
+    ensures walked { OnOk result ((s : State) → HasWalked limits s machine.old moves.old.items → HasWalked limits s machine.new moves.new.items) }
+    ensures code { machine.new.code ≡ machine.old.code }
+{
+    if step(limits, machine, moves)? {
+        return Ok(true);
+    }
+    take_sole(alloc, networked, limits, machine, moves)
+}
+
+/// Goes on from where a machine stands as long as one order stands for all, for some hundred steps at most. Answers the entries that
+/// the machine took.
+pub fn walk_on(
+    alloc: Global,
+    networked: &Networked<'_>,
+    limits: Limits,
+    machine: &mut Machine<'_>,
+) -> Result<Vec<Entry>, AllocError>
+    requires silent { machine.old.lines ≡ [] }
+    requires code { machine.old.code ≡ networked.now }
+    ensures walked { IfOk result (λ moves. HasWalked limits (state_at machine.old) machine.new moves.items) }
+    ensures code { machine.new.code ≡ machine.old.code }
+{
+    let mut moves = Vec::new(alloc);
+    for _ in 0..MOST_STEPS {
+        if !go_on(alloc, networked, limits, machine, &mut moves)? {
+            return Ok(moves);
+        }
+    }
+    Ok(moves)
+}
