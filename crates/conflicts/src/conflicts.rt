@@ -2,16 +2,17 @@
 
 use deeds::{Pair, Role, Site};
 use indexmap::IndexMap;
-use std::alloc::{AllocError, Global};
+use std::alloc::Global;
 
 // The most conflicts of one group that are kept.
 pub(crate) const MOST_OF_A_GROUP: usize = 4;
 
-/// Two entries of a run that conflict, and the places between them of the entries that the later one needs.
+/// Two entries of a run that conflict, and the places of the entries that a second run takes where the first one takes the earlier of
+/// them: those that the later one needs, the later one, and the earlier one.
 #[derive(Drop)]
 pub(crate) struct Conflict {
     pub(crate) pair: Pair,
-    pub(crate) needs: Vec<usize>,
+    pub(crate) order: Vec<usize>,
     /// How many conflicts of its group came before it.
     pub(crate) round: usize,
 }
@@ -38,7 +39,7 @@ pub(crate) struct Conflicts {
     most_groups: usize,
     tallies: IndexMap<Group, Tally>,
     pub(crate) list: Vec<Conflict>,
-    /// Whether no group was left out.
+    /// Whether none was left out.
     pub(crate) complete: bool,
 }
 
@@ -50,11 +51,9 @@ impl Group {
             greater: one.process.max(other.process),
         }
     }
-}
 
-impl Conflict {
-    pub(crate) fn group(&self) -> Group {
-        Group::new(self.pair.site, self.pair.first, self.pair.second)
+    pub(crate) fn of(pair: Pair) -> Group {
+        Group::new(pair.site, pair.first, pair.second)
     }
 }
 
@@ -68,11 +67,11 @@ impl Conflicts {
         }
     }
 
-    /// How many conflicts of the group of this one are kept, where one more may be, and this pair isn't the last of them.
-    pub(crate) fn round(&mut self, group: Group, earlier: usize, later: usize) -> Option<usize> {
-        match self.tallies.get(&group).copied() {
+    /// How many conflicts of a pair's group are kept, where one more may be, and this pair isn't the last of them.
+    pub(crate) fn round(&mut self, pair: Pair) -> Option<usize> {
+        match self.tallies.get(&Group::of(pair)).copied() {
             Some(tally) => {
-                let is_told = tally.earlier == earlier && tally.later == later;
+                let is_told = tally.earlier == pair.earlier && tally.later == pair.later;
                 if is_told || tally.count >= MOST_OF_A_GROUP {
                     None
                 } else {
@@ -90,16 +89,16 @@ impl Conflicts {
         }
     }
 
-    /// Keeps one more conflict.
-    pub(crate) fn add(&mut self, conflict: Conflict) -> Result<(), AllocError> {
-        let group = conflict.group();
+    /// Keeps one more conflict, if memory isn't refused to it.
+    pub(crate) fn add(&mut self, conflict: Conflict) {
+        let group = Group::of(conflict.pair);
         let tally = Tally {
             count: conflict.round.saturating_add(1),
             earlier: conflict.pair.earlier,
             later: conflict.pair.later,
         };
-        self.list.push(conflict)?;
-        self.tallies.insert(group, tally)?;
-        Ok(())
+        let is_kept = self.list.push(conflict).is_ok();
+        let is_counted = self.tallies.insert(group, tally).is_ok();
+        self.complete = self.complete & is_kept & is_counted;
     }
 }

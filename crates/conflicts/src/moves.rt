@@ -53,12 +53,14 @@ fn is_earlier(entry: Entry, change: Entry) -> bool {
     }
 }
 
-/// The moves that a run follows from a place on, but for the later one of the two that were exchanged and for what it needs.
-#[derive(Drop)]
+/// The moves that a run follows from a place on until another one, but for those up to the later one of the two that were exchanged
+/// which were taken before.
+#[derive(Clone, Copy)]
 pub(crate) struct Guide<'m> {
     pub(crate) moves: &'m [Move],
     pub(crate) at: usize,
-    pub(crate) left_out: &'m [usize],
+    pub(crate) until: usize,
+    pub(crate) taken: &'m [usize],
     pub(crate) later: usize,
 }
 
@@ -70,13 +72,13 @@ impl<'m> Guide<'m> {
 
     // Whether the next move is one of those that were taken before.
     fn is_taken(&self) -> bool {
-        self.at == self.later || (self.at < self.later && self.left_out.contains(&self.at))
+        self.at <= self.later && self.taken.contains(&self.at)
     }
 
-    /// The place of the next move that wasn't taken before.
-    pub(crate) fn place(&mut self) -> usize {
+    /// Whether the moves until that place are passed.
+    pub(crate) fn is_over(&mut self) -> bool {
         let _next = self.wanted();
-        self.at
+        self.at >= self.until
     }
 
     // The next move that wasn't taken before.

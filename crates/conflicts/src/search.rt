@@ -10,14 +10,15 @@ ghost use Rattle.conflicts.specs.Endings.{HasTimeLimit};
 ghost use Rattle.conflicts.specs.Races.{IsShown, IsWithin};
 
 use crate::conflicts::{Conflict, Conflicts, Group, MOST_OF_A_GROUP};
-use crate::exchange::{Followed, exchange};
-use crate::moves::Move;
+use crate::exchange::exchange;
 use crate::run::Run;
+use crate::task::Task;
 use crate::told::{Found, Race, Tries};
 use crate::watch::{Watch, watch_run};
 use deeds::is_confirmed;
 use design::Design;
 use model::end::{End, Limits, Why};
+use progress::Progress;
 use seeded::run::SeededRun;
 use seeded::samples::is_same;
 use std::alloc::{AllocError, Global};
@@ -43,15 +44,6 @@ fn is_told(races: &[Race], group: Group) -> bool {
     false
 }
 
-/// What is tried: a design, its limits and its first run, with the moves of that.
-#[derive(Clone, Copy)]
-struct Task<'a> {
-    design: &'a Design,
-    limits: Limits,
-    original: &'a SeededRun,
-    moves: &'a [Move],
-}
-
 /// What came of the tries so far.
 #[derive(Drop)]
 pub(crate) struct Trials {
@@ -61,20 +53,16 @@ pub(crate) struct Trials {
 }
 
 // Makes the second run of a conflict, if there is one that differs from the first.
-fn differing(
-    alloc: Global,
+fn differing<P: Progress>(
     task: Task<'_>,
     conflict: &Conflict,
+    progress: &P,
 ) -> Result<Option<SeededRun>, AllocError>
     requires until { HasTimeLimit task.limits }
     ensures exchanged { IfOk result (λ made. IfSome made (IsRun task.entry.design.now task.entry.limits)) }
     ensures differ { IfOk result (λ made. IfSome made (AreDistinct task.entry.original.now)) }
 {
-    let followed = Followed {
-        journal: &task.original.journal,
-        moves: task.moves,
-    };
-    match exchange(alloc, task.design, task.limits, followed, conflict) {
+    match exchange(task, conflict, progress) {
         Ok(Some(exchanged)) => {
             if exchanged.end == End::Stopped(Why::Memory) {
                 Err(AllocError)
@@ -90,21 +78,25 @@ fn differing(
 }
 
 // The race that a conflict's second run shows, if it shows one. What the conflict says of both runs is confirmed before.
-fn race_of(alloc: Global, task: Task<'_>, conflict: &Conflict) -> Result<Option<Race>, AllocError>
+fn race_of<P: Progress>(
+    task: Task<'_>,
+    conflict: &Conflict,
+    progress: &P,
+) -> Result<Option<Race>, AllocError>
     requires until { HasTimeLimit task.limits }
     ensures { IfOk result (λ race. IfSome race (IsShown task.entry.design.now task.entry.limits task.entry.original.now)) }
 {
-    let exchanged = match differing(alloc, task, conflict)? {
+    let exchanged = match differing(task, conflict, progress)? {
         Some(exchanged) => exchanged,
         None => return Ok(None),
     };
     match is_confirmed(
-        alloc,
+        task.alloc,
         task.design,
         &task.original.journal,
         &exchanged.journal,
         conflict.pair,
-        conflict.needs.len(),
+        conflict.order.len().saturating_sub(2),
     ) {
         Ok(true) => Ok(Some(Race {
             site: conflict.pair.site,
@@ -120,12 +112,12 @@ fn race_of(alloc: Global, task: Task<'_>, conflict: &Conflict) -> Result<Option<
 
 impl Trials {
     // Keeps a race, if there is one.
-    fn keep(&mut self, task: Task<'_>, bounds: Tries, race: Option<Race>)
-        requires within { self.old.tried ≤ bounds.pairs }
-        requires room { vec_len self.old.races < bounds.races }
+    fn keep(&mut self, task: Task<'_>, race: Option<Race>)
+        requires within { self.old.tried ≤ task.bounds.pairs }
+        requires room { vec_len self.old.races < task.bounds.races }
         requires race { IfSome race (IsShown task.design.now task.limits task.original.now) }
         requires shown { All (IsShown task.design.now task.limits task.original.now) self.old.races.items }
-        ensures within { IsWithin bounds self.new }
+        ensures within { IsWithin task.entry.bounds self.new }
         ensures shown { All (IsShown task.entry.design.now task.entry.limits task.entry.original.now) self.new.races.items }
     {
         match race {
@@ -138,100 +130,64 @@ impl Trials {
     }
 
     // Tries a conflict within the bounds, unless a race of its group is told.
-    fn try_conflict(&mut self, alloc: Global, task: Task<'_>, bounds: Tries, conflict: &Conflict)
+    fn try_conflict<P: Progress>(&mut self, task: Task<'_>, conflict: &Conflict, progress: &P)
         requires until { HasTimeLimit task.limits }
-        requires within { IsWithin bounds self.old }
+        requires within { IsWithin task.bounds self.old }
         requires shown { All (IsShown task.design.now task.limits task.original.now) self.old.races.items }
-        ensures within { IsWithin bounds self.new }
+        ensures within { IsWithin task.entry.bounds self.new }
         ensures shown { All (IsShown task.entry.design.now task.entry.limits task.entry.original.now) self.new.races.items }
     {
-        if is_told(&self.races, conflict.group()) {
+        if is_told(&self.races, Group::of(conflict.pair)) {
             return;
         }
-        if self.tried >= bounds.pairs || self.races.len() >= bounds.races {
+        if self.tried >= task.bounds.pairs || self.races.len() >= task.bounds.races {
             self.complete = false;
             return;
         }
         self.tried += 1;
-        match race_of(alloc, task, conflict) {
-            Ok(race) => self.keep(task, bounds, race),
+        match race_of(task, conflict, progress) {
+            Ok(race) => self.keep(task, race),
             Err(_) => self.complete = false,
         }
     }
 
     // Tries the conflicts before which so many of their groups came.
-    fn try_round(
+    fn try_round<P: Progress>(
         &mut self,
-        alloc: Global,
         task: Task<'_>,
-        bounds: Tries,
         list: &[Conflict],
         round: usize,
+        progress: &P,
     )
         requires until { HasTimeLimit task.limits }
-        requires within { IsWithin bounds self.old }
+        requires within { IsWithin task.bounds self.old }
         requires shown { All (IsShown task.design.now task.limits task.original.now) self.old.races.items }
-        ensures within { IsWithin bounds self.new }
+        ensures within { IsWithin task.entry.bounds self.new }
         ensures shown { All (IsShown task.entry.design.now task.entry.limits task.entry.original.now) self.new.races.items }
     {
         for conflict in list {
             if conflict.round == round {
-                self.try_conflict(alloc, task, bounds, conflict);
+                self.try_conflict(task, conflict, progress);
             }
         }
     }
 }
 
 // Tries the conflicts of a first run, those of the first round first.
-fn try_all(alloc: Global, task: Task<'_>, bounds: Tries, conflicts: &Conflicts) -> Trials
+fn try_all<P: Progress>(task: Task<'_>, conflicts: &Conflicts, progress: &P) -> Trials
     requires until { HasTimeLimit task.limits }
-    ensures within { IsWithin bounds result }
+    ensures within { IsWithin task.entry.bounds result }
     ensures shown { All (IsShown task.entry.design.now task.entry.limits task.entry.original.now) result.races.items }
 {
     let mut trials = Trials {
-        races: Vec::new(alloc),
+        races: Vec::new(task.alloc),
         tried: 0,
         complete: conflicts.complete && task.original.end != End::Stopped(Why::Memory),
     };
     for round in 0..MOST_OF_A_GROUP {
-        trials.try_round(alloc, task, bounds, &conflicts.list, round);
+        trials.try_round(task, &conflicts.list, round, progress);
     }
     trials
-}
-
-// Searches, from the first run's start.
-fn search(
-    alloc: Global,
-    design: &Design,
-    limits: Limits,
-    bounds: Tries,
-) -> Result<Found, AllocError>
-    requires until { HasTimeLimit limits }
-    ensures original { IfOk result (λ found. IsRun design.now limits found.original) }
-    ensures races { IfOk result (λ found. All (IsShown design.now limits found.original) found.races.items) }
-    ensures few { IfOk result (λ found. (vec_len found.races ≤ bounds.races) × (found.tried ≤ bounds.pairs)) }
-{
-    let mut watch = Watch::start(alloc, design, bounds.pairs);
-    let run = Run::start(alloc, design)?;
-    let original = watch_run(alloc, design, run, limits, &mut watch);
-    watch.finish();
-    let task = Task {
-        design,
-        limits,
-        original: &original,
-        moves: &watch.moves,
-    };
-    let Trials {
-        races,
-        tried,
-        complete,
-    } = try_all(alloc, task, bounds, &watch.conflicts);
-    Ok(Found {
-        original,
-        races,
-        tried,
-        complete,
-    })
 }
 
 /// Searches for the races of a design that show in one run of it, and in the runs in which two entries of that one are
@@ -239,7 +195,13 @@ fn search(
 ///
 /// The limit of time isn't past the last time, as for every run. Where memory is refused, it ends with what was found until
 /// then.
-pub fn find_races(alloc: Global, design: &Design, limits: Limits, bounds: Tries) -> Found
+pub fn find_races<P: Progress>(
+    alloc: Global,
+    design: &Design,
+    limits: Limits,
+    bounds: Tries,
+    progress: &P,
+) -> Found
     requires until { IfSome limits.until (λ until. until ≤ last_time) }
     // The first run is lawful and in time, and its lines and its end are told.
     ensures original { IsRun design.now limits result.original }
@@ -249,13 +211,37 @@ pub fn find_races(alloc: Global, design: &Design, limits: Limits, bounds: Tries)
     ensures few_races { vec_len result.races ≤ bounds.races }
     ensures few_tries { result.tried ≤ bounds.pairs }
 {
-    match search(alloc, design, limits, bounds) {
-        Ok(found) => found,
-        Err(_) => Found {
-            original: nothing(alloc),
-            races: Vec::new(alloc),
-            tried: 0,
-            complete: false,
-        },
+    let mut run = match Run::start(alloc, design) {
+        Ok(run) => run,
+        Err(_) => {
+            return Found {
+                original: nothing(alloc),
+                races: Vec::new(alloc),
+                tried: 0,
+                complete: false,
+            };
+        }
+    };
+    let mut watch = Watch::start(alloc, design, bounds.pairs);
+    let original = watch_run(alloc, design, &mut run, limits, &mut watch, progress);
+    watch.finish();
+    let task = Task {
+        alloc,
+        design,
+        limits,
+        bounds,
+        original: &original,
+        moves: &watch.moves,
+    };
+    let Trials {
+        races,
+        tried,
+        complete,
+    } = try_all(task, &watch.conflicts, progress);
+    Found {
+        original,
+        races,
+        tried,
+        complete,
     }
 }

@@ -1,6 +1,6 @@
 //! What the entries between two changes of the regions did, and which of them conflict.
 
-use crate::conflicts::{Conflict, Conflicts, Group};
+use crate::conflicts::{Conflict, Conflicts};
 use deeds::{Does, Pair, Role, Site};
 use design::RegId;
 use logic4::bits::Bits;
@@ -21,8 +21,7 @@ pub(crate) enum Actor {
 impl Actor {
     fn process(self) -> u32 {
         match self {
-            Actor::Turn(process) => process,
-            Actor::Update(process) => process,
+            Actor::Turn(process) | Actor::Update(process) => process,
         }
     }
 
@@ -73,7 +72,7 @@ pub(crate) struct Stretch {
     steps: Vec<Step>,
     accesses: Vec<Access>,
     assigns: Vec<Assign>,
-    /// Whether there were too many to look at.
+    /// Whether there were too many to look at, or memory was refused to a note of them.
     is_cut: bool,
 }
 
@@ -109,50 +108,45 @@ impl Stretch {
     }
 
     /// One more entry, whose event the entry at this place of the journal made.
-    pub(crate) fn step(&mut self, actor: Actor, maker: Option<usize>) -> Result<(), AllocError> {
+    pub(crate) fn step(&mut self, actor: Actor, maker: Option<usize>) {
         let cause = maker.and_then(|place| place.checked_sub(self.begin));
         let before = self.steps.iter().rposition(|s| s.actor.is_ordered(actor));
-        self.steps.push(Step {
+        let step = Step {
             actor,
             cause,
             before,
-        })?;
-        Ok(())
+        };
+        self.is_cut = self.is_cut | self.steps.push(step).is_err();
     }
 
     /// What the last entry does at a site.
-    pub(crate) fn access(
-        &mut self,
-        site: Site,
-        does: Does,
-        changes: bool,
-    ) -> Result<(), AllocError> {
-        let step = self.steps.len().saturating_sub(1);
-        self.accesses.push(Access {
-            step,
+    pub(crate) fn access(&mut self, site: Site, does: Does, changes: bool) {
+        if self.is_cut {
+            return;
+        }
+        let access = Access {
+            step: self.steps.len().saturating_sub(1),
             site,
             does,
             changes,
-        })?;
-        Ok(())
+        };
+        self.is_cut = self.is_cut | self.accesses.push(access).is_err();
     }
 
     /// A nonblocking assignment of the last entry.
-    pub(crate) fn assign(
-        &mut self,
-        register: RegId,
-        value: Bits,
-        due: u64,
-    ) -> Result<(), AllocError> {
+    pub(crate) fn assign(&mut self, register: RegId, value: Bits, due: u64) {
+        if self.is_cut {
+            return;
+        }
         let step = self.steps.len().saturating_sub(1);
         self.assigns.retain(|a| a.step != step || a.register != register || a.due != due);
-        self.assigns.push(Assign {
+        let assign = Assign {
             step,
             register,
             value,
             due,
-        })?;
-        Ok(())
+        };
+        self.is_cut = self.is_cut | self.assigns.push(assign).is_err();
     }
 
     // The role of a step.
@@ -161,12 +155,15 @@ impl Stretch {
         Some(Role { process, does })
     }
 
-    // The steps that a step needs behind an earlier one, in order; none where it needs that one.
-    fn needs(&self, earlier: usize, later: usize) -> Result<Option<Vec<usize>>, AllocError> {
+    // The places of what a step needs behind an earlier one, of itself, and of that one; none where it needs that one.
+    fn order(&self, earlier: usize, later: usize) -> Result<Option<Vec<usize>>, AllocError> {
         let mut needed = vec![in self.alloc; false; self.steps.len()]?;
+        let mut order = Vec::new(self.alloc);
+        order.push(self.begin.saturating_add(earlier))?;
         mark(&mut needed, Some(later));
-        for at in (earlier..later.saturating_add(1)).rev() {
+        for at in (earlier.saturating_add(1)..later.saturating_add(1)).rev() {
             if needed.get(at).copied() == Some(true) {
+                order.push(self.begin.saturating_add(at))?;
                 if let Some(step) = self.steps.get(at) {
                     mark(&mut needed, step.cause);
                     mark(&mut needed, step.before);
@@ -176,13 +173,8 @@ impl Stretch {
         if needed.get(earlier).copied() == Some(true) {
             return Ok(None);
         }
-        let mut places = Vec::new(self.alloc);
-        for at in earlier..later {
-            if needed.get(at).copied() == Some(true) {
-                places.push(self.begin.saturating_add(at))?;
-            }
-        }
-        Ok(Some(places))
+        order.reverse();
+        Ok(Some(order))
     }
 
     // Keeps the conflict of two steps, if neither needs the other.
@@ -192,92 +184,68 @@ impl Stretch {
         site: Site,
         earlier: (usize, Does),
         later: (usize, Does),
-    ) -> Result<(), AllocError> {
+    ) {
         let (first, second) = match (self.role(earlier.0, earlier.1), self.role(later.0, later.1)) {
             (Some(first), Some(second)) => (first, second),
-            _ => return Ok(()),
+            _ => return,
         };
-        let places = (
-            self.begin.saturating_add(earlier.0),
-            self.begin.saturating_add(later.0),
-        );
-        let group = Group::new(site, first, second);
-        let round = match conflicts.round(group, places.0, places.1) {
+        let pair = Pair {
+            site,
+            time: self.time,
+            first,
+            second,
+            earlier: self.begin.saturating_add(earlier.0),
+            later: self.begin.saturating_add(later.0),
+        };
+        let round = match conflicts.round(pair) {
             Some(round) => round,
-            None => return Ok(()),
+            None => return,
         };
-        let needs = match self.needs(earlier.0, later.0)? {
-            Some(needs) => needs,
-            None => return Ok(()),
-        };
-        conflicts.add(Conflict {
-            pair: Pair {
-                site,
-                time: self.time,
-                first,
-                second,
-                earlier: places.0,
-                later: places.1,
-            },
-            needs,
-            round,
-        })
+        match self.order(earlier.0, later.0) {
+            Ok(Some(order)) => conflicts.add(Conflict { pair, order, round }),
+            Ok(None) => {}
+            Err(_) => conflicts.complete = false,
+        }
     }
 
     // Keeps the conflicts of an access that changes what stands at its site.
-    fn conflicts_of(&self, conflicts: &mut Conflicts, one: Access) -> Result<(), AllocError> {
+    fn conflicts_of(&self, conflicts: &mut Conflicts, one: Access) {
         for other in self.accesses.iter() {
             if one.site == other.site {
+                let here = (one.step, one.does);
+                let there = (other.step, other.does);
                 if one.step < other.step {
-                    self.add(
-                        conflicts,
-                        one.site,
-                        (one.step, one.does),
-                        (other.step, other.does),
-                    )?;
+                    self.add(conflicts, one.site, here, there);
                 } else if other.step < one.step && !other.changes {
-                    self.add(
-                        conflicts,
-                        one.site,
-                        (other.step, other.does),
-                        (one.step, one.does),
-                    )?;
+                    self.add(conflicts, one.site, there, here);
                 }
             }
         }
-        Ok(())
     }
 
     // Keeps the conflicts of a nonblocking assignment with those of later steps.
-    fn conflicts_by(&self, conflicts: &mut Conflicts, one: Assign) -> Result<(), AllocError> {
+    fn conflicts_by(&self, conflicts: &mut Conflicts, one: Assign) {
         for other in self.assigns.iter() {
             let is_same = one.register == other.register && one.due == other.due;
             if is_same && one.step < other.step && one.value != other.value {
-                self.add(
-                    conflicts,
-                    Site::Register(one.register),
-                    (one.step, Does::Assigns),
-                    (other.step, Does::Assigns),
-                )?;
+                let here = (one.step, Does::Assigns);
+                let there = (other.step, Does::Assigns);
+                self.add(conflicts, Site::Register(one.register), here, there);
             }
         }
-        Ok(())
     }
 
     /// Keeps the conflicts of the entries since the last change of the regions.
-    pub(crate) fn find_conflicts(&self, conflicts: &mut Conflicts) -> Result<(), AllocError> {
-        if self.is_cut {
-            conflicts.complete = false;
-        }
+    pub(crate) fn find_conflicts(&self, conflicts: &mut Conflicts) {
+        conflicts.complete = conflicts.complete & !self.is_cut;
         for one in self.accesses.iter() {
             if one.changes {
-                self.conflicts_of(conflicts, *one)?;
+                self.conflicts_of(conflicts, *one);
             }
         }
         for one in self.assigns.iter() {
-            self.conflicts_by(conflicts, *one)?;
+            self.conflicts_by(conflicts, *one);
         }
-        Ok(())
     }
 }
 

@@ -1,7 +1,5 @@
 //! The first run, and what its entries do.
 ghost use Rattle.std.specs.Prelude.{◌≡◌, IfSome, None};
-ghost use Rattle.model.specs.declared.end.End.TheVariants as ends;
-ghost use Rattle.model.specs.declared.end.Why.TheVariants as whys;
 ghost use Rattle.model.specs.Runs.{refusal};
 ghost use Rattle.regions.specs.Machine.{state_at};
 ghost use Rattle.seeded.specs.Runs.{HasComeTo, IsRun};
@@ -15,14 +13,16 @@ use deeds::{Does, Site, fill};
 use design::Design;
 use model::end::{End, Limits, Why};
 use model::entry::Entry;
+use progress::{Progress, tell_entries};
 use regions::Machine;
 use seeded::run::SeededRun;
-use std::alloc::{AllocError, Global};
+use std::alloc::Global;
 use turn::{Suspend, TurnLog};
 
-/// Who made events: the process of a turn, or that of the turn that made an update, and its place in the journal.
+/// Who made events, from a number on: the process of a turn, or that of the turn that made an update, and its place in the journal.
 #[derive(Clone, Copy)]
 struct Maker {
+    from: u64,
     process: u32,
     place: usize,
 }
@@ -34,8 +34,7 @@ pub(crate) struct Watch {
     stretch: Stretch,
     /// The number of the next event that is made.
     next_event: u64,
-    /// The first numbers of the events that entries made, in order, and who made them.
-    numbers: Vec<u64>,
+    /// In the order of their numbers.
     makers: Vec<Maker>,
     pub(crate) moves: Vec<Move>,
     pub(crate) conflicts: Conflicts,
@@ -56,7 +55,6 @@ impl Watch {
             log: TurnLog::new(alloc),
             stretch: Stretch::new(alloc),
             next_event: u64::from(design.processes()),
-            numbers: Vec::new(alloc),
             makers: Vec::new(alloc),
             moves: Vec::new(alloc),
             conflicts: Conflicts::new(alloc, most_groups),
@@ -65,183 +63,153 @@ impl Watch {
 
     // Who made an event.
     fn maker(&self, number: u64) -> Option<Maker> {
-        match self.numbers.binary_search(&number) {
-            Ok(at) => self.makers.get(at).copied(),
-            Err(after) => match after.checked_sub(1) {
-                Some(at) => self.makers.get(at).copied(),
-                None => None,
-            },
-        }
+        let behind = self.makers.partition_point(|maker| maker.from <= number);
+        self.makers.get(behind.checked_sub(1)?).copied()
     }
 
     // Notes what a turn read, and what it wrote.
-    fn note_values(&mut self, machine: &Machine<'_>) -> Result<(), AllocError> {
+    fn note_values(&mut self, machine: &Machine<'_>) {
         for (register, _) in self.log.reads() {
             self.stretch
-                .access(Site::Register(*register), Does::Reads, false)?;
+                .access(Site::Register(*register), Does::Reads, false);
         }
         for net in self.log.nets() {
             let changes = net.changes > 0 || machine.value(net.register) != Some(net.first);
             self.stretch
-                .access(Site::Register(net.register), Does::Writes, changes)?;
+                .access(Site::Register(net.register), Does::Writes, changes);
         }
         for nba in self.log.nbas() {
-            self.stretch.assign(nba.reg, nba.value, nba.due)?;
+            self.stretch.assign(nba.reg, nba.value, nba.due);
         }
-        Ok(())
     }
 
     // Notes what a turn printed.
-    fn note_lines(&mut self) -> Result<(), AllocError> {
+    fn note_lines(&mut self) {
         if !self.log.lines().is_empty() {
-            self.stretch.access(Site::Printing, Does::Prints, true)?;
+            self.stretch.access(Site::Printing, Does::Prints, true);
         }
         if self.log.is_finish() {
-            self.stretch.access(Site::Printing, Does::Finishes, true)?;
+            self.stretch.access(Site::Printing, Does::Finishes, true);
         }
         if !self.log.strobes().is_empty() {
-            self.stretch.access(Site::Strobing, Does::Strobes, true)?;
+            self.stretch.access(Site::Strobing, Does::Strobes, true);
         }
-        Ok(())
     }
 
     // Notes the registers for which the process of a turn begins to wait.
-    fn note_wait(&mut self, design: &Design) -> Result<(), AllocError> {
+    fn note_wait(&mut self, design: &Design) {
         if let Suspend::Event(control) = self.log.suspend() {
             if let Some(control) = design.event_controls().get(control) {
                 for trigger in control.triggers() {
                     self.stretch
-                        .access(Site::Register(trigger.1), Does::Waits, false)?;
+                        .access(Site::Register(trigger.1), Does::Waits, false);
                 }
             }
         }
-        Ok(())
     }
 
     // How many events the turn makes apart from those of the processes that it wakes: its updates, and that of its own wait.
     fn own_events(&self) -> u64 {
         let updates = self.log.nbas().len() as u64;
         match self.log.suspend() {
-            Suspend::Inactive => updates.saturating_add(1),
-            Suspend::Until(_) => updates.saturating_add(1),
-            Suspend::Ended => updates,
-            Suspend::Event(_) => updates,
+            Suspend::Inactive | Suspend::Until(_) => updates.saturating_add(1),
+            Suspend::Ended | Suspend::Event(_) => updates,
         }
     }
 
     // Notes a turn. None where it isn't made.
-    fn note_turn(
-        &mut self,
-        design: &Design,
-        machine: &Machine<'_>,
-        number: u64,
-    ) -> Result<Option<Noted>, AllocError>
+    fn note_turn(&mut self, design: &Design, machine: &Machine<'_>, number: u64) -> Option<Noted>
         requires { machine.now.code ≡ design.now }
     {
-        let process = match fill(&mut self.log, design, machine, number) {
-            Some(process) => process,
-            None => return Ok(None),
-        };
+        let process = fill(&mut self.log, design, machine, number)?;
         if !self.stretch.is_full() {
             let maker = self.maker(number).map(|maker| maker.place);
-            self.stretch.step(Actor::Turn(process), maker)?;
-            self.note_values(machine)?;
-            self.note_lines()?;
-            self.note_wait(design)?;
+            self.stretch.step(Actor::Turn(process), maker);
+            self.note_values(machine);
+            self.note_lines();
+            self.note_wait(design);
         }
-        Ok(Some(Noted {
+        Some(Noted {
             wanted: Move::Turn(process),
             process: Some(process),
             own: self.own_events(),
-        }))
+        })
     }
 
     // Notes an update. None where there is none.
-    fn note_update(
-        &mut self,
-        machine: &Machine<'_>,
-        number: u64,
-    ) -> Result<Option<Noted>, AllocError> {
-        let (maker, updated) = match (self.maker(number), machine.state().first_updated()) {
-            (Some(maker), Some(updated)) => (maker, updated),
-            _ => return Ok(None),
-        };
+    fn note_update(&mut self, machine: &Machine<'_>, number: u64) -> Option<Noted> {
+        let maker = self.maker(number)?;
+        let (register, value) = machine.state().first_updated()?;
         if !self.stretch.is_full() {
-            let (register, value) = updated;
             let changes = machine.value(register) != Some(value);
             self.stretch
-                .step(Actor::Update(maker.process), Some(maker.place))?;
+                .step(Actor::Update(maker.process), Some(maker.place));
             self.stretch
-                .access(Site::Register(register), Does::Updates, changes)?;
+                .access(Site::Register(register), Does::Updates, changes);
         }
-        Ok(Some(Noted {
+        Some(Noted {
             wanted: Move::Update,
             process: Some(maker.process),
             own: 0,
-        }))
+        })
     }
 
     // Notes an entry before it is taken. At a change of the regions the conflicts of the entries before it are found.
-    fn note(
-        &mut self,
-        design: &Design,
-        machine: &Machine<'_>,
-        entry: Entry,
-    ) -> Result<Option<Noted>, AllocError>
+    fn note(&mut self, design: &Design, machine: &Machine<'_>, entry: Entry) -> Option<Noted>
         requires { machine.now.code ≡ design.now }
     {
         match entry {
             Entry::Turn(number) => self.note_turn(design, machine, number),
             Entry::Update(number) => self.note_update(machine, number),
             _ => {
-                self.stretch.find_conflicts(&mut self.conflicts)?;
-                Ok(Some(Noted {
+                self.stretch.find_conflicts(&mut self.conflicts);
+                Some(Noted {
                     wanted: Move::Change(entry),
                     process: None,
                     own: 0,
-                }))
+                })
             }
         }
     }
 
-    // Notes that an entry was taken, if that could be told before. Where it can't be noted, the run ends for want of memory.
-    fn taken(&mut self, machine: &Machine<'_>, noted: Option<Noted>) -> Option<End>
-        ensures { IfSome result (λ end. end ≡ ends.Stopped whys.Memory) }
-    {
-        let noted = match noted {
-            Some(noted) => noted,
-            None => return Some(End::Stopped(Why::Memory)),
-        };
-        match self.count(machine, noted) {
-            Ok(()) => None,
-            Err(_) => Some(End::Stopped(Why::Memory)),
+    // Notes the events that an entry made, whose place in the journal this is. The answer is whether they could be noted.
+    fn note_made(&mut self, process: u32, place: usize, made: u64) -> bool {
+        if made == 0 {
+            return true;
         }
+        let from = self.next_event;
+        self.next_event = from.saturating_add(made);
+        let maker = Maker {
+            from,
+            process,
+            place,
+        };
+        self.makers.push(maker).is_ok()
     }
 
-    // Notes the move of an entry that was taken, and the events that it made.
-    fn count(&mut self, machine: &Machine<'_>, noted: Noted) -> Result<(), AllocError> {
+    // Notes that an entry was taken: its move, and the events that it made. The answer is whether it could be noted.
+    fn taken(&mut self, machine: &Machine<'_>, noted: Option<Noted>) -> bool {
+        let noted = match noted {
+            Some(noted) => noted,
+            None => return false,
+        };
         let place = self.moves.len();
-        self.moves.push(noted.wanted)?;
+        let is_kept = self.moves.push(noted.wanted).is_ok();
         match noted.process {
             Some(process) => {
                 let made = noted.own.saturating_add(machine.made().len() as u64);
-                if made > 0 {
-                    self.numbers.push(self.next_event)?;
-                    self.makers.push(Maker { process, place })?;
-                    self.next_event = self.next_event.saturating_add(made);
-                }
+                is_kept & self.note_made(process, place, made)
             }
-            None => self.stretch.begin(place.saturating_add(1), machine.time()),
+            None => {
+                self.stretch.begin(place.saturating_add(1), machine.time());
+                is_kept
+            }
         }
-        Ok(())
     }
 
     // Finds the conflicts of the last entries.
     pub(crate) fn finish(&mut self) {
-        match self.stretch.find_conflicts(&mut self.conflicts) {
-            Ok(()) => {}
-            Err(_) => self.conflicts.complete = false,
-        }
+        self.stretch.find_conflicts(&mut self.conflicts);
     }
 }
 
@@ -281,38 +249,38 @@ fn watch_entry(
         Some(entry) => entry,
         None => return Some(End::Stopped(Why::Memory)),
     };
-    let noted = match watch.note(design, &run.machine, entry) {
-        Ok(noted) => noted,
-        Err(_) => return Some(End::Stopped(Why::Memory)),
-    };
+    let noted = watch.note(design, &run.machine, entry);
     if let Some(end) = run.step(limits, entry) {
         return Some(end);
     }
-    watch.taken(&run.machine, noted)
+    // Where an entry can't be noted, the run ends for want of memory.
+    if watch.taken(&run.machine, noted) {
+        None
+    } else {
+        Some(End::Stopped(Why::Memory))
+    }
 }
 
-/// Makes the first run, which takes the first entry that may be next at each choice.
-pub(crate) fn watch_run(
+/// Makes the first run, which takes the first entry that may be next at each choice, from its start.
+pub(crate) fn watch_run<P: Progress>(
     alloc: Global,
     design: &Design,
-    run: Run<'_>,
+    run: &mut Run<'_>,
     limits: Limits,
     watch: &mut Watch,
+    progress: &P,
 ) -> SeededRun
     requires until { HasTimeLimit limits }
-    requires come { HasComeTo limits run.journal.items run.machine }
-    requires code { run.machine.code ≡ design.now }
+    requires come { HasComeTo limits run.old.journal.items run.old.machine }
+    requires code { run.old.machine.code ≡ design.now }
     ensures { IsRun design.now limits result }
 {
-    let mut run = run;
     for _ in 0..limits.max_entries {
-        if let Some(end) = watch_entry(alloc, design, &mut run, limits, watch) {
-            return run.told(limits, end);
+        if let Some(end) = watch_entry(alloc, design, run, limits, watch) {
+            return run.told(alloc, limits, end);
         }
+        tell_entries(progress, run.journal.len() as u64, run.machine.time());
     }
-    let end = match run.end(limits) {
-        Some(end) => end,
-        None => End::Stopped(Why::Memory),
-    };
-    run.told(limits, end)
+    let end = run.last_end(limits);
+    run.told(alloc, limits, end)
 }

@@ -6,7 +6,7 @@
 //!    they come the other way round.
 //! 4. `witness` leads a machine to both and sees whether they do it, and `confirm` asks it of both journals.
 //!
-//! What the layer above uses: the contract of `is_confirmed`, whose `HasBothOrders` of `specs/Roles` speaks of the journals alone.
+//! What the layer above uses: `fill`, `lead`, and the contract of `is_confirmed`, whose `HasBothOrders` of `specs/Roles` speaks of the journals alone.
 #![tactic(auto)]
 
 mod confirm;
@@ -20,3 +20,4 @@ pub use confirm::is_confirmed;
 pub use deeds::fill;
 pub use pair::Pair;
 pub use role::{Does, Role, Site};
+pub use witness::lead;

@@ -34,8 +34,8 @@ IsText-more {M} runs old new told told' place more longer text =
     }
 
 -- a visit stays one
-IsVisited-more : {M N E : Type 0} (runs : Runs M N E) (key_of : N → List ℕ) (old new : List (List M)) (told told' : List (List ℕ)) (place : Place) (key : List ℕ) → Extends old new → Extends told told' → IsVisited runs key_of old told place key → IsVisited runs key_of new told' place key
-IsVisited-more {M} runs key_of old new told told' place key more longer visit =
+IsVisited-more : {M N E : Type 0} (runs : Runs M N E) (HasKey : N → List ℕ → Type 0) (old new : List (List M)) (told told' : List (List ℕ)) (place : Place) (key : List ℕ) → Extends old new → Extends told told' → IsVisited runs HasKey old told place key → IsVisited runs HasKey new told' place key
+IsVisited-more {M} runs HasKey old new told told' place key more longer visit =
     record {
       node = visit.node;
       stands = subst (λ (l : List M). runs.Stands visit.node l) (sym (get_or-extends old new place.number [] more visit.text.way)) visit.stands;
@@ -52,16 +52,16 @@ IsPending-more {M} runs old new told told' p more longer pending =
     }
 
 -- what is kept is good where texts are added
-pub AreKept-texts : {M N E : Type 0} (runs : Runs M N E) (key_of : N → List ℕ) (old new : Kept N M) → AreKept runs key_of old → new.trail ≡ old.trail → IsTexts new.texts → Extends (texts old.texts) (texts new.texts) →
-    ArePieces new.visited.visits → pieces new.visited.visits ≡ pieces old.visited.visits → new.pending.items ≡ old.pending.items → AreKept runs key_of new
-AreKept-texts {M} {N} runs key_of old new kept trail ok longer whole keys pending =
+pub AreKept-texts : {M N E : Type 0} (runs : Runs M N E) (HasKey : N → List ℕ → Type 0) (old new : Kept N M) → AreKept runs HasKey old → new.trail ≡ old.trail → IsTexts new.texts → Extends (texts old.texts) (texts new.texts) →
+    ArePieces new.visited.visits → pieces new.visited.visits ≡ pieces old.visited.visits → new.pending.items ≡ old.pending.items → AreKept runs HasKey new
+AreKept-texts {M} {N} runs HasKey old new kept trail ok longer whole keys pending =
     let more : Extends (ways old.trail) (ways new.trail) = subst (λ t. Extends (ways old.trail) (ways t)) (sym trail) (Extends-itself (ways old.trail)) in
     record {
       trail = subst IsTrail (sym trail) kept.trail;
       told = ok;
       whole = whole;
       count = ap length keys ∙ (kept.count ∙ ap (λ t. length (ways t)) (sym trail));
-      visited = λ k visit e. IsVisited-more runs key_of (ways old.trail) (ways new.trail) (texts old.texts) (texts new.texts) (record { number = k; text = visit.0 }) visit.1 more longer
+      visited = λ k visit e. IsVisited-more runs HasKey (ways old.trail) (ways new.trail) (texts old.texts) (texts new.texts) (record { number = k; text = visit.0 }) visit.1 more longer
           (kept.visited k visit (ap (λ (l : List (ℕ × List ℕ)). slice_get l k) (sym keys) ∙ e));
       pending = subst (λ (l : List (Pending N)). All (IsPending runs (ways new.trail) (texts new.texts)) l) (sym pending)
           (λ k d less. IsPending-more runs (ways old.trail) (ways new.trail) (texts old.texts) (texts new.texts) (get_or old.pending.items k d) more longer (kept.pending k d less));
@@ -91,30 +91,30 @@ IsText-next {M} runs old new told told' from text moves printed at print more wi
       same = longer ∙ (ap (λ l. l ++ printed) at.same ∙ (sym print ∙ ap runs.text (sym last)));
     }
 
-visited_pushed : {M N E : Type 0} (runs : Runs M N E) (key_of : N → List ℕ) (old new : List (List M)) (told told' : List (List ℕ)) (keys : List (ℕ × List ℕ)) (visit v : ℕ × List ℕ) (k : ℕ) → Extends old new → Extends told told' → length keys ≡ length old →
-    ((k : ℕ) (v : ℕ × List ℕ) → slice_get keys k ≡ Some v → IsVisited runs key_of old told (record { number = k; text = v.0 }) v.1) → IsVisited runs key_of new told' (record { number = length old; text = visit.0 }) visit.1 →
-    slice_get (keys ++ visit ∷ []) k ≡ Some v → IsVisited runs key_of new told' (record { number = k; text = v.0 }) v.1
-visited_pushed runs key_of old new told told' keys visit v k more longer count before now e = elim (slice_get_push keys visit v k e) [
-  | inl h ↦ IsVisited-more runs key_of old new told told' (record { number = k; text = v.0 }) v.1 more longer (before k v h.1)
+visited_pushed : {M N E : Type 0} (runs : Runs M N E) (HasKey : N → List ℕ → Type 0) (old new : List (List M)) (told told' : List (List ℕ)) (keys : List (ℕ × List ℕ)) (visit v : ℕ × List ℕ) (k : ℕ) → Extends old new → Extends told told' → length keys ≡ length old →
+    ((k : ℕ) (v : ℕ × List ℕ) → slice_get keys k ≡ Some v → IsVisited runs HasKey old told (record { number = k; text = v.0 }) v.1) → IsVisited runs HasKey new told' (record { number = length old; text = visit.0 }) visit.1 →
+    slice_get (keys ++ visit ∷ []) k ≡ Some v → IsVisited runs HasKey new told' (record { number = k; text = v.0 }) v.1
+visited_pushed runs HasKey old new told told' keys visit v k more longer count before now e = elim (slice_get_push keys visit v k e) [
+  | inl h ↦ IsVisited-more runs HasKey old new told told' (record { number = k; text = v.0 }) v.1 more longer (before k v h.1)
   | inr h ↦
       let at : length old ≡ k = sym (h.0 ∙ count) in
-      subst (λ (x : ℕ × List ℕ). IsVisited runs key_of new told' (record { number = k; text = x.0 }) x.1) h.1
-      (subst (λ (n : ℕ). IsVisited runs key_of new told' (record { number = n; text = visit.0 }) visit.1) at now)
+      subst (λ (x : ℕ × List ℕ). IsVisited runs HasKey new told' (record { number = k; text = x.0 }) x.1) h.1
+      (subst (λ (n : ℕ). IsVisited runs HasKey new told' (record { number = n; text = visit.0 }) visit.1) at now)
 ]
 
 -- what is kept is good where a run is added, with its text, its visit and its node
-pub AreKept-push : {M N E : Type 0} (runs : Runs M N E) (key_of : N → List ℕ) (old new : Kept N M) (from text : ℕ) (moves : List M) (visit : ℕ × List ℕ) (p : Pending N) → AreKept runs key_of old →
+pub AreKept-push : {M N E : Type 0} (runs : Runs M N E) (HasKey : N → List ℕ → Type 0) (old new : Kept N M) (from text : ℕ) (moves : List M) (visit : ℕ × List ℕ) (p : Pending N) → AreKept runs HasKey old →
     IsTrail new.trail → ways new.trail ≡ grown (ways old.trail) from moves → IsTexts new.texts → Extends (texts old.texts) (texts new.texts) →
     ArePieces new.visited.visits → pieces new.visited.visits ≡ pieces old.visited.visits ++ visit ∷ [] → new.pending.items ≡ old.pending.items ++ p ∷ [] →
-    IsVisited runs key_of (ways new.trail) (texts new.texts) (record { number = length (ways old.trail); text = visit.0 }) visit.1 → IsPending runs (ways new.trail) (texts new.texts) p → AreKept runs key_of new
-AreKept-push {M} {N} runs key_of old new from text moves visit p kept trail added ok longer whole keys pending seen last =
+    IsVisited runs HasKey (ways new.trail) (texts new.texts) (record { number = length (ways old.trail); text = visit.0 }) visit.1 → IsPending runs (ways new.trail) (texts new.texts) p → AreKept runs HasKey new
+AreKept-push {M} {N} runs HasKey old new from text moves visit p kept trail added ok longer whole keys pending seen last =
     let more : Extends (ways old.trail) (ways new.trail) = (_, added) in
     record {
       trail = trail;
       told = ok;
       whole = whole;
       count = omega (arith, ap length keys, length-append (pieces old.visited.visits) (visit ∷ []), kept.count, ap length added, length-grown (ways old.trail) from moves);
-      visited = λ k v e. visited_pushed runs key_of (ways old.trail) (ways new.trail) (texts old.texts) (texts new.texts) (pieces old.visited.visits) visit v k more longer kept.count kept.visited seen
+      visited = λ k v e. visited_pushed runs HasKey (ways old.trail) (ways new.trail) (texts old.texts) (texts new.texts) (pieces old.visited.visits) visit v k more longer kept.count kept.visited seen
           (ap (λ (l : List (ℕ × List ℕ)). slice_get l k) (sym keys) ∙ e);
       pending = subst (λ (l : List (Pending N)). All (IsPending runs (ways new.trail) (texts new.texts)) l) (sym pending)
           (All-push (IsPending runs (ways new.trail) (texts new.texts)) old.pending.items p
@@ -158,16 +158,16 @@ pub Grows-itself : {M N : Type 0} (a : Kept N M) → Grows a a
 Grows-itself a = Grows-texts a a refl (Extends-itself (texts a.texts)) refl
 
 -- where a visit of the same key and the same text is there, a run that was reached serves the one that leads to the node
-pub there_leads : {M N E : Type 0} (runs : Runs M N E) (key_of : N → List ℕ) (old : Kept N M) (told : List (List ℕ)) (node : N) (run : List M) (visit : ℕ × List ℕ) →
-    ((a b : N) (i j : List M) → key_of a ≡ key_of b → runs.Stands a i → runs.Stands b j → runs.text i ≡ runs.text j → Serves runs i j) →
-    AreKept runs key_of old → Extends (texts old.texts) told → runs.Stands node run → key_of node ≡ visit.1 → get_or told visit.0 [] ≡ runs.text run → IsThere visit (pieces old.visited.visits) → Leads runs (ways old.trail) run
-there_leads {M} {N} runs key_of old told node run visit law kept longer stands keyed text there =
+pub there_leads : {M N E : Type 0} (runs : Runs M N E) (HasKey : N → List ℕ → Type 0) (old : Kept N M) (told : List (List ℕ)) (node : N) (run : List M) (visit : ℕ × List ℕ) →
+    ((a b : N) (i j : List M) (key : List ℕ) → HasKey a key → HasKey b key → runs.Stands a i → runs.Stands b j → runs.text i ≡ runs.text j → Serves runs i j) →
+    AreKept runs HasKey old → Extends (texts old.texts) told → runs.Stands node run → HasKey node visit.1 → get_or told visit.0 [] ≡ runs.text run → IsThere visit (pieces old.visited.visits) → Leads runs (ways old.trail) run
+there_leads {M} {N} runs HasKey old told node run visit law kept longer stands keyed text there =
     let at : slice_get (pieces old.visited.visits) there.0 ≡ Some there.1 = slice_get-get_or (pieces old.visited.visits) there.0 there.1 there.2 ∙ ap (λ x. Some x) there.3 in
     let seen = kept.visited there.0 there.1 at in
     let within : there.0 < length (ways old.trail) = seen.text.way in
     let same : runs.text run ≡ runs.text (get_or (ways old.trail) there.0 []) =
     sym text ∙ (ap (λ n. get_or told n []) (sym there.4.0) ∙ (get_or-extends (texts old.texts) told there.1.0 [] longer seen.text.told ∙ seen.text.same)) in
-    let serves = law node seen.node run (get_or (ways old.trail) there.0 []) (keyed ∙ sym (seen.keyed ∙ there.4.1)) stands seen.stands same in
+    let serves = law node seen.node run (get_or (ways old.trail) there.0 []) visit.1 keyed (subst (HasKey seen.node) there.4.1 seen.keyed) stands seen.stands same in
     (there.0, get_or (ways old.trail) there.0 [], within, get_or_default (ways old.trail) there.0 (get_or (ways old.trail) there.0 []) [] within, serves)
 
 -- a run that is added serves itself
@@ -181,9 +181,9 @@ last_grown : {M : Type 0} (old new : List (List M)) (from : ℕ) (moves : List M
 last_grown {M} old new from moves more = ap (λ (l : List (List M)). get_or l (length old) []) more ∙ get_or-grown old from moves
 
 -- the visit of a node that is added
-pub IsVisited-next : {M N E : Type 0} (runs : Runs M N E) (key_of : N → List ℕ) (old new : List (List M)) (told : List (List ℕ)) (node : N) (from text : ℕ) (moves : List M) (key : List ℕ) → new ≡ grown old from moves → runs.Stands node (get_or old from [] ++ moves) → key_of node ≡ key →
-    IsText runs new told (record { number = length old; text = text }) → IsVisited runs key_of new told (record { number = length old; text = text }) key
-IsVisited-next {M} runs key_of old new told node from text moves key more stands keyed at =
+pub IsVisited-next : {M N E : Type 0} (runs : Runs M N E) (HasKey : N → List ℕ → Type 0) (old new : List (List M)) (told : List (List ℕ)) (node : N) (from text : ℕ) (moves : List M) (key : List ℕ) → new ≡ grown old from moves → runs.Stands node (get_or old from [] ++ moves) → HasKey node key →
+    IsText runs new told (record { number = length old; text = text }) → IsVisited runs HasKey new told (record { number = length old; text = text }) key
+IsVisited-next {M} runs HasKey old new told node from text moves key more stands keyed at =
     record { node = node; stands = subst (λ (l : List M). runs.Stands node l) (sym (last_grown old new from moves more)) stands; keyed = keyed; text = at }
 
 -- a node that is added is pending
@@ -196,16 +196,16 @@ IsPending-next {M} runs old new told p from moves more stands number at =
     }
 
 -- what is kept is good without the node that was added last, which is pending
-pub AreKept-pop : {M N E : Type 0} (runs : Runs M N E) (key_of : N → List ℕ) (old new : Kept N M) (p : Pending N) → AreKept runs key_of old → new.trail ≡ old.trail → new.texts ≡ old.texts → new.visited ≡ old.visited → old.pending.items ≡ new.pending.items ++ p ∷ [] → AreKept runs key_of new × IsPending runs (ways old.trail) (texts old.texts) p
-AreKept-pop {M} {N} runs key_of old new p kept trail told visited pending =
+pub AreKept-pop : {M N E : Type 0} (runs : Runs M N E) (HasKey : N → List ℕ → Type 0) (old new : Kept N M) (p : Pending N) → AreKept runs HasKey old → new.trail ≡ old.trail → new.texts ≡ old.texts → new.visited ≡ old.visited → old.pending.items ≡ new.pending.items ++ p ∷ [] → AreKept runs HasKey new × IsPending runs (ways old.trail) (texts old.texts) p
+AreKept-pop {M} {N} runs HasKey old new p kept trail told visited pending =
     let parts = All-pop (IsPending runs (ways old.trail) (texts old.texts)) old.pending.items new.pending.items (Some p) pending kept.pending in (
       record {
         trail = subst IsTrail (sym trail) kept.trail;
         told = subst IsTexts (sym told) kept.told;
         whole = subst (λ v. ArePieces v.visits) (sym visited) kept.whole;
         count = ap (λ v. length (pieces v.visits)) visited ∙ (kept.count ∙ ap (λ t. length (ways t)) (sym trail));
-        visited = λ k v e. subst (λ t. IsVisited runs key_of (ways t) (texts new.texts) (record { number = k; text = v.0 }) v.1) (sym trail)
-            (subst (λ t. IsVisited runs key_of (ways old.trail) (texts t) (record { number = k; text = v.0 }) v.1) (sym told) (kept.visited k v (ap (λ s. slice_get (pieces s.visits) k) (sym visited) ∙ e)));
+        visited = λ k v e. subst (λ t. IsVisited runs HasKey (ways t) (texts new.texts) (record { number = k; text = v.0 }) v.1) (sym trail)
+            (subst (λ t. IsVisited runs HasKey (ways old.trail) (texts t) (record { number = k; text = v.0 }) v.1) (sym told) (kept.visited k v (ap (λ s. slice_get (pieces s.visits) k) (sym visited) ∙ e)));
         pending = subst (λ t. All (IsPending runs (ways t) (texts new.texts)) new.pending.items) (sym trail) (subst (λ t. All (IsPending runs (ways old.trail) (texts t)) new.pending.items) (sym told) parts.0);
       },
       parts.1,
@@ -219,16 +219,16 @@ pub keys_first : (b : Bool) (old new : List (ℕ × List ℕ)) (visit : ℕ × L
 keys_first true old new visit none found added = added refl ∙ ap (λ l. l ++ visit ∷ []) none
 keys_first false old new visit none found added = absurd (none_there visit (subst (IsThere visit) none (found refl).1))
 
-only_visit : {M N E : Type 0} (runs : Runs M N E) (key_of : N → List ℕ) (w : List (List M)) (t : List (List ℕ)) (visit v : ℕ × List ℕ) (k : ℕ) → IsVisited runs key_of w t (record { number = 0; text = visit.0 }) visit.1 → slice_get (visit ∷ []) k ≡ Some v → IsVisited runs key_of w t (record { number = k; text = v.0 }) v.1
-only_visit runs key_of w t visit v k first e = elim (slice_get_push [] visit v k e) [
+only_visit : {M N E : Type 0} (runs : Runs M N E) (HasKey : N → List ℕ → Type 0) (w : List (List M)) (t : List (List ℕ)) (visit v : ℕ × List ℕ) (k : ℕ) → IsVisited runs HasKey w t (record { number = 0; text = visit.0 }) visit.1 → slice_get (visit ∷ []) k ≡ Some v → IsVisited runs HasKey w t (record { number = k; text = v.0 }) v.1
+only_visit runs HasKey w t visit v k first e = elim (slice_get_push [] visit v k e) [
   | inl h ↦ absurd (omega (arith, h.0))
-  | inr h ↦ subst (λ (x : ℕ × List ℕ). IsVisited runs key_of w t (record { number = k; text = x.0 }) x.1) h.1 (subst (λ (n : ℕ). IsVisited runs key_of w t (record { number = n; text = visit.0 }) visit.1) (sym h.0) first)
+  | inr h ↦ subst (λ (x : ℕ × List ℕ). IsVisited runs HasKey w t (record { number = k; text = x.0 }) x.1) h.1 (subst (λ (n : ℕ). IsVisited runs HasKey w t (record { number = n; text = visit.0 }) visit.1) (sym h.0) first)
 ]
 
 -- what is kept at first
-pub AreKept-first : {M N E : Type 0} (runs : Runs M N E) (key_of : N → List ℕ) (new : Kept N M) (p : Pending N) (visit : ℕ × List ℕ) → IsTrail new.trail → ways new.trail ≡ [] ∷ [] → IsTexts new.texts → texts new.texts ≡ [] ∷ [] → ArePieces new.visited.visits → pieces new.visited.visits ≡ visit ∷ [] → new.pending.items ≡ [] ++ p ∷ [] →
-    visit.0 ≡ 0 → p.place ≡ record { number = 0; text = 0 } → runs.Stands p.node [] → key_of p.node ≡ visit.1 → runs.text [] ≡ [] → AreKept runs key_of new
-AreKept-first {M} {N} runs key_of new p visit trail one told none whole keys pending zeroth place stands keyed silent =
+pub AreKept-first : {M N E : Type 0} (runs : Runs M N E) (HasKey : N → List ℕ → Type 0) (new : Kept N M) (p : Pending N) (visit : ℕ × List ℕ) → IsTrail new.trail → ways new.trail ≡ [] ∷ [] → IsTexts new.texts → texts new.texts ≡ [] ∷ [] → ArePieces new.visited.visits → pieces new.visited.visits ≡ visit ∷ [] → new.pending.items ≡ [] ++ p ∷ [] →
+    visit.0 ≡ 0 → p.place ≡ record { number = 0; text = 0 } → runs.Stands p.node [] → HasKey p.node visit.1 → runs.text [] ≡ [] → AreKept runs HasKey new
+AreKept-first {M} {N} runs HasKey new p visit trail one told none whole keys pending zeroth place stands keyed silent =
     let first : get_or (ways new.trail) 0 [] ≡ [] = ap (λ (l : List (List M)). get_or l 0 []) one in
     let at : IsText runs (ways new.trail) (texts new.texts) (record { number = 0; text = 0 }) = record {
       way = omega (arith, ap length one);
@@ -236,7 +236,7 @@ AreKept-first {M} {N} runs key_of new p visit trail one told none whole keys pen
       same = ap (λ (l : List (List ℕ)). get_or l 0 []) none ∙ (sym silent ∙ ap runs.text (sym first));
     } in
     let standing : runs.Stands p.node (get_or (ways new.trail) 0 []) = subst (λ (l : List M). runs.Stands p.node l) (sym first) stands in
-    let seen : IsVisited runs key_of (ways new.trail) (texts new.texts) (record { number = 0; text = visit.0 }) visit.1 = record {
+    let seen : IsVisited runs HasKey (ways new.trail) (texts new.texts) (record { number = 0; text = visit.0 }) visit.1 = record {
       node = p.node;
       stands = standing;
       keyed = keyed;
@@ -251,7 +251,7 @@ AreKept-first {M} {N} runs key_of new p visit trail one told none whole keys pen
       told = told;
       whole = whole;
       count = omega (arith, ap length keys, ap length one);
-      visited = λ k v e. only_visit runs key_of (ways new.trail) (texts new.texts) visit v k seen (ap (λ (l : List (ℕ × List ℕ)). slice_get l k) (sym keys) ∙ e);
+      visited = λ k v e. only_visit runs HasKey (ways new.trail) (texts new.texts) visit v k seen (ap (λ (l : List (ℕ × List ℕ)). slice_get l k) (sym keys) ∙ e);
       pending = subst (λ (l : List (Pending N)). All (IsPending runs (ways new.trail) (texts new.texts)) l) (sym pending)
           (All-push (IsPending runs (ways new.trail) (texts new.texts)) [] p (All-nil (IsPending runs (ways new.trail) (texts new.texts))) last);
     }

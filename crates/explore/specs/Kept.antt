@@ -18,10 +18,10 @@ pub record IsText {Move Node End : Type 0} (runs : Runs Move Node End) (ways : L
   pub same : get_or texts place.text [] ≡ runs.text (get_or ways place.number [])
 
 -- a node that stands at the run with a place's number has this key
-pub record IsVisited {Move Node End : Type 0} (runs : Runs Move Node End) (key_of : Node → List ℕ) (ways : List (List Move)) (texts : List (List ℕ)) (place : Place) (key : List ℕ) : Type 0 where
+pub record IsVisited {Move Node End : Type 0} (runs : Runs Move Node End) (HasKey : Node → List ℕ → Type 0) (ways : List (List Move)) (texts : List (List ℕ)) (place : Place) (key : List ℕ) : Type 0 where
   pub node : Node
   pub stands : runs.Stands node (get_or ways place.number [])
-  pub keyed : key_of node ≡ key
+  pub keyed : HasKey node key
   pub text : IsText runs ways texts place
 
 -- the pending node stands at the run of its place
@@ -30,12 +30,12 @@ pub record IsPending {Move Node End : Type 0} (runs : Runs Move Node End) (ways 
   pub text : IsText runs ways texts pending.place
 
 -- runs, texts and pending nodes belong together, and for each run there is the visit of a node that stands at it
-pub record AreKept {Move Node End : Type 0} (runs : Runs Move Node End) (key_of : Node → List ℕ) (kept : Kept Node Move) : Type 0 where
+pub record AreKept {Move Node End : Type 0} (runs : Runs Move Node End) (HasKey : Node → List ℕ → Type 0) (kept : Kept Node Move) : Type 0 where
   pub trail : IsTrail kept.trail
   pub told : IsTexts kept.texts
   pub whole : ArePieces kept.visited.visits
   pub count : length (pieces kept.visited.visits) ≡ length (ways kept.trail)
-  pub visited : (k : ℕ) (visit : ℕ × List ℕ) → slice_get (pieces kept.visited.visits) k ≡ Some visit → IsVisited runs key_of (ways kept.trail) (texts kept.texts) (record { number = k; text = visit.0 }) visit.1
+  pub visited : (k : ℕ) (visit : ℕ × List ℕ) → slice_get (pieces kept.visited.visits) k ≡ Some visit → IsVisited runs HasKey (ways kept.trail) (texts kept.texts) (record { number = k; text = visit.0 }) visit.1
   pub pending : All (IsPending runs (ways kept.trail) (texts kept.texts)) kept.pending.items
 
 -- runs and texts stay, and for each run that was added there is a node more that is pending

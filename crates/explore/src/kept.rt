@@ -9,7 +9,7 @@ ghost use Rattle.explore.specs.Trail.{ways};
 use crate::texts::Texts;
 use crate::trail::Trail;
 use crate::visited::Visited;
-use crate::{Next, Orders};
+use crate::{Next, Orders, Scope};
 use std::alloc::{AllocError, Global};
 
 /// The number of a run that was reached, and that of its text.
@@ -33,20 +33,24 @@ pub(crate) struct Kept<N, M> {
     pub(crate) texts: Texts,
     pub(crate) visited: Visited,
     pub(crate) pending: Vec<Pending<N>>,
+    /// The last key that was asked for.
+    pub(crate) key: Vec<u8>,
 }
 
 /// What is kept at first: the node at which each run starts.
 pub(crate) fn first<O: Orders>(
     alloc: Global,
     orders: &O,
+    room: &mut O::Room,
 ) -> Result<Kept<O::Node, O::Move>, AllocError>
-    ensures kept { IfOk result (λ kept. AreKept (O.runs orders.now) (O.key_of orders.now) kept) }
+    ensures kept { IfOk result (λ kept. AreKept (O.runs orders.now) (O.has_key orders.now) kept) }
     ensures ways { IfOk result (λ kept. ways kept.trail ≡ [] ∷ []) }
     ensures one { IfOk result (λ kept. length kept.pending.items ≡ 1) }
     ensures waits { IfOk result (λ kept. Any (λ pending. pending.place.number ≡ 0) kept.pending.items) }
 {
     let node = orders.start(alloc)?;
-    let key = orders.key(alloc, &node)?;
+    let mut key = Vec::new(alloc);
+    orders.key(room, &mut key, &node)?;
     let mut visited = Visited::new(alloc);
     let _new = visited.add(alloc, 0, key.as_slice())?;
     let mut pending = Vec::new(alloc);
@@ -59,26 +63,27 @@ pub(crate) fn first<O: Orders>(
         texts: Texts::new(alloc),
         visited,
         pending,
+        key,
     })
 }
 
 /// Adds the node that a way from a run leads to, unless one that goes on alike was reached. The answer is whether one is
 /// there now: it isn't where the most nodes are kept.
 fn follow<O: Orders>(
-    alloc: Global,
+    scope: Scope,
     orders: &O,
+    room: &mut O::Room,
     kept: &mut Kept<O::Node, O::Move>,
     from: Place,
     next: Next<O::Node, O::Move>,
-    most: usize,
 ) -> Result<bool, AllocError>
-    requires kept { AreKept (O.runs orders.now) (O.key_of orders.now) kept.old }
+    requires kept { AreKept (O.runs orders.now) (O.has_key orders.now) kept.old }
     requires from { IsText (O.runs orders.now) (ways kept.old.trail) (texts kept.old.texts) from }
     requires next { IsNext (O.runs orders.now) (get_or (ways kept.old.trail) from.number []) next }
-    requires room { length (ways kept.old.trail) ≤ most }
-    ensures kept { OnOk result (AreKept (O.runs orders.now) (O.key_of orders.now) kept.new) }
+    requires room { length (ways kept.old.trail) ≤ scope.bounds.nodes }
+    ensures kept { OnOk result (AreKept (O.runs orders.now) (O.has_key orders.now) kept.new) }
     ensures grows { OnOk result (Grows kept.old kept.new) }
-    ensures room { OnOk result (length (ways kept.new.trail) ≤ most) }
+    ensures room { OnOk result (length (ways kept.new.trail) ≤ scope.bounds.nodes) }
     ensures leads { IfOk result (λ there. IsTrue there → Leads (O.runs orders.now) (ways kept.new.trail) (get_or (ways kept.old.trail) from.number [] ++ next.moves.items)) }
 {
     let Next {
@@ -87,13 +92,13 @@ fn follow<O: Orders>(
         moves,
     } = next;
     let text = kept.texts.longer(from.text, &printed)?;
-    let key = orders.key(alloc, &node)?;
-    let bytes = key.as_slice();
+    orders.key(room, &mut kept.key, &node)?;
+    let bytes = kept.key.as_slice();
     let number = kept.trail.len();
-    if number >= most {
+    if number >= scope.bounds.nodes {
         return Ok(kept.visited.contains(text, bytes));
     }
-    let new = kept.visited.add(alloc, text, bytes)?;
+    let new = kept.visited.add(scope.alloc, text, bytes)?;
     if !new {
         return Ok(true);
     }
@@ -108,26 +113,26 @@ fn follow<O: Orders>(
 /// Adds the nodes that these ways from a run lead to, unless ones that go on alike were reached. The answer is whether
 /// for each of them one is there now.
 pub(crate) fn follow_all<O: Orders>(
-    alloc: Global,
+    scope: Scope,
     orders: &O,
+    room: &mut O::Room,
     kept: &mut Kept<O::Node, O::Move>,
     from: Place,
     successors: Vec<Next<O::Node, O::Move>>,
-    most: usize,
 ) -> Result<bool, AllocError>
-    requires kept { AreKept (O.runs orders.now) (O.key_of orders.now) kept.old }
+    requires kept { AreKept (O.runs orders.now) (O.has_key orders.now) kept.old }
     requires from { IsText (O.runs orders.now) (ways kept.old.trail) (texts kept.old.texts) from }
     requires successors { All (IsNext (O.runs orders.now) (get_or (ways kept.old.trail) from.number [])) successors.items }
-    requires room { length (ways kept.old.trail) ≤ most }
-    ensures kept { OnOk result (AreKept (O.runs orders.now) (O.key_of orders.now) kept.new) }
+    requires room { length (ways kept.old.trail) ≤ scope.bounds.nodes }
+    ensures kept { OnOk result (AreKept (O.runs orders.now) (O.has_key orders.now) kept.new) }
     ensures grows { OnOk result (Grows kept.old kept.new) }
-    ensures room { OnOk result (length (ways kept.new.trail) ≤ most) }
+    ensures room { OnOk result (length (ways kept.new.trail) ≤ scope.bounds.nodes) }
     ensures leads { IfOk result (λ all. IsTrue all → All (λ next. Leads (O.runs orders.now) (ways kept.new.trail) (get_or (ways kept.old.trail) from.number [] ++ next.moves.items)) successors.items) }
 {
     let mut left = successors;
     let mut all = true;
     while let Some(next) = left.pop() {
-        let there = follow(alloc, orders, kept, from, next, most)?;
+        let there = follow(scope, orders, room, kept, from, next)?;
         all = all & there;
     }
     Ok(all)

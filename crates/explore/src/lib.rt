@@ -22,6 +22,7 @@ mod visited;
 
 pub use orders::Orders;
 pub use search::explore;
+use std::alloc::Global;
 
 /// A node, what was printed on the way to it from the one that was expanded, and the moves of that way.
 #[derive(Drop)]
@@ -76,4 +77,11 @@ pub struct Bounds {
     pub nodes: usize,
     /// The most texts and ends that are shown.
     pub shown: usize,
+}
+
+/// How far a search goes, and what gives it memory.
+#[derive(Clone, Copy)]
+struct Scope {
+    alloc: Global,
+    bounds: Bounds,
 }

@@ -1,5 +1,5 @@
 //! What a search needs of what it searches.
-ghost use Rattle.std.specs.Prelude.{◌≡◌, ◌↔◌, ℕ, List, [], IsTrue, IfOk};
+ghost use Rattle.std.specs.Prelude.{◌≡◌, ◌↔◌, ℕ, List, [], IsTrue, IfOk, OnOk};
 ghost use Rattle.std.specs.List.{All};
 ghost use Rattle.explore.specs.Search.{IsEnded, IsReached, IsNext, IsCovered, Serves};
 
@@ -19,20 +19,27 @@ pub trait Orders {
     /// How a run ends.
     type End: Drop;
 
+    /// Room for work on nodes. It is kept from one node to the next, so that memory is asked for once.
+    type Room: Drop;
+
     /// The runs, and what the nodes stand for.
     ghost runs: { Self → Runs Self.Move Self.Node Self.End };
 
-    /// The key of a node.
-    ghost key_of: { Self → Self.Node → List ℕ };
+    /// These bytes are the key of a node.
+    ghost has_key: { Self → Self.Node → List ℕ → Type 0 };
 
     /// The node at which each run starts.
     fn start(&self, alloc: Global) -> Result<Self::Node, AllocError>
         ensures { IfOk result (λ node. (runs self.now).Stands node []) };
 
+    /// Room in which no node was worked on yet.
+    fn room(&self, alloc: Global) -> Self::Room;
+
     /// Follows the ways that go on from a node, which may become a node that one of them leads to.
     fn expand(
         &self,
         alloc: Global,
+        room: &mut Self::Room,
         node: Self::Node,
     ) -> Result<Expanded<Self::Node, Self::Move, Self::End>, AllocError>
         requires { IsReached (runs self.now) node }
@@ -40,9 +47,15 @@ pub trait Orders {
         ensures sound { IfOk result (λ x. (run : List Self.Move) → (runs self.now).Stands node run → All (IsEnded (runs self.now) run) x.ended.items) }
         ensures cover { IfOk result (λ x. IsTrue x.whole → (run : List Self.Move) → (runs self.now).Stands node run → IsCovered (runs self.now) x.successors.items x.ended.items run) };
 
-    /// The key of a node: nodes of one key, whose runs have one text, go on alike.
-    fn key(&self, alloc: Global, node: &Self::Node) -> Result<Vec<u8>, AllocError>
-        ensures { IfOk result (λ key. key.items ≡ key_of self.now node.now) };
+    /// Fills `key` with the key of a node: nodes of one key, whose runs have one text, go on alike. Where memory is refused, any
+    /// bytes may stand there.
+    fn key(
+        &self,
+        room: &mut Self::Room,
+        key: &mut Vec<u8>,
+        node: &Self::Node,
+    ) -> Result<(), AllocError>
+        ensures { OnOk result (has_key self.now node.now key.new.items) };
 
     /// Whether two ends are one.
     fn same_end(&self, a: &Self::End, b: &Self::End) -> bool
@@ -55,5 +68,5 @@ pub trait Orders {
     ghost alike: { (orders : Self) (i j : List Self.Move) → (runs orders).Alike i j → Serves (runs orders) i j };
 
     /// Runs of one text that lead to nodes of one key go on alike.
-    ghost keyed: { (orders : Self) (a b : Self.Node) (i j : List Self.Move) → key_of orders a ≡ key_of orders b → (runs orders).Stands a i → (runs orders).Stands b j → (runs orders).text i ≡ (runs orders).text j → (runs orders).Alike i j };
+    ghost keyed: { (orders : Self) (a b : Self.Node) (i j : List Self.Move) (key : List ℕ) → has_key orders a key → has_key orders b key → (runs orders).Stands a i → (runs orders).Stands b j → (runs orders).text i ≡ (runs orders).text j → (runs orders).Alike i j };
 }

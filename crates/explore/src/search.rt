@@ -9,8 +9,12 @@ ghost use Rattle.explore.specs.Trail.{ways};
 
 use crate::kept::{Kept, Pending, first, follow_all};
 use crate::show::{Run, show_all};
-use crate::{Bounds, Expanded, Explored, Orders, Shown};
+use crate::{Bounds, Expanded, Explored, Orders, Scope, Shown};
+use progress::{HowFar, Progress};
 use std::alloc::{AllocError, Global};
+
+// As many nodes as are reached from one telling to the next, or a few more.
+const STRIDE: usize = 1024;
 
 /// The search goes no further: memory was refused, or the most texts and ends are shown.
 struct Stop;
@@ -24,24 +28,24 @@ impl From<AllocError> for Stop {
 /// Expands a node: shows its ways that have come to an end, and keeps the nodes that the others lead to. The answer is
 /// whether nothing was left out.
 fn turn<O: Orders>(
-    alloc: Global,
+    scope: Scope,
     orders: &O,
+    room: &mut O::Room,
     kept: &mut Kept<O::Node, O::Move>,
     shown: &mut Vec<Shown<O::Move, O::End>>,
     at: Pending<O::Node>,
-    bounds: Bounds,
 ) -> Result<bool, Stop>
-    requires kept { AreKept (O.runs orders.now) (O.key_of orders.now) kept.old }
-    requires room { length (ways kept.old.trail) ≤ bounds.nodes }
+    requires kept { AreKept (O.runs orders.now) (O.has_key orders.now) kept.old }
+    requires room { length (ways kept.old.trail) ≤ scope.bounds.nodes }
     requires sound { All (IsOfRun (O.runs orders.now)) shown.old.items }
     requires distinct { AllPairs AreDistinct shown.old.items }
     requires at { IsPending (O.runs orders.now) (ways kept.old.trail) (texts kept.old.texts) at }
     ensures sound { All (IsOfRun (O.runs orders.now)) shown.new.items }
     ensures distinct { AllPairs AreDistinct shown.new.items }
     ensures shown { Extends shown.old.items shown.new.items }
-    ensures kept { OnOk result (AreKept (O.runs orders.now) (O.key_of orders.now) kept.new) }
+    ensures kept { OnOk result (AreKept (O.runs orders.now) (O.has_key orders.now) kept.new) }
     ensures grows { OnOk result (Grows kept.old kept.new) }
-    ensures room { OnOk result (length (ways kept.new.trail) ≤ bounds.nodes) }
+    ensures room { OnOk result (length (ways kept.new.trail) ≤ scope.bounds.nodes) }
     ensures followed { IfOk result (λ whole. IsTrue whole → IsFollowed (O.runs orders.now) (IsShown shown.new.items) (Serves (O.runs orders.now)) (ways kept.new.trail) (get_or (ways kept.old.trail) at.place.number [])) }
 {
     let Pending { node, place } = at;
@@ -49,42 +53,52 @@ fn turn<O: Orders>(
         successors,
         ended,
         whole,
-    } = orders.expand(alloc, node)?;
+    } = orders.expand(scope.alloc, room, node)?;
     let run = Run {
         trail: &kept.trail,
         texts: &kept.texts,
         place,
     };
-    let told = show_all(alloc, orders, run, shown, ended, bounds.shown)?;
+    let told = show_all(scope.alloc, orders, run, shown, ended, scope.bounds.shown)?;
     if !told {
         return Err(Stop);
     }
-    let followed = follow_all(alloc, orders, kept, place, successors, bounds.nodes)?;
+    let followed = follow_all(scope, orders, room, kept, place, successors)?;
     Ok(whole & followed)
+}
+
+/// Tells how many nodes were reached, once for each stride of them.
+fn tell_nodes<P: Progress>(progress: &P, before: usize, now: usize) {
+    if before / STRIDE != now / STRIDE {
+        progress.tell(HowFar::States { states: now as u64 });
+    }
 }
 
 /// Shows what the runs print and how they end, and counts the nodes that were reached. The answer is whether there is nothing
 /// else.
-fn search<O: Orders>(
-    alloc: Global,
+fn search<O: Orders, P: Progress>(
+    scope: Scope,
     orders: &O,
     shown: &mut Vec<Shown<O::Move, O::End>>,
     nodes: &mut usize,
-    bounds: Bounds,
+    progress: &P,
 ) -> Result<bool, Stop>
-    requires room { 0 < bounds.nodes }
+    requires room { 0 < scope.bounds.nodes }
     requires none { shown.old.items ≡ [] }
-    requires begun { nodes.old ≤ bounds.nodes }
-    ensures few { nodes.new ≤ bounds.nodes }
+    requires begun { nodes.old ≤ scope.bounds.nodes }
+    ensures few { nodes.new ≤ scope.bounds.nodes }
     ensures sound { All (IsOfRun (O.runs orders.now)) shown.new.items }
     ensures distinct { AllPairs AreDistinct shown.new.items }
     ensures all { IfOk result (λ covered. IsTrue covered → AreAllShown (O.runs orders.now) shown.new.items) }
 {
-    let mut kept = first(alloc, orders)?;
+    let mut room = orders.room(scope.alloc);
+    let mut kept = first(scope.alloc, orders, &mut room)?;
     let mut covered = true;
     while let Some(at) = kept.pending.pop() {
-        *nodes = kept.trail.len();
-        let whole = turn(alloc, orders, &mut kept, shown, at, bounds)?;
+        let reached = kept.trail.len();
+        tell_nodes(progress, *nodes, reached);
+        *nodes = reached;
+        let whole = turn(scope, orders, &mut room, &mut kept, shown, at)?;
         covered = covered & whole;
     }
     Ok(covered)
@@ -96,8 +110,13 @@ fn search<O: Orders>(
 /// It isn't covered where an expansion wasn't whole, where a node was left out since `bounds.nodes` were reached, where a
 /// text or an end was left out since `bounds.shown` are shown, and where memory was refused. At the most nodes the
 /// search goes on with those that were reached, which may still show more; at the first text too many and at the first
-/// refusal of memory it goes no further, and what was shown until then stays.
-pub fn explore<O: Orders>(alloc: Global, orders: &O, bounds: Bounds) -> Explored<O::Move, O::End>
+/// refusal of memory it goes no further, and what was shown until then stays. How many nodes were reached is told at times.
+pub fn explore<O: Orders, P: Progress>(
+    alloc: Global,
+    orders: &O,
+    bounds: Bounds,
+    progress: &P,
+) -> Explored<O::Move, O::End>
     requires room { 0 < bounds.nodes }
     ensures sound { All (IsOfRun (O.runs orders.now)) result.shown.items }
     ensures distinct { AllPairs AreDistinct result.shown.items }
@@ -106,7 +125,8 @@ pub fn explore<O: Orders>(alloc: Global, orders: &O, bounds: Bounds) -> Explored
 {
     let mut shown = Vec::new(alloc);
     let mut nodes = 0;
-    let covered = match search(alloc, orders, &mut shown, &mut nodes, bounds) {
+    let scope = Scope { alloc, bounds };
+    let covered = match search(scope, orders, &mut shown, &mut nodes, progress) {
         Ok(covered) => covered,
         Err(Stop) => false,
     };

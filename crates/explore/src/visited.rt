@@ -9,33 +9,51 @@ use std::alloc::{AllocError, Global};
 // The slots of the first table.
 const FIRST_SLOTS: usize = 16;
 
+// The half of a slot that the number of a visit has.
+const NUMBERS: u64 = 0xffff_ffff;
+
 /// The visits, in the order of the numbers of the nodes: the number of the text that a node's run printed, and the node's key. They
-/// are found by a table: in each of its slots is 0, or one more than the number of a visit. From where the hash of a visit leads to
-/// its own slot, no slot is free.
+/// are found by a table: in each of its slots is 0, or the half of a visit's hash and one more than the visit's number. From where
+/// the hash of a visit leads to its own slot, no slot is free.
 #[derive(Drop)]
 pub(crate) struct Visited {
     pub(crate) visits: Pieces<u8>,
-    pub(crate) slots: Vec<u32>,
+    pub(crate) slots: Vec<u64>,
 }
 
-// A hash of a text's number and a key, as by Fowler, Noll and Vo.
+// A hash that goes on by these bits.
+fn mixed(hash: u64, bits: u64) -> u64 {
+    let product = (hash ^ bits).wrapping_mul(0x9e37_79b9_7f4a_7c15);
+    product ^ (product >> 32)
+}
+
+// A hash of a text's number and a key, eight bytes of it at a time.
 fn hash_of(text: usize, key: &[u8]) -> u64 {
-    let mut hash = text as u64 ^ 0xcbf29ce484222325;
-    for byte in key {
-        hash = (hash ^ u64::from(*byte)).wrapping_mul(0x100000001b3);
+    let (words, rest) = key.as_chunks::<8>();
+    let mut hash = mixed(key.len() as u64, text as u64);
+    for word in words {
+        hash = mixed(hash, u64::from_le_bytes(*word));
     }
-    hash ^ (hash >> 32)
+    for byte in rest {
+        hash = mixed(hash, u64::from(*byte));
+    }
+    hash
 }
 
-// The slot to which a hash leads.
-fn slot_of(hash: u64, count: usize) -> usize
+// What stands in the slot of a visit.
+fn slot(hash: u64, number: u32) -> u64 {
+    (hash & !NUMBERS) | u64::from(number)
+}
+
+// The place to which the hash in a slot leads.
+fn place_of(slot: u64, count: usize) -> usize
     requires { 0 < count }
     ensures { result < count }
 {
-    (hash % count as u64) as usize
+    ((slot >> 32) % count as u64) as usize
 }
 
-// The slot after another, round the table.
+// The place after another, round the table.
 fn after(at: usize, count: usize) -> usize
     requires { at < count }
     ensures { result < count }
@@ -44,29 +62,30 @@ fn after(at: usize, count: usize) -> usize
     if next < count { next } else { 0 }
 }
 
-// Puts a number into the first free slot from where a hash leads.
-fn put(slots: &mut Vec<u32>, hash: u64, number: u32)
+// Puts what is to stand in a slot into the first free one from where its hash leads.
+fn put(slots: &mut Vec<u64>, slot: u64)
     ensures { length slots.new.items ≡ length slots.old.items }
 {
     let count = slots.len();
     if count == 0 {
         return;
     }
-    let mut at = slot_of(hash, count);
+    let mut at = place_of(slot, count);
     for _ in 0..count {
         if slots[at] == 0 {
-            slots[at] = number;
+            slots[at] = slot;
             return;
         }
         at = after(at, count);
     }
 }
 
-// Whether the visit with this number has this text and this key.
-fn is_visit(visits: &Pieces<u8>, number: usize, text: usize, key: &[u8]) -> bool
+// Whether the visit in a slot has this text and this key.
+fn is_visit(visits: &Pieces<u8>, slot: u64, text: usize, key: &[u8]) -> bool
     requires whole { ArePieces visits.now }
     ensures { IsTrue result → IsThere (text, key.now) (pieces visits.now) }
 {
+    let number = ((slot & NUMBERS) as usize).wrapping_sub(1);
     if number >= visits.len() {
         return false;
     }
@@ -77,18 +96,18 @@ fn is_visit(visits: &Pieces<u8>, number: usize, text: usize, key: &[u8]) -> bool
     false
 }
 
-// A table of so many slots, with the visits in it.
-fn table_of(alloc: Global, visits: &Pieces<u8>, count: usize) -> Result<Vec<u32>, AllocError>
-    requires whole { ArePieces visits.now }
-    ensures { IfOk result (λ slots. length slots.items ≡ count) }
+// A table of so many slots, with what stands in those of another.
+fn wider(alloc: Global, slots: &[u64], count: usize) -> Result<Vec<u64>, AllocError>
+    ensures { IfOk result (λ wider. length wider.items ≡ count) }
 {
-    let mut slots = Vec::new(alloc);
-    slots.resize(count, 0)?;
-    for number in 0..visits.len() {
-        let (text, key) = visits.piece(number);
-        put(&mut slots, hash_of(text, key), narrow(number + 1)?);
+    let mut wider = Vec::new(alloc);
+    wider.resize(count, 0)?;
+    for slot in slots {
+        if *slot != 0 {
+            put(&mut wider, *slot);
+        }
     }
-    Ok(slots)
+    Ok(wider)
 }
 
 impl Visited {
@@ -103,8 +122,8 @@ impl Visited {
         }
     }
 
-    /// Whether there was such a visit.
-    pub(crate) fn contains(&self, text: usize, key: &[u8]) -> bool
+    // Whether there was such a visit, with this hash.
+    fn is_there(&self, hash: u64, text: usize, key: &[u8]) -> bool
         requires whole { ArePieces self.now.visits }
         ensures { IsTrue result → IsThere (text, key.now) (pieces self.now.visits) }
     {
@@ -112,18 +131,26 @@ impl Visited {
         if count == 0 {
             return false;
         }
-        let mut at = slot_of(hash_of(text, key), count);
+        let mut at = place_of(hash, count);
         for _ in 0..count {
             let slot = self.slots[at];
             if slot == 0 {
                 return false;
             }
-            if is_visit(&self.visits, slot as usize - 1, text, key) {
+            if slot >> 32 == hash >> 32 && is_visit(&self.visits, slot, text, key) {
                 return true;
             }
             at = after(at, count);
         }
         false
+    }
+
+    /// Whether there was such a visit.
+    pub(crate) fn contains(&self, text: usize, key: &[u8]) -> bool
+        requires whole { ArePieces self.now.visits }
+        ensures { IsTrue result → IsThere (text, key.now) (pieces self.now.visits) }
+    {
+        self.is_there(hash_of(text, key), text, key)
     }
 
     /// Adds a visit, unless there was such a one. The answer is whether it is new.
@@ -133,21 +160,21 @@ impl Visited {
         ensures there { IfOk result (λ new. new ≡ false → (pieces self.new.visits ≡ pieces self.old.visits) × IsThere (text, key.now) (pieces self.old.visits)) }
         ensures added { IfOk result (λ new. new ≡ true → pieces self.new.visits ≡ pieces self.old.visits ++ (text, key.now) ∷ []) }
     {
-        if self.contains(text, key) {
+        let hash = hash_of(text, key);
+        if self.is_there(hash, text, key) {
             return Ok(false);
         }
         self.visits.push(text, key)?;
         let number = self.visits.len();
         let count = self.slots.len();
         if number > count / 4 * 3 {
-            self.slots = table_of(
+            self.slots = wider(
                 alloc,
-                &self.visits,
-                count.saturating_mul(2).max(FIRST_SLOTS),
+                &self.slots,
+                count.saturating_add(count / 2).max(FIRST_SLOTS),
             )?;
-        } else {
-            put(&mut self.slots, hash_of(text, key), narrow(number)?);
         }
+        put(&mut self.slots, slot(hash, narrow(number)?));
         Ok(true)
     }
 }

@@ -3,6 +3,7 @@
 ghost use Rattle.std.specs.Prelude.{◌≡◌, Bool, IfOk, IfSome, List, None, OnErr, OnOk, Option, ℕ};
 ghost use Rattle.files.specs.Saved.{Made, KeepsFiles, HoldsNothing, ClosesFile};
 
+use progress::Progress;
 use std::io;
 use std::io::{Read, Write};
 
@@ -12,6 +13,9 @@ pub trait Files {
 
     /// A file that was begun. Where it is dropped and not finished, nothing is at its path that wasn't there before.
     type Target: Write + Drop;
+
+    /// Who is told how far long work is: one that borrows nothing of the files, which are used beside it.
+    type Progress: Progress + Drop;
 
     // The files that were made and finished, one after another, where they are known.
     ghost made: { Self → Option (List Made) } = { λ _. None };
@@ -36,4 +40,10 @@ pub trait Files {
     fn finish(&mut self, path: &str, target: Self::Target) -> io::Result<()>
         ensures finished { OnOk result (ClosesFile (made self.old) (made self.new) path.now (Self.Target.contents target)) }
         ensures unfinished { OnErr result (KeepsFiles (made self.old) (made self.new)) };
+
+    /// Long work begins now, and writes nothing until it ends.
+    fn progress(&self) -> Self::Progress;
+
+    /// Long work begins now, and writes to standard output all along: what is shown of it may not stand between.
+    fn progress_beside_output(&self) -> Self::Progress;
 }

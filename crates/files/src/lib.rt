@@ -4,7 +4,8 @@
 //! 2. A file that is written is `begun` first, and put into its place when it is whole: an old one stays until then. The system's
 //!    are written `beside` their places. A file that would take the place of the source is refused.
 //! 3. `reading` and `writing` take a file or a text whole, and `saving` saves journals.
-//! 4. `fault` has the lines on standard error and the exit statuses; `message` shows a path in them.
+//! 4. `showing` shows on a terminal how far long work is.
+//! 5. `fault` has the lines on standard error and the exit statuses; `message` shows a path in them.
 #![tactic(auto)]
 
 mod begun;
@@ -14,6 +15,7 @@ mod files;
 mod message;
 mod reading;
 mod saving;
+mod showing;
 mod system;
 mod writing;
 
@@ -23,5 +25,6 @@ pub use files::Files;
 pub use message::{EscapedPath, escaped};
 pub use reading::{Retrying, open_file, read_file};
 pub use saving::{save, save_all, spare_first, try_first};
+pub use showing::SystemProgress;
 pub use system::{SystemFiles, SystemSource, SystemTarget};
 pub use writing::{send_off, show, show_bytes};

@@ -4,12 +4,16 @@
 //! 2. Only a regular file, or none, is replaced so, and where a path is a link, it is the file that it leads to. A device, a pipe
 //!    and a link that leads nowhere are opened as they are.
 //! 3. What standard output is, is written through standard output, so that lines follow what was written.
+//! 4. How far long work is, is shown where standard error is a terminal; beside a standard output that is one, only work that writes
+//!    nothing until it ends.
 
 use crate::beside::{Beside, begin_beside};
 use crate::files::Files;
+use crate::showing::SystemProgress;
 use std::fs::{Metadata, OpenOptions};
-use std::io::{ErrorKind, Input, Print, Printer, Read, Write};
+use std::io::{ErrorKind, Input, IsTerminal, Print, Printer, Read, Stderr, Stdout, Write};
 use std::os::unix::fs::{FileTypeExt, MetadataExt};
+use std::rt::Clock;
 use std::{fs, io};
 
 /// Standard input, as the path of a source.
@@ -19,12 +23,17 @@ const INPUT: &str = "-";
 #[derive(Drop)]
 pub struct SystemFiles<'a, R: std::rt::Files> {
     pub rt: &'a R,
+    pub stdout: Stdout,
+    pub stderr: Stderr,
 }
 
-impl<'a, R: std::rt::Files + Input + Print + AllocGlobal> Files for SystemFiles<'a, R> {
+impl<'a, R: std::rt::Files + Input + Print + Clock + AllocGlobal + Sync> Files
+    for SystemFiles<'a, R> {
     type Source = SystemSource<R::File, R::Reader>;
 
     type Target = SystemTarget<'a, R>;
+
+    type Progress = SystemProgress<'a, R>;
 
     fn open(&mut self, path: &str) -> io::Result<SystemSource<R::File, R::Reader>> {
         if path == INPUT {
@@ -54,6 +63,14 @@ impl<'a, R: std::rt::Files + Input + Print + AllocGlobal> Files for SystemFiles<
             SystemTarget::Beside(beside) => beside.take_place(),
             SystemTarget::AsItIs(_) | SystemTarget::Output(_) => Ok(()),
         }
+    }
+
+    fn progress(&self) -> SystemProgress<'a, R> {
+        SystemProgress::begin(self.rt, self.stderr, true)
+    }
+
+    fn progress_beside_output(&self) -> SystemProgress<'a, R> {
+        SystemProgress::begin(self.rt, self.stderr, !self.stdout.is_terminal())
     }
 }
 

@@ -14,6 +14,7 @@ use explore::Shown;
 use model::end::{End, Limits};
 use model::entry::Entry;
 use places::processes;
+use progress::Progress;
 use seeded::run::SeededRun;
 use std::alloc::{AllocError, Global};
 use tokens::cut::CutFault;
@@ -47,12 +48,17 @@ struct Lines<'a> {
 /// Searches for the races that show in one run of a design and in runs in which two of its entries are exchanged, and puts their
 /// lines behind a text. Fails where memory is refused to the text; where it is refused to the search, the races found until then
 /// are told.
-pub fn push_races(alloc: Global, text: &mut Vec<u8>, names: &Names<'_>) -> Result<(), AllocError>
+pub fn push_races<P: Progress>(
+    alloc: Global,
+    text: &mut Vec<u8>,
+    names: &Names<'_>,
+    progress: &P,
+) -> Result<(), AllocError>
     requires { IfSome names.now.limits.until (λ until. until ≤ last_time) }
     ensures { OnOk result (TellsBehind names.entry.now.design.now names.entry.now.limits names.entry.now.shown.now (option_map (λ path. path.now) names.entry.now.prefix) text.old.items text.new.items) }
 {
     let processes = processes_of(alloc, names.source)?;
-    let found = find_races(alloc, names.design, names.limits, TRIES);
+    let found = find_races(alloc, names.design, names.limits, TRIES, progress);
     // The same names, for no longer than the runs live.
     let here = Names {
         source: names.source,

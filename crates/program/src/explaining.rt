@@ -11,6 +11,7 @@ use arguments::ExplainRequest;
 use explain::{ExplainFault, Window, explain};
 use files::{Files, open_file, read_file, send_off};
 use journal::Counted;
+use progress::Progress;
 use replay::BytesFault;
 use std::alloc::Global;
 use std::io::{Read, Write};
@@ -35,22 +36,26 @@ pub fn explain_journal<'a, F: Files, O: Write>(
         &mut journal,
         window_of(request.from, request.to),
         out,
+        &files.progress_beside_output(),
     )
 }
 
 /// Tells a journal that is left to read on the design of a source.
-fn explain_bytes<R: Read, O: Write>(
+fn explain_bytes<R: Read, O: Write, P: Progress>(
     alloc: Global,
     source: &[u8],
     journal: &mut Counted<R>,
     window: Window,
     out: &mut O,
+    progress: &P,
 ) -> Result<(), Fault<'static>>
     ensures explained { OnOk result (HasExplained window (O.contents out.old) (O.contents out.new)) }
     ensures refused { IfErr result (λ fault. status_of fault ≡ 5 → HasExplainedSome window (O.contents out.old) (O.contents out.new)) }
     ensures nothing { IfErr result (λ fault. status_of fault ≡ 3 → Keeps (O.contents out.old) (O.contents out.new)) }
 {
-    match explain(alloc, source, journal, window, out) {
+    let told = explain(alloc, source, journal, window, out, progress);
+    progress.end();
+    match told {
         Ok(()) => {
             send_off(out)?;
             Ok(())

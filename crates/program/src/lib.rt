@@ -3,7 +3,7 @@
 //! over time as a value change dump, or tells it in words.
 //!
 //! 1. `running` is a run, `replaying` a replay, `checking` a check, `waving` a value change dump, `explaining` a journal in words, and
-//!    `searching` a search for races, of which `finding` says what it has come to.
+//!    `searching` a search for races, of which `finding` says what it has come to. `observing` looks on at a run on workers.
 //! 2. `ending` is how a command ended: it has the status, and tells what is to be told.
 //! 3. `fault` has the faults with their statuses, and `lines` their lines on standard error.
 //! 4. `program` is the whole program as a function, `command`, which `main` calls.
@@ -15,6 +15,7 @@ mod explaining;
 mod fault;
 mod finding;
 mod lines;
+mod observing;
 mod program;
 mod replaying;
 mod running;

@@ -1,6 +1,9 @@
 //! The program as a function of its words, files and writers.
 //!
 //! It reads the words into a request and does what is asked, and last it tells how that ended, if there is something to tell.
+//!
+//! What is told goes through the writer of standard error, and of that the clauses speak. How far long work is goes past it: the files
+//! show it (`Files::progress`), and the line is gone before anything is written or told.
 
 ghost use Rattle.std.specs.Prelude.{◌≡◌, ◌≢◌, ◌⊎◌, ◌≤◌, ℕ, List, [], Option, IfErr, IfOk, OnOk, codes};
 ghost use Rattle.clap.specs.Words.{Text};

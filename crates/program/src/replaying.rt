@@ -12,7 +12,8 @@ use crate::fault::Fault;
 use arguments::ReplayRequest;
 use files::{Files, open_file, read_file, send_off};
 use journal::Counted;
-use replay::replay_bytes;
+use progress::Progress;
+use replay::replay_bytes_telling;
 use std::alloc::Global;
 use std::io::Write;
 
@@ -29,7 +30,10 @@ pub fn replay_journal<'a, F: Files, O: Write>(
 {
     let source = read_file(alloc, request.file, files)?;
     let mut journal = Counted::new(open_file(request.journal, files)?);
-    match replay_bytes(alloc, source.as_slice(), &mut journal, out) {
+    let progress = files.progress();
+    let replayed = replay_bytes_telling(alloc, source.as_slice(), &mut journal, out, &progress);
+    progress.end();
+    match replayed {
         Ok(()) => {}
         Err(fault) => return Err(Fault::Replay(fault)),
     }

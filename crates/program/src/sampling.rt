@@ -10,17 +10,19 @@ use design::Design;
 use explore::Shown;
 use model::end::{End, Limits};
 use model::entry::Entry;
+use progress::Progress;
 use seeded::run::SeededRun;
-use seeded::samples::sample;
+use seeded::samples::{Seeds, sample};
 use std::alloc::{AllocError, Global};
 use verdict::Claim;
 
 /// The texts of some random lawful orders.
-pub fn sampled(
+pub fn sampled<P: Progress>(
     alloc: Global,
     design: &Design,
     extent: Extent,
     count: u32,
+    progress: &P,
 ) -> Result<Texts, AllocError>
     requires { CanSearch extent }
     ensures { IfOk result (λ texts. AreFound design.now extent texts.claim texts.shown.items) }
@@ -30,7 +32,12 @@ pub fn sampled(
         max_entries: extent.max_entries,
     };
     let most = extent.max_texts as usize;
-    let samples = sample(alloc, design, limits, extent.seed, count, most);
+    let seeds = Seeds {
+        first: extent.seed,
+        count,
+    };
+    let samples = sample(alloc, design, limits, seeds, most, progress);
+    progress.end();
     let claim = Claim::Sampled(samples.made);
     let shown = shown_of(alloc, samples.kept)?;
     Ok(Texts { claim, shown })

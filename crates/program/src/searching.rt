@@ -25,6 +25,7 @@ use frontend::read_design;
 use model::end::{End, Limits};
 use model::entry::Entry;
 use naming::{Names, push_races};
+use progress::Progress;
 use races::lawful_orders;
 use std::alloc::{AllocError, Global};
 use std::io::Write;
@@ -64,11 +65,16 @@ fn search_design<F: Files, O: Write>(
     ensures fault { IfErr result (λ fault. (status_of fault ≡ 1) ⊎ (status_of fault ≡ 6)) }
 {
     try_first(alloc, request.journals, files)?;
-    tell_first(alloc, &names_of(source, design, request, &[]), out)?;
-    let texts = find_texts(alloc, design, request.extent)?;
+    tell_first(
+        alloc,
+        &names_of(source, design, request, &[]),
+        out,
+        &files.progress(),
+    )?;
+    let texts = find_texts(alloc, design, request.extent, &files.progress())?;
     let shown = texts.shown.as_slice();
     let names = names_of(source, design, request, shown);
-    let last = last_lines(alloc, texts.claim, &names)?;
+    let last = last_lines(alloc, texts.claim, &names, &files.progress())?;
     save_all(alloc, shown, request.file, request.journals, files)?;
     show_bytes(out, last.as_slice())?;
     Ok(Finding::of(texts.claim, shown.len()))
@@ -99,63 +105,87 @@ fn names_of<'a>(
 }
 
 /// Tells races before the search, where no journals are wanted.
-fn tell_first<O: Write>(alloc: Global, names: &Names<'_>, out: &mut O) -> Result<(), Fault<'static>>
+fn tell_first<O: Write, P: Progress>(
+    alloc: Global,
+    names: &Names<'_>,
+    out: &mut O,
+    progress: &P,
+) -> Result<(), Fault<'static>>
     requires until { IfSome names.now.limits.until (λ until. until ≤ last_time) }
     requires none { names.now.shown.now ≡ [] }
     ensures told { OnOk result ((first : List ℕ) × IsToldFirst names.entry.now.design.now names.entry.now.limits (option_map (λ path. path.now) names.entry.now.prefix) first × Appends (O.contents out.old) (O.contents out.new) first) }
     ensures fault { IfErr result (λ fault. (status_of fault ≡ 1) ⊎ (status_of fault ≡ 6)) }
 {
-    let first = first_lines(alloc, names)?;
+    let first = first_lines(alloc, names, progress)?;
     show_bytes(out, first.as_slice())?;
     Ok(())
 }
 
 /// What is told before the search.
-fn first_lines(alloc: Global, names: &Names<'_>) -> Result<Vec<u8>, AllocError>
+fn first_lines<P: Progress>(
+    alloc: Global,
+    names: &Names<'_>,
+    progress: &P,
+) -> Result<Vec<u8>, AllocError>
     requires until { IfSome names.now.limits.until (λ until. until ≤ last_time) }
     requires none { names.now.shown.now ≡ [] }
     ensures { IfOk result (λ first. IsToldFirst names.entry.now.design.now names.entry.now.limits (option_map (λ path. path.now) names.entry.now.prefix) first.items) }
 {
     match names.prefix {
-        None => race_lines(alloc, names),
+        None => race_lines(alloc, names, progress),
         Some(_) => Ok(Vec::new(alloc)),
     }
 }
 
 /// The lines on races that aren't told before the search.
-fn other_lines(alloc: Global, names: &Names<'_>) -> Result<Vec<u8>, AllocError>
+fn other_lines<P: Progress>(
+    alloc: Global,
+    names: &Names<'_>,
+    progress: &P,
+) -> Result<Vec<u8>, AllocError>
     requires { IfSome names.now.limits.until (λ until. until ≤ last_time) }
     ensures { IfOk result (λ others. TellsOtherRaces names.entry.now.design.now names.entry.now.limits names.entry.now.shown.now (option_map (λ path. path.now) names.entry.now.prefix) others.items) }
 {
     match names.prefix {
         None => Ok(Vec::new(alloc)),
-        Some(_) => race_lines(alloc, names),
+        Some(_) => race_lines(alloc, names, progress),
     }
 }
 
 /// The lines on the races that are found.
-fn race_lines(alloc: Global, names: &Names<'_>) -> Result<Vec<u8>, AllocError>
+fn race_lines<P: Progress>(
+    alloc: Global,
+    names: &Names<'_>,
+    progress: &P,
+) -> Result<Vec<u8>, AllocError>
     requires { IfSome names.now.limits.until (λ until. until ≤ last_time) }
     ensures { IfOk result (λ lines. TellsRaces names.entry.now.design.now names.entry.now.limits names.entry.now.shown.now (option_map (λ path. path.now) names.entry.now.prefix) lines.items) }
 {
     let mut lines = Vec::new(alloc);
-    push_races(alloc, &mut lines, names)?;
+    let pushed = push_races(alloc, &mut lines, names, progress);
+    progress.end();
+    pushed?;
     Ok(lines)
 }
 
 /// The texts of all lawful orders, as far as they are searched, or those of random ones where so many are to be tried.
-fn find_texts(alloc: Global, design: &Design, extent: Extent) -> Result<Texts, AllocError>
+fn find_texts<P: Progress>(
+    alloc: Global,
+    design: &Design,
+    extent: Extent,
+    progress: &P,
+) -> Result<Texts, AllocError>
     requires { CanSearch extent }
     ensures { IfOk result (λ texts. AreFound design.now extent texts.claim texts.shown.items) }
 {
     match extent.samples {
-        Some(count) => sampled(alloc, design, extent, count),
-        None => Ok(searched(alloc, design, extent)),
+        Some(count) => sampled(alloc, design, extent, count, progress),
+        None => Ok(searched(alloc, design, extent, progress)),
     }
 }
 
 /// The texts of all lawful orders, as far as they are searched.
-fn searched(alloc: Global, design: &Design, extent: Extent) -> Texts
+fn searched<P: Progress>(alloc: Global, design: &Design, extent: Extent, progress: &P) -> Texts
     requires { CanSearch extent }
     ensures { AreFound design.now extent result.claim result.shown.items }
 {
@@ -167,7 +197,8 @@ fn searched(alloc: Global, design: &Design, extent: Extent) -> Texts
         nodes: extent.max_states as usize,
         shown: extent.max_texts as usize,
     };
-    let explored = lawful_orders(alloc, design, limits, bounds);
+    let explored = lawful_orders(alloc, design, limits, bounds, progress);
+    progress.end();
     let claim = claim_of(extent, &explored);
     Texts {
         claim,
@@ -201,11 +232,16 @@ fn ends_differ(shown: &[Shown<Entry, End>]) -> bool {
 }
 
 /// What is told behind the search: the races that aren't told yet, and what is said of the texts.
-fn last_lines(alloc: Global, claim: Claim, names: &Names<'_>) -> Result<Vec<u8>, AllocError>
+fn last_lines<P: Progress>(
+    alloc: Global,
+    claim: Claim,
+    names: &Names<'_>,
+    progress: &P,
+) -> Result<Vec<u8>, AllocError>
     requires { IfSome names.now.limits.until (λ until. until ≤ last_time) }
     ensures { IfOk result (λ last. IsToldLast names.entry.now.design.now names.entry.now.limits claim names.entry.now.shown.now (option_map (λ path. path.now) names.entry.now.prefix) last.items) }
 {
-    let mut last = other_lines(alloc, names)?;
+    let mut last = other_lines(alloc, names, progress)?;
     let verdict = Verdict {
         claim,
         until: names.limits.until,

@@ -14,6 +14,7 @@ use files::{Files, begin_at, finish_at, open_file, read_file, show_bytes, spare_
 use frontend::{SourceFault, read_design};
 use journal::{Counted, read_journal};
 use model::entry::Entry;
+use progress::Progress;
 use replay::BytesFault;
 use std::alloc::Global;
 use std::io::Read;
@@ -38,7 +39,13 @@ pub fn dump_waves<'a, F: Files>(
     let design = read_design(alloc, source.as_slice())?;
     let entries = entries_of(alloc, &mut journal)?;
     let target = begin_at(request.out, files)?;
-    let text = dump_of(alloc, source.as_slice(), &design, entries.as_slice())?;
+    let text = dump_of(
+        alloc,
+        source.as_slice(),
+        &design,
+        entries.as_slice(),
+        &files.progress(),
+    )?;
     put(text.as_slice(), request.out, target, files)?;
     Ok(())
 }
@@ -57,15 +64,18 @@ fn entries_of<R: Read>(
 }
 
 /// The text of the registers over time, in a scope with the name of the module.
-fn dump_of(
+fn dump_of<P: Progress>(
     alloc: Global,
     source: &[u8],
     design: &Design,
     entries: &[Entry],
+    progress: &P,
 ) -> Result<Vec<u8>, Fault<'static>>
     ensures { IfOk result (λ text. IsDumpOf source.now design.now entries.now text.items) }
 {
-    let wave = match waves(alloc, design, entries) {
+    let told = waves(alloc, design, entries, progress);
+    progress.end();
+    let wave = match told {
         Ok(wave) => wave,
         Err(WaveFault::Replay(fault)) => return Err(Fault::Replay(BytesFault::Replay(fault))),
         Err(WaveFault::Memory) => return Err(Fault::Memory),

@@ -20,8 +20,9 @@ use Rattle.orders.proofs.SearchLaws.{then_some}
 use Rattle.design.specs.Compiled.{Compiled, design_of}
 use Rattle.design.specs.Standing.{controls_of}
 use Rattle.regions.specs.Logs.{IsTaken}
-use Rattle.regions.specs.Machine.{Position, state_at}
-use Rattle.statekeys.specs.Keys.{IsKey}
+use Rattle.regions.specs.Machine.{Position, state_at, IsStop, IsNotTaken}
+use Rattle.regions.specs.declared.machine.TakeFault.{TakeFault}
+use Rattle.regions.specs.declared.machine.TakeFault.TheVariants as fault
 use Rattle.explore.specs.declared.Next.{Next}
 use Rattle.explore.specs.declared.Ended.{Ended}
 use Rattle.explore.specs.Grown.{Extends}
@@ -227,18 +228,17 @@ place_covered code limits place run successors ended (e, at_e, holds) all =
     ways_are_covered code limits run (state_at place.machine.value) e successors ended at_e holds.state_is (subst (λ (k : Compiled). AreAllWays k limits (state_at place.machine.value) successors ended) holds.ready.code_is all)
 
 -- the place of a machine that took no entry stands at the journal of none
-pub place_at_start : (code : Compiled) (limits : Limits) (place : Place) (m : Position) → place.machine.value ≡ m → m.code ≡ code → m.core.controls ≡ controls_of m.code → m.lines ≡ [] → state_at m ≡ start (design_of code) → IsKey m.core m.values place.key.items → StandsAt (Holds code) (design_of code) limits place []
-place_at_start code limits place m same code_is controls silent_is state keyed =
+pub place_at_start : (code : Compiled) (limits : Limits) (place : Place) (m : Position) → place.machine.value ≡ m → m.code ≡ code → m.core.controls ≡ controls_of m.code → m.lines ≡ [] → state_at m ≡ start (design_of code) → StandsAt (Holds code) (design_of code) limits place []
+place_at_start code limits place m same code_is controls silent_is state =
     let ready : IsReady code place =
     record {
       code_is = ap (λ (p : Position). p.code) same ∙ code_is;
       controls = ap (λ (p : Position). p.core.controls) same ∙ (controls ∙ ap controls_of code_is);
       silent = ap (λ (p : Position). p.lines) same ∙ silent_is;
-      keyed = subst (λ (p : Position). IsKey p.core p.values place.key.items) (sym same) keyed;
     } in
     (silent (start (design_of code)), (refl, All-nil (IsTimely limits)), record { ready = ready; state_is = ap state_at same ∙ state })
 
--- what a machine's copy came to by an entry that it took, as a way from where the machine stands
+-- what a machine came to by an entry that it took, as a way from where it stood
 pub taken_is_way : (limits : Limits) (m copy new : Position) (entry : Entry) (next : Next Place Entry) → copy ≡ m → m.lines ≡ [] → IsTimely limits entry → new.code ≡ copy.code
     → IsTaken copy.code (state_at copy) copy.lines entry (state_at new) new.lines → next.moves.items ≡ entry ∷ [] → next.printed.items ≡ new.lines → IsReady new.code next.node → state_at next.node.machine.value ≡ state_at new
     → IsWayOn m.code limits (state_at m) next × (next.moves.items ≡ entry ∷ [])
@@ -282,3 +282,26 @@ only_long_ends code limits s on end here =
     let (p, is, long) = only_long_turns_end (design_of code) limits s on.entry end on.next here in
     let (number, active, free, none) = long_turn_is_stuck (design_of code) s p (running s.finished (entry_refusal s on.entry) on.next.0) long in
     (p, number, is, free, active, long.2)
+
+-- what holds of each of some elements holds of all but the last of them, and of the last
+pub front_and_last : {X : Type 0} (P : X → Type 0) (xs front : List X) (last : X) → xs ≡ front ++ last ∷ [] → All P xs → All P front × P last
+front_and_last P xs front last split all =
+    let each = subst (All P) split all in (
+      all_contained P front (λ x there. All-contains P (front ++ last ∷ []) x each (Contains-append_left front (last ∷ []) x there)),
+      All-contains P (front ++ last ∷ []) last each (Contains-append_right front (last ∷ []) last (0, omega arith, refl)),
+    )
+
+-- a machine that didn't take an entry is as it was, but for what it tells of what its last entry made
+pub untaken : (m lent new seen : Position) → lent ≡ m → new ≡ record lent { made = new.made } → seen ≡ new → seen ≡ record m { made = new.made }
+untaken m lent new seen is same at = at ∙ subst (λ (p : Position). new ≡ record p { made = new.made }) is same
+
+stop_alike : (m n new : Position) (entry : Entry) (why : TakeFault) → n ≡ record m { made = new.made } → IsStop m.code (state_at m) entry why → IsStop n.code (state_at n) entry why
+stop_alike m n new entry why same stop = subst (λ (p : Position). IsStop p.code (state_at p) entry why) (sym same) stop
+
+-- why an entry wasn't taken is so of such a machine, too
+pub still_not_taken : (m n new : Position) (entry : Entry) (why : TakeFault) → n ≡ record m { made = new.made } → IsNotTaken m entry why → IsNotTaken n entry why
+still_not_taken m n new entry (fault.Refused reason) same stop = stop_alike m n new entry (fault.Refused reason) same stop
+still_not_taken m n new entry fault.TooLong same stop = stop_alike m n new entry fault.TooLong same stop
+still_not_taken m n new entry fault.TooMany same stop = ap (λ (p : Position). p.core.entries) same ∙ stop
+still_not_taken m n new entry fault.ApplyMemory same stop = stop_alike m n new entry fault.ApplyMemory same stop
+still_not_taken m n new entry fault.Memory same stop = stop_alike m n new entry fault.Memory same stop

@@ -13,7 +13,6 @@ use Rattle.model.specs.Runs.{Effect, silent, action_in, turn_of, step, IsTimely,
 use Rattle.design.specs.Compiled.{Compiled, design_of}
 use Rattle.design.specs.Standing.{controls_of}
 use Rattle.regions.specs.Machine.{state_at}
-use Rattle.statekeys.specs.Keys.{IsKey}
 use Rattle.orders.specs.Search.{EndsHere}
 use Rattle.explore.specs.declared.Next.{Next}
 use Rattle.explore.specs.declared.Ended.{Ended}
@@ -30,12 +29,11 @@ pub record AreBounded (limits : Limits) : Type 0 where
   pub some_entry : 0 < limits.max_entries
   pub until : ForSome limits.until (λ until. until ≤ last_time)
 
--- A place is ready: its machine is one of this design, with no lines left in it, and its key is one of the machine's state.
+-- A place is ready: its machine is one of this design, with no lines left in it.
 pub record IsReady (code : Compiled) (place : Place) : Type 0 where
   pub code_is : place.machine.value.code ≡ code
   pub controls : place.machine.value.core.controls ≡ controls_of code
   pub silent : place.machine.value.lines ≡ []
-  pub keyed : IsKey place.machine.value.core place.machine.value.values place.key.items
 
 -- A place holds what comes of a journal: it is ready, and its machine stands where the journal leads.
 pub record Holds (code : Compiled) (place : Place) (e : Effect) : Type 0 where

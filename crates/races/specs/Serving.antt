@@ -22,10 +22,15 @@ use Rattle.races.specs.declared.place.Place.{Place}
 pub alike_serve : {Node : Type 0} (Holds : Node → Effect → Type 0) (design : Design) (limits : Limits) (i j : List Entry) → ComeToOneNode design limits i j → Serves (runs_of Holds design limits) i j
 alike_serve Holds design limits i j alike moves end ends = alike_journals_serve design limits i j moves end alike ends
 
-pub keyed_alike : {Node : Type 0} (Holds : Node → Effect → Type 0) (key_of : Node → List ℕ) (design : Design) (limits : Limits) (a b : Node) (i j : List Entry) → TellAlike Holds key_of → key_of a ≡ key_of b → StandsAt Holds design limits a i → StandsAt Holds design limits b j → text_of design i ≡ text_of design j → ComeToOneNode design limits i j
-keyed_alike Holds key_of design limits a b i j tells key (e, at_e, holds) (f, at_f, holds') text =
+-- runs of one text lead to one node where the nodes that stand at them hold states that are alike
+pub same_text_alike : {Node : Type 0} (Holds : Node → Effect → Type 0) (design : Design) (limits : Limits) (a b : Node) (i j : List Entry) → ((e f : Effect) → Holds a e → Holds b f → Alike e.state f.state) → StandsAt Holds design limits a i → StandsAt Holds design limits b j → text_of design i ≡ text_of design j → ComeToOneNode design limits i j
+same_text_alike Holds design limits a b i j tells (e, at_e, holds) (f, at_f, holds') text =
     let lines : e.lines ≡ f.lines = sym (text_is design i e at_e.0) ∙ (text ∙ text_is design j f at_f.0) in
-    (e, f, at_e, at_f, (lines, tells a b e f holds holds' key))
+    (e, f, at_e, at_f, (lines, tells e f holds holds'))
+
+pub keyed_alike : {Node : Type 0} (Holds : Node → Effect → Type 0) (key_of : Node → List ℕ) (design : Design) (limits : Limits) (a b : Node) (i j : List Entry) → TellAlike Holds key_of → key_of a ≡ key_of b → StandsAt Holds design limits a i → StandsAt Holds design limits b j → text_of design i ≡ text_of design j → ComeToOneNode design limits i j
+keyed_alike Holds key_of design limits a b i j tells key at_a at_b text =
+    same_text_alike Holds design limits a b i j (λ e f of_a of_b. tells a b e f of_a of_b key) at_a at_b text
 
 -- the state that a place stands at, by the design itself
 stands_at : (code : Compiled) (place : Place) (e : Effect) → Holds code place e → state_of (remainder_of code) place.machine.value.values place.machine.value.core ≡ e.state
@@ -33,17 +38,16 @@ stands_at code place e holds =
     ap (λ (k : Compiled). state_of (remainder_of k) place.machine.value.values place.machine.value.core) (sym holds.ready.code_is) ∙ holds.state_is
 
 -- places of one key hold states that are alike
-pub keys_tell_alike : (code : Compiled) → TellAlike (Holds code) (λ (place : Place). place.key.items)
-keys_tell_alike code a b e f at_a at_b key =
-    let same : IsKey b.machine.value.core b.machine.value.values a.key.items = subst (IsKey b.machine.value.core b.machine.value.values) (sym key) at_b.ready.keyed in
+keys_tell_alike : (code : Compiled) (a b : Place) (key : List ℕ) (e f : Effect) → IsKey a.machine.value.core a.machine.value.values key → IsKey b.machine.value.core b.machine.value.values key → Holds code a e → Holds code b f → Alike e.state f.state
+keys_tell_alike code a b key e f of_a of_b at_a at_b =
     let alike : Alike (state_of (remainder_of code) a.machine.value.values a.machine.value.core) (state_of (remainder_of code) b.machine.value.values b.machine.value.core) =
-    keys_tell_states (remainder_of code) a.machine.value.core b.machine.value.core a.machine.value.values b.machine.value.values a.key.items (at_a.ready.controls ∙ sym at_b.ready.controls) at_a.ready.keyed same in
+    keys_tell_states (remainder_of code) a.machine.value.core b.machine.value.core a.machine.value.values b.machine.value.values key (at_a.ready.controls ∙ sym at_b.ready.controls) of_a of_b in
     subst (λ (s : State). Alike s f.state) (stands_at code a e at_a)
     (subst (λ (t : State). Alike (state_of (remainder_of code) a.machine.value.values a.machine.value.core) t) (stands_at code b f at_b) alike)
 
 pub lawful_alike : (code : Compiled) (limits : Limits) (i j : List Entry) → ComeToOneNode (design_of code) limits i j → Serves (lawful_runs code limits) i j
 lawful_alike code limits i j alike = alike_serve (Holds code) (design_of code) limits i j alike
 
-pub lawful_keyed : (code : Compiled) (limits : Limits) (a b : Place) (i j : List Entry) → a.key.items ≡ b.key.items → StandsAt (Holds code) (design_of code) limits a i → StandsAt (Holds code) (design_of code) limits b j → text_of (design_of code) i ≡ text_of (design_of code) j → ComeToOneNode (design_of code) limits i j
-lawful_keyed code limits a b i j key at_a at_b text =
-    keyed_alike (Holds code) (λ (place : Place). place.key.items) (design_of code) limits a b i j (keys_tell_alike code) key at_a at_b text
+pub lawful_keyed : (code : Compiled) (limits : Limits) (a b : Place) (i j : List Entry) (key : List ℕ) → IsKey a.machine.value.core a.machine.value.values key → IsKey b.machine.value.core b.machine.value.values key → StandsAt (Holds code) (design_of code) limits a i → StandsAt (Holds code) (design_of code) limits b j → text_of (design_of code) i ≡ text_of (design_of code) j → ComeToOneNode (design_of code) limits i j
+lawful_keyed code limits a b i j key of_a of_b at_a at_b text =
+    same_text_alike (Holds code) (design_of code) limits a b i j (λ e f held_a held_b. keys_tell_alike code a b key e f of_a of_b held_a held_b) at_a at_b text

@@ -1,5 +1,5 @@
 //! The ways that go on from a place: each entry that the rules permit, and the ends that a run may have there.
-ghost use Rattle.std.specs.Prelude.{◌≡◌, ◌<◌, [], ◌∷◌, None, IfOk, IfSome, OnOk, IsTrue};
+ghost use Rattle.std.specs.Prelude.{◌≡◌, ◌<◌, [], ◌∷◌, None, IfOk, IfErr, OnOk, OnErr, IsTrue};
 ghost use Rattle.std.specs.List.{All};
 ghost use Rattle.model.specs.declared.entry.Entry.{Entry};
 ghost use Rattle.model.specs.declared.end.End.{End};
@@ -9,18 +9,21 @@ ghost use Rattle.explore.specs.declared.Next.{Next};
 ghost use Rattle.races.specs.declared.place.Place.{Place};
 ghost use Rattle.seeded.specs.Resting.{GoesOn};
 ghost use Rattle.design.specs.Compiled.{design_of};
-ghost use Rattle.regions.specs.Machine.{most_entries, state_at};
+ghost use Rattle.regions.specs.Machine.{most_entries, state_at, IsNotTaken};
+ghost use Rattle.regions.specs.Logs.{IsTaken};
+ghost use Rattle.walks.specs.Walking.{HasWalked};
 ghost use Rattle.races.specs.Following.{IsAdded, IsArrived, IsTurnOf, IsWayBy, TellsLong};
 ghost use Rattle.races.specs.Places.{AreAllWays, AreBounded, AreWaysFor, IsReady, IsWayOn, IsWayToEnd};
 
-use crate::place::{Place, place_of};
+use crate::place::Place;
 use explore::{Ended, Expanded, Next};
 use model::end::{End, Limits, Why};
 use model::entry::Entry;
-use regions::Machine;
+use regions::{Machine, TakeFault};
 use seeded::resting::{end_at, is_timely};
 use settling::Networked;
 use std::alloc::{AllocError, Global};
+use turn::TurnLog;
 use walks::{copy_of, tell_long, walk_on};
 
 /// What one entry leads to.
@@ -42,25 +45,20 @@ pub(crate) struct Ways<'d> {
 }
 
 // The place of a machine that took these entries, with the lines that they printed.
-fn next_of<'d>(
-    alloc: Global,
-    machine: Box<Machine<'d>>,
-    moves: Vec<Entry>,
-) -> Result<Next<Place<'d>, Entry>, AllocError>
-    ensures moves { IfOk result (λ next. next.moves ≡ moves) }
-    ensures printed { IfOk result (λ next. next.printed.items ≡ machine.entry.value.lines) }
-    ensures ready { IfOk result (λ next. IsReady machine.entry.value.code next.node) }
-    ensures state { IfOk result (λ next. state_at next.node.machine.value ≡ state_at machine.entry.value) }
+fn next_of<'d>(machine: Box<Machine<'d>>, moves: Vec<Entry>) -> Next<Place<'d>, Entry>
+    ensures moves { result.moves ≡ moves }
+    ensures printed { result.printed.items ≡ machine.entry.value.lines }
+    ensures ready { IsReady machine.entry.value.code result.node }
+    ensures state { state_at result.node.machine.value ≡ state_at machine.entry.value }
 {
     let mut machine = machine;
     let printed = machine.take_lines().into_bytes();
     machine.stands();
-    let node = place_of(alloc, machine)?;
-    Ok(Next {
-        node,
+    Next {
+        node: Place { machine },
         printed,
         moves,
-    })
+    }
 }
 
 // One entry alone.
@@ -87,42 +85,66 @@ fn process_of(machine: &Machine<'_>, entry: Entry) -> u32
     }
 }
 
-// The end of a run at an entry that the rules permit, and that takes no step.
-fn long_of(alloc: Global, machine: &Machine<'_>, entry: Entry) -> Ended<Entry, End>
+// The end of a run at an entry that the rules permit, and that wasn't taken since it is a turn that isn't short. Fails where memory
+// was refused to it instead.
+fn long_of(
+    alloc: Global,
+    machine: &Machine<'_>,
+    entry: Entry,
+    fault: TakeFault,
+) -> Result<Ended<Entry, End>, AllocError>
     requires permitted { refusal (state_at machine.now) entry ≡ None }
-    requires stuck { step (design_of machine.now.code) (state_at machine.now) entry ≡ None }
-    ensures long { TellsLong machine.now.code (state_at machine.now) entry result }
-    ensures moves { result.moves.items ≡ [] }
+    requires few { machine.now.core.entries < most_entries }
+    requires fault { IsNotTaken machine.now entry fault }
+    ensures long { IfOk result (TellsLong machine.now.code (state_at machine.now) entry) }
+    ensures moves { IfOk result (λ ended. ended.moves.items ≡ []) }
 {
-    Ended {
+    tell_long(machine, entry, fault)?;
+    let process = process_of(machine, entry);
+    Ok(Ended {
         printed: Vec::new(alloc),
-        end: End::Stopped(Why::TooLong(process_of(machine, entry))),
+        end: End::Stopped(Why::TooLong(process)),
         moves: Vec::new(alloc),
-    }
+    })
 }
 
-// Follows an entry that the rules permit.
+// Takes an entry with a log that the machine is lent: each place takes just a few, and needs none of its own.
+fn take_with(log: &mut TurnLog, machine: &mut Machine<'_>, entry: Entry) -> Result<(), TakeFault>
+    ensures taken { OnOk result (IsTaken machine.old.code (state_at machine.old) machine.old.lines entry (state_at machine.new) machine.new.lines) }
+    ensures code { machine.new.code ≡ machine.old.code }
+    ensures stop { IfErr result (IsNotTaken machine.old entry) }
+    ensures err { OnErr result (machine.new ≡ record machine.old { made = machine.new.made }) }
+{
+    machine.exchange_log(log);
+    let taken = machine.take(entry);
+    machine.exchange_log(log);
+    taken
+}
+
+// Follows an entry that the rules permit, with this machine.
 fn way_by<'d>(
     alloc: Global,
     limits: Limits,
-    machine: &Machine<'d>,
+    log: &mut TurnLog,
+    machine: Box<Machine<'d>>,
     entry: Entry,
 ) -> Result<Way<'d>, AllocError>
-    requires silent { machine.now.lines ≡ [] }
+    requires silent { machine.value.lines ≡ [] }
     requires some_entry { 0 < limits.max_entries }
-    requires few { machine.now.core.entries < most_entries }
-    requires permitted { refusal (state_at machine.now) entry ≡ None }
-    ensures { IfOk result (IsWayBy machine.now.code limits (state_at machine.now) entry) }
+    requires few { machine.value.core.entries < most_entries }
+    requires permitted { refusal (state_at machine.value) entry ≡ None }
+    ensures { IfOk result (IsWayBy machine.entry.value.code limits (state_at machine.entry.value) entry) }
 {
     if !is_timely(limits, entry) {
         return Ok(Way::Past);
     }
-    let mut copy = copy_of(alloc, machine)?;
-    match copy.take(entry) {
-        Ok(()) => Ok(Way::On(next_of(alloc, copy, one(alloc, entry)?)?)),
+    let moves = one(alloc, entry)?;
+    let mut machine = machine;
+    match take_with(log, &mut machine, entry) {
+        Ok(()) => Ok(Way::On(next_of(machine, moves))),
         Err(fault) => {
-            tell_long(machine, entry, fault)?;
-            Ok(Way::Long(long_of(alloc, machine, entry)))
+            let ended = long_of(alloc, &machine, entry, fault)?;
+            Ok(Way::Long(ended))
         }
     }
 }
@@ -139,10 +161,11 @@ fn add<'d>(ways: &mut Ways<'d>, way: Way<'d>) -> Result<(), AllocError>
     Ok(())
 }
 
-// Follows each of these entries, which the rules permit.
+// Follows each of these entries, which the rules permit, with copies of a machine.
 fn follow_each<'d>(
     alloc: Global,
     limits: Limits,
+    log: &mut TurnLog,
     machine: &Machine<'d>,
     entries: &[Entry],
 ) -> Result<Ways<'d>, AllocError>
@@ -157,10 +180,36 @@ fn follow_each<'d>(
         ended: Vec::new(alloc),
     };
     for entry in entries {
-        let way = way_by(alloc, limits, machine, *entry)?;
+        let copy = copy_of(alloc, machine)?;
+        let way = way_by(alloc, limits, log, copy, *entry)?;
         add(&mut ways, way)?;
     }
     Ok(ways)
+}
+
+// Follows each of these entries, which the rules permit: the last of them with the machine itself.
+fn follow_all<'d>(
+    alloc: Global,
+    limits: Limits,
+    log: &mut TurnLog,
+    machine: Box<Machine<'d>>,
+    entries: &[Entry],
+) -> Result<Ways<'d>, AllocError>
+    requires silent { machine.value.lines ≡ [] }
+    requires some_entry { 0 < limits.max_entries }
+    requires few { machine.value.core.entries < most_entries }
+    requires permitted { All (λ entry. refusal (state_at machine.value) entry ≡ None) entries.now }
+    ensures { IfOk result (λ ways. AreWaysFor machine.entry.value.code limits (state_at machine.entry.value) entries.now ways.successors.items ways.ended.items) }
+{
+    match entries.split_last() {
+        Some((last, others)) => {
+            let mut ways = follow_each(alloc, limits, log, &machine, others)?;
+            let way = way_by(alloc, limits, log, machine, *last)?;
+            add(&mut ways, way)?;
+            Ok(ways)
+        }
+        None => follow_each(alloc, limits, log, &machine, entries),
+    }
 }
 
 // A run may have this end here, and goes on in no way.
@@ -185,14 +234,15 @@ fn rests<'d>(alloc: Global, end: End) -> Result<Expanded<Place<'d>, Entry, End>,
 fn branch<'d>(
     alloc: Global,
     limits: Limits,
-    machine: &Machine<'d>,
+    log: &mut TurnLog,
+    machine: Box<Machine<'d>>,
 ) -> Result<Expanded<Place<'d>, Entry, End>, AllocError>
-    requires silent { machine.now.lines ≡ [] }
+    requires silent { machine.value.lines ≡ [] }
     requires some_entry { 0 < limits.max_entries }
-    requires goes_on { GoesOn limits (state_at machine.now) }
-    ensures next { IfOk result (λ x. All (IsWayOn machine.now.code limits (state_at machine.now)) x.successors.items) }
-    ensures sound { IfOk result (λ x. All (IsWayToEnd machine.now.code limits (state_at machine.now)) x.ended.items) }
-    ensures all { IfOk result (λ x. IsTrue x.whole → AreAllWays machine.now.code limits (state_at machine.now) x.successors.items x.ended.items) }
+    requires goes_on { GoesOn limits (state_at machine.value) }
+    ensures next { IfOk result (λ x. All (IsWayOn machine.entry.value.code limits (state_at machine.entry.value)) x.successors.items) }
+    ensures sound { IfOk result (λ x. All (IsWayToEnd machine.entry.value.code limits (state_at machine.entry.value)) x.ended.items) }
+    ensures all { IfOk result (λ x. IsTrue x.whole → AreAllWays machine.entry.value.code limits (state_at machine.entry.value) x.successors.items x.ended.items) }
 {
     if machine.state().entries() >= u64::from(limits.max_entries) {
         return Ok(Expanded {
@@ -202,7 +252,7 @@ fn branch<'d>(
         });
     }
     let entries = machine.next_entries(alloc)?;
-    let Ways { successors, ended } = follow_each(alloc, limits, machine, &entries)?;
+    let Ways { successors, ended } = follow_all(alloc, limits, log, machine, &entries)?;
     Ok(Expanded {
         successors,
         ended,
@@ -219,7 +269,7 @@ fn arrive<'d>(
     ensures one { IfOk result (λ x. IsArrived machine.entry.value moves.items x.successors.items) }
     ensures none { IfOk result (λ x. x.ended.items ≡ []) }
 {
-    let next = next_of(alloc, machine, moves)?;
+    let next = next_of(machine, moves);
     let mut successors = Vec::new(alloc);
     successors.push(next)?;
     Ok(Expanded {
@@ -229,12 +279,32 @@ fn arrive<'d>(
     })
 }
 
+// Goes on from where a machine stands as long as one order stands for all, with a log that the machine is lent.
+fn walk_with(
+    alloc: Global,
+    networked: &Networked<'_>,
+    limits: Limits,
+    log: &mut TurnLog,
+    machine: &mut Machine<'_>,
+) -> Result<Vec<Entry>, AllocError>
+    requires silent { machine.old.lines ≡ [] }
+    requires code { machine.old.code ≡ networked.now }
+    ensures walked { IfOk result (λ moves. HasWalked limits (state_at machine.old) machine.new moves.items) }
+    ensures code { machine.new.code ≡ machine.old.code }
+{
+    machine.exchange_log(log);
+    let walked = walk_on(alloc, networked, limits, machine);
+    machine.exchange_log(log);
+    walked
+}
+
 /// Follows each way from where a machine stands. Where one way stands for all it goes on by that, up to the next choice or for some
 /// hundred steps. Ways are left out where the journal has as many entries as it may have, and a run goes on from there.
 pub(crate) fn expand<'d>(
     alloc: Global,
     networked: &Networked<'_>,
     limits: Limits,
+    log: &mut TurnLog,
     machine: Box<Machine<'d>>,
 ) -> Result<Expanded<Place<'d>, Entry, End>, AllocError>
     requires code { machine.value.code ≡ networked.now }
@@ -249,9 +319,9 @@ pub(crate) fn expand<'d>(
         None => {}
     }
     let mut machine = machine;
-    let moves = walk_on(alloc, networked, limits, &mut machine)?;
+    let moves = walk_with(alloc, networked, limits, log, &mut machine)?;
     if moves.is_empty() {
-        branch(alloc, limits, &machine)
+        branch(alloc, limits, log, machine)
     } else {
         arrive(alloc, machine, moves)
     }

@@ -10,11 +10,12 @@ ghost use Rattle.walks.specs.Journals.{AreAllTexts, IsLawfulText};
 ghost use Rattle.races.specs.Places.{AreBounded};
 
 use crate::expand::expand;
-use crate::place::{Place, place_of};
+use crate::place::{Place, Room};
 use design::Design;
 use explore::{Bounds, Expanded, Explored, Orders, explore};
 use model::end::{End, Limits};
 use model::entry::Entry;
+use progress::Progress;
 use regions::Machine;
 use settling::Networked;
 use std::alloc::{AllocError, Global};
@@ -40,6 +41,7 @@ struct Lawful<'d> {
 
 impl<'d> Orders for Lawful<'d> {
     ghost use Rattle.std.specs.Prelude.{refl};
+    ghost use Rattle.statekeys.specs.Keys.{IsKey};
     ghost use Rattle.races.specs.Places.{lawful_runs};
     ghost use Rattle.races.specs.Serving.{lawful_alike, lawful_keyed};
 
@@ -49,29 +51,40 @@ impl<'d> Orders for Lawful<'d> {
 
     type End = End;
 
+    type Room = Room;
+
     ghost runs = { λ o. lawful_runs o.networked o.limits };
 
-    ghost key_of = { λ _ place. place.key.items };
+    ghost has_key = { λ _ place key. IsKey place.machine.value.core place.machine.value.values key };
 
     fn start(&self, alloc: Global) -> Result<Place<'d>, AllocError> {
         let machine = start_of(alloc, self.networked.design())?;
         machine.stands();
-        place_of(alloc, machine)
+        Ok(Place { machine })
+    }
+
+    fn room(&self, alloc: Global) -> Room {
+        Room::new(alloc)
     }
 
     fn expand(
         &self,
         alloc: Global,
+        room: &mut Room,
         node: Place<'d>,
     ) -> Result<Expanded<Place<'d>, Entry, End>, AllocError> {
-        let expanded = expand(alloc, &self.networked, self.limits, node.machine)?;
+        let expanded = expand(
+            alloc,
+            &self.networked,
+            self.limits,
+            &mut room.log,
+            node.machine,
+        )?;
         Ok(expanded)
     }
 
-    fn key(&self, alloc: Global, node: &Place<'d>) -> Result<Vec<u8>, AllocError> {
-        let mut key = Vec::new(alloc);
-        key.extend_from_slice(&node.key)?;
-        Ok(key)
+    fn key(&self, room: &mut Room, key: &mut Vec<u8>, node: &Place<'d>) -> Result<(), AllocError> {
+        room.fill_key(key, &node.machine)
     }
 
     fn same_end(&self, a: &End, b: &End) -> bool {
@@ -82,17 +95,19 @@ impl<'d> Orders for Lawful<'d> {
 
     ghost alike = { λ o i j a. lawful_alike o.networked o.limits i j a };
 
-    ghost keyed = { λ o a b i j e at bt text. lawful_keyed o.networked o.limits a b i j e at bt text };
+    ghost keyed = { λ o a b i j key of_a of_b at bt text. lawful_keyed o.networked o.limits a b i j key of_a of_b at bt text };
 }
 
 /// Searches all lawful orders of a design within these limits (11.4), on one thread. Each text that is shown is that of the lawful
 /// journal beside it, and so is its end; no two have one text and one end; and where the answer is covered, every lawful journal in
-/// time that ends, but by the most entries or for want of memory, has a text and an end that are shown.
-pub fn lawful_orders(
+/// time that ends, but by the most entries or for want of memory, has a text and an end that are shown. How many states were
+/// reached is told at times.
+pub fn lawful_orders<P: Progress>(
     alloc: Global,
     design: &Design,
     limits: Limits,
     bounds: Bounds,
+    progress: &P,
 ) -> Explored<Entry, End>
     requires room { 0 < bounds.nodes }
     requires some_entry { 0 < limits.max_entries }
@@ -103,5 +118,5 @@ pub fn lawful_orders(
     ensures few { result.nodes ≤ bounds.nodes }
 {
     let networked = Networked::of(alloc, design);
-    explore(alloc, &Lawful { networked, limits }, bounds)
+    explore(alloc, &Lawful { networked, limits }, bounds, progress)
 }

@@ -25,11 +25,13 @@
 #![tactic(auto)]
 
 mod apply;
+mod choices;
 mod copy;
 mod find;
 mod future;
 mod machine;
 mod next;
+mod permit;
 mod queue;
 mod reader;
 mod state;
@@ -38,6 +40,7 @@ mod store;
 mod take;
 mod waiters;
 
+pub use choices::Choices;
 pub use future::Due;
 pub use machine::{Machine, TakeFault};
 pub use queue::{Evaluation, Progress, Update};

@@ -10,6 +10,7 @@ ghost use Rattle.regions.specs.Queue.{core_of, state_of};
 ghost use Rattle.regions.specs.Machine.{IsTurn, IsDue, AreInOrder};
 ghost use Rattle.regions.specs.Turns.{turn_of};
 
+use crate::choices::Choices;
 use crate::queue::{Evaluation, Queue};
 use model::end::LAST_TIME;
 use model::entry::Entry;
@@ -81,6 +82,18 @@ impl Queue {
             Some(number) => Some(Entry::Update(number)),
             None => self.due(),
         }
+    }
+
+    // All entries that the rules permit, each once, and each made where it is asked for.
+    pub fn choices(&self) -> Choices<'_>
+        requires ordered { IsOrderedQueue self.now }
+        ensures permitted { (rem : ProcState → Remainder) (values : List Vector) (entry : Entry) → Contains result entry ↔ (refusal (state_of rem values (core_of self.now)) entry ≡ None) }
+        ensures order { AreInOrder result }
+    {
+        if self.finished {
+            return Choices::none(&self.evaluations);
+        }
+        Choices::new(&self.evaluations, self.next_other())
     }
 
     // All entries that the rules permit, each once.

@@ -5,7 +5,8 @@
 //!    the time of the state; then the entry is applied, which appends its lines.
 //! 3. The first entry that the rules don't permit, or whose turn isn't short, ends the replay with a fault.
 //!
-//! `replay_bytes` does this from the bytes of a source and of a journal, and writes the lines once all are known.
+//! `replay_bytes` does this from the bytes of a source and of a journal, and writes the lines once all are known. Both have a form
+//! that tells how many entries are taken.
 //!
 //! The layer above uses the contract of `replay`. An `Ok` comes where the journal is lawful, with the state and the
 //! lines after it; each `Err` but those for want of memory and for too many entries says that it isn't lawful.
@@ -16,7 +17,7 @@ mod fault;
 mod laws;
 mod replayed;
 
-pub use bytes::replay_bytes;
+pub use bytes::{replay_bytes, replay_bytes_telling};
 pub use fault::{BytesFault, Cause, ReplayFault};
 pub use laws::faults_are_just;
-pub use replayed::{Replayed, replay, take_next};
+pub use replayed::{Replayed, replay, replay_telling, take_next};

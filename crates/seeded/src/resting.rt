@@ -53,11 +53,12 @@ pub fn end_at(limits: Limits, machine: &Machine<'_>) -> Option<End>
     if machine.is_finished() {
         return Some(End::Stopped(Why::Finish));
     }
-    if machine.is_quiet() {
-        return Some(End::Quiet);
-    }
+    // An event is active at most entries, and then nothing else is asked.
     if machine.state().is_active() {
         return None;
+    }
+    if machine.is_quiet() {
+        return Some(End::Quiet);
     }
     match machine.due() {
         Some(change) => {

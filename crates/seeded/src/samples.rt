@@ -8,7 +8,15 @@ ghost use Rattle.seeded.specs.Samples.{AreDistinct, WantsNoMemory};
 use crate::run::{SeededRun, run_seeded};
 use design::Design;
 use model::end::{End, Limits, Why};
+use progress::{HowFar, Progress, Untold};
 use std::alloc::Global;
+
+/// The seeds of several runs: this one, and those that follow it (past the greatest, 0 follows).
+#[derive(Clone, Copy)]
+pub struct Seeds {
+    pub first: u64,
+    pub count: u32,
+}
 
 /// One run of each text and end that several seeds gave, and how many runs were made.
 #[derive(Drop)]
@@ -49,17 +57,17 @@ fn wants_memory(run: &SeededRun) -> bool
     }
 }
 
-/// Runs of `count` seeds, this one and those that follow it (past the greatest, 0 follows). Of each text and end it keeps the
-/// first run, and it stops once `most` are kept. A run that ends for want of memory isn't kept, and ends it.
+/// Runs of several seeds. Of each text and end it keeps the first run, and it stops once `most` are kept. A run that ends for
+/// want of memory isn't kept, and ends it. How many were made, is told as it goes on.
 ///
 /// The limit of time isn't past the last time, as for every run.
-pub fn sample(
+pub fn sample<P: Progress>(
     alloc: Global,
     design: &Design,
     limits: Limits,
-    seed: u64,
-    count: u32,
+    seeds: Seeds,
     most: usize,
+    progress: &P,
 ) -> Samples
     requires until { IfSome limits.until (λ until. until ≤ last_time) }
     ensures runs { All (IsRun design.now limits) result.kept.items }
@@ -67,14 +75,18 @@ pub fn sample(
     ensures ended { All WantsNoMemory result.kept.items }
     ensures most { vec_len result.kept ≤ most }
     ensures kept { vec_len result.kept ≤ result.made }
-    ensures made { result.made ≤ count }
+    ensures made { result.made ≤ seeds.count }
 {
     let mut kept = Vec::new(alloc);
-    for made in 0..count {
+    for made in 0..seeds.count {
+        progress.tell(HowFar::Runs {
+            made: u64::from(made),
+        });
         if kept.len() >= most {
             return Samples { kept, made };
         }
-        let run = run_seeded(alloc, design, limits, seed.wrapping_add(u64::from(made)));
+        let seed = seeds.first.wrapping_add(u64::from(made));
+        let run = run_seeded(alloc, design, limits, seed, &Untold);
         if wants_memory(&run) {
             return Samples { kept, made };
         }
@@ -86,5 +98,8 @@ pub fn sample(
             Err(_) => return Samples { kept, made },
         }
     }
-    Samples { kept, made: count }
+    Samples {
+        kept,
+        made: seeds.count,
+    }
 }

@@ -20,7 +20,11 @@ fn main(rt: HostRuntime) -> io::Result<()> {
             continue;
         }
         let words = words_of(alloc, line.as_str())?;
-        let mut files = SystemFiles { rt: &rt };
+        let mut files = SystemFiles {
+            rt: &rt,
+            stdout: rt.stdout(),
+            stderr: rt.stderr(),
+        };
         let mut out = Counted::new(rt.stdout());
         let mut err = Counted::new(Vec::new(alloc));
         let status = command(&rt, alloc, words.as_slice(), &mut files, &mut out, &mut err);

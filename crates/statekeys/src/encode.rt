@@ -20,7 +20,19 @@ pub trait Encode {
 
 /// Appends the code of a number: seven bits a byte, the low ones first, and the eighth bit set while more follow. Where
 /// memory is refused, some of its bytes may stand there.
+#[inline(always)]
 pub fn put_nat(bytes: &mut Vec<u8>, number: u128) -> Result<(), AllocError>
+    ensures { OnOk result (bytes.new.items ≡ bytes.old.items ++ nat_code number) }
+{
+    if number < 128 {
+        bytes.push(number as u8)?;
+        return Ok(());
+    }
+    put_digits(bytes, number)
+}
+
+// Appends the code of a number, digit by digit: most numbers have just one.
+fn put_digits(bytes: &mut Vec<u8>, number: u128) -> Result<(), AllocError>
     ensures { OnOk result (bytes.new.items ≡ bytes.old.items ++ nat_code number) }
 {
     let mut left = number;

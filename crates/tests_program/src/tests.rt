@@ -7,6 +7,7 @@ use frontend::read_design;
 use journal::Counted;
 use model::entry::Entry;
 use program::command;
+use progress::Untold;
 use replay::{Replayed, replay};
 use simulate::{Outcome, SimFault};
 use std::alloc::Global;
@@ -92,6 +93,8 @@ impl<'a> Files for Memory<'a> {
 
     type Target = Target;
 
+    type Progress = Untold;
+
     fn open(&mut self, path: &str) -> io::Result<Source<'a>> {
         let (bytes, fault) = match path {
             "t.v" | "-" => (self.source, None),
@@ -130,6 +133,14 @@ impl<'a> Files for Memory<'a> {
             _ => return Err(io::Error::from(ErrorKind::Other)),
         }
         Ok(())
+    }
+
+    fn progress(&self) -> Untold {
+        Untold
+    }
+
+    fn progress_beside_output(&self) -> Untold {
+        Untold
     }
 }
 

@@ -1,6 +1,5 @@
-//! Vectors, sources and modules.
+//! Sources and modules.
 
 pub mod faults_told;
 mod parsing;
 mod tasks;
-mod vectors;

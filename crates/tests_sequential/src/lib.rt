@@ -2,10 +2,9 @@
 //! their public calls. There are tests alone.
 //!
 //! `language`:
-//! 1. `vectors` has the edges between worked values.
-//! 2. `parsing` has sources that are accepted, and a page of source that is cut, and with each byte replaced.
-//! 3. `faults_told` has what is told of a source in too little memory, and where its processes stand.
-//! 4. `tasks` has formats that no source can spell.
+//! 1. `parsing` has a page of source that is read, cut, and with each byte replaced.
+//! 2. `faults_told` has what is told of a source in too little memory, and where its processes stand.
+//! 3. `tasks` has formats that no source can spell.
 //!
 //! `runs`:
 //! 1. `turns` has what small processes do in a turn, and `too_long` turns that are too long. All are made by `turn` from a source.
@@ -17,16 +16,14 @@
 //! 5. `refused` makes the calls from bytes to bytes in too little memory.
 //! 6. `dumps` has waves of small designs, and their dumps.
 //! 7. `replaced` has a source and its journal that are cut, and with each byte replaced.
+//! 8. `lawful` has searches of all orders of small designs, with their texts, at bounds and in too little memory.
 //!
-//! The faults of sources and of journals, the operations of vectors, the values of literals, operators and concatenations, and the
-//! lines of whole journals are rows of `shown`.
-//!
-//! `graph` is a small instance of the search of `explore`: the walks through a graph, of which the texts are counted by hand.
+//! What sources are accepted, the faults of sources and of journals, the operations and the edges of vectors, the values of literals, operators and
+//! concatenations, and the lines of whole journals are rows of `shown`.
 #![tactic(auto)]
 
 #[cfg(test)]
 mod claims;
-pub mod graph;
 #[cfg(test)]
 mod language;
 #[cfg(test)]

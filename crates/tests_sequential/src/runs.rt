@@ -5,6 +5,7 @@ mod dumps;
 mod event_queue;
 mod held;
 mod journal_text;
+mod lawful;
 mod refused;
 mod replaced;
 mod replayed;

@@ -11,7 +11,11 @@ use std::{env, io};
 
 fn main(rt: HostRuntime) -> ExitCode {
     let alloc = rt.alloc();
-    let mut files = SystemFiles { rt: &rt };
+    let mut files = SystemFiles {
+        rt: &rt,
+        stdout: rt.stdout(),
+        stderr: rt.stderr(),
+    };
     let mut out = Counted::new(rt.stdout());
     let mut err = Counted::new(rt.stderr());
     let status = match words(&rt, alloc) {

@@ -6,10 +6,12 @@ ghost use Rattle.walks.specs.Walking.{IsSoleWay};
 ghost use Rattle.walks.specs.Passing.{HasAdded, HasPassed, HasPassedBehind, StandsInPhase};
 
 use crate::settle::{Ahead, copy_of, take_all};
+use combinational::Network;
 use model::entry::Entry;
-use regions::Machine;
+use regions::{Evaluation, Machine};
 use settling::{Networked, phase_of};
 use std::alloc::{AllocError, Global};
+use std::collections::VecDeque;
 
 // The most events of one phase that a walk takes.
 const MOST_EVENTS: u32 = 65_536;
@@ -60,6 +62,25 @@ fn take_active(machine: &mut Machine<'_>, moves: &mut Vec<Entry>) -> Result<bool
     Ok(false)
 }
 
+// Whether a process has logic.
+fn has_logic(network: &Network, process: u32) -> bool {
+    match network.logics.get(process as usize) {
+        Some(logic) => logic.is_some(),
+        None => false,
+    }
+}
+
+// Whether the process of each of these evaluations has logic. In a phase it has, so that most states that are none are told soon.
+fn have_logic(network: &Network, evaluations: &VecDeque<Evaluation>) -> bool {
+    for at in 0..evaluations.len() {
+        let evaluation = evaluations[at];
+        if !has_logic(network, evaluation.process) {
+            return false;
+        }
+    }
+    true
+}
+
 // Whether the state of a machine is a phase.
 fn is_phase(
     alloc: Global,
@@ -70,6 +91,9 @@ fn is_phase(
     ensures { IfOk result (λ is. is ≡ true → StandsInPhase machine.now) }
 {
     let network = networked.network();
+    if !have_logic(network, machine.state().active().1) {
+        return Ok(false);
+    }
     let found = phase_of(alloc, networked.design(), machine, network)?;
     Ok(found.is_some())
 }

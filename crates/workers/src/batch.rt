@@ -13,7 +13,7 @@ ghost use Rattle.workers.specs.declared.batch.Next.TheVariants.{Enough, Over};
 
 use crate::deques::put;
 use crate::pace::Pace;
-use crate::probe::Probe;
+use crate::probe::{EventAt, Probe};
 use crate::worker::{Shared, Worker, evaluate, finish};
 use commitgate::{MAX_TRIES, Naming, Reply, Seat, Ticket};
 use eventpool::Owner;
@@ -30,12 +30,12 @@ pub(crate) const MOST_TURNS: usize = 16;
 const MOST_STEPS: u32 = 100;
 
 /// Turns that were evaluated and aren't committed yet, in room that is kept: their tickets, each with its log at its place and
-/// the number of its event, and then the answers. `steps` counts their steps.
+/// what the probe is told of it, and then the answers. `steps` counts their steps.
 #[derive(Drop)]
 pub struct Batch<K: Naming> {
     pub tickets: VecDeque<Ticket<K>>,
     pub logs: Vec<TurnLog>,
-    pub events: [u64; MOST_TURNS],
+    pub events: [EventAt; MOST_TURNS],
     pub replies: VecDeque<Reply<K>>,
     pub steps: u32,
 }
@@ -63,7 +63,7 @@ impl<K: Naming> Batch<K> {
         Ok(Batch {
             tickets,
             logs,
-            events: [0; MOST_TURNS],
+            events: [EventAt { event: 0, time: 0 }; MOST_TURNS],
             replies,
             steps: 0,
         })
@@ -107,12 +107,12 @@ fn after(goes_on: bool) -> Next
 
 impl<K: Naming> Batch<K> {
     // Notes the event of the last turn and its steps.
-    fn note(&mut self, event: u64, count: u32)
+    fn note(&mut self, at: EventAt, count: u32)
         ensures { self.new ≡ record self.old { events = self.new.events; steps = self.new.steps } }
     {
         let place = self.tickets.len().saturating_sub(1);
         if let Some(slot) = self.events.get_mut(place) {
-            *slot = event;
+            *slot = at;
         }
         self.steps = self.steps.saturating_add(count);
     }
@@ -148,11 +148,11 @@ fn tell_long<K: Naming, P: Probe, R: Wait>(
     if !commit(run, batch, pace, worker) {
         return false;
     }
-    let event = ticket.event();
+    let at = EventAt::of(&ticket);
     let (seat, owner) = (&mut worker.seat, &mut worker.owner);
     let reads = batch.logs[place].reads();
     let reply = run.gate.too_long(run.rt, seat, ticket, reads);
-    finish(run, seat, owner, event, reply)
+    finish(run, seat, owner, at, reply)
 }
 
 // Evaluates the turn of a ticket that the worker got, and adds it to the batch. A turn that is too long stands in no batch:
@@ -176,13 +176,13 @@ fn start<K: Naming, P: Probe, R: Wait>(
     ensures leads { Leads K.named result batch.new worker.new }
 {
     worker.evaluations = worker.evaluations.saturating_add(1);
-    let event = ticket.event();
+    let at = EventAt::of(&ticket);
     run.probe
-        .evaluation(worker.seat.worker(), event, ticket.tries());
+        .evaluation(worker.seat.worker(), at.event, ticket.tries());
     match add(run, batch, &mut worker.seat, ticket) {
         Ok(count) => {
             pace.note(count);
-            batch.note(event, count);
+            batch.note(at, count);
             if batch.is_enough(pace.turns()) {
                 Next::Enough
             } else {
@@ -308,12 +308,12 @@ fn settle_all<K: Naming, P: Probe, R: Wait>(
     ensures settled { result ≡ true → All IsSettled batch.old.replies.items }
 {
     for place in 0..MOST_TURNS {
-        let event = batch.events[place];
+        let at = batch.events[place];
         let Some(reply) = batch.replies.pop_front() else {
             return true;
         };
         pace.answered(&reply);
-        if !finish(run, seat, owner, event, reply) {
+        if !finish(run, seat, owner, at, reply) {
             return false;
         }
     }

@@ -11,6 +11,7 @@ use files::Files;
 use hoard::Hoard;
 use journal::Counted;
 use program::command;
+use progress::Untold;
 use std::alloc::Global;
 use std::cell::RefCell;
 use std::io::{Read, Write};
@@ -111,6 +112,8 @@ impl<'a> Files for Starved<'a> {
 
     type Target = Target;
 
+    type Progress = Untold;
+
     fn open(&mut self, path: &str) -> io::Result<Marked<'a>> {
         if path != "t.v" {
             return Ok(Marked {
@@ -143,6 +146,14 @@ impl<'a> Files for Starved<'a> {
 
     fn finish(&mut self, _path: &str, _target: Target) -> io::Result<()> {
         Ok(())
+    }
+
+    fn progress(&self) -> Untold {
+        Untold
+    }
+
+    fn progress_beside_output(&self) -> Untold {
+        Untold
     }
 }
 

@@ -1,4 +1,5 @@
-//! Sources that are accepted, and a page of source that is cut, and with each of its bytes replaced.
+//! A page of source that is read, cut, and with each of its bytes replaced, and the deepest statement. Other sources that are accepted or
+//! refused are rows of `shown`.
 
 use crate::claims::{holds, holds_at, repeated};
 use model::tree::Module;
@@ -15,10 +16,6 @@ fn fault(alloc: Global, text: &[u8]) -> Option<ParseFault> {
     parse(alloc, text).err()
 }
 
-fn assert_accepted(rt: &impl Abort, alloc: Global, text: &[u8]) {
-    holds(rt, fault(alloc, text).is_none(), "no fault");
-}
-
 /// The name and the counts of the page's module.
 fn assert_page(rt: &impl Abort, page: &Module) {
     holds(rt, page.name.as_str() == "t", "another name");
@@ -30,19 +27,6 @@ fn assert_page(rt: &impl Abort, page: &Module) {
 fn reads_each_form(rt: HostRuntime) {
     let page = parse(rt.alloc(), PAGE).expect(&rt, "the page is a module");
     assert_page(&rt, &page);
-}
-
-/// Modules whose registers aren't declared.
-const MODULES: &[&[u8]] = &[
-    b"module t; initial a = 3'h7 + 4'b00001 + 8'hz1 + 0008'd1; endmodule",
-    b"module t;initial a=b?c:d?e:f;always@(a)begin end/*\x00\xff*/endmodule//\xfe",
-];
-
-#[test]
-fn accepts(rt: HostRuntime) {
-    for &text in MODULES {
-        assert_accepted(&rt, rt.alloc(), text);
-    }
 }
 
 /// The start of a module with 64 blocks, each inside the one before it and behind 64 delays.
@@ -71,14 +55,8 @@ fn deepest_module(rt: &impl Abort, alloc: Global) -> Vec<u8> {
 /// The deepest tree that the counts allow is read and dropped within the stack.
 #[test]
 fn reads_the_deepest_statement(rt: HostRuntime) {
-    assert_accepted(&rt, rt.alloc(), &deepest_module(&rt, rt.alloc()));
-}
-
-#[test]
-fn says_that_memory_is_missing(rt: HostRuntime) {
-    let fault = ParseFault::Memory;
-    let line = format!(in rt.alloc(); "{fault}").expect(&rt, "memory");
-    holds(&rt, line.as_str() == "P6 memory", "another line");
+    let text = deepest_module(&rt, rt.alloc());
+    holds(&rt, fault(rt.alloc(), &text).is_none(), "no fault");
 }
 
 /// Whether a fault names a byte of the text, or a token that so long a text may have.

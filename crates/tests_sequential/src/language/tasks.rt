@@ -27,6 +27,7 @@ fn is_refused(rt: &impl Abort, alloc: Global, byte: u8) -> bool {
     match elaborate(alloc, &module) {
         Ok(_) => false,
         Err(ElabFault::BadFormat) => true,
+        Err(ElabFault::Memory) => fail(rt, "memory"),
         Err(_) => fail(rt, "another fault"),
     }
 }

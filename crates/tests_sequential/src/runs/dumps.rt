@@ -7,6 +7,7 @@ use crate::claims::holds;
 use design::Design;
 use hoard::Hoard;
 use model::entry::Entry;
+use progress::Untold;
 use std::alloc::Global;
 use std::process::Abort;
 use waves::{WaveFault, value_change_dump, waves};
@@ -127,7 +128,7 @@ fn dump_of(
     design: &Design,
     journal: &[Entry],
 ) -> Result<Vec<u8>, WaveFault> {
-    let wave = waves(alloc, design, journal)?;
+    let wave = waves(alloc, design, journal, &Untold)?;
     let text = value_change_dump(alloc, scope, design, &wave)?;
     Ok(text)
 }

@@ -1,6 +1,6 @@
 //! Registers that a test holds, and turns of the first process of a source on them.
 
-use crate::claims::{holds, holds_at};
+use crate::claims::{fail, holds, holds_at};
 use design::{Design, ProcState, RegId};
 use frontend::{SourceFault, read_design};
 use indexmap::IndexMap;
@@ -52,9 +52,10 @@ impl RegReader for Held {
 
 /// The design of a source.
 pub fn design_of(rt: &impl Abort, alloc: Global, source: &[u8]) -> Design {
-    read_design(alloc, source)
-        .ok()
-        .expect(rt, "a module without faults")
+    match read_design(alloc, source) {
+        Ok(design) => design,
+        Err(fault) => panic!(rt; "{fault}"),
+    }
 }
 
 /// What the fault of a source prints.
@@ -94,6 +95,15 @@ pub fn try_first_turn(
     run_turn(alloc, &design, &state, u64::from(now), held)
 }
 
+/// A turn that isn't too long.
+fn short(rt: &impl Abort, turn: Result<TurnLog, TurnFault>) -> TurnLog {
+    match turn {
+        Ok(log) => log,
+        Err(TurnFault::Memory) => fail(rt, "memory"),
+        Err(TurnFault::TooLong(_)) => fail(rt, "too long"),
+    }
+}
+
 /// The turn of a process in a state, at a time below 2 to the 32.
 pub fn turn_from(
     rt: &impl Abort,
@@ -104,8 +114,7 @@ pub fn turn_from(
     held: &mut Held,
 ) -> TurnLog {
     let _registers = design.registers();
-    let turn = run_turn(alloc, design, &state, u64::from(now), held);
-    turn.ok().expect(rt, "a short turn")
+    short(rt, run_turn(alloc, design, &state, u64::from(now), held))
 }
 
 /// A turn, and the registers that it read.
@@ -119,6 +128,8 @@ pub struct Taken {
 pub fn first_turn(rt: &impl Abort, alloc: Global, source: &[u8], value: Bits) -> Taken {
     let mut held = Held::all(value);
     let turn = try_first_turn(rt, alloc, source, 7, &mut held);
-    let log = turn.ok().expect(rt, "a short turn");
-    Taken { held, log }
+    Taken {
+        log: short(rt, turn),
+        held,
+    }
 }

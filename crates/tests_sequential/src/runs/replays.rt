@@ -35,7 +35,7 @@ fn left_of(
         kind: ErrorKind::BrokenPipe,
     });
     let mut out = Counted::new(ByteWriter {
-        taken: Vec::new(alloc),
+        taken: Vec::with_capacity(alloc, 100).expect(rt, "memory"),
         left: writes,
         answers_zero: false,
     });
@@ -147,12 +147,18 @@ const FAILED: &[(&[u8], &[u8], &[&str])] = &[
 
 // By a reader that fails after so few bytes that the text of the journal isn't read to its end, only that is told.
 #[test]
-fn a_failed_read_or_write_is_told(rt: HostRuntime) {
+fn a_failed_read_is_told(rt: HostRuntime) {
     let told = "Q4 journal read error";
-    for &(source, text, wants) in FAILED {
+    for &(source, text, _) in FAILED {
         for reads in 0..=text.len() {
             assert_left_of(&rt, rt.alloc(), (source, text), (reads, 100), told, reads);
         }
+    }
+}
+
+#[test]
+fn a_failed_write_is_told(rt: HostRuntime) {
+    for &(source, text, wants) in FAILED {
         for (writes, want) in wants.iter().enumerate() {
             assert_left_of(&rt, rt.alloc(), (source, text), (100, writes), want, writes);
         }

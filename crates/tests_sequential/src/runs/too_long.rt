@@ -20,7 +20,8 @@ fn too_long(
 ) -> IndexMap<RegId, Seen> {
     match try_first_turn(rt, alloc, source, 3, held) {
         Err(TurnFault::TooLong(reads)) => reads,
-        _ => fail(rt, "short"),
+        Err(TurnFault::Memory) => fail(rt, "memory"),
+        Ok(_) => fail(rt, "short"),
     }
 }
 

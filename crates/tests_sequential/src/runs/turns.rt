@@ -11,13 +11,13 @@ ghost use Rattle.design.specs.Steps.{below, piece, run_ops};
 
 use super::compare::{assert_length, assert_number, assert_text};
 use super::held::{Held, Taken, assert_read_at, beginning, design_of, first_turn, turn_from};
-use crate::claims::holds;
+use crate::claims::{fail, holds};
 use design::{Design, ProcState, RegId};
 use hoard::Hoard;
 use logic4::bits::Bits;
 use std::alloc::Global;
 use std::process::Abort;
-use turn::{Net, Suspend, TurnLog, fill_turn};
+use turn::{FillFault, Net, Suspend, TurnLog, fill_turn};
 
 /// The first turn of the first process of a source, which ends with it.
 #[derive(Clone, Copy)]
@@ -313,8 +313,11 @@ fn turn_in(rt: &impl Abort, alloc: Global, log: &mut TurnLog, source: &str, held
     let design = design_of(rt, alloc, source.as_bytes());
     let state = beginning(rt, &design);
     let _registers = design.registers();
-    let turn = fill_turn(log, &design, &state, 7, held);
-    holds(rt, turn.is_ok(), "a short turn");
+    match fill_turn(log, &design, &state, 7, held) {
+        Ok(()) => {}
+        Err(FillFault::Memory) => fail(rt, "memory"),
+        Err(FillFault::TooLong) => fail(rt, "too long"),
+    }
 }
 
 /// Writes one of two registers, and shows both.

@@ -10,7 +10,7 @@ use Rattle.deeds.specs.Roles.{HasBothOrders}
 use Rattle.conflicts.proofs.search.race_of.Goals as goal
 
 pub returns-in-Ok-true : goal.returns-in-Ok-true
-returns-in-Ok-true c =
+returns-in-Ok-true g c =
     let task = c.args.task in
     let pair = c.args.conflict.now.pair in
     let design = design_of task.design.now in

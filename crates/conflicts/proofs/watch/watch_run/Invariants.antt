@@ -3,7 +3,7 @@ use Rattle.seeded.specs.Runs.{HasComeTo}
 use Rattle.conflicts.proofs.watch.watch_run.Given as goal
 
 abbrev pub invariant-loop : goal.invariant-loop
-invariant-loop l = record {
+invariant-loop g l = record {
   come : HasComeTo l.limits l.run.journal.items l.run.machine;
   code : l.run.machine.code ≡ l.fn.run.machine.code;
 }

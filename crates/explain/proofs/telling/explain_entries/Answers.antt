@@ -1,11 +1,12 @@
 -- All entries and the end are told, or the entries before the fault and the fault.
+use Rattle.std.proofs.Common.{rules}
 use Rattle.explain.proofs.Ends.{of_entries_if, no_replay_if}
 use Rattle.explain.proofs.Sending.{told_none, told_all_if, told_fault_if}
 use Rattle.explain.proofs.telling.explain_entries.Goals as goal
 
 pub explain_all-requires : goal.explain_all-requires
 explain_all-requires g c =
-    told_none c.args.telling.now c.args.entries.now c.in-Ok.explainer (g.W.Write.contents c.args.out.now) _ c.in-Ok.ensures.code c.in-Ok.ensures.behind c.in-Ok.ensures.entries c.new-text.ensures.items
+    (search rules, told_none c.args.telling.now c.args.entries.now c.in-Ok.explainer (g.W.Write.contents c.args.out.now) _ c.in-Ok.ensures.code c.in-Ok.ensures.behind c.in-Ok.ensures.entries c.new-text.ensures.items)
 
 pub returns-in-Ok-explain_all-clause-told : goal.returns-in-Ok-explain_all-clause-told
 returns-in-Ok-explain_all-clause-told g c =

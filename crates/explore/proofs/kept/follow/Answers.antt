@@ -1,4 +1,4 @@
-use Rattle.std.proofs.Common.{◌≡◌, ℕ, List, [], ◌++◌, get_or, refl, sym, ap, ◌∙◌}
+use Rattle.std.proofs.Common.{◌≡◌, ℕ, List, [], ◌++◌, get_or, refl, sym, ap, ◌∙◌, subst}
 use Rattle.explore.specs.Grown.{grown}
 use Rattle.explore.specs.Texts.{texts}
 use Rattle.explore.specs.Trail.{ways}
@@ -6,15 +6,15 @@ use Rattle.explore.specs.declared.kept.Pending.{Pending}
 use Rattle.explore.proofs.Keeping.{AreKept-texts, Grows-texts, there_leads, IsText-next, IsVisited-next, IsPending-next, AreKept-push, Grows-push, pushed_leads}
 use Rattle.explore.proofs.kept.follow.Goals as goal
 
-pub returns-then-number-most-clause-kept : goal.returns-then-number-most-clause-kept
-returns-then-number-most-clause-kept g c =
-    AreKept-texts (g.O.Orders.runs c.args.orders.now) (g.O.Orders.key_of c.args.orders.now) c.args.kept.now _ c.requires.kept refl c.in_ok-text.ensures.ok c.in_ok-text.ensures.grows c.requires.kept.whole refl refl
+pub returns-then-number-scope-clause-kept : goal.returns-then-number-scope-clause-kept
+returns-then-number-scope-clause-kept g c =
+    AreKept-texts (g.O.Orders.runs c.args.orders.now) (g.O.Orders.has_key c.args.orders.now) c.args.kept.now _ c.requires.kept refl c.in_ok-text.ensures.ok c.in_ok-text.ensures.grows c.requires.kept.whole refl refl
 
-pub returns-then-number-most-clause-grows : goal.returns-then-number-most-clause-grows
-returns-then-number-most-clause-grows g c = Grows-texts c.args.kept.now _ refl c.in_ok-text.ensures.grows refl
+pub returns-then-number-scope-clause-grows : goal.returns-then-number-scope-clause-grows
+returns-then-number-scope-clause-grows g c = Grows-texts c.args.kept.now _ refl c.in_ok-text.ensures.grows refl
 
-pub returns-then-number-most-clause-leads : goal.returns-then-number-most-clause-leads
-returns-then-number-most-clause-leads g c there =
+pub returns-then-number-scope-clause-leads : goal.returns-then-number-scope-clause-leads
+returns-then-number-scope-clause-leads g c there =
     let orders = c.args.orders.now in
     let runs = g.O.Orders.runs orders in
     let old = c.args.kept.now in
@@ -22,13 +22,13 @@ returns-then-number-most-clause-leads g c there =
     let visit : ℕ × List ℕ = (c.in_ok-text.text, c.as_slice-bytes.result.now) in
     let text : get_or (texts c.longer.new.self) visit.0 [] ≡ runs.text (get_or (ways old.trail) c.args.from.number [] ++ next.moves.items) =
     c.in_ok-text.ensures.text ∙ (ap (λ l. get_or (texts old.texts) c.args.from.text [] ++ l) c.deref.ensures.value ∙ (ap (λ l. l ++ next.printed.items) c.requires.from.same ∙ sym c.requires.next.1)) in
-    there_leads runs (g.O.Orders.key_of orders) old (texts c.longer.new.self) next.node (get_or (ways old.trail) c.args.from.number [] ++ next.moves.items) visit
-    (λ a b i j k at bt t. g.met.O.Orders.alike orders i j (g.met.O.Orders.keyed orders a b i j k at bt t))
-    c.requires.kept c.in_ok-text.ensures.grows c.requires.next.0 (sym (c.as_slice-bytes.ensures.value ∙ c.in_ok-key.ensures)) text (c.contains.ensures there)
+    there_leads runs (g.O.Orders.has_key orders) old (texts c.longer.new.self) next.node (get_or (ways old.trail) c.args.from.number [] ++ next.moves.items) visit
+    (λ a b i j k of_a of_b at bt t. g.met.O.Orders.alike orders i j (g.met.O.Orders.keyed orders a b i j k of_a of_b at bt t))
+    c.requires.kept c.in_ok-text.ensures.grows c.requires.next.0 (subst (g.O.Orders.has_key orders next.node) (sym c.as_slice-bytes.ensures.value) c.in_ok-key.ensures) text (c.contains.ensures there)
 
 pub returns-then-not-new-clause-kept : goal.returns-then-not-new-clause-kept
 returns-then-not-new-clause-kept g c =
-    AreKept-texts (g.O.Orders.runs c.args.orders.now) (g.O.Orders.key_of c.args.orders.now) c.args.kept.now _ c.requires.kept refl c.in_ok-text.ensures.ok c.in_ok-text.ensures.grows c.in_ok-new.ensures.whole (c.in_ok-new.ensures.there c.if-not-new.true).0 refl
+    AreKept-texts (g.O.Orders.runs c.args.orders.now) (g.O.Orders.has_key c.args.orders.now) c.args.kept.now _ c.requires.kept refl c.in_ok-text.ensures.ok c.in_ok-text.ensures.grows c.in_ok-new.ensures.whole (c.in_ok-new.ensures.there c.if-not-new.true).0 refl
 
 pub returns-then-not-new-clause-grows : goal.returns-then-not-new-clause-grows
 returns-then-not-new-clause-grows g c = Grows-texts c.args.kept.now _ refl c.in_ok-text.ensures.grows refl
@@ -42,15 +42,15 @@ returns-then-not-new-clause-leads g c _ =
     let visit : ℕ × List ℕ = (c.in_ok-text.text, c.as_slice-bytes.result.now) in
     let text : get_or (texts c.longer.new.self) visit.0 [] ≡ runs.text (get_or (ways old.trail) c.args.from.number [] ++ next.moves.items) =
     c.in_ok-text.ensures.text ∙ (ap (λ l. get_or (texts old.texts) c.args.from.text [] ++ l) c.deref.ensures.value ∙ (ap (λ l. l ++ next.printed.items) c.requires.from.same ∙ sym c.requires.next.1)) in
-    there_leads runs (g.O.Orders.key_of orders) old (texts c.longer.new.self) next.node (get_or (ways old.trail) c.args.from.number [] ++ next.moves.items) visit
-    (λ a b i j k at bt t. g.met.O.Orders.alike orders i j (g.met.O.Orders.keyed orders a b i j k at bt t))
-    c.requires.kept c.in_ok-text.ensures.grows c.requires.next.0 (sym (c.as_slice-bytes.ensures.value ∙ c.in_ok-key.ensures)) text (c.in_ok-new.ensures.there c.if-not-new.true).1
+    there_leads runs (g.O.Orders.has_key orders) old (texts c.longer.new.self) next.node (get_or (ways old.trail) c.args.from.number [] ++ next.moves.items) visit
+    (λ a b i j k of_a of_b at bt t. g.met.O.Orders.alike orders i j (g.met.O.Orders.keyed orders a b i j k of_a of_b at bt t))
+    c.requires.kept c.in_ok-text.ensures.grows c.requires.next.0 (subst (g.O.Orders.has_key orders next.node) (sym c.as_slice-bytes.ensures.value) c.in_ok-key.ensures) text (c.in_ok-new.ensures.there c.if-not-new.true).1
 
 pub returns-clause-kept : goal.returns-clause-kept
 returns-clause-kept g c =
     let orders = c.args.orders.now in
     let runs = g.O.Orders.runs orders in
-    let key_of = g.O.Orders.key_of orders in
+    let HasKey = g.O.Orders.has_key orders in
     let old = c.args.kept.now in
     let next = c.args.next in
     let new = ways c.push.new.self in
@@ -60,8 +60,8 @@ returns-clause-kept g c =
     let added : new ≡ grown (ways old.trail) c.args.from.number next.moves.items = c.in_ok-push.ensures.ways ∙ ap (λ (l : List g.row.O-Move.Denot). grown (ways old.trail) c.args.from.number l) c.deref-2.ensures.value in
     let text = c.in_ok-text.ensures.text ∙ ap (λ l. get_or (texts old.texts) c.args.from.text [] ++ l) c.deref.ensures.value in
     let at = IsText-next runs (ways old.trail) new (texts old.texts) told c.args.from c.in_ok-text.text next.moves.items next.printed.items c.requires.from c.requires.next.1 added c.in_ok-text.ensures.within text in
-    AreKept-push runs key_of old _ c.args.from.number c.in_ok-text.text next.moves.items visit p c.requires.kept c.in_ok-push.ensures.trail added c.in_ok-text.ensures.ok c.in_ok-text.ensures.grows c.in_ok-new.ensures.whole (c.in_ok-new.ensures.added c.if-not-new.false) c.in_ok-push-2.ensures.items
-    (IsVisited-next runs key_of (ways old.trail) new told next.node c.args.from.number c.in_ok-text.text next.moves.items c.as_slice-bytes.result.now added c.requires.next.0 (sym (c.as_slice-bytes.ensures.value ∙ c.in_ok-key.ensures)) at)
+    AreKept-push runs HasKey old _ c.args.from.number c.in_ok-text.text next.moves.items visit p c.requires.kept c.in_ok-push.ensures.trail added c.in_ok-text.ensures.ok c.in_ok-text.ensures.grows c.in_ok-new.ensures.whole (c.in_ok-new.ensures.added c.if-not-new.false) c.in_ok-push-2.ensures.items
+    (IsVisited-next runs HasKey (ways old.trail) new told next.node c.args.from.number c.in_ok-text.text next.moves.items c.as_slice-bytes.result.now added c.requires.next.0 (subst (g.O.Orders.has_key orders next.node) (sym c.as_slice-bytes.ensures.value) c.in_ok-key.ensures) at)
     (IsPending-next runs (ways old.trail) new told p c.args.from.number next.moves.items added c.requires.next.0 c.len-number.ensures at)
 
 pub returns-clause-grows : goal.returns-clause-grows

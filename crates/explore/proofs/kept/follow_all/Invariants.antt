@@ -11,9 +11,9 @@ invariant-loop-next g l =
     let runs = g.O.Orders.runs l.orders in
     let way = get_or (ways l.fn.kept.trail) l.from.number [] in
     record {
-      kept : AreKept runs (g.O.Orders.key_of l.orders) l.kept;
+      kept : AreKept runs (g.O.Orders.has_key l.orders) l.kept;
       grows : Grows l.fn.kept l.kept;
-      room : length (ways l.kept.trail) ≤ l.most;
+      room : length (ways l.kept.trail) ≤ l.scope.bounds.nodes;
       left : All (IsNext runs way) l.left.items;
       done : (did : List (Next g.row.O-Node.Denot g.row.O-Move.Denot)) × (l.fn.successors.items ≡ l.left.items ++ did)
           × (IsTrue l.all → All (λ next. Leads runs (ways l.kept.trail) (way ++ next.moves.items)) did);

@@ -30,11 +30,11 @@ loop-at-init g c =
 
 pub turn-requires-clause-kept : goal.turn-requires-clause-kept
 turn-requires-clause-kept g c =
-    (AreKept-pop (g.O.Orders.runs c.args.orders.now) (g.O.Orders.key_of c.args.orders.now) c.loop-at.kept (record { trail = c.loop-at.kept.trail; texts = c.loop-at.kept.texts; visited = c.loop-at.kept.visited; pending = c.pop.new.self }) c.in-Some.at c.loop-at.invariant.kept refl refl refl c.in-Some.ensures.items).0
+    (AreKept-pop (g.O.Orders.runs c.args.orders.now) (g.O.Orders.has_key c.args.orders.now) c.loop-at.kept (record { trail = c.loop-at.kept.trail; texts = c.loop-at.kept.texts; visited = c.loop-at.kept.visited; pending = c.pop.new.self; key = c.loop-at.kept.key }) c.in-Some.at c.loop-at.invariant.kept refl refl refl c.in-Some.ensures.items).0
 
 pub turn-requires-clause-at : goal.turn-requires-clause-at
 turn-requires-clause-at g c =
-    (AreKept-pop (g.O.Orders.runs c.args.orders.now) (g.O.Orders.key_of c.args.orders.now) c.loop-at.kept (record { trail = c.loop-at.kept.trail; texts = c.loop-at.kept.texts; visited = c.loop-at.kept.visited; pending = c.pop.new.self }) c.in-Some.at c.loop-at.invariant.kept refl refl refl c.in-Some.ensures.items).1
+    (AreKept-pop (g.O.Orders.runs c.args.orders.now) (g.O.Orders.has_key c.args.orders.now) c.loop-at.kept (record { trail = c.loop-at.kept.trail; texts = c.loop-at.kept.texts; visited = c.loop-at.kept.visited; pending = c.pop.new.self; key = c.loop-at.kept.key }) c.in-Some.at c.loop-at.invariant.kept refl refl refl c.in-Some.ensures.items).1
 
 pub loop-at-preserved : goal.loop-at-preserved
 loop-at-preserved g c =
@@ -49,12 +49,12 @@ loop-at-preserved g c =
       some = omega (arith, before.some, longer);
       starts = get_or-extends old new 0 [] more before.some ∙ before.starts;
       room = c.in_ok-whole.ensures.room;
-      few = subst (λ n. n ≤ c.args.bounds.nodes) (sym c.len.ensures) before.room;
+      few = subst (λ n. n ≤ c.args.scope.bounds.nodes) (sym c.len-reached.ensures) before.room;
       sound = c.in_ok-whole.ensures.sound;
       distinct = c.in_ok-whole.ensures.distinct;
       followed = λ all k less.
           let both = both_true c.loop-at.covered c.in_ok-whole.whole all in
-          known_more runs c.loop-at.kept (record { trail = c.loop-at.kept.trail; texts = c.loop-at.kept.texts; visited = c.loop-at.kept.visited; pending = c.pop.new.self }) c.turn.new.kept c.in-Some.at c.loop-at.shown.items c.turn.new.shown.items k refl c.in-Some.ensures.items
+          known_more runs c.loop-at.kept (record { trail = c.loop-at.kept.trail; texts = c.loop-at.kept.texts; visited = c.loop-at.kept.visited; pending = c.pop.new.self; key = c.loop-at.kept.key }) c.turn.new.kept c.in-Some.at c.loop-at.shown.items c.turn.new.shown.items k refl c.in-Some.ensures.items
           c.in_ok-whole.ensures.grows c.in_ok-whole.ensures.shown (c.in_ok-whole.ensures.followed both.1) (before.followed both.0) less;
     }
 

@@ -10,15 +10,15 @@ invariant-loop-at g l =
     let runs = g.O.Orders.runs l.orders in
     let reached = ways l.kept.trail in
     record {
-      kept : AreKept runs (g.O.Orders.key_of l.orders) l.kept;
+      kept : AreKept runs (g.O.Orders.has_key l.orders) l.kept;
       some : 0 < length reached;
       starts : get_or reached 0 [] ≡ [];
-      room : length reached ≤ l.bounds.nodes;
-      few : l.nodes ≤ l.bounds.nodes;
+      room : length reached ≤ l.scope.bounds.nodes;
+      few : l.nodes ≤ l.scope.bounds.nodes;
       sound : All (IsOfRun runs) l.shown.items;
       distinct : AllPairs AreDistinct l.shown.items;
       followed : IsTrue l.covered → (k : ℕ) → k < length reached → Any (λ p. p.place.number ≡ k) l.kept.pending.items ⊎ IsFollowed runs (IsShown l.shown.items) (Serves runs) reached (get_or reached k []);
     }
 
 abbrev pub decreases-loop-at : goal.decreases-loop-at
-decreases-loop-at g l = 2 * (l.bounds.nodes - length (ways l.kept.trail)) + length l.kept.pending.items
+decreases-loop-at g l = 2 * (l.scope.bounds.nodes - length (ways l.kept.trail)) + length l.kept.pending.items

@@ -7,5 +7,5 @@ use Rattle.explore.proofs.visited.is_visit.Goals as goal
 
 pub returns-then-other-text : goal.returns-then-other-text
 returns-then-other-text c same =
-    there_at (pieces c.args.visits.now) c.args.number c.args.text c.piece-other.result.0 c.args.key.now c.piece-other.result.1.now c.piece-other.ensures c.if-other-text.true
+    there_at (pieces c.args.visits.now) _ c.args.text c.piece-other.result.0 c.args.key.now c.piece-other.result.1.now c.piece-other.ensures c.if-other-text.true
     ((bytes_eq-Decides c.piece-other.result.1.now c.args.key.now).0 (sym c.eq.ensures ∙ same))

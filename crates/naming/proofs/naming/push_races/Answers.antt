@@ -4,7 +4,7 @@ use Rattle.naming.proofs.naming.push_races.Goals.{in-Some, in-None}
 use Rattle.naming.proofs.naming.push_races.Goals as goal
 
 pub returns : goal.returns
-returns c =
+returns g c =
     let names = c.args.names.now in
     let found = c.find_races-found in
     elim c.match-names.branch [

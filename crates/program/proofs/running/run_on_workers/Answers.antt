@@ -33,3 +33,10 @@ returns-in_err-save-clause-unsaved g c =
     let end = g.F.Files.made c.save.new.files in
     if_err _ c.from_residual-in_err-save.result
     (λ f other. kept_on start begun end (kept_on start read begun c.in_ok-design.ensures.kept c.in_ok-begun.ensures.kept) c.in_err-save.ensures.unsaved)
+
+pub returns-in_err-closed-clause-unsaved : goal.returns-in_err-closed-clause-unsaved
+returns-in_err-closed-clause-unsaved g c =
+    let start = g.F.Files.made c.args.files.now in
+    let read = g.F.Files.made c.design_of.new.files in
+    let begun = g.F.Files.made c.begin.new.files in
+    if_err _ c.from_residual-in_err-closed.result (λ f other. kept_on start read begun c.in_ok-design.ensures.kept c.in_ok-begun.ensures.kept)

@@ -5,7 +5,7 @@ use Rattle.waves.specs.Dump.{vcd_text}
 use Rattle.program.proofs.waving.dump_of.Goals as goal
 
 pub returns-in-Ok-parse : goal.returns-in-Ok-parse
-returns-in-Ok-parse c =
+returns-in-Ok-parse g c =
     let wave = c.in-Ok.wave in
     let design = c.args.design.now in
     record {

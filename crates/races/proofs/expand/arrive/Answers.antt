@@ -7,10 +7,10 @@ use Rattle.races.proofs.expand.arrive.Goals as goal
 
 pub returns-clause-one : goal.returns-clause-one
 returns-clause-one c = (
-  c.in_ok-next.next,
-  c.in_ok-push.ensures.items ∙ ap (λ (l : List (Next Place Entry)). l ++ c.in_ok-next.next ∷ []) c.new-successors.ensures.items,
-  ap (λ v. v.items) c.in_ok-next.ensures.moves,
-  c.in_ok-next.ensures.printed,
-  c.in_ok-next.ensures.ready,
-  c.in_ok-next.ensures.state,
+  c.next_of-next.result,
+  c.in_ok-push.ensures.items ∙ ap (λ (l : List (Next Place Entry)). l ++ c.next_of-next.result ∷ []) c.new-successors.ensures.items,
+  ap (λ v. v.items) c.next_of-next.ensures.moves,
+  c.next_of-next.ensures.printed,
+  c.next_of-next.ensures.ready,
+  c.next_of-next.ensures.state,
 )

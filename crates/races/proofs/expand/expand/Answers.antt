@@ -26,65 +26,65 @@ pub branch-alloc-requires-clause-goes_on : goal.branch-alloc-requires-clause-goe
 branch-alloc-requires-clause-goes_on c =
     let moves = c.in_ok-moves.moves in
     let none : length moves.items ≡ 0 = empty_is_none moves c.is_empty.result c.is_empty.ensures c.if-is_empty.true in
-    let there = walked_nowhere c.args.limits (state_at c.deref_mut.result.now) c.walk_on.new.machine moves.items c.in_ok-moves.ensures.walked (no_elements moves.items none) in
+    let there = walked_nowhere c.args.limits (state_at c.deref_mut.result.now) c.walk_with.new.machine moves.items c.in_ok-moves.ensures.walked (no_elements moves.items none) in
     let on = subst (λ (p : Position). GoesOn c.args.limits (state_at p)) (c.deref.ensures ∙ sym c.deref_mut.ensures.value) c.in-None.ensures.goes_on in
-    subst (GoesOn c.args.limits) (sym (ap state_at c.deref-then-is_empty.ensures ∙ there.0)) on
+    subst (GoesOn c.args.limits) (sym there.0) on
 
 pub branch-alloc-requires-clause-silent : goal.branch-alloc-requires-clause-silent
 branch-alloc-requires-clause-silent c =
     let moves = c.in_ok-moves.moves in
     let none : length moves.items ≡ 0 = empty_is_none moves c.is_empty.result c.is_empty.ensures c.if-is_empty.true in
-    let there = walked_nowhere c.args.limits (state_at c.deref_mut.result.now) c.walk_on.new.machine moves.items c.in_ok-moves.ensures.walked (no_elements moves.items none) in
-    ap (λ (p : Position). p.lines) c.deref-then-is_empty.ensures ∙ there.1
+    let there = walked_nowhere c.args.limits (state_at c.deref_mut.result.now) c.walk_with.new.machine moves.items c.in_ok-moves.ensures.walked (no_elements moves.items none) in
+    there.1
 
 pub returns-then-is_empty-clause-next : goal.returns-then-is_empty-clause-next
 returns-then-is_empty-clause-next c =
     let m = c.args.machine.value in
-    let new = c.deref-then-is_empty.result.now in
+    let new = c.walk_with.new.machine in
     let moves = c.in_ok-moves.moves in
     let none : length moves.items ≡ 0 = empty_is_none moves c.is_empty.result c.is_empty.ensures c.if-is_empty.true in
-    let there = walked_nowhere c.args.limits (state_at c.deref_mut.result.now) c.walk_on.new.machine moves.items c.in_ok-moves.ensures.walked (no_elements moves.items none) in
-    let code : new.code ≡ m.code = ap (λ (p : Position). p.code) c.deref-then-is_empty.ensures ∙ (c.walk_on.ensures.code ∙ ap (λ (p : Position). p.code) c.deref_mut.ensures.value) in
-    let state : state_at new ≡ state_at m = ap state_at c.deref-then-is_empty.ensures ∙ (there.0 ∙ ap state_at c.deref_mut.ensures.value) in
+    let there = walked_nowhere c.args.limits (state_at c.deref_mut.result.now) c.walk_with.new.machine moves.items c.in_ok-moves.ensures.walked (no_elements moves.items none) in
+    let code : new.code ≡ m.code = c.walk_with.ensures.code ∙ ap (λ (p : Position). p.code) c.deref_mut.ensures.value in
+    let state : state_at new ≡ state_at m = there.0 ∙ ap state_at c.deref_mut.ensures.value in
     IfOk-weaker c.branch-alloc.result _ _ (λ x on. branched_next m.code new.code c.args.limits (state_at m) (state_at new) x.successors.items code state on) c.branch-alloc.ensures.next
 
 pub returns-then-is_empty-clause-sound : goal.returns-then-is_empty-clause-sound
 returns-then-is_empty-clause-sound c =
     let m = c.args.machine.value in
-    let new = c.deref-then-is_empty.result.now in
+    let new = c.walk_with.new.machine in
     let moves = c.in_ok-moves.moves in
     let none : length moves.items ≡ 0 = empty_is_none moves c.is_empty.result c.is_empty.ensures c.if-is_empty.true in
-    let there = walked_nowhere c.args.limits (state_at c.deref_mut.result.now) c.walk_on.new.machine moves.items c.in_ok-moves.ensures.walked (no_elements moves.items none) in
-    let code : new.code ≡ m.code = ap (λ (p : Position). p.code) c.deref-then-is_empty.ensures ∙ (c.walk_on.ensures.code ∙ ap (λ (p : Position). p.code) c.deref_mut.ensures.value) in
-    let state : state_at new ≡ state_at m = ap state_at c.deref-then-is_empty.ensures ∙ (there.0 ∙ ap state_at c.deref_mut.ensures.value) in
+    let there = walked_nowhere c.args.limits (state_at c.deref_mut.result.now) c.walk_with.new.machine moves.items c.in_ok-moves.ensures.walked (no_elements moves.items none) in
+    let code : new.code ≡ m.code = c.walk_with.ensures.code ∙ ap (λ (p : Position). p.code) c.deref_mut.ensures.value in
+    let state : state_at new ≡ state_at m = there.0 ∙ ap state_at c.deref_mut.ensures.value in
     IfOk-weaker c.branch-alloc.result _ _ (λ x to. branched_sound m.code new.code c.args.limits (state_at m) (state_at new) x.ended.items code state to) c.branch-alloc.ensures.sound
 
 pub returns-then-is_empty-clause-all : goal.returns-then-is_empty-clause-all
 returns-then-is_empty-clause-all c =
     let m = c.args.machine.value in
-    let new = c.deref-then-is_empty.result.now in
+    let new = c.walk_with.new.machine in
     let moves = c.in_ok-moves.moves in
     let none : length moves.items ≡ 0 = empty_is_none moves c.is_empty.result c.is_empty.ensures c.if-is_empty.true in
-    let there = walked_nowhere c.args.limits (state_at c.deref_mut.result.now) c.walk_on.new.machine moves.items c.in_ok-moves.ensures.walked (no_elements moves.items none) in
-    let code : new.code ≡ m.code = ap (λ (p : Position). p.code) c.deref-then-is_empty.ensures ∙ (c.walk_on.ensures.code ∙ ap (λ (p : Position). p.code) c.deref_mut.ensures.value) in
-    let state : state_at new ≡ state_at m = ap state_at c.deref-then-is_empty.ensures ∙ (there.0 ∙ ap state_at c.deref_mut.ensures.value) in
+    let there = walked_nowhere c.args.limits (state_at c.deref_mut.result.now) c.walk_with.new.machine moves.items c.in_ok-moves.ensures.walked (no_elements moves.items none) in
+    let code : new.code ≡ m.code = c.walk_with.ensures.code ∙ ap (λ (p : Position). p.code) c.deref_mut.ensures.value in
+    let state : state_at new ≡ state_at m = there.0 ∙ ap state_at c.deref_mut.ensures.value in
     IfOk-weaker c.branch-alloc.result _ _ (λ x all whole. branched_all m.code new.code c.args.limits (state_at m) (state_at new) x.successors.items x.ended.items code state (all whole)) c.branch-alloc.ensures.all
 
 pub returns-clause-next : goal.returns-clause-next
 returns-clause-next c =
     let m = c.args.machine.value in
-    let new = c.walk_on.new.machine in
+    let new = c.walk_with.new.machine in
     let moves = c.in_ok-moves.moves in
     let walked = subst (λ (p : Position). HasWalked c.args.limits (state_at p) new moves.items) c.deref_mut.ensures.value c.in_ok-moves.ensures.walked in
-    let code : new.code ≡ m.code = c.walk_on.ensures.code ∙ ap (λ (p : Position). p.code) c.deref_mut.ensures.value in
+    let code : new.code ≡ m.code = c.walk_with.ensures.code ∙ ap (λ (p : Position). p.code) c.deref_mut.ensures.value in
     IfOk-weaker c.arrive.result _ _ (λ x one. arrived_next m.code c.args.limits (state_at m) new moves.items x.successors.items code walked one) c.arrive.ensures.one
 
 pub returns-clause-all : goal.returns-clause-all
 returns-clause-all c =
     let m = c.args.machine.value in
-    let new = c.walk_on.new.machine in
+    let new = c.walk_with.new.machine in
     let moves = c.in_ok-moves.moves in
     let some : 0 < length moves.items = not_empty_is_some moves c.is_empty.result c.is_empty.ensures c.if-is_empty.false in
     let walked = subst (λ (p : Position). HasWalked c.args.limits (state_at p) new moves.items) c.deref_mut.ensures.value c.in_ok-moves.ensures.walked in
-    let code : new.code ≡ m.code = c.walk_on.ensures.code ∙ ap (λ (p : Position). p.code) c.deref_mut.ensures.value in
+    let code : new.code ≡ m.code = c.walk_with.ensures.code ∙ ap (λ (p : Position). p.code) c.deref_mut.ensures.value in
     IfOk-weaker c.arrive.result _ _ (λ x one whole. arrived_all m.code c.args.limits (state_at m) new moves.items x.successors.items x.ended.items code walked some one) c.arrive.ensures.one

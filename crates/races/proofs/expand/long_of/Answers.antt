@@ -7,8 +7,8 @@ use Rattle.races.proofs.expand.long_of.Goals as goal
 pub returns-clause-long : goal.returns-clause-long
 returns-clause-long c =
     record {
-      process = c.process_of.result;
-      is_long = turn_is_long c.args.machine.now.code (state_at c.args.machine.now) c.args.entry c.process_of.result c.requires.permitted c.requires.stuck c.process_of.ensures;
+      process = c.process_of-process.result;
+      is_long = turn_is_long c.args.machine.now.code (state_at c.args.machine.now) c.args.entry c.process_of-process.result c.requires.permitted c.in_ok-tell_long.ensures c.process_of-process.ensures;
       silent = c.new.ensures.items;
       end_is = refl;
     }

@@ -1,21 +1,38 @@
 -- The step that a machine took, or why it took none.
-use Rattle.std.proofs.Common.{ap, ◌∙◌, subst}
-use Rattle.regions.specs.Machine.{Position, state_at, IsNotTaken}
-use Rattle.races.proofs.Ways.{taken_is_way, long_is_way}
+use Rattle.std.proofs.Common.{◌≡◌, ◌<◌, None, ap, sym, ◌∙◌, subst}
+use Rattle.model.specs.Runs.{refusal}
+use Rattle.regions.specs.Machine.{Position, state_at, most_entries, IsNotTaken}
+use Rattle.races.specs.Following.{TellsLong}
+use Rattle.races.proofs.Ways.{taken_is_way, long_is_way, untaken, still_not_taken}
 use Rattle.races.proofs.expand.way_by.Goals as goal
 
 pub returns-in-Ok : goal.returns-in-Ok
 returns-in-Ok c =
-    let next = c.in_ok-next_of-in-Ok.field-0 in
-    taken_is_way c.args.limits c.args.machine.now c.deref_mut.result.now c.take.new.self c.args.entry next (c.deref_mut.ensures.value ∙ c.in_ok-copy.ensures) c.requires.silent (c.is_timely.ensures.0 c.if-not-is_timely.false)
-    c.in-Ok.ensures.code c.in-Ok.ensures.taken (ap (λ v. v.items) c.in_ok-next_of-in-Ok.ensures.moves ∙ c.in_ok-one-in-Ok.ensures)
-    c.in_ok-next_of-in-Ok.ensures.printed c.in_ok-next_of-in-Ok.ensures.ready c.in_ok-next_of-in-Ok.ensures.state
+    let next = c.next_of.result in
+    taken_is_way c.args.limits c.args.machine.value c.deref_mut.result.now c.take_with.new.machine c.args.entry next c.deref_mut.ensures.value c.requires.silent (c.is_timely.ensures.0 c.if-not-is_timely.false)
+    c.in-Ok.ensures.code c.in-Ok.ensures.taken (ap (λ v. v.items) c.next_of.ensures.moves ∙ c.in_ok-moves.ensures)
+    c.next_of.ensures.printed c.next_of.ensures.ready c.next_of.ensures.state
 
-pub tell_long-requires-clause-fault : goal.tell_long-requires-clause-fault
-tell_long-requires-clause-fault c = subst (λ (p : Position). IsNotTaken p c.args.entry c.in-Err.fault) (c.deref_mut.ensures.value ∙ c.in_ok-copy.ensures) c.in-Err.ensures.stop
+pub long_of-requires-clause-permitted : goal.long_of-requires-clause-permitted
+long_of-requires-clause-permitted c =
+    let same = untaken c.args.machine.value c.deref_mut.result.now c.take_with.new.machine c.deref.result.now c.deref_mut.ensures.value c.in-Err.ensures.err c.deref.ensures in
+    subst (λ (p : Position). refusal (state_at p) c.args.entry ≡ None) (sym same) c.requires.permitted
+
+pub long_of-requires-clause-few : goal.long_of-requires-clause-few
+long_of-requires-clause-few c =
+    let same = untaken c.args.machine.value c.deref_mut.result.now c.take_with.new.machine c.deref.result.now c.deref_mut.ensures.value c.in-Err.ensures.err c.deref.ensures in
+    subst (λ (p : Position). p.core.entries < most_entries) (sym same) c.requires.few
+
+pub long_of-requires-clause-fault : goal.long_of-requires-clause-fault
+long_of-requires-clause-fault c =
+    let same = untaken c.args.machine.value c.deref_mut.result.now c.take_with.new.machine c.deref.result.now c.deref_mut.ensures.value c.in-Err.ensures.err c.deref.ensures in
+    still_not_taken c.args.machine.value c.deref.result.now c.take_with.new.machine c.args.entry c.in-Err.fault same
+    (subst (λ (p : Position). IsNotTaken p c.args.entry c.in-Err.fault) c.deref_mut.ensures.value c.in-Err.ensures.stop)
 
 pub returns : goal.returns
-returns c = (
-  long_is_way c.args.machine.now.code c.args.limits (state_at c.args.machine.now) c.args.entry c.long_of.result c.requires.permitted c.requires.some_entry c.long_of.ensures.long c.long_of.ensures.moves,
-  c.long_of.ensures.long,
-)
+returns c =
+    let m = c.args.machine.value in
+    let ended = c.in_ok-ended-in-Err.ended in
+    let same = untaken m c.deref_mut.result.now c.take_with.new.machine c.deref.result.now c.deref_mut.ensures.value c.in-Err.ensures.err c.deref.ensures in
+    let tells : TellsLong m.code (state_at m) c.args.entry ended = subst (λ (p : Position). TellsLong p.code (state_at p) c.args.entry ended) same c.in_ok-ended-in-Err.ensures.long in
+    (long_is_way m.code c.args.limits (state_at m) c.args.entry ended c.requires.permitted c.requires.some_entry tells c.in_ok-ended-in-Err.ensures.moves, tells)

@@ -12,14 +12,14 @@ use Rattle.races.proofs.Searches.{shown_of_run, all_of_runs}
 use Rattle.races.proofs.lawful.lawful_orders.Goals as goal
 
 pub returns-clause-sound : goal.returns-clause-sound
-returns-clause-sound c =
+returns-clause-sound g c =
     let code : Compiled = c.of-networked.result in
     let shown : List (Shown Entry End) = c.explore.result.shown.items in
     subst (λ (k : Compiled). All (λ (s : Shown Entry End). IsLawfulText (design_of k) c.args.limits s.moves.items s.text.items s.end) shown) c.of-networked.ensures
     (λ k d within. shown_of_run (Holds code) (design_of code) c.args.limits (get_or shown k d) (c.explore.ensures.sound k d within))
 
 pub returns-clause-all : goal.returns-clause-all
-returns-clause-all c covered =
+returns-clause-all g c covered =
     let code : Compiled = c.of-networked.result in
     subst (λ (k : Compiled). AreAllTexts (design_of k) c.args.limits (IsShown c.explore.result.shown.items)) c.of-networked.ensures
     (all_of_runs (Holds code) (design_of code) c.args.limits c.explore.result.shown.items (c.explore.ensures.all covered))

@@ -10,7 +10,7 @@ use Rattle.seeded.specs.Samples.{AreDistinct, WantsNoMemory}
 use Rattle.seeded.proofs.samples.sample.Goals as goal
 
 pub loop-made-preserved : goal.loop-made-preserved
-loop-made-preserved c =
+loop-made-preserved g c =
     let before = c.loop-made.invariant in
     let run : SeededRun = c.run_seeded-run.result in
     let apart = subst (λ (rs : List SeededRun). All (λ one. AreDistinct one run) rs) c.as_slice.ensures.value (c.is_kept.ensures.apart c.if-is_kept.false) in

@@ -6,7 +6,7 @@ use Rattle.seeded.specs.Samples.{AreDistinct, WantsNoMemory}
 use Rattle.seeded.proofs.samples.sample.Given as goal
 
 abbrev pub invariant-loop-made : goal.invariant-loop-made
-invariant-loop-made l = record {
+invariant-loop-made g l = record {
   runs : All (IsRun l.design l.limits) l.kept.items;
   distinct : AllPairs AreDistinct l.kept.items;
   ended : All WantsNoMemory l.kept.items;

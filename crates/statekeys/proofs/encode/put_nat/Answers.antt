@@ -1,14 +1,8 @@
-use Rattle.std.proofs.Common.{◌++◌, ◌/◌, ap, sym, ◌∙◌}
-use Rattle.statekeys.specs.Codes.{nat_code}
-use Rattle.statekeys.proofs.Numbers.{nat_code-low, nat_code_more}
+-- One digit alone.
+use Rattle.std.proofs.Common.{◌++◌, ap, sym, ◌∙◌}
+use Rattle.statekeys.proofs.Numbers.{nat_code-low}
 use Rattle.statekeys.proofs.encode.put_nat.Goals as goal
 
-pub loop-left-preserved : goal.loop-left-preserved
-loop-left-preserved c =
-    ap (λ bs. bs ++ nat_code (c.loop-left.left / 128)) c.in_ok-push.ensures.items
-    ∙ nat_code_more _ c.loop-left.left c.loop-left-test.true ∙ c.loop-left.invariant
-
-pub returns : goal.returns
-returns c =
-    c.in_ok-push-2.ensures.items ∙ ap (λ bs. c.loop-left.bytes.items ++ bs) (sym (nat_code-low c.loop-left.left c.loop-left-test.false))
-    ∙ c.loop-left.invariant
+pub returns-then-number-lt128 : goal.returns-then-number-lt128
+returns-then-number-lt128 c =
+    c.in_ok-push.ensures.items ∙ ap (λ bs. c.args.bytes.now.items ++ bs) (sym (nat_code-low c.args.number c.if-number-lt128.true))

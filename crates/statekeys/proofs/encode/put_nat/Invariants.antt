@@ -1,9 +1,0 @@
-use Rattle.std.proofs.Common.{◌≡◌, ◌++◌}
-use Rattle.statekeys.specs.Codes.{nat_code}
-use Rattle.statekeys.proofs.encode.put_nat.Given as goal
-
-abbrev pub invariant-loop-left : goal.invariant-loop-left
-invariant-loop-left l = l.bytes.items ++ nat_code l.left ≡ l.initial.bytes.items ++ nat_code l.initial.left
-
-abbrev pub decreases-loop-left : goal.decreases-loop-left
-decreases-loop-left l = l.left

@@ -1,0 +1,265 @@
+//! The lawful orders of small designs, searched: texts that are derived by hand from the orders which each source permits, what
+//! is shown at a bound, and searches in too little memory.
+
+use super::compare::assert_length;
+use super::held::design_of;
+use crate::claims::{fail, holds};
+use design::Design;
+use explore::{Bounds, Explored, Shown};
+use hoard::Hoard;
+use model::end::{End, Limits};
+use model::entry::Entry;
+use progress::Untold;
+use races::lawful_orders;
+use std::alloc::Global;
+use std::process::Abort;
+
+/// How much more memory a search gets each time, and how often at most.
+const STEP: usize = 96;
+
+const ROOMS: usize = 1024;
+
+/// The bytes of a piece of memory.
+const PIECE: usize = 64 << 10;
+
+/// Two processes that give one register a value, and one that shows it when both have: the value of the later one.
+const RACE: &[u8] =
+    b"module t; reg a; initial a=1'b0; initial a=1'b1; initial #1 $display(\"%b\",a); endmodule";
+
+/// Two processes at one clock that take each other's value: no order of theirs shows.
+const CLOCKED: &[u8] =
+    b"module t; reg clk; reg [7:0] q0, q1; initial #1 clk=1'b0; always #5 clk=~clk; initial q0=8'd1; initial q1=8'd2; always @(posedge clk) q0<=q0+q1; always @(posedge clk) q1<=q1+q0; always @(negedge clk) $display(\"%0d %0d\",q0,q1); endmodule";
+
+/// The same where the clock's first edge races with the first values, and with the process that waits for it.
+const AT_ONCE: &[u8] =
+    b"module t; reg clk; reg [7:0] q0, q1; initial clk=1'b0; always #5 clk=~clk; initial q0=8'd1; initial q1=8'd2; always @(posedge clk) q0<=q0+q1; always @(posedge clk) q1<=q1+q0; always @(negedge clk) $display(\"%0d %0d\",q0,q1); endmodule";
+
+/// Two processes at one clock that show a line each.
+const PRINTS: &[u8] =
+    b"module t; reg clk; initial clk=1'b0; always #5 clk=~clk; always @(posedge clk) $display(\"a\"); always @(posedge clk) $display(\"b\"); endmodule";
+
+/// Three processes that show a line each, two of them the same one.
+const SAME: &[u8] =
+    b"module t; initial $display(\"a\"); initial $display(\"b\"); initial $display(\"b\"); endmodule";
+
+/// A register goes up and down by turns, until another process looks while it is up: there are endless many orders, of which each
+/// that ends shows the same.
+const CYCLE: &[u8] =
+    b"module t; reg a; initial a=1'b0; always #0 a=~a; always begin #0 ; if (a) begin $display(\"x\"); $finish; end end endmodule";
+
+/// A process that shows a line again and again at one time.
+const ENDLESS: &[u8] = b"module t; always #0 $display(\"a\"); endmodule";
+
+/// One order, of 40,001 entries.
+const LONG: &[u8] =
+    b"module t; reg [15:0] n; initial begin n=16'd0; while (n<16'd20000) begin #1 n=n+16'd1; end $display(\"%0d\",n); end endmodule";
+
+/// A search: of which design, up to which time, at which bounds. Then the texts of the design's runs, how many of them are shown,
+/// and whether they are all.
+#[derive(Clone, Copy)]
+struct Row<'a> {
+    source: &'a [u8],
+    until: u64,
+    entries: u32,
+    bounds: Bounds,
+    texts: &'a [&'a str],
+    shown: usize,
+    covered: bool,
+}
+
+/// With room for all.
+const PLAIN: Row<'static> = Row {
+    source: RACE,
+    until: 8,
+    entries: 100,
+    bounds: Bounds {
+        nodes: 10_000,
+        shown: 100,
+    },
+    texts: &["0\n", "1\n"],
+    shown: 2,
+    covered: true,
+};
+
+const ROWS: &[Row<'static>] = &[
+    PLAIN,
+    Row {
+        source: CLOCKED,
+        until: 20,
+        texts: &["1 2\n3 3\n6 6\n"],
+        shown: 1,
+        ..PLAIN
+    },
+    Row {
+        source: AT_ONCE,
+        until: 10,
+        texts: &[
+            "3 3\n",
+            "x x\n3 3\n",
+            "1 x\n3 3\n",
+            "x 2\n3 3\n",
+            "1 2\n3 3\n",
+        ],
+        shown: 5,
+        ..PLAIN
+    },
+    Row {
+        source: PRINTS,
+        until: 15,
+        texts: &[
+            "a\nb\na\nb\n",
+            "a\nb\nb\na\n",
+            "b\na\na\nb\n",
+            "b\na\nb\na\n",
+        ],
+        shown: 4,
+        ..PLAIN
+    },
+    Row {
+        source: SAME,
+        texts: &["a\nb\nb\n", "b\na\nb\n", "b\nb\na\n"],
+        shown: 3,
+        ..PLAIN
+    },
+    Row {
+        source: CYCLE,
+        texts: &["x\n"],
+        shown: 1,
+        ..PLAIN
+    },
+    Row {
+        source: ENDLESS,
+        texts: &[],
+        shown: 0,
+        covered: false,
+        ..PLAIN
+    },
+    Row {
+        source: LONG,
+        until: 20_000,
+        entries: 100_000,
+        texts: &["20000\n"],
+        shown: 1,
+        ..PLAIN
+    },
+    // the most texts
+    Row {
+        bounds: Bounds {
+            nodes: 10_000,
+            shown: 1,
+        },
+        shown: 1,
+        covered: false,
+        ..PLAIN
+    },
+    // the first node alone, behind which two orders differ
+    Row {
+        bounds: Bounds {
+            nodes: 1,
+            shown: 100,
+        },
+        shown: 0,
+        covered: false,
+        ..PLAIN
+    },
+    // fewer entries than a run has
+    Row {
+        entries: 3,
+        shown: 0,
+        covered: false,
+        ..PLAIN
+    },
+];
+
+// A text is one of these.
+fn is_among(text: &[u8], texts: &[&str]) -> bool {
+    for wanted in texts {
+        if text == wanted.as_bytes() {
+            return true;
+        }
+    }
+    false
+}
+
+// Each text that is shown is one of these. No two are the same: that is proved.
+fn assert_texts(rt: &impl Abort, shown: &[Shown<Entry, End>], texts: &[&str]) {
+    for one in shown {
+        holds(rt, is_among(&one.text, texts), "another text");
+    }
+}
+
+// What a search of a row's design finds.
+fn found_of(
+    rt: &impl Abort,
+    alloc: Global,
+    design: &Design,
+    row: &Row<'_>,
+) -> Explored<Entry, End> {
+    holds(rt, row.until <= 281_474_976_710_656, "a time");
+    holds(rt, row.entries > 0, "an entry");
+    holds(rt, row.bounds.nodes > 0, "a node");
+    let limits = Limits {
+        until: Some(row.until),
+        max_entries: row.entries,
+    };
+    lawful_orders(alloc, design, limits, row.bounds, &Untold)
+}
+
+// So many texts are shown, which are of the row's, and they are all or not.
+fn assert_found(rt: &impl Abort, found: &Explored<Entry, End>, row: &Row<'_>) {
+    assert_length(rt, found.shown.len(), row.shown);
+    assert_texts(rt, &found.shown, row.texts);
+    holds(rt, found.covered == row.covered, "all of them");
+}
+
+// What a row says.
+fn assert_row(rt: &impl Abort, alloc: Global, row: &Row<'_>) {
+    let design = design_of(rt, alloc, row.source);
+    let found = found_of(rt, alloc, &design, row);
+    assert_found(rt, &found, row);
+}
+
+#[test]
+fn texts_of_lawful_orders_are_shown(rt: HostRuntime) {
+    for row in ROWS {
+        assert_row(&rt, rt.alloc(), row);
+    }
+}
+
+// What a search in so much memory shows: how many texts, and whether they are all.
+fn found_in(
+    rt: &impl Abort,
+    alloc: Global,
+    hoard: &mut Hoard,
+    design: &Design,
+    count: usize,
+) -> (usize, bool) {
+    let is_left = hoard.leave(count.saturating_mul(STEP));
+    holds(rt, is_left, "a piece of memory");
+    let found = found_of(rt, alloc, design, &PLAIN);
+    assert_texts(rt, &found.shown, PLAIN.texts);
+    (found.shown.len(), found.covered)
+}
+
+// A search gets more and more memory. Where some is refused, what was found is shown, and isn't all.
+fn assert_refused(rt: &impl Abort, alloc: Global, design: &Design) {
+    let mut hoard = Hoard::new(alloc, ROOMS, PIECE).expect(rt, "memory");
+    let mut most = 0;
+    for count in 0..ROOMS {
+        let (shown, covered) = found_in(rt, alloc, &mut hoard, design, count);
+        hoard.shut();
+        if covered {
+            holds(rt, most > 0, "no text in too little memory");
+            assert_length(rt, shown, 2);
+            return;
+        }
+        most = most.max(shown);
+    }
+    fail(rt, "never all");
+}
+
+#[test]
+fn what_was_found_is_shown_where_memory_is_refused(rt: HostRuntime) {
+    let design = design_of(&rt, rt.alloc(), RACE);
+    assert_refused(&rt, rt.alloc(), &design);
+}
