@@ -28,11 +28,10 @@ TESTS = {
         "runs::replays::a_failed_write_is_told",
     ],
     "tests_concurrent": [
-        # a gate's opening, commit, too_long, commit_held, update, rest, stop, snapshot and close
+        # a gate's opening, commit, too_long, commit_held, update, update_all, rest, stop, snapshot and close; turns that are committed
+        # at once, a test in the gate refuses memory to
         "examples::each_call_answers_as_it_stands",
         "examples::a_stop_after_any_entry_leaves_what_was_committed",
-        # update_all; turns that are committed at once, a test in the gate refuses memory to
-        "updates::updates_are_made_in_order_up_to_one_that_wakes_a_process",
         # drive, beside replay: a swap, a glitch, two writers and two copies among others
         "driven::worked::leads_along_a_lawful_journal",
         "driven::worked::names_the_first_entry_that_is_not_lawful",

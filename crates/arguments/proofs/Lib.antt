@@ -2,3 +2,4 @@
 pub mod GivenLemmas
 pub mod WordLemmas
 pub mod SecondWord
+pub mod TaskLemmas

@@ -14,55 +14,7 @@ use Rattle.clap.specs.declared.parser.matches.ArgMatches.{ArgMatches}
 use Rattle.arguments.specs.declared.request.Refusal.{Refusal}
 use Rattle.arguments.specs.declared.request.Refusal.TheVariants as refusal
 use Rattle.arguments.specs.Arguments.{IsGiven}
-use Rattle.arguments.specs.Words.{number_given, AsksNoTask, Begins, FailsAs, IsRefusal, IsRefusalBy, MayFail, of_run, of_two_orders, of_replay, of_races, of_check, of_explain, of_waves, of_others, has_two_orders, other_faults, check_app, check_faults, check_rows, explain_app, explain_faults, explain_rows, races_app, races_faults, races_rows, replay_app, replay_faults, replay_rows, run_app, run_faults, run_rows, waves_app, waves_faults, waves_rows, whole_app}
-
-run_is_simple : is_simple run_app ≡ true
-unfolding run_app
-run_is_simple = refl
-
-replay_is_simple : is_simple replay_app ≡ true
-unfolding replay_app
-replay_is_simple = refl
-
-races_is_simple : is_simple races_app ≡ true
-unfolding races_app
-races_is_simple = refl
-
-check_is_simple : is_simple check_app ≡ true
-unfolding check_app
-check_is_simple = refl
-
-explain_is_simple : is_simple explain_app ≡ true
-unfolding explain_app
-explain_is_simple = refl
-
-waves_is_simple : is_simple waves_app ≡ true
-unfolding waves_app
-waves_is_simple = refl
-
-run_is_free : is_simple_and_free run_app ≡ true
-unfolding run_app
-run_is_free = refl
-
-replay_is_free : is_simple_and_free replay_app ≡ true
-unfolding replay_app
-replay_is_free = refl
-
-races_is_free : is_simple_and_free races_app ≡ true
-unfolding races_app
-races_is_free = refl
-
-check_is_free : is_simple_and_free check_app ≡ true
-unfolding check_app
-check_is_free = refl
-
-explain_is_free : is_simple_and_free explain_app ≡ true
-unfolding explain_app
-explain_is_free = refl
-
-waves_is_free : is_simple_and_free waves_app ≡ true
-unfolding waves_app
-waves_is_free = refl
+use Rattle.arguments.specs.Words.{number_given, AsksNoTask, Begins, FailsAs, IsRefusal, IsRefusalBy, MayFail, of_run, of_two_orders, of_replay, of_races, of_check, of_explain, of_waves, of_others, has_two_orders, other_faults, check_app, check_faults, explain_app, explain_faults, races_app, races_faults, replay_app, replay_faults, run_app, run_faults, run_rows, waves_app, waves_faults, whole_app}
 
 whole_is_free : is_simple_and_free whole_app ≡ true
 unfolding whole_app run_app replay_app races_app check_app explain_app waves_app
@@ -70,70 +22,16 @@ whole_is_free = refl
 
 -- what a parse found
 
-found_by : (known app : App) (words : List Text) (m : ArgMatches) → is_simple known ≡ true → app ≡ known → HasMatchesOf app words m
+pub found_by : (known app : App) (words : List Text) (m : ArgMatches) → is_simple known ≡ true → app ≡ known → HasMatchesOf app words m
     → rows_of (found_of m) ≡ matches_of known words
 found_by known app words m simple e h = (h (ap is_simple e ∙ simple)).0 ∙ ap (λ (a : App). matches_of a words) e
 
-pub run_found : (app : App) (words : List Text) (m : ArgMatches) → app ≡ run_app → HasMatchesOf app words m → rows_of (found_of m) ≡ run_rows words
-unfolding run_rows
-run_found app words m e h = found_by run_app app words m run_is_simple e h
-
-pub replay_found : (app : App) (words : List Text) (m : ArgMatches) → app ≡ replay_app → HasMatchesOf app words m → rows_of (found_of m) ≡ replay_rows words
-unfolding replay_rows
-replay_found app words m e h = found_by replay_app app words m replay_is_simple e h
-
-pub races_found : (app : App) (words : List Text) (m : ArgMatches) → app ≡ races_app → HasMatchesOf app words m → rows_of (found_of m) ≡ races_rows words
-unfolding races_rows
-races_found app words m e h = found_by races_app app words m races_is_simple e h
-
-pub check_found : (app : App) (words : List Text) (m : ArgMatches) → app ≡ check_app → HasMatchesOf app words m → rows_of (found_of m) ≡ check_rows words
-unfolding check_rows
-check_found app words m e h = found_by check_app app words m check_is_simple e h
-
-pub explain_found : (app : App) (words : List Text) (m : ArgMatches) → app ≡ explain_app → HasMatchesOf app words m → rows_of (found_of m) ≡ explain_rows words
-unfolding explain_rows
-explain_found app words m e h = found_by explain_app app words m explain_is_simple e h
-
-pub waves_found : (app : App) (words : List Text) (m : ArgMatches) → app ≡ waves_app → HasMatchesOf app words m → rows_of (found_of m) ≡ waves_rows words
-unfolding waves_rows
-waves_found app words m e h = found_by waves_app app words m waves_is_simple e h
-
 -- how it failed
 
-failed_by : (known app : App) (words : List Text) (r : Result ArgMatches Error) → is_simple_and_free known ≡ true → app ≡ known
+pub failed_by : (known app : App) (words : List Text) (r : Result ArgMatches Error) → is_simple_and_free known ≡ true → app ≡ known
     → (is_simple_and_free app ≡ true → FailsBy (fault_of app words) r) → IfErr r (HasKind (fault_of known words))
 failed_by known app words (Ok m) free e h = tt
 failed_by known app words (Err x) free e h = subst (λ (a : App). HasKind (fault_of a words) x) e (h (ap is_simple_and_free e ∙ free))
-
-pub run_failed : (app : App) (words : List Text) (r : Result ArgMatches Error) → app ≡ run_app
-    → (is_simple_and_free app ≡ true → FailsBy (fault_of app words) r) → IfErr r (HasKind (run_faults words))
-unfolding run_faults
-run_failed app words r e h = failed_by run_app app words r run_is_free e h
-
-pub replay_failed : (app : App) (words : List Text) (r : Result ArgMatches Error) → app ≡ replay_app
-    → (is_simple_and_free app ≡ true → FailsBy (fault_of app words) r) → IfErr r (HasKind (replay_faults words))
-unfolding replay_faults
-replay_failed app words r e h = failed_by replay_app app words r replay_is_free e h
-
-pub races_failed : (app : App) (words : List Text) (r : Result ArgMatches Error) → app ≡ races_app
-    → (is_simple_and_free app ≡ true → FailsBy (fault_of app words) r) → IfErr r (HasKind (races_faults words))
-unfolding races_faults
-races_failed app words r e h = failed_by races_app app words r races_is_free e h
-
-pub check_failed : (app : App) (words : List Text) (r : Result ArgMatches Error) → app ≡ check_app
-    → (is_simple_and_free app ≡ true → FailsBy (fault_of app words) r) → IfErr r (HasKind (check_faults words))
-unfolding check_faults
-check_failed app words r e h = failed_by check_app app words r check_is_free e h
-
-pub explain_failed : (app : App) (words : List Text) (r : Result ArgMatches Error) → app ≡ explain_app
-    → (is_simple_and_free app ≡ true → FailsBy (fault_of app words) r) → IfErr r (HasKind (explain_faults words))
-unfolding explain_faults
-explain_failed app words r e h = failed_by explain_app app words r explain_is_free e h
-
-pub waves_failed : (app : App) (words : List Text) (r : Result ArgMatches Error) → app ≡ waves_app
-    → (is_simple_and_free app ≡ true → FailsBy (fault_of app words) r) → IfErr r (HasKind (waves_faults words))
-unfolding waves_faults
-waves_failed app words r e h = failed_by waves_app app words r waves_is_free e h
 
 kind_kept : (ks next : Kinds) (x : Error) → HasKind ks x → HasKind (or_else ks next) x
 kind_kept [] next x (inl h) = inl h

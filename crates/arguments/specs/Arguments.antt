@@ -1,5 +1,5 @@
 -- What the commands of the program take, and what a parse of them gives.
-use Rattle.std.specs.Prelude.{◌≡◌, ◌⊎◌, ◌≤◌, ℕ, Bool, true, false, List, [], ◌∷◌, Option, Some, None, ⊤, is_some, codes, pos}
+use Rattle.std.specs.Prelude.{◌≡◌, ◌⊎◌, ◌≤◌, ℕ, Bool, true, false, List, [], ◌∷◌, map, Option, Some, None, ⊤, is_some, codes, pos}
 use Rattle.clap.specs.Facts.{least_values}
 use Rattle.clap.specs.Words.{args_of, IsPlain, IsPlainArg, Accepts, one_text, read_as, reading_of, first_value}
 use Rattle.clap.specs.declared.builder.action.ArgAction.TheVariants.{Set}
@@ -9,6 +9,10 @@ use Rattle.clap.specs.declared.builder.command.Command.TheViews.{out-Command}
 use Rattle.clap.specs.declared.builder.value_parser.ValueParser.{ValueParser}
 use Rattle.clap.specs.declared.builder.value_parser.ValueParser.TheVariants.{Signed, Unsigned}
 use Rattle.clap.specs.declared.parser.matches.Found.{Found}
+use Rattle.arguments.specs.declared.parameters.Parameter.{Parameter}
+use Rattle.arguments.specs.declared.parameters.Parameter.TheVariants as parameter
+use Rattle.arguments.specs.declared.task.Task.{Task}
+use Rattle.arguments.specs.declared.task.Task.TheVariants as task
 
 -- an argument: its id, whether it is required, and what its values have to pass
 pub record Rule : Type 0 where
@@ -61,50 +65,51 @@ entries_parser = Signed (pos 1) (pos 4294967295)
 abbrev pub seed_parser : ValueParser
 seed_parser = Unsigned 0 18446744073709551615
 
--- the arguments of `run`
-abbrev pub run_rules : List Rule
-run_rules =
-    rule (codes "FILE") true None
-    ∷ rule (codes "workers") false (Some workers_parser)
-    ∷ rule (codes "until") false (Some until_parser)
-    ∷ rule (codes "max-entries") false (Some entries_parser)
-    ∷ rule (codes "journal") false None
-    ∷ rule (codes "seed") false (Some seed_parser)
+-- what the command of a task takes
+abbrev pub parameters_of : Task → List Parameter
+parameters_of task.Run =
+    parameter.File
+    ∷ parameter.Workers
+    ∷ parameter.Until
+    ∷ parameter.MaxEntries
+    ∷ parameter.JournalTo
+    ∷ parameter.Seed
     ∷ []
-
--- the arguments of `replay`
-abbrev pub replay_rules : List Rule
-replay_rules = rule (codes "FILE") true None ∷ rule (codes "JOURNAL") true None ∷ []
-
--- the arguments of `races`
-abbrev pub races_rules : List Rule
-races_rules =
-    rule (codes "FILE") true None
-    ∷ rule (codes "until") false (Some until_parser)
-    ∷ rule (codes "max-entries") false (Some entries_parser)
-    ∷ rule (codes "max-states") false (Some entries_parser)
-    ∷ rule (codes "max-texts") false (Some entries_parser)
-    ∷ rule (codes "journals") false None
-    ∷ rule (codes "samples") false (Some entries_parser)
-    ∷ rule (codes "seed") false (Some seed_parser)
+parameters_of task.Replay = parameter.File ∷ parameter.Journal ∷ []
+parameters_of task.Races =
+    parameter.File
+    ∷ parameter.Until
+    ∷ parameter.MaxEntries
+    ∷ parameter.MaxStates
+    ∷ parameter.MaxTexts
+    ∷ parameter.JournalsTo
+    ∷ parameter.Samples
+    ∷ parameter.Seed
     ∷ []
+parameters_of task.Check = parameter.File ∷ []
+parameters_of task.Explain = parameter.File ∷ parameter.Journal ∷ parameter.From ∷ parameter.To ∷ []
+parameters_of task.Waves = parameter.File ∷ parameter.Journal ∷ parameter.Out ∷ []
 
--- the argument of `check`
-abbrev pub check_rules : List Rule
-check_rules = rule (codes "FILE") true None ∷ []
+-- the rule of a word or an option
+abbrev pub rule_for : Parameter → Rule
+rule_for parameter.File = rule (codes "FILE") true None
+rule_for parameter.Journal = rule (codes "JOURNAL") true None
+rule_for parameter.Workers = rule (codes "workers") false (Some workers_parser)
+rule_for parameter.Until = rule (codes "until") false (Some until_parser)
+rule_for parameter.MaxEntries = rule (codes "max-entries") false (Some entries_parser)
+rule_for parameter.MaxStates = rule (codes "max-states") false (Some entries_parser)
+rule_for parameter.MaxTexts = rule (codes "max-texts") false (Some entries_parser)
+rule_for parameter.Samples = rule (codes "samples") false (Some entries_parser)
+rule_for parameter.Seed = rule (codes "seed") false (Some seed_parser)
+rule_for parameter.From = rule (codes "from") false (Some entries_parser)
+rule_for parameter.To = rule (codes "to") false (Some entries_parser)
+rule_for parameter.JournalTo = rule (codes "journal") false None
+rule_for parameter.JournalsTo = rule (codes "journals") false None
+rule_for parameter.Out = rule (codes "out") true None
 
--- the arguments of `explain`
-abbrev pub explain_rules : List Rule
-explain_rules =
-    rule (codes "FILE") true None
-    ∷ rule (codes "JOURNAL") true None
-    ∷ rule (codes "from") false (Some entries_parser)
-    ∷ rule (codes "to") false (Some entries_parser)
-    ∷ []
-
--- the arguments of `waves`
-abbrev pub waves_rules : List Rule
-waves_rules = rule (codes "FILE") true None ∷ rule (codes "JOURNAL") true None ∷ rule (codes "out") true None ∷ []
+-- the rules of the command of a task
+abbrev pub rules_of : Task → List Rule
+rules_of asked = map rule_for (parameters_of asked)
 
 -- the argument has no value, or its value passed the parser
 abbrev pub IsGiven : Found → List ℕ → ValueParser → Type 0
@@ -150,3 +155,12 @@ pub record GivesWaves (f : Found) : Type 0 where
   pub file : is_some (first_value f (codes "FILE")) ≡ true
   pub journal : is_some (first_value f (codes "JOURNAL")) ≡ true
   pub out : is_some (first_value f (codes "out")) ≡ true
+
+-- what a parse of the words of a task gives
+abbrev pub Gives : Task → Found → Type 0
+Gives task.Run f = GivesRun f
+Gives task.Replay f = GivesReplay f
+Gives task.Races f = GivesRaces f
+Gives task.Check f = GivesCheck f
+Gives task.Explain f = GivesExplain f
+Gives task.Waves f = GivesWaves f

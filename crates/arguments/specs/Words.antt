@@ -19,6 +19,8 @@ use Rattle.arguments.specs.declared.request.RacesRequest.{RacesRequest}
 use Rattle.arguments.specs.declared.request.CheckRequest.{CheckRequest}
 use Rattle.arguments.specs.declared.request.ExplainRequest.{ExplainRequest}
 use Rattle.arguments.specs.declared.request.WavesRequest.{WavesRequest}
+use Rattle.arguments.specs.declared.parameters.Parameter.{Parameter}
+use Rattle.arguments.specs.declared.parameters.Parameter.TheVariants as parameter
 use Rattle.arguments.specs.declared.task.Task.{Task}
 use Rattle.arguments.specs.declared.task.Task.TheVariants as task
 use Rattle.arguments.specs.declared.extent.Extent.{Extent}
@@ -45,6 +47,28 @@ choice name parser = record (new_rule name) {
 -- an option that has to be given
 abbrev pub need : Text → Rule
 need name = record (choice name None) { required = true }
+
+-- a word or an option as clap has it
+abbrev pub argument_of : Parameter → Rule
+argument_of parameter.File = place (codes "FILE")
+argument_of parameter.Journal = place (codes "JOURNAL")
+argument_of parameter.Workers = choice (codes "workers") (Some workers_parser)
+argument_of parameter.Until = choice (codes "until") (Some until_parser)
+argument_of parameter.MaxEntries = choice (codes "max-entries") (Some entries_parser)
+argument_of parameter.MaxStates = choice (codes "max-states") (Some entries_parser)
+argument_of parameter.MaxTexts = choice (codes "max-texts") (Some entries_parser)
+argument_of parameter.Samples = choice (codes "samples") (Some entries_parser)
+argument_of parameter.Seed = choice (codes "seed") (Some seed_parser)
+argument_of parameter.From = choice (codes "from") (Some entries_parser)
+argument_of parameter.To = choice (codes "to") (Some entries_parser)
+argument_of parameter.JournalTo = choice (codes "journal") None
+argument_of parameter.JournalsTo = choice (codes "journals") None
+argument_of parameter.Out = need (codes "out")
+
+-- a command with these words and options more
+abbrev pub with_arguments : App → List Parameter → App
+with_arguments app [] = app
+with_arguments app (p ∷ ps) = with_arguments (with_rule app (argument_of p)) ps
 
 -- `run` with its words and options
 unfoldable pub run_app : App
@@ -111,7 +135,29 @@ waves_app =
     (place (codes "JOURNAL")))
     (need (codes "out"))
 
--- the program, which has a version, with the six
+-- the command of a task
+abbrev pub app_by : Task → App
+app_by task.Run = run_app
+app_by task.Replay = replay_app
+app_by task.Races = races_app
+app_by task.Check = check_app
+app_by task.Explain = explain_app
+app_by task.Waves = waves_app
+
+-- a program with the commands of these tasks more
+abbrev pub with_tasks : App → List Task → App
+with_tasks app [] = app
+with_tasks app (asked ∷ more) = with_tasks (with_subcommand app (app_by asked).top) more
+
+-- all tasks
+abbrev pub every_task : List Task
+every_task = task.Run ∷ task.Replay ∷ task.Races ∷ task.Check ∷ task.Explain ∷ task.Waves ∷ []
+
+-- the program, which has a version
+abbrev pub bare_app : App
+bare_app = on_top (λ s. record s { has_version = true; subcommand_required = true; arg_required_else_help = true }) (new_app (codes "vsimtx"))
+
+-- the program with the six
 unfoldable pub whole_app : App
 whole_app =
     with_subcommand
@@ -119,7 +165,7 @@ whole_app =
     (with_subcommand
     (with_subcommand
     (with_subcommand
-    (with_subcommand (on_top (λ s. record s { has_version = true; subcommand_required = true; arg_required_else_help = true }) (new_app (codes "vsimtx"))) run_app.top)
+    (with_subcommand bare_app run_app.top)
     replay_app.top)
     races_app.top)
     check_app.top)
@@ -150,6 +196,10 @@ explain_rows = matches_of explain_app
 unfoldable pub waves_rows : List Text → List Row
 waves_rows = matches_of waves_app
 
+-- what clap finds in the words of a task
+abbrev pub rows_by : Task → List Text → List Row
+rows_by asked = matches_of (app_by asked)
+
 -- the number that was given under a name, in decimal digits, with a plus before them or none
 abbrev pub number_given : Text → List Row → Option ℕ
 number_given name rows = option_map (λ text. digits_value 10 (without_leading_plus text)) (one_of name rows)
@@ -178,6 +228,11 @@ extent_of rows = record {
 abbrev pub has_two_orders : List Row → Bool
 has_two_orders rows = is_some (first_of (codes "seed") rows) && is_some (first_of (codes "workers") rows)
 
+-- the words of a run give both a seed and a number of workers, which is answered by this kind of error
+abbrev pub AsksTwoOrders : Task → List Row → ErrorKind → Type 0
+AsksTwoOrders asked rows kind =
+    (asked ≡ task.Run) × (has_two_orders rows ≡ true) × ((kind ≡ OutOfMemory) ⊎ (kind ≡ ArgumentConflict))
+
 -- the word after the program's name is this one
 abbrev pub Begins : List Text → Text → Type 0
 Begins words name = slice_get words 1 ≡ Some name
@@ -190,11 +245,10 @@ word_of task.Races = codes "races"
 word_of task.Check = codes "check"
 word_of task.Explain = codes "explain"
 word_of task.Waves = codes "waves"
-word_of task.Version = codes "--version"
 
 -- the word after the program's name asks for no task
 abbrev pub AsksNoTask : List Text → Type 0
-AsksNoTask words = (asked : Task) → Begins words (word_of asked) → ⊥
+AsksNoTask words = ((asked : Task) → Begins words (word_of asked) → ⊥) × (Begins words (codes "--version") → ⊥)
 
 -- this run is asked for: of FILE, with these options, which are in range, by this seed or else on workers, and for its journal
 -- in OUT where that is given
@@ -235,6 +289,16 @@ pub record IsWavesOf (rows : List Row) (waves : WavesRequest) : Type 0 where
   pub file : first_of (codes "FILE") rows ≡ Some waves.file.now
   pub journal : first_of (codes "JOURNAL") rows ≡ Some waves.journal.now
   pub out : first_of (codes "out") rows ≡ Some waves.out.now
+
+-- this is asked for by what clap finds in the words of a task
+abbrev pub IsAskedBy : Task → List Row → Request → Type 0
+IsAskedBy asked rows (request.Run run) = (asked ≡ task.Run) × IsRunOf rows run
+IsAskedBy asked rows (request.Replay replay) = (asked ≡ task.Replay) × IsReplayOf rows replay
+IsAskedBy asked rows (request.Races races) = (asked ≡ task.Races) × IsRacesOf rows races
+IsAskedBy asked rows (request.Check check) = (asked ≡ task.Check) × IsCheckOf rows check
+IsAskedBy asked rows (request.Explain explain) = (asked ≡ task.Explain) × IsExplainOf rows explain
+IsAskedBy asked rows (request.Waves waves) = (asked ≡ task.Waves) × IsWavesOf rows waves
+IsAskedBy asked rows request.Version = ⊥
 
 -- the words ask for this run
 pub record AsksRun (words : List Text) (run : RunRequest) : Type 0 where
@@ -299,6 +363,10 @@ explain_faults = fault_of explain_app
 -- those of a value change dump
 unfoldable pub waves_faults : List Text → Kinds
 waves_faults = fault_of waves_app
+
+-- those of a task
+abbrev pub faults_by : Task → List Text → Kinds
+faults_by asked = fault_of (app_by asked)
 
 -- and those of a whole command line that asks for no task
 unfoldable pub other_faults : List Text → Kinds

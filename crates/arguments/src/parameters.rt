@@ -2,13 +2,110 @@
 
 ghost use Rattle.std.specs.Prelude.{◌≡◌, None, Some, true, false, codes};
 ghost use Rattle.clap.specs.Words.{rule_of};
-ghost use Rattle.arguments.specs.Arguments.{Takes, rule, workers_parser, until_parser, entries_parser, seed_parser};
-ghost use Rattle.arguments.specs.Words.{choice, need, place};
+ghost use Rattle.arguments.specs.Arguments.{Takes, parameters_of, rule, rule_for, workers_parser, until_parser, entries_parser, seed_parser};
+ghost use Rattle.arguments.specs.Words.{argument_of, choice, place};
 
+use crate::task::Task;
 use clap::{Arg, ArgAction, value_parser};
 use std::alloc::Global;
 
-pub fn positional<'a>(alloc: Global, name: &'a str, help: &'a str) -> Arg<'a>
+const MAX_ENTRIES: &str = "Most entries of a journal, 1 to 4294967295 [default: 1000000]";
+
+const MAX_STATES: &str = "Most states of the search, 1 to 4294967295 [default: 1000000]";
+
+const MAX_TEXTS: &str = "Most different texts that are shown, 1 to 4294967295 [default: 8]";
+
+const SAMPLES: &str = "Tries N random lawful orders in place of the search, 1 to 4294967295";
+
+const FROM: &str = "First entry that is told, 1 to 4294967295 [default: 1]";
+
+const TO: &str = "Last entry that is told, 1 to 4294967295 [default: the last]";
+
+const JOURNAL_TO: &str = "Where to write the journal";
+
+const JOURNALS_TO: &str = "Where to write a journal of each text: PREFIX.1.journal, ..";
+
+const OUT: &str = "Where to write the value change dump";
+
+/// A word or an option of a command.
+#[derive(Clone, Copy)]
+pub enum Parameter {
+    File,
+    Journal,
+    Workers,
+    Until,
+    MaxEntries,
+    MaxStates,
+    MaxTexts,
+    Samples,
+    Seed,
+    From,
+    To,
+    JournalTo,
+    JournalsTo,
+    Out,
+}
+
+/// What the command of a task takes, in the order in which help shows it.
+pub fn parameters(task: Task) -> &'static [Parameter]
+    ensures { result.now ≡ parameters_of task }
+{
+    match task {
+        Task::Run => &[
+            Parameter::File,
+            Parameter::Workers,
+            Parameter::Until,
+            Parameter::MaxEntries,
+            Parameter::JournalTo,
+            Parameter::Seed,
+        ],
+        Task::Replay => &[Parameter::File, Parameter::Journal],
+        Task::Races => &[
+            Parameter::File,
+            Parameter::Until,
+            Parameter::MaxEntries,
+            Parameter::MaxStates,
+            Parameter::MaxTexts,
+            Parameter::JournalsTo,
+            Parameter::Samples,
+            Parameter::Seed,
+        ],
+        Task::Check => &[Parameter::File],
+        Task::Explain => &[
+            Parameter::File,
+            Parameter::Journal,
+            Parameter::From,
+            Parameter::To,
+        ],
+        Task::Waves => &[Parameter::File, Parameter::Journal, Parameter::Out],
+    }
+}
+
+/// The word or option as `clap` knows it.
+pub fn argument<'a>(alloc: Global, parameter: Parameter) -> Arg<'a>
+    ensures takes { Takes result (rule_for parameter) }
+    ensures rule { rule_of result ≡ argument_of parameter }
+{
+    match parameter {
+        Parameter::File => positional(alloc, "FILE", "Verilog source"),
+        Parameter::Journal => positional(alloc, "JOURNAL", "Journal of a run"),
+        Parameter::Workers => workers(alloc),
+        Parameter::Until => until(alloc),
+        Parameter::MaxEntries => count(alloc, "max-entries", MAX_ENTRIES),
+        Parameter::MaxStates => count(alloc, "max-states", MAX_STATES),
+        Parameter::MaxTexts => count(alloc, "max-texts", MAX_TEXTS),
+        Parameter::Samples => count(alloc, "samples", SAMPLES),
+        Parameter::Seed => seed(alloc),
+        Parameter::From => count(alloc, "from", FROM),
+        Parameter::To => count(alloc, "to", TO),
+        Parameter::JournalTo => option(alloc, "journal", "OUT", JOURNAL_TO),
+        Parameter::JournalsTo => option(alloc, "journals", "PREFIX", JOURNALS_TO),
+        Parameter::Out => option(alloc, "out", "OUT", OUT).required(true),
+    }
+}
+
+/// A word that has to be given.
+fn positional<'a>(alloc: Global, name: &'a str, help: &'a str) -> Arg<'a>
     ensures takes { Takes result (rule name.entry.now true None) }
     ensures rule { rule_of result ≡ place name.entry.now }
 {
@@ -18,138 +115,46 @@ pub fn positional<'a>(alloc: Global, name: &'a str, help: &'a str) -> Arg<'a>
         .help(help)
 }
 
-pub fn workers<'a>(alloc: Global) -> Arg<'a>
-    ensures takes { Takes result (rule (codes "workers") false (Some workers_parser)) }
-    ensures rule { rule_of result ≡ choice (codes "workers") (Some workers_parser) }
-{
-    Arg::new(alloc, "workers")
-        .long("workers")
-        .value_name("N")
-        .action(ArgAction::Set)
-        .value_parser(value_parser!(u32).range(1..=16))
-        .help("Worker threads, 1 to 16 [default: 2]")
-}
-
-pub fn until<'a>(alloc: Global) -> Arg<'a>
-    ensures takes { Takes result (rule (codes "until") false (Some until_parser)) }
-    ensures rule { rule_of result ≡ choice (codes "until") (Some until_parser) }
-{
-    Arg::new(alloc, "until")
-        .long("until")
-        .value_name("T")
-        .action(ArgAction::Set)
-        .value_parser(value_parser!(u64).range(0..=281474976710656))
-        .help("Last time that the run may reach, 0 to 281474976710656 [default: no limit]")
-}
-
-/// An option for a number from 1 on.
-pub fn count<'a>(alloc: Global, name: &'a str, help: &'a str) -> Arg<'a>
-    ensures takes { Takes result (rule name.entry.now false (Some entries_parser)) }
-    ensures rule { rule_of result ≡ choice name.entry.now (Some entries_parser) }
+/// An option for one value.
+fn option<'a>(alloc: Global, name: &'a str, value: &'a str, help: &'a str) -> Arg<'a>
+    ensures takes { Takes result (rule name.entry.now false None) }
+    ensures rule { rule_of result ≡ choice name.entry.now None }
 {
     Arg::new(alloc, name)
         .long(name)
-        .value_name("N")
+        .value_name(value)
         .action(ArgAction::Set)
-        .value_parser(value_parser!(u32).range(1..))
         .help(help)
 }
 
-pub fn max_entries<'a>(alloc: Global) -> Arg<'a>
-    ensures takes { Takes result (rule (codes "max-entries") false (Some entries_parser)) }
-    ensures rule { rule_of result ≡ choice (codes "max-entries") (Some entries_parser) }
+/// An option for a number from 1 on.
+fn count<'a>(alloc: Global, name: &'a str, help: &'a str) -> Arg<'a>
+    ensures takes { Takes result (rule name.entry.now false (Some entries_parser)) }
+    ensures rule { rule_of result ≡ choice name.entry.now (Some entries_parser) }
 {
-    let help = "Most entries of a journal, 1 to 4294967295 [default: 1000000]";
-    count(alloc, "max-entries", help)
+    option(alloc, name, "N", help).value_parser(value_parser!(u32).range(1..))
 }
 
-pub fn max_states<'a>(alloc: Global) -> Arg<'a>
-    ensures takes { Takes result (rule (codes "max-states") false (Some entries_parser)) }
-    ensures rule { rule_of result ≡ choice (codes "max-states") (Some entries_parser) }
+fn workers<'a>(alloc: Global) -> Arg<'a>
+    ensures takes { Takes result (rule (codes "workers") false (Some workers_parser)) }
+    ensures rule { rule_of result ≡ choice (codes "workers") (Some workers_parser) }
 {
-    let help = "Most states of the search, 1 to 4294967295 [default: 1000000]";
-    count(alloc, "max-states", help)
+    let help = "Worker threads, 1 to 16 [default: 2]";
+    option(alloc, "workers", "N", help).value_parser(value_parser!(u32).range(1..=16))
 }
 
-pub fn max_texts<'a>(alloc: Global) -> Arg<'a>
-    ensures takes { Takes result (rule (codes "max-texts") false (Some entries_parser)) }
-    ensures rule { rule_of result ≡ choice (codes "max-texts") (Some entries_parser) }
+fn until<'a>(alloc: Global) -> Arg<'a>
+    ensures takes { Takes result (rule (codes "until") false (Some until_parser)) }
+    ensures rule { rule_of result ≡ choice (codes "until") (Some until_parser) }
 {
-    let help = "Most different texts that are shown, 1 to 4294967295 [default: 8]";
-    count(alloc, "max-texts", help)
+    let help = "Last time that the run may reach, 0 to 281474976710656 [default: no limit]";
+    option(alloc, "until", "T", help).value_parser(value_parser!(u64).range(0..=281474976710656))
 }
 
-pub fn samples<'a>(alloc: Global) -> Arg<'a>
-    ensures takes { Takes result (rule (codes "samples") false (Some entries_parser)) }
-    ensures rule { rule_of result ≡ choice (codes "samples") (Some entries_parser) }
-{
-    let help = "Tries N random lawful orders in place of the search, 1 to 4294967295";
-    count(alloc, "samples", help)
-}
-
-pub fn seed<'a>(alloc: Global) -> Arg<'a>
+fn seed<'a>(alloc: Global) -> Arg<'a>
     ensures takes { Takes result (rule (codes "seed") false (Some seed_parser)) }
     ensures rule { rule_of result ≡ choice (codes "seed") (Some seed_parser) }
 {
-    Arg::new(alloc, "seed")
-        .long("seed")
-        .value_name("S")
-        .action(ArgAction::Set)
-        .value_parser(value_parser!(u64))
-        .help("Takes random choices from S, 0 to 18446744073709551615, on one thread")
-}
-
-pub fn journal<'a>(alloc: Global) -> Arg<'a>
-    ensures takes { Takes result (rule (codes "journal") false None) }
-    ensures rule { rule_of result ≡ choice (codes "journal") None }
-{
-    Arg::new(alloc, "journal")
-        .long("journal")
-        .value_name("OUT")
-        .action(ArgAction::Set)
-        .help("Where to write the journal")
-}
-
-pub fn journals<'a>(alloc: Global) -> Arg<'a>
-    ensures takes { Takes result (rule (codes "journals") false None) }
-    ensures rule { rule_of result ≡ choice (codes "journals") None }
-{
-    Arg::new(alloc, "journals")
-        .long("journals")
-        .value_name("PREFIX")
-        .action(ArgAction::Set)
-        .help("Where to write a journal of each text: PREFIX.1.journal, ..")
-}
-
-pub fn from<'a>(alloc: Global) -> Arg<'a>
-    ensures takes { Takes result (rule (codes "from") false (Some entries_parser)) }
-    ensures rule { rule_of result ≡ choice (codes "from") (Some entries_parser) }
-{
-    count(
-        alloc,
-        "from",
-        "First entry that is told, 1 to 4294967295 [default: 1]",
-    )
-}
-
-pub fn to<'a>(alloc: Global) -> Arg<'a>
-    ensures takes { Takes result (rule (codes "to") false (Some entries_parser)) }
-    ensures rule { rule_of result ≡ choice (codes "to") (Some entries_parser) }
-{
-    count(
-        alloc,
-        "to",
-        "Last entry that is told, 1 to 4294967295 [default: the last]",
-    )
-}
-
-pub fn out<'a>(alloc: Global) -> Arg<'a>
-    ensures takes { Takes result (rule (codes "out") true None) }
-    ensures rule { rule_of result ≡ need (codes "out") }
-{
-    let out = Arg::new(alloc, "out").required(true);
-    out.long("out")
-        .value_name("OUT")
-        .action(ArgAction::Set)
-        .help("Where to write the value change dump")
+    let help = "Takes random choices from S, 0 to 18446744073709551615, on one thread";
+    option(alloc, "seed", "S", help).value_parser(value_parser!(u64))
 }

@@ -5,22 +5,22 @@
 //! parser. So reading a path can't fail, and the options of a request are those of a run.
 
 ghost use Rattle.std.specs.Prelude.{◌≡◌, ◌⊎◌, IfErr, IfOk, IfSome, None, true, false, codes, drop};
-ghost use Rattle.clap.specs.Words.{kind_of};
+ghost use Rattle.clap.specs.Words.{found_of, kind_of, rows_of};
 ghost use Rattle.clap.specs.declared.error.kind.ErrorKind.TheVariants.{ArgumentConflict, MissingSubcommand, OutOfMemory};
-ghost use Rattle.arguments.specs.Words.{Asks, AsksNoTask, Begins, FailsAs, IsRefusal, IsRefusalBy, texts_of, word_of};
+ghost use Rattle.arguments.specs.Arguments.{Gives, GivesRun};
+ghost use Rattle.arguments.specs.Words.{Asks, AsksNoTask, AsksTwoOrders, Begins, FailsAs, IsAskedBy, IsRefusal, IsRefusalBy, texts_of, word_of};
+ghost use Rattle.arguments.specs.declared.task.Task.{Task};
+ghost use Rattle.arguments.specs.declared.task.Task.TheVariants.{Run};
 
-use crate::commands::{
-    check_matches, conflict, explain_matches, missing, races_matches, replay_matches, run_matches,
-    waves_matches, whole_matches,
-};
+use crate::commands::{conflict, missing, task_matches, whole_matches};
 use crate::given::{
     check_request, explain_request, gives_two_orders, races_request, replay_request, run_request,
     waves_request,
 };
 use crate::request::{Refusal, Request};
 use crate::task::Task;
-use clap::Error;
 use clap::error::ErrorKind;
+use clap::{ArgMatches, Error};
 use std::alloc::Global;
 
 /// The request that the words make. The first word is the program's name.
@@ -52,6 +52,9 @@ fn parse<'a>(alloc: Global, words: &'a [String]) -> Result<Request<'a>, Error>
     ensures asked { IfOk result (Asks (texts_of words.now)) }
     ensures failed { IfErr result (λ e. FailsAs (texts_of words.now) (kind_of e)) }
 {
+    if begins(words, "--version") {
+        return Ok(Request::Version);
+    }
     match asked_task(words) {
         Some(task) => parse_task(alloc, task, words),
         None => Err(no_task(alloc, words)),
@@ -61,7 +64,7 @@ fn parse<'a>(alloc: Global, words: &'a [String]) -> Result<Request<'a>, Error>
 /// The task that the word after the program's name asks for.
 fn asked_task(words: &[String]) -> Option<Task>
     ensures some { IfSome result (λ task. Begins (texts_of words.now) (word_of task)) }
-    ensures none { result ≡ None → AsksNoTask (texts_of words.now) }
+    ensures none { result ≡ None → (asked : Task) → Begins (texts_of words.now) (word_of asked) → ⊥ }
 {
     if begins(words, "run") {
         return Some(Task::Run);
@@ -81,9 +84,6 @@ fn asked_task(words: &[String]) -> Option<Task>
     if begins(words, "waves") {
         return Some(Task::Waves);
     }
-    if begins(words, "--version") {
-        return Some(Task::Version);
-    }
     None
 }
 
@@ -92,15 +92,43 @@ fn parse_task<'a>(alloc: Global, task: Task, words: &'a [String]) -> Result<Requ
     ensures asked { IfOk result (Asks (texts_of words.now)) }
     ensures failed { IfErr result (λ e. FailsAs (texts_of words.now) (kind_of e)) }
 {
-    match task {
-        Task::Run => parse_run(alloc, words),
-        Task::Replay => parse_replay(alloc, words),
-        Task::Races => parse_races(alloc, words),
-        Task::Check => parse_check(alloc, words),
-        Task::Explain => parse_explain(alloc, words),
-        Task::Waves => parse_waves(alloc, words),
-        Task::Version => Ok(Request::Version),
+    let own = own_words(words);
+    match task_matches(alloc, task, own) {
+        Ok(matches) => asked_request(alloc, task, &matches),
+        Err(error) => Err(error),
     }
+}
+
+/// What the words of a task ask for, by what was found in them.
+fn asked_request<'a>(
+    alloc: Global,
+    task: Task,
+    matches: &ArgMatches<'a>,
+) -> Result<Request<'a>, Error>
+    requires { Gives task (found_of matches.now) }
+    ensures asked { IfOk result (IsAskedBy task (rows_of (found_of matches.now))) }
+    ensures failed { IfErr result (λ e. AsksTwoOrders task (rows_of (found_of matches.now)) (kind_of e)) }
+{
+    match task {
+        Task::Run => asked_run(alloc, matches),
+        Task::Replay => Ok(Request::Replay(replay_request(matches))),
+        Task::Races => Ok(Request::Races(races_request(matches))),
+        Task::Check => Ok(Request::Check(check_request(matches))),
+        Task::Explain => Ok(Request::Explain(explain_request(matches))),
+        Task::Waves => Ok(Request::Waves(waves_request(matches))),
+    }
+}
+
+/// The run that words ask for, unless by two orders.
+fn asked_run<'a>(alloc: Global, matches: &ArgMatches<'a>) -> Result<Request<'a>, Error>
+    requires { GivesRun (found_of matches.now) }
+    ensures asked { IfOk result (IsAskedBy Run (rows_of (found_of matches.now))) }
+    ensures failed { IfErr result (λ e. AsksTwoOrders Run (rows_of (found_of matches.now)) (kind_of e)) }
+{
+    if gives_two_orders(matches) {
+        return Err(two_orders(alloc));
+    }
+    Ok(Request::Run(run_request(matches)))
 }
 
 /// The word after the program's name is this one.
@@ -124,23 +152,6 @@ fn own_words<'a>(words: &'a [String]) -> &'a [String]
     }
 }
 
-fn parse_run<'a>(alloc: Global, words: &'a [String]) -> Result<Request<'a>, Error>
-    requires { Begins (texts_of words.now) (codes "run") }
-    ensures asked { IfOk result (Asks (texts_of words.now)) }
-    ensures failed { IfErr result (λ e. FailsAs (texts_of words.now) (kind_of e)) }
-{
-    let own = own_words(words);
-    match run_matches(alloc, own) {
-        Ok(matches) => {
-            if gives_two_orders(&matches) {
-                return Err(two_orders(alloc));
-            }
-            Ok(Request::Run(run_request(&matches)))
-        }
-        Err(error) => Err(error),
-    }
-}
-
 /// What to say of a seed beside a number of workers.
 fn two_orders(alloc: Global) -> Error
     ensures { (kind_of result ≡ OutOfMemory) ⊎ (kind_of result ≡ ArgumentConflict) }
@@ -148,66 +159,6 @@ fn two_orders(alloc: Global) -> Error
     match conflict(alloc) {
         Ok(error) => error,
         Err(error) => Error::from(error),
-    }
-}
-
-fn parse_replay<'a>(alloc: Global, words: &'a [String]) -> Result<Request<'a>, Error>
-    requires { Begins (texts_of words.now) (codes "replay") }
-    ensures asked { IfOk result (Asks (texts_of words.now)) }
-    ensures failed { IfErr result (λ e. FailsAs (texts_of words.now) (kind_of e)) }
-{
-    let own = own_words(words);
-    match replay_matches(alloc, own) {
-        Ok(matches) => Ok(Request::Replay(replay_request(&matches))),
-        Err(error) => Err(error),
-    }
-}
-
-fn parse_races<'a>(alloc: Global, words: &'a [String]) -> Result<Request<'a>, Error>
-    requires { Begins (texts_of words.now) (codes "races") }
-    ensures asked { IfOk result (Asks (texts_of words.now)) }
-    ensures failed { IfErr result (λ e. FailsAs (texts_of words.now) (kind_of e)) }
-{
-    let own = own_words(words);
-    match races_matches(alloc, own) {
-        Ok(matches) => Ok(Request::Races(races_request(&matches))),
-        Err(error) => Err(error),
-    }
-}
-
-fn parse_check<'a>(alloc: Global, words: &'a [String]) -> Result<Request<'a>, Error>
-    requires { Begins (texts_of words.now) (codes "check") }
-    ensures asked { IfOk result (Asks (texts_of words.now)) }
-    ensures failed { IfErr result (λ e. FailsAs (texts_of words.now) (kind_of e)) }
-{
-    let own = own_words(words);
-    match check_matches(alloc, own) {
-        Ok(matches) => Ok(Request::Check(check_request(&matches))),
-        Err(error) => Err(error),
-    }
-}
-
-fn parse_explain<'a>(alloc: Global, words: &'a [String]) -> Result<Request<'a>, Error>
-    requires { Begins (texts_of words.now) (codes "explain") }
-    ensures asked { IfOk result (Asks (texts_of words.now)) }
-    ensures failed { IfErr result (λ e. FailsAs (texts_of words.now) (kind_of e)) }
-{
-    let own = own_words(words);
-    match explain_matches(alloc, own) {
-        Ok(matches) => Ok(Request::Explain(explain_request(&matches))),
-        Err(error) => Err(error),
-    }
-}
-
-fn parse_waves<'a>(alloc: Global, words: &'a [String]) -> Result<Request<'a>, Error>
-    requires { Begins (texts_of words.now) (codes "waves") }
-    ensures asked { IfOk result (Asks (texts_of words.now)) }
-    ensures failed { IfErr result (λ e. FailsAs (texts_of words.now) (kind_of e)) }
-{
-    let own = own_words(words);
-    match waves_matches(alloc, own) {
-        Ok(matches) => Ok(Request::Waves(waves_request(&matches))),
-        Err(error) => Err(error),
     }
 }
 

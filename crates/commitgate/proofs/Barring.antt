@@ -24,7 +24,7 @@ use Rattle.commitgate.specs.Kept.{Kept}
 use Rattle.regcells.specs.Meetings.{fresh_of, Rises, AreReadsIn}
 use Rattle.commitgate.specs.Seats.{SeatView}
 use Rattle.commitgate.specs.Tickets.{TicketView, IsCurrent, again}
-use Rattle.gateparts.specs.Histories.{hist, IsCurrentIn, IsFirstMovedIn}
+use Rattle.gateparts.specs.Histories.{hist, IsRead, IsCurrentIn, IsFirstMovedIn}
 use Rattle.gateparts.proofs.Items.{entries_ended}
 use Rattle.gateparts.specs.Evaluated.{turn_at}
 use Rattle.commitgate.specs.Answers.{IsRecorded, MayCommit, AreCurrent, StopsAt, Full, Long, LongStopsAt, FullLong, CurrentLong, stopped}
@@ -34,7 +34,7 @@ use Rattle.commitgate.specs.Told.{AreCurrentTo, CommitCauses, LongCauses, ReadCa
 use Rattle.commitgate.proofs.Agreeing.{agrees}
 use Rattle.commitgate.proofs.AtLock.{long_at_lock}
 use Rattle.commitgate.proofs.Tellings.{tell_refused}
-use Rattle.commitgate.proofs.Validating.{get_all, recorded_in}
+use Rattle.commitgate.proofs.Validating.{get_all}
 use Rattle.gateparts.proofs.Beginnings.{prefix_self}
 
 -- what holds where there is none
@@ -125,15 +125,14 @@ long_reads_in code m ticket reads e own turn k d at =
     subst (λ j. d.0 < j) (sym e) (get_all (λ (r : ℕ × Seen). r.0 < length code.widths) reads (turn ticket.process own).0 k d at)
 
 -- where what was read is current, the ticket's evaluation has no short turn
-pub long_by : (n : Named) (held : GateState) (ticket : TicketView) (reads : List (ℕ × Seen)) (fresh : List (List Vector)) → Kept n held → IsCurrent held.core ticket → IsStateOf n.code ticket.process ticket.state
-    → IsNoTurn n.code ticket.state ticket.time reads fault.TooLong → GaveAll (IsRecorded n.code held.histories fresh) reads → AreCurrent n.code held reads
+pub long_by : (n : Named) (held : GateState) (ticket : TicketView) (reads : List (ℕ × Seen)) → Kept n held → IsCurrent held.core ticket → IsStateOf n.code ticket.process ticket.state
+    → IsNoTurn n.code ticket.state ticket.time reads fault.TooLong → GaveAll (IsRead n.code held.histories) reads → AreCurrent n.code held reads
     → length held.values ≡ length n.code.widths
-    → ((k : ℕ) (d : ℕ × Seen) → slice_get reads k ≡ Some d → IsPrefix (fresh_of fresh d.0) (fresh_of held.histories d.0))
     → turn_at n.code held ticket.process ticket.state ≡ None
-long_by n held ticket reads fresh kept current own turn gave cur count begins =
+long_by n held ticket reads kept current own turn gave cur count =
     let low = long_reads_in n.code (length n.code.widths) ticket reads refl own turn in
     let agree : Agrees reads (map last_value held.histories) =
-    agrees n.code held.histories held.histories reads (recorded_in n.code held.histories fresh reads gave begins) (turn ticket.process own).0 (λ k d at. prefix_self (fresh_of held.histories d.0)) (λ k d at. ap length (kept.histories d.0 (low k d at)) ∙ cur k d at) in
+    agrees n.code held.histories held.histories reads gave (turn ticket.process own).0 (λ k d at. prefix_self (fresh_of held.histories d.0)) (λ k d at. ap length (kept.histories d.0 (low k d at)) ∙ cur k d at) in
     long_at_lock n.code held ticket.process ticket.state reads own count
     (subst (λ t. IsNoTurn n.code ticket.state t reads fault.TooLong) (sym current.time) turn)
     (subst (Agrees reads) (sym kept.values) agree)

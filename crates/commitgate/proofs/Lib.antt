@@ -1,4 +1,4 @@
--- Lemmas of the gate: what seats have seen, validation, what holds at the lock and after each step, rests, ends, and that a gate may cross threads, and several updates one after another.
+-- Lemmas of the gate: what seats have seen and met, validation, what holds at the lock and after each step, rests, ends, and that a gate may cross threads, and several updates one after another.
 mod Agreeing
 mod Staying
 mod AtLock
@@ -8,6 +8,7 @@ mod Guards
 mod Standings
 mod Meetings
 mod Tellings
+mod Unwritten
 mod Validating
 pub mod Crossing
 mod Rests

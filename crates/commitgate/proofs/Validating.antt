@@ -1,6 +1,6 @@
 -- A turn's reads against the histories, and what the seat has met once the turn is appended.
 use Rattle.std.proofs.Common.{◌≡◌, ℕ, zero, suc, ◌+◌, ◌<◌, List, [], ◌∷◌, map, length, Option, Some, None, refl, sym, ap, ◌∙◌, subst, inl, inr, arith}
-use Rattle.std.specs.Prelude.{slice_get, option_and_then, IfNone}
+use Rattle.std.specs.Prelude.{slice_get, option_and_then, IfNone, IfSome}
 use Rattle.std.specs.List.{All}
 use mathlib.Core.List.{IsPrefix}
 use Rattle.logic4.specs.Vector.{Vector}
@@ -36,6 +36,14 @@ use Rattle.commitgate.proofs.AtLock.{at_lock}
 pub if_none : {A : Type 0} (o : Option A) (P Q : Type 0) → IfNone o P → (P → Q) → IfNone o Q
 if_none None P Q h f = f h
 if_none (Some x) P Q h f = tt
+
+pub if_some : {A : Type 0} (o : Option A) (P Q : A → Type 0) → IfSome o P → ((x : A) → P x → Q x) → IfSome o Q
+if_some None P Q h f = tt
+if_some (Some x) P Q h f = f x h
+
+pub if_some_both : {A : Type 0} (o : Option A) (P Q R : A → Type 0) → IfSome o P → IfSome o Q → ((x : A) → P x → Q x → R x) → IfSome o R
+if_some_both None P Q R h k f = tt
+if_some_both (Some x) P Q R h k f = f x h k
 
 pub get_all : {A : Type 0} (P : A → Type 0) (xs : List A) → All P xs → (k : ℕ) (x : A) → slice_get xs k ≡ Some x → P x
 get_all P xs all k x at = subst P (or_of xs k x x at) (all k x (within xs k x at))
@@ -118,15 +126,14 @@ moved_by n held reads r fresh kept low m gave begins =
     apart len version other lt ne same = omega (arith, lt, ne, same)
 
 -- the log is that of the ticket's turn
-pub given_by : (n : Named) (held : GateState) (ticket : TicketView) (log : LogView) (fresh : List (List Vector)) → Kept n held → IsCurrent held.core ticket → IsStateOf n.code ticket.process ticket.state
-    → IsTurnLog n.code ticket.state ticket.time log → GaveAll (IsRecorded n.code held.histories fresh) log.reads → AreCurrent n.code held log.reads
+pub given_by : (n : Named) (held : GateState) (ticket : TicketView) (log : LogView) → Kept n held → IsCurrent held.core ticket → IsStateOf n.code ticket.process ticket.state
+    → IsTurnLog n.code ticket.state ticket.time log → GaveAll (IsRead n.code held.histories) log.reads → AreCurrent n.code held log.reads
     → length held.values ≡ length n.code.widths
-    → ((k : ℕ) (d : ℕ × Seen) → slice_get log.reads k ≡ Some d → IsPrefix (fresh_of fresh d.0) (fresh_of held.histories d.0))
     → IsLogOfEvent n.code held ticket.event log
-given_by n held ticket log fresh kept current own turn gave cur count begins =
+given_by n held ticket log kept current own turn gave cur count =
     let low = reads_in n.code (length n.code.widths) ticket log refl own turn in
     let agree : Agrees log.reads (map last_value held.histories) =
-    agrees n.code held.histories held.histories log.reads (recorded_in n.code held.histories fresh log.reads gave begins) (turn.declared ticket.process own) (λ k d at. prefix_self (fresh_of held.histories d.0)) (λ k d at. ap length (kept.histories d.0 (low k d at)) ∙ cur k d at) in
+    agrees n.code held.histories held.histories log.reads gave (turn.declared ticket.process own) (λ k d at. prefix_self (fresh_of held.histories d.0)) (λ k d at. ap length (kept.histories d.0 (low k d at)) ∙ cur k d at) in
     record {
       process = ticket.process;
       state = ticket.state;
@@ -163,4 +170,4 @@ pub met_update : (n : Named) (held held' : GateState) (number : ℕ) (seen : Log
 met_update n held held' number seen fresh m e kept is first met r v action low =
     let register : updated_register held.core.active (entries.Update number) ≡ Some r =
     ap (λ o. register_in (option_and_then (action_in held.core.active) o)) first ∙ ap register_in action in
-    met r register (subst (λ j. r < j) (sym e) low) ∙ kept.histories r low ∙ ap (λ j. hist (design_of n.code) j r) (kept.journal_is ∙ ap entries_of (sym is))
+    met.1 r register (subst (λ j. r < j) (sym e) low) ∙ kept.histories r low ∙ ap (λ j. hist (design_of n.code) j r) (kept.journal_is ∙ ap entries_of (sym is))

@@ -27,6 +27,7 @@
 
 mod blank;
 mod closed;
+mod context;
 mod gate;
 mod laws;
 mod naming;
@@ -39,6 +40,7 @@ mod ticket;
 
 pub use blank::Blank;
 pub use closed::Closed;
+pub use context::Context;
 pub use gate::Gate;
 pub use laws::shares_add_up;
 pub use naming::Naming;

@@ -1,5 +1,5 @@
 -- The words of Verilog that the language lacks, and what is written instead.
-use Rattle.std.specs.Prelude.{ℕ, List, [], ◌∷◌, Bool, true, false, not, ◌&&◌, ◌||◌, ◌==◌, if◌then◌else◌, Option, Some, None, codes}
+use Rattle.std.specs.Prelude.{ℕ, List, [], ◌∷◌, Bool, true, false, not, ◌&&◌, ◌||◌, ◌==◌, nat_le, if◌then◌else◌, Option, Some, None, codes}
 use Rattle.std.specs.Str.{bytes_eq}
 use Rattle.tokens.specs.Bytes.{is_letter}
 use Rattle.diagnosis.specs.Lexemes.{begins_number}
@@ -49,14 +49,28 @@ is_system_word w = first w == 36 && not (bytes_eq w (codes "$display") || bytes_
 unfoldable pub advice_of : List ℕ → Option Advice
 advice_of w = if first w == 96 then Some advice.Directive else (if is_system_word w then Some advice.SystemName else advice_in words w)
 
+-- A large letter, or _.
+abbrev pub is_large : ℕ → Bool
+is_large b = (nat_le 65 b && nat_le b 90) || b == 95
+
+-- A large letter or _ stands behind a base's `'`, which may stand before.
+abbrev pub has_large : Bool → List ℕ → Bool
+has_large based [] = false
+has_large based (b ∷ bs) = if based && is_large b then true else has_large (based || b == 39) bs
+
 -- What may have a note with an advice by what stands before it, and is no word of the table: any lexeme where a block lacks, a
--- number, a string, a sign, a word in square brackets, and the word `module`.
+-- number, a string, a sign, a word or a `:` in square brackets, the word `module`, and no string where a format lacks.
 abbrev pub suits : Advice → List ℕ → Bool
 suits advice.Block text = true
 suits advice.Size text = begins_number (first text)
+suits advice.Digits text = begins_number (first text) && has_large false text
 suits advice.Conversion text = first text == 34
+suits advice.Format text = not (first text == 34)
 suits advice.Triggers text = first text == 42
 suits advice.Operator text = first text == 42 || first text == 47 || first text == 37
-suits advice.Index text = is_letter (first text)
-suits advice.OneModule text = first text == 46 || bytes_eq text (codes "module")
+suits advice.Index text = is_letter (first text) || first text == 58
+suits advice.BlockName text = first text == 58
+suits advice.Value text = first text == 61
+suits advice.Memory text = first text == 91
+suits advice.OneModule text = first text == 46 || (first text == 40 || bytes_eq text (codes "module"))
 suits _ text = false

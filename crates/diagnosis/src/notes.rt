@@ -1,11 +1,14 @@
 //! Every word and sign of Verilog that a source has and the language lacks, in one pass.
 
-ghost use Rattle.std.specs.Prelude.{◌≡◌, ◌≤◌, ◌+◌, ◌++◌, true, None, length, option_to_list, codes, IfOk, IfSome, OnOk, MatchOption};
+ghost use Rattle.std.specs.Prelude.{◌≡◌, ◌≤◌, ◌+◌, ◌++◌, false, true, None, length, option_to_list, codes, IfOk, IfSome, OnOk, MatchOption};
 ghost use Rattle.std.specs.Str.{bytes_eq};
 ghost use Rattle.diagnosis.specs.PlainLexemes.{plain_lexeme};
+ghost use Rattle.diagnosis.specs.Words as spec;
 ghost use Rattle.diagnosis.specs.Words.{advice_of, suits};
+ghost use Rattle.diagnosis.specs.declared.words.Advice.TheVariants.{Format};
 ghost use Rattle.diagnosis.specs.Notes.{IsNoteOf, HasNotes};
 
+use crate::before::{Before, NOTHING};
 use crate::lexemes::{Lexeme, begins_number, is_letter, lexemes};
 use crate::words::{Advice, advice_of, is_same};
 use std::alloc::{AllocError, Global};
@@ -16,87 +19,6 @@ pub struct Note {
     pub begin: usize,
     pub end: usize,
     pub advice: Advice,
-}
-
-/// Whether a body is to follow.
-#[derive(Clone, Copy)]
-enum Body {
-    None,
-    /// Behind an `if` or a `while`, in whose condition so many parentheses are open.
-    Condition(usize),
-    Next,
-}
-
-/// What stands before a lexeme.
-#[derive(Clone, Copy)]
-struct Before<'a> {
-    last: &'a [u8],
-    body: Body,
-    /// Whether square brackets are open.
-    index: bool,
-    /// Whether a module has begun.
-    module: bool,
-}
-
-const NOTHING: Before<'static> = Before {
-    last: b"",
-    body: Body::None,
-    index: false,
-    module: false,
-};
-
-fn condition_after(open: usize, text: &[u8]) -> Body {
-    match text {
-        [b'('] => Body::Condition(open.saturating_add(1)),
-        [b')'] if open <= 1 => Body::Next,
-        [b')'] => Body::Condition(open - 1),
-        _ if open == 0 => Body::None,
-        _ => Body::Condition(open),
-    }
-}
-
-fn body_after(body: Body, text: &[u8]) -> Body {
-    match text {
-        b"if" | b"while" => Body::Condition(0),
-        b"else" => Body::Next,
-        _ => match body {
-            Body::Condition(open) => condition_after(open, text),
-            _ => Body::None,
-        },
-    }
-}
-
-impl<'a> Before<'a> {
-    fn after(self, text: &'a [u8]) -> Before<'a> {
-        Before {
-            last: text,
-            body: body_after(self.body, text),
-            index: match text {
-                [b'['] => true,
-                [b']'] => false,
-                _ => self.index,
-            },
-            module: self.module || is_same(text, b"module"),
-        }
-    }
-
-    /// Whether `begin` has to come, and doesn't.
-    fn lacks_block(self, text: &[u8]) -> bool {
-        match self.body {
-            Body::Next => !is_same(text, b"begin"),
-            _ => false,
-        }
-    }
-
-    /// Whether a `*` stands for all registers here. Behind a parenthesis it can be no operator.
-    fn takes_events(self) -> bool {
-        is_same(self.last, b"@") || is_same(self.last, b"(")
-    }
-
-    /// Whether a number that begins with these bytes is one that can't stand here.
-    fn lacks_size(self, b: u8, rest: &[u8]) -> bool {
-        b == b'\'' || !(rest.contains(&b'\'') || is_same(self.last, b"#") || self.index)
-    }
 }
 
 /// The length of the byte or the conversion at the front of a format, 0 where it is a conversion that the language lacks.
@@ -130,10 +52,61 @@ pub fn conversions(format: &[u8]) -> Option<usize> {
     Some(n)
 }
 
+/// Whether a large letter or `_` stands behind the `'` of a number.
+fn has_large(number: &[u8]) -> bool
+    ensures { result ≡ spec.has_large false number.now }
+{
+    let mut left = number;
+    let mut based = false;
+    while let [b, rest @ ..] = left {
+        if based && is_large(*b) {
+            return true;
+        }
+        based = based || *b == b'\'';
+        left = rest;
+    }
+    false
+}
+
+fn is_large(b: u8) -> bool
+    ensures { result ≡ spec.is_large b }
+{
+    (b >= b'A' && b <= b'Z') || b == b'_'
+}
+
 fn is_second_module(before: Before<'_>, text: &[u8]) -> bool
     ensures { result ≡ true → bytes_eq text.now (codes "module") ≡ true }
 {
-    before.module && is_same(text, b"module")
+    before.has_module() && is_same(text, b"module")
+}
+
+/// Whether a string has to come, and doesn't.
+fn lacks_format(before: Before<'_>, text: &[u8]) -> bool
+    ensures { result ≡ true → suits Format text.now ≡ true }
+{
+    match text {
+        [b'"', ..] => false,
+        _ => before.takes_format(),
+    }
+}
+
+/// The advice on a lexeme of one byte, or on a comment that isn't finished, which has none.
+fn advice_on_sign(before: Before<'_>, text: &[u8]) -> Option<Advice>
+    ensures { IfSome result (λ advice. suits advice text.now ≡ true) }
+{
+    match text {
+        [b'*'] if before.takes_events() => Some(Advice::Triggers),
+        [b'*'] => Some(Advice::Operator),
+        [b'/'] => Some(Advice::Operator),
+        [b'%'] => Some(Advice::Operator),
+        [b'.'] => Some(Advice::OneModule),
+        [b'('] if before.takes_ports() => Some(Advice::OneModule),
+        [b'='] if before.in_declaration() => Some(Advice::Value),
+        [b'['] if before.takes_words() => Some(Advice::Memory),
+        [b':'] if before.takes_name() => Some(Advice::BlockName),
+        [b':'] if before.in_select() => Some(Advice::Index),
+        _ => None,
+    }
 }
 
 /// The advice on a lexeme that is no word of the table, by what stands before it.
@@ -143,19 +116,18 @@ fn advice_behind(before: Before<'_>, text: &[u8]) -> Option<Advice>
     if before.lacks_block(text) {
         return Some(Advice::Block);
     }
+    if lacks_format(before, text) {
+        return Some(Advice::Format);
+    }
     if is_second_module(before, text) {
         return Some(Advice::OneModule);
     }
     match text {
         [b'"', ..] if conversions(text).is_none() => Some(Advice::Conversion),
-        [b'*'] if before.takes_events() => Some(Advice::Triggers),
-        [b'*'] => Some(Advice::Operator),
-        [b'/'] => Some(Advice::Operator),
-        [b'%'] => Some(Advice::Operator),
-        [b'.'] => Some(Advice::OneModule),
         [b, rest @ ..] if begins_number(*b) && before.lacks_size(*b, rest) => Some(Advice::Size),
-        [b, ..] if is_letter(*b) && before.index => Some(Advice::Index),
-        _ => None,
+        [b, ..] if begins_number(*b) && has_large(text) => Some(Advice::Digits),
+        [b, ..] if is_letter(*b) && before.in_brackets() => Some(Advice::Index),
+        _ => advice_on_sign(before, text),
     }
 }
 
@@ -200,8 +172,9 @@ pub fn notes(alloc: Global, source: &[u8]) -> Result<Vec<Note>, AllocError>
     let mut before = NOTHING;
     let mut left = lexemes.as_slice();
     while let [lexeme, rest @ ..] = left {
-        add(&mut found, note_of(before, lexeme))?;
-        before = before.after(lexeme.text);
+        let note = note_of(before, lexeme);
+        add(&mut found, note)?;
+        before = before.after(lexeme.text, note);
         left = rest;
     }
     Ok(found)

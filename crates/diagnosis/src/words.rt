@@ -43,22 +43,34 @@ pub enum Advice {
     Operator,
     /// For an index that is no number, or a part select (5.2.1).
     Index,
+    /// For large letters and `_` in a number with a base (3.5.1).
+    Digits,
+    /// For a value in a declaration (6.2.1).
+    Value,
+    /// For memories (4.9).
+    Memory,
+    /// For the name of a block (9.8.3).
+    BlockName,
+    /// For a call without a format in front (17.1.1).
+    Format,
 }
 
 impl fmt::Display for Advice {
     fn fmt<W: fmt::Write>(&self, f: &mut fmt::Formatter<W>) -> fmt::Result {
         f.write_str(match self {
-            Advice::Choice => "no `case`: write `if` and `else`",
+            Advice::Choice => "no `case`: write `if` and `else`, each with `begin` and `end`",
             Advice::Loop => "this loop is not in the language: write `while`",
             Advice::OneModule => "no ports, parameters or instances: write one module of `reg`s",
             Advice::Net => "no nets: write a `reg` and `always @(a or b) y = a & b;`",
             Advice::Gate => "no gates: write `~`, `&`, `|` and `^`",
-            Advice::Register => "no such variable: write `reg [31:0]`",
+            Advice::Register => "no `integer`, `real` or `time`: write `reg [31:0]`",
             Advice::Subroutine => {
                 "no tasks, functions or events: write the statements where they are used"
             }
             Advice::Parallel => "not in the language: write a process for each, and `@(..)`",
-            Advice::SystemName => "not in the language: write `$display`, `$strobe` or `$finish`",
+            Advice::SystemName => {
+                "of the system names the language has `$display`, `$strobe` and `$finish` alone"
+            }
             Advice::Directive => "no directives: delays are in units of the simulation time",
             Advice::Unsigned => "all values are unsigned",
             Advice::Triggers => "write the registers by their names, as in `@(a or b)`",
@@ -67,6 +79,11 @@ impl fmt::Display for Advice {
             Advice::Conversion => "a format has `%b`, `%h`, `%0d` and `%%`",
             Advice::Operator => "no `*`, `/` or `%`: write shifts and sums",
             Advice::Index => "an index is a plain number: write shifts and concatenations",
+            Advice::Digits => "digits and the base of a number are small letters, without `_`",
+            Advice::Value => "a declaration has no value: write it in an `initial`",
+            Advice::Memory => "no memories: write a `reg` for each word",
+            Advice::BlockName => "a block has no name",
+            Advice::Format => "a format comes first, as in `$display(\"%b\", m)`",
         })
     }
 }

@@ -1,22 +1,30 @@
 //! From a module to its design.
 ghost use Rattle.std.specs.Prelude.{◌≡◌, [], None, map, length, IfOk, IfErr, OnOk};
 ghost use Rattle.design.specs.Compiled.{design_of};
+ghost use Rattle.design.specs.Sound.{IsSound};
+ghost use Rattle.design.specs.Trees.{tree_design};
 ghost use Rattle.elaborate.specs.Faults.{IsFirstFault};
 ghost use Rattle.elaborate.specs.Findings.{verdict, found_among, found_few};
 ghost use Rattle.elaborate.specs.Formed.{AreFormedProcesses};
 ghost use Rattle.model.specs.Elaboration as model;
-ghost use Rattle.model.specs.Elaboration.{declared, faults};
+ghost use Rattle.model.specs.Elaboration.{declared, faults, widths_of};
 ghost use Rattle.model.specs.Trees.{module_of, process_of};
 
 use crate::fault::ElabFault;
 use crate::finding::Finding;
 use crate::names::Names;
 use crate::{check, registers, resolve, uses};
-use design::Design;
+use design::{Design, tree};
 use model::tree::{Module, Process};
 use std::alloc::Global;
 
 const MAX_PROCESSES: usize = 256;
+
+/// The registers and the processes of a module without faults, the processes over the numbers of registers.
+struct NumberedModule {
+    names: Names,
+    processes: Vec<tree::Process>,
+}
 
 /// The design of a module without faults: its registers by number, in the order of their declarations, and its
 /// processes over those numbers.
@@ -26,18 +34,47 @@ const MAX_PROCESSES: usize = 256;
 /// The first fault of a module that has one, by the codes E1 to E9: those of the declarations come first, then too
 /// many processes, then names that aren't declared, and then those of the statements, each in the order of the text.
 /// `Memory` where memory is refused.
-pub fn elaborate(alloc: Global, module: &Module) -> Result<Design, ElabFault>
-    ensures faultless { IfOk result (λ d. faults (module_of module.now) ≡ []) }
-    ensures design { IfOk result (λ d. design_of d ≡ model.design_of (module_of module.now)) }
-    ensures names { IfOk result (λ d. d.names ≡ map (λ x. x.0) (declared (module_of module.now))) }
-    ensures fault { IfErr result (λ f. IsFirstFault f (faults (module_of module.now))) }
+pub fn elaborate(alloc: Global, source: &Module) -> Result<Design, ElabFault>
+    ensures faultless { IfOk result (λ d. faults (module_of source.now) ≡ []) }
+    ensures design { IfOk result (λ d. design_of d ≡ model.design_of (module_of source.now)) }
+    ensures names { IfOk result (λ d. d.names ≡ map (λ x. x.0) (declared (module_of source.now))) }
+    ensures fault { IfErr result (λ f. IsFirstFault f (faults (module_of source.now))) }
 {
-    let names = registers::registers(alloc, module.regs.as_slice())?;
-    if let Err(finding) = allowed(&names, module.procs.as_slice()) {
+    let NumberedModule { names, processes } = resolved(alloc, source)?;
+    Ok(names.design(alloc, processes)?)
+}
+
+/// As `elaborate`, of a module that is given up before the code of its design is made, so that its tree and that code
+/// never take memory at once.
+///
+/// # Errors
+///
+/// As those of `elaborate`.
+pub fn elaborate_owned(alloc: Global, source: Module) -> Result<Design, ElabFault>
+    ensures faultless { IfOk result (λ d. faults (module_of source) ≡ []) }
+    ensures design { IfOk result (λ d. design_of d ≡ model.design_of (module_of source)) }
+    ensures names { IfOk result (λ d. d.names ≡ map (λ x. x.0) (declared (module_of source))) }
+    ensures fault { IfErr result (λ f. IsFirstFault f (faults (module_of source))) }
+{
+    let NumberedModule { names, processes } = resolved(alloc, &source)?;
+    drop(source);
+    Ok(names.design(alloc, processes)?)
+}
+
+// What a design is made of, or the first fault of its module.
+fn resolved(alloc: Global, source: &Module) -> Result<NumberedModule, ElabFault>
+    ensures faultless { IfOk result (λ r. faults (module_of source.now) ≡ []) }
+    ensures sound { IfOk result (λ r. IsSound (tree_design (widths_of r.names) r.processes.items)) }
+    ensures design { IfOk result (λ r. tree_design (widths_of r.names) r.processes.items ≡ model.design_of (module_of source.now)) }
+    ensures names { IfOk result (λ r. r.names ≡ declared (module_of source.now)) }
+    ensures fault { IfErr result (λ f. IsFirstFault f (faults (module_of source.now))) }
+{
+    let names = registers::registers(alloc, source.regs.as_slice())?;
+    if let Err(finding) = allowed(&names, source.procs.as_slice()) {
         return Err(finding.fault(alloc));
     }
-    let processes = resolve::processes(alloc, &names, module.procs.as_slice())?;
-    Ok(names.design(alloc, processes)?)
+    let processes = resolve::processes(alloc, &names, source.procs.as_slice())?;
+    Ok(NumberedModule { names, processes })
 }
 
 /// Refuses the first thing that is wrong with the processes of a module.

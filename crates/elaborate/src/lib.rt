@@ -20,5 +20,5 @@ mod registers;
 mod resolve;
 mod uses;
 
-pub use elaboration::elaborate;
+pub use elaboration::{elaborate, elaborate_owned};
 pub use fault::ElabFault;

@@ -5,7 +5,6 @@ use Rattle.std.specs.Io.KnownBytes.{Keeps}
 use Rattle.model.specs.declared.entry.Entry.{Entry}
 use Rattle.model.specs.Runs.{Effect, run, IsLawful}
 use Rattle.design.specs.Compiled.{Compiled, design_of}
-use Rattle.places.specs.Places.{AreProcesses}
 use Rattle.frontend.specs.declared.source.SourceFault.{SourceFault}
 use Rattle.journal.specs.declared.fault.ReadFault.{ReadFault}
 use Rattle.replay.specs.declared.fault.ReplayFault.{ReplayFault}
@@ -15,7 +14,7 @@ use Rattle.explain.specs.declared.failure.ExplainFault.{ExplainFault}
 use Rattle.explain.specs.declared.failure.ExplainFault.TheVariants.{Source, Read, Replay, CannotWrite, Memory}
 use Rattle.explain.specs.declared.telling.Window.{Window}
 use Rattle.explain.specs.declared.telling.Telling.{Telling}
-use Rattle.explain.specs.Texts.{told_design, TellsAll, TellsFault, IsTelling, Explains, ExplainsFault, ExplainsText, ExplainsTextFault}
+use Rattle.explain.specs.Texts.{TellsAll, TellsFault, IsTelling, Explains, ExplainsFault, ExplainsText, ExplainsTextFault}
 use Rattle.explain.specs.Explained.{IsLawfulText, IsOfEntries, IsNoFault, IfSource, IfRead, IfReplay, UnlessBegun}
 
 -- want of memory and a failed write are no fault of a journal

@@ -1,14 +1,13 @@
 -- Entries that are told one after another, while their text is written.
-use Rattle.std.proofs.Common.{◌≡◌, ◌∙◌, ap, sym, refl, subst, ℕ, zero, suc, ◌+◌, ◌<◌, List, [], ◌∷◌, ◌++◌, length, take, append_assoc, Option, Some, None, Result, Ok, Err, OnOk, arith, IfErr}
-use Rattle.std.specs.Prelude.{slice_get, slice_index_or, IsSome}
+use Rattle.std.proofs.Common.{◌≡◌, ◌∙◌, ap, sym, refl, subst, ℕ, suc, ◌+◌, ◌<◌, List, [], ◌∷◌, ◌++◌, length, take, append_assoc, Option, Some, None, Result, Ok, Err, OnOk, arith}
+use Rattle.std.specs.Prelude.{slice_get, slice_index_or}
 use Rattle.std.specs.Io.KnownBytes.{Appends}
 use Rattle.std.proofs.lemmas.List.{append-nil}
 use Rattle.std.proofs.lemmas.Option.{slice_get-get_or}
-use Rattle.std.proofs.Math.Seq.{take-suc}
 use Rattle.journal.specs.Written.{Passes}
 use Rattle.model.specs.declared.entry.Entry.{Entry}
 use Rattle.model.specs.States.{State}
-use Rattle.model.specs.Runs.{Effect, is_quiet, run, IsLawful}
+use Rattle.model.specs.Runs.{Effect, is_quiet, run}
 use Rattle.design.specs.Compiled.{Compiled, design_of}
 use Rattle.regions.specs.Machine.{Position, state_at}
 use Rattle.replay.specs.declared.fault.ReplayFault.{ReplayFault}
@@ -20,7 +19,7 @@ use Rattle.steps.specs.Told.{IsTold}
 use Rattle.steps.specs.Standing.{Standing, IsBehind, IsExplained}
 use Rattle.explain.specs.Endings.{AreNext, IsEndText, PutsEnd, end_text, refusal_text}
 use Rattle.explain.specs.Texts.{told_design, told_text, IsEntryText, AreEntryTexts, TellsAll, TellsFault}
-use Rattle.explain.specs.Sent.{IsNextTold, AreTold, IsToldTo, IsStoppedAt, SendsEnd}
+use Rattle.explain.specs.Sent.{IsNextTold, IsToldTo, IsStoppedAt, SendsEnd}
 use Rattle.explain.specs.Explained.{IsFaultOfEntries, IfReplay}
 use Rattle.explain.proofs.Next.{next_behind}
 

@@ -1,5 +1,5 @@
 -- Which fault a journal in words ends with.
-use Rattle.std.specs.Prelude.{ℕ, List, Option, Result, Ok, Err}
+use Rattle.std.specs.Prelude.{ℕ, List, Option, Result, Err}
 use Rattle.model.specs.declared.entry.Entry.{Entry}
 use Rattle.model.specs.Runs.{IsLawful}
 use Rattle.design.specs.Compiled.{Compiled, design_of}

@@ -27,28 +27,18 @@ abbrev pub reading_text : Names → Reading → List ℕ
 reading_text names r =
     register_text names r.register ++ codes "=" ++ value_text r.value ++ codes " (version " ++ decimal r.version ++ codes ")"
 
--- the registers that are read, from a place on
-abbrev pub reads_text : Names → Bool → ℕ → List Reading → List ℕ
-reads_text names behind place [] = []
-reads_text names behind place (r ∷ rs) = lead place behind (codes "reads ") ++ (reading_text names r ++ reads_text names behind (place + 1) rs)
-
 -- a change
 abbrev pub change_text : Names → Changed → List ℕ
 change_text names c = register_text names c.register ++ codes " " ++ value_text c.before ++ codes " -> " ++ value_text c.after
-
--- the changes, from a place on
-abbrev pub changes_text : Names → Bool → ℕ → List Changed → List ℕ
-changes_text names behind place [] = []
-changes_text names behind place (c ∷ cs) = lead place behind (codes "writes ") ++ (change_text names c ++ changes_text names behind (place + 1) cs)
 
 -- a nonblocking assignment
 abbrev pub assignment_text : Names → Nba → List ℕ
 assignment_text names n = register_text names n.reg ++ codes " <= " ++ value_text n.value ++ codes " for time " ++ decimal n.due
 
--- the nonblocking assignments, from a place on
-abbrev pub assigned_text : Names → Bool → ℕ → List Nba → List ℕ
-assigned_text names behind place [] = []
-assigned_text names behind place (n ∷ ns) = lead place behind (codes "assigns ") ++ (assignment_text names n ++ assigned_text names behind (place + 1) ns)
+-- the parts of a kind, from a place on
+abbrev pub list_text : {A : Type 0} → (A → List ℕ) → List ℕ → Bool → ℕ → List A → List ℕ
+list_text part word behind place [] = []
+list_text part word behind place (x ∷ xs) = lead place behind word ++ (part x ++ list_text part word behind (place + 1) xs)
 
 -- the lines that are printed
 abbrev pub printed_text : Bool → List ℕ → List ℕ
@@ -77,8 +67,9 @@ deed_text names entry deeds.Regions = region_text entry
 -- what is read, changed, assigned and printed
 abbrev pub parts_text : Names → Account → List ℕ
 parts_text names a =
-    reads_text names false 0 a.reads ++ changes_text names (has_any a.reads) 0 a.changes
-    ++ assigned_text names (has_any a.reads || has_any a.changes) 0 a.assigned
+    list_text (reading_text names) (codes "reads ") false 0 a.reads
+    ++ list_text (change_text names) (codes "writes ") (has_any a.reads) 0 a.changes
+    ++ list_text (assignment_text names) (codes "assigns ") (has_any a.reads || has_any a.changes) 0 a.assigned
     ++ printed_text (has_any a.reads || has_any a.changes || has_any a.assigned) a.lines
 
 -- the line of an entry: its number, the time, who does it, and what it reads, changes, assigns and prints

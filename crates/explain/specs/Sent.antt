@@ -1,5 +1,5 @@
 -- How far a journal is told while it is told.
-use Rattle.std.specs.Prelude.{◌≡◌, ℕ, ◌+◌, List, ◌++◌, length, take, slice_get, Option, Some}
+use Rattle.std.specs.Prelude.{◌≡◌, ℕ, ◌+◌, List, ◌++◌, take, slice_get, Option, Some}
 use Rattle.std.specs.Io.KnownBytes.{Appends}
 use Rattle.journal.specs.Written.{Passes}
 use Rattle.model.specs.declared.entry.Entry.{Entry}

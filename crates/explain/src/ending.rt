@@ -10,7 +10,7 @@ ghost use Rattle.explain.specs.Endings.{cause_text, code_text, due_text, end_tex
 ghost use Rattle.explain.specs.Endings.{PutsEnd};
 
 use crate::lines::push_update;
-use crate::phrases::{Names, push_number, push_process};
+use crate::phrases::{Names, push_labelled, push_process};
 use model::entry::Refusal;
 use regions::{Due, Evaluation, Machine, Update};
 use replay::{Cause, ReplayFault};
@@ -21,10 +21,8 @@ use std::collections::VecDeque;
 fn push_standing(text: &mut Vec<u8>, count: u64, time: u64) -> Result<(), AllocError>
     ensures { OnOk result (text.new.items ≡ text.old.items ++ standing_text count time) }
 {
-    text.extend_from_slice(b" after ")?;
-    push_number(text, count)?;
-    text.extend_from_slice(b" entries at time ")?;
-    push_number(text, time)?;
+    push_labelled(text, b" after ", count)?;
+    push_labelled(text, b" entries at time ", time)?;
     text.extend_from_slice(b"\n")
 }
 
@@ -42,8 +40,7 @@ fn push_next(text: &mut Vec<u8>, next: usize) -> Result<(), AllocError>
 fn push_several(text: &mut Vec<u8>, next: usize) -> Result<(), AllocError>
     ensures { OnOk result (text.new.items ≡ text.old.items ++ (codes "can go on: " ++ decimal next ++ codes " entries may be next\n")) }
 {
-    text.extend_from_slice(b"can go on: ")?;
-    push_number(text, next as u64)?;
+    push_labelled(text, b"can go on: ", next as u64)?;
     text.extend_from_slice(b" entries may be next\n")
 }
 
@@ -142,119 +139,79 @@ fn refusal_rule(refusal: Refusal) -> &'static str
     }
 }
 
-// Puts a number of an event behind a text.
-fn push_event(text: &mut Vec<u8>, number: u64) -> Result<(), AllocError>
-    ensures { OnOk result (text.new.items ≡ text.old.items ++ (codes "  event " ++ decimal number ++ codes ", ")) }
-{
-    text.extend_from_slice(b"  event ")?;
-    push_number(text, number)?;
-    text.extend_from_slice(b", ")
+/// What a region has a queue of.
+trait Queued {
+    ghost use Rattle.model.specs.States.{Event};
+
+    /// The event that it is.
+    ghost event: { Self → Event };
+
+    /// Puts its number and what it does behind a text.
+    fn push(&self, text: &mut Vec<u8>, names: &Names<'_>) -> Result<(), AllocError>
+        ensures { OnOk result (text.new.items ≡ text.old.items ++ event_text names.entry.now (event self.now)) };
 }
 
-fn push_evaluation(
-    text: &mut Vec<u8>,
-    names: &Names<'_>,
-    event: Evaluation,
-) -> Result<(), AllocError>
-    ensures { OnOk result (text.new.items ≡ text.old.items ++ event_text names.entry.now (evaluation_event event)) }
-{
-    push_event(text, event.number)?;
-    text.extend_from_slice(b"turn of ")?;
-    push_process(text, names, event.process)
+impl Queued for Evaluation {
+    ghost event = { evaluation_event };
+
+    fn push(&self, text: &mut Vec<u8>, names: &Names<'_>) -> Result<(), AllocError> {
+        push_labelled(text, b"  event ", self.number)?;
+        text.extend_from_slice(b", ")?;
+        text.extend_from_slice(b"turn of ")?;
+        push_process(text, names, self.process)
+    }
 }
 
-fn push_update_event(text: &mut Vec<u8>, names: &Names<'_>, event: Update) -> Result<(), AllocError>
-    ensures { OnOk result (text.new.items ≡ text.old.items ++ event_text names.entry.now (update_event event)) }
-{
-    push_event(text, event.number)?;
-    push_update(text, names, event.register, event.value)
+impl Queued for Update {
+    ghost event = { update_event };
+
+    fn push(&self, text: &mut Vec<u8>, names: &Names<'_>) -> Result<(), AllocError> {
+        push_labelled(text, b"  event ", self.number)?;
+        text.extend_from_slice(b", ")?;
+        push_update(text, names, self.register, self.value)
+    }
 }
 
-fn push_evaluations(
+// Puts a line for each event of a region behind a text.
+fn push_queue<E: Queued>(
     text: &mut Vec<u8>,
     names: &Names<'_>,
     region: &str,
-    events: &VecDeque<Evaluation>,
+    events: &VecDeque<E>,
 ) -> Result<(), AllocError>
-    ensures { OnOk result (text.new.items ≡ text.old.items ++ region_lines names.entry.now region.now (map evaluation_event events.now.items)) }
+    ensures { OnOk result (text.new.items ≡ text.old.items ++ region_lines names.entry.now region.now (map E.event events.now.items)) }
 {
     for i in 0..events.len() {
         text.extend_from_slice(region.as_bytes())?;
-        push_evaluation(text, names, events[i])?;
+        events[i].push(text, names)?;
         text.extend_from_slice(b"\n")?;
     }
     Ok(())
 }
 
-fn push_updates(
+// Puts the line of an event that is due later behind a text.
+fn push_due<E: Queued>(
     text: &mut Vec<u8>,
     names: &Names<'_>,
-    region: &str,
-    events: &VecDeque<Update>,
+    due: &Due<E>,
 ) -> Result<(), AllocError>
-    ensures { OnOk result (text.new.items ≡ text.old.items ++ region_lines names.entry.now region.now (map update_event events.now.items)) }
+    ensures { OnOk result (text.new.items ≡ text.old.items ++ due_text names.entry.now (due_event E.event due.now)) }
 {
-    for i in 0..events.len() {
-        text.extend_from_slice(region.as_bytes())?;
-        push_update_event(text, names, events[i])?;
-        text.extend_from_slice(b"\n")?;
-    }
-    Ok(())
-}
-
-fn push_due(text: &mut Vec<u8>, time: u64) -> Result<(), AllocError>
-    ensures { OnOk result (text.new.items ≡ text.old.items ++ (codes "  future  time " ++ decimal time)) }
-{
-    text.extend_from_slice(b"  future  time ")?;
-    push_number(text, time)
-}
-
-fn push_due_evaluation(
-    text: &mut Vec<u8>,
-    names: &Names<'_>,
-    due: Due<Evaluation>,
-) -> Result<(), AllocError>
-    ensures { OnOk result (text.new.items ≡ text.old.items ++ due_text names.entry.now (due_event evaluation_event due)) }
-{
-    push_due(text, due.time)?;
-    push_evaluation(text, names, due.event)?;
+    push_labelled(text, b"  future  time ", due.time)?;
+    due.event.push(text, names)?;
     text.extend_from_slice(b"\n")
 }
 
-fn push_due_evaluations(
+// Puts a line for each of them behind a text.
+fn push_future<E: Queued>(
     text: &mut Vec<u8>,
     names: &Names<'_>,
-    events: &VecDeque<Due<Evaluation>>,
+    events: &VecDeque<Due<E>>,
 ) -> Result<(), AllocError>
-    ensures { OnOk result (text.new.items ≡ text.old.items ++ future_lines names.entry.now (map (due_event evaluation_event) events.now.items)) }
+    ensures { OnOk result (text.new.items ≡ text.old.items ++ future_lines names.entry.now (map (due_event E.event) events.now.items)) }
 {
     for i in 0..events.len() {
-        push_due_evaluation(text, names, events[i])?;
-    }
-    Ok(())
-}
-
-fn push_due_update(
-    text: &mut Vec<u8>,
-    names: &Names<'_>,
-    due: Due<Update>,
-) -> Result<(), AllocError>
-    ensures { OnOk result (text.new.items ≡ text.old.items ++ due_text names.entry.now (due_event update_event due)) }
-{
-    push_due(text, due.time)?;
-    push_update_event(text, names, due.event)?;
-    text.extend_from_slice(b"\n")
-}
-
-fn push_due_updates(
-    text: &mut Vec<u8>,
-    names: &Names<'_>,
-    events: &VecDeque<Due<Update>>,
-) -> Result<(), AllocError>
-    ensures { OnOk result (text.new.items ≡ text.old.items ++ future_lines names.entry.now (map (due_event update_event) events.now.items)) }
-{
-    for i in 0..events.len() {
-        push_due_update(text, names, events[i])?;
+        push_due(text, names, &events[i])?;
     }
     Ok(())
 }
@@ -266,8 +223,11 @@ fn push_strobes(text: &mut Vec<u8>, count: usize) -> Result<(), AllocError>
     if count == 0 {
         return Ok(());
     }
-    text.extend_from_slice(b"  monitor  lines of $strobe to be made: ")?;
-    push_number(text, count as u64)?;
+    push_labelled(
+        text,
+        b"  monitor  lines of $strobe to be made: ",
+        count as u64,
+    )?;
     text.extend_from_slice(b"\n")
 }
 
@@ -280,8 +240,8 @@ fn push_active(
     ensures { OnOk result (text.new.items ≡ text.old.items ++ region_lines names.entry.now (codes "  active") machine.now.core.active) }
 {
     let (updates, evaluations) = machine.state().active();
-    push_updates(text, names, "  active", updates)?;
-    push_evaluations(text, names, "  active", evaluations)
+    push_queue(text, names, "  active", updates)?;
+    push_queue(text, names, "  active", evaluations)
 }
 
 // Puts a line for each event of each region behind a text (11.3).
@@ -294,11 +254,11 @@ fn push_events(
 {
     let state = machine.state();
     push_active(text, names, machine)?;
-    push_evaluations(text, names, "  inactive", state.inactive())?;
-    push_updates(text, names, "  nonblocking", state.nonblocking())?;
+    push_queue(text, names, "  inactive", state.inactive())?;
+    push_queue(text, names, "  nonblocking", state.nonblocking())?;
     push_strobes(text, state.monitor().len())?;
-    push_due_evaluations(text, names, state.future_evaluations())?;
-    push_due_updates(text, names, state.future_updates())
+    push_future(text, names, state.future_evaluations())?;
+    push_future(text, names, state.future_updates())
 }
 
 // What is said of the regions before their events.
@@ -315,8 +275,7 @@ fn title(quiet: bool) -> &'static str
 fn push_cause(text: &mut Vec<u8>, fault: ReplayFault) -> Result<(), AllocError>
     ensures { OnOk result (text.new.items ≡ text.old.items ++ cause_text fault) }
 {
-    text.extend_from_slice(b"entry ")?;
-    push_number(text, fault.entry)?;
+    push_labelled(text, b"entry ", fault.entry)?;
     text.extend_from_slice(said(fault.cause).as_bytes())?;
     text.extend_from_slice(code(fault.cause).as_bytes())?;
     text.extend_from_slice(b": ")?;
@@ -333,8 +292,7 @@ pub(crate) fn push_refusal(
     ensures { OnOk result (text.new.items ≡ text.old.items ++ refusal_text names.entry.now (state_at machine.now) fault) }
 {
     push_cause(text, fault)?;
-    text.extend_from_slice(b"\nat time ")?;
-    push_number(text, machine.time())?;
+    push_labelled(text, b"\nat time ", machine.time())?;
     text.extend_from_slice(title(machine.is_quiet()).as_bytes())?;
     push_events(text, names, machine)
 }

@@ -3,7 +3,6 @@
 use frontend::SourceFault;
 use journal::ReadFault;
 use replay::ReplayFault;
-use std::alloc::AllocError;
 use thiserror::Error;
 
 /// Why a journal isn't explained to its end.
@@ -24,15 +23,4 @@ pub enum ExplainFault {
     /// Memory was refused to what is told.
     #[error("memory")]
     Memory,
-}
-
-impl From<AllocError> for ExplainFault {
-    ghost use Rattle.std.specs.Prelude.{◌≡◌};
-    ghost use Rattle.explain.specs.declared.failure.ExplainFault.TheVariants.{Memory};
-
-    ghost from_gives = { λ _ fault. fault ≡ Memory };
-
-    fn from(_refused: AllocError) -> ExplainFault {
-        ExplainFault::Memory
-    }
 }

@@ -4,9 +4,11 @@ ghost use Rattle.std.specs.Prelude.{◌≡◌, ◌++◌, OnOk, codes};
 ghost use Rattle.model.specs.Runs.{has_any};
 ghost use Rattle.explain.specs.Phrases.{quoted_text};
 ghost use Rattle.steps.specs.Told.{account_of};
-ghost use Rattle.explain.specs.Lines.{assigned_text, assignment_text, change_text, changes_text, deed_text, entry_text, lead, mark, parts_text, printed_text, reading_text, reads_text, region_text, update_text};
+ghost use Rattle.explain.specs.Lines.{assignment_text, change_text, deed_text, entry_text, lead, list_text, mark, parts_text, printed_text, reading_text, region_text, update_text};
 
-use crate::phrases::{Names, push_number, push_process, push_quoted, push_register, push_value};
+use crate::phrases::{
+    Names, push_labelled, push_number, push_process, push_quoted, push_register, push_value,
+};
 use design::RegId;
 use logic4::bits::Bits;
 use model::entry::Entry;
@@ -35,78 +37,67 @@ fn push_lead(text: &mut Vec<u8>, place: usize, behind: bool, word: &str) -> Resu
     text.extend_from_slice(word.as_bytes())
 }
 
-fn push_reading(text: &mut Vec<u8>, names: &Names<'_>, read: &Reading) -> Result<(), AllocError>
-    ensures { OnOk result (text.new.items ≡ text.old.items ++ reading_text names.entry.now read.now) }
-{
-    push_register(text, names, read.register)?;
-    text.extend_from_slice(b"=")?;
-    push_value(text, read.value)?;
-    text.extend_from_slice(b" (version ")?;
-    push_number(text, read.version)?;
-    text.extend_from_slice(b")")
+/// What a line has a list of.
+trait Part {
+    ghost use Rattle.std.specs.Prelude.{ℕ, List};
+    ghost use Rattle.explain.specs.declared.phrases.Names.{Names};
+
+    /// Its text.
+    ghost part_text: { Names → Self → List ℕ };
+
+    /// Puts it behind a text.
+    fn push(&self, text: &mut Vec<u8>, names: &Names<'_>) -> Result<(), AllocError>
+        ensures { OnOk result (text.new.items ≡ text.old.items ++ part_text names.entry.now self.now) };
 }
 
-fn push_reads(
-    text: &mut Vec<u8>,
-    names: &Names<'_>,
-    reads: &[Reading],
-    behind: bool,
-) -> Result<(), AllocError>
-    ensures { OnOk result (text.new.items ≡ text.old.items ++ reads_text names.entry.now behind 0 reads.now) }
-{
-    for place in 0..reads.len() {
-        push_lead(text, place, behind, "reads ")?;
-        push_reading(text, names, &reads[place])?;
+impl Part for Reading {
+    ghost part_text = { reading_text };
+
+    fn push(&self, text: &mut Vec<u8>, names: &Names<'_>) -> Result<(), AllocError> {
+        push_register(text, names, self.register)?;
+        text.extend_from_slice(b"=")?;
+        push_value(text, self.value)?;
+        push_labelled(text, b" (version ", self.version)?;
+        text.extend_from_slice(b")")
     }
-    Ok(())
 }
 
-fn push_change(text: &mut Vec<u8>, names: &Names<'_>, change: &Changed) -> Result<(), AllocError>
-    ensures { OnOk result (text.new.items ≡ text.old.items ++ change_text names.entry.now change.now) }
-{
-    push_register(text, names, change.register)?;
-    text.extend_from_slice(b" ")?;
-    push_value(text, change.before)?;
-    text.extend_from_slice(b" -> ")?;
-    push_value(text, change.after)
-}
+impl Part for Changed {
+    ghost part_text = { change_text };
 
-fn push_changes(
-    text: &mut Vec<u8>,
-    names: &Names<'_>,
-    changes: &[Changed],
-    behind: bool,
-) -> Result<(), AllocError>
-    ensures { OnOk result (text.new.items ≡ text.old.items ++ changes_text names.entry.now behind 0 changes.now) }
-{
-    for place in 0..changes.len() {
-        push_lead(text, place, behind, "writes ")?;
-        push_change(text, names, &changes[place])?;
+    fn push(&self, text: &mut Vec<u8>, names: &Names<'_>) -> Result<(), AllocError> {
+        push_register(text, names, self.register)?;
+        text.extend_from_slice(b" ")?;
+        push_value(text, self.before)?;
+        text.extend_from_slice(b" -> ")?;
+        push_value(text, self.after)
     }
-    Ok(())
 }
 
-fn push_assignment(text: &mut Vec<u8>, names: &Names<'_>, assigned: &Nba) -> Result<(), AllocError>
-    ensures { OnOk result (text.new.items ≡ text.old.items ++ assignment_text names.entry.now assigned.now) }
-{
-    push_register(text, names, assigned.reg)?;
-    text.extend_from_slice(b" <= ")?;
-    push_value(text, assigned.value)?;
-    text.extend_from_slice(b" for time ")?;
-    push_number(text, assigned.due)
+impl Part for Nba {
+    ghost part_text = { assignment_text };
+
+    fn push(&self, text: &mut Vec<u8>, names: &Names<'_>) -> Result<(), AllocError> {
+        push_register(text, names, self.reg)?;
+        text.extend_from_slice(b" <= ")?;
+        push_value(text, self.value)?;
+        push_labelled(text, b" for time ", self.due)
+    }
 }
 
-fn push_assigned(
+// Puts all parts of a kind behind a text.
+fn push_list<P: Part>(
     text: &mut Vec<u8>,
     names: &Names<'_>,
-    assigned: &[Nba],
+    parts: &[P],
     behind: bool,
+    word: &str,
 ) -> Result<(), AllocError>
-    ensures { OnOk result (text.new.items ≡ text.old.items ++ assigned_text names.entry.now behind 0 assigned.now) }
+    ensures { OnOk result (text.new.items ≡ text.old.items ++ list_text (P.part_text names.entry.now) word.now behind 0 parts.now) }
 {
-    for place in 0..assigned.len() {
-        push_lead(text, place, behind, "assigns ")?;
-        push_assignment(text, names, &assigned[place])?;
+    for place in 0..parts.len() {
+        push_lead(text, place, behind, word)?;
+        parts[place].push(text, names)?;
     }
     Ok(())
 }
@@ -194,9 +185,9 @@ fn push_parts(text: &mut Vec<u8>, names: &Names<'_>, told: &Told) -> Result<(), 
     let reads = has_any(&told.reads);
     let changes = reads | has_any(&told.changes);
     let assigned = changes | has_any(&told.assigned);
-    push_reads(text, names, &told.reads, false)?;
-    push_changes(text, names, &told.changes, reads)?;
-    push_assigned(text, names, &told.assigned, changes)?;
+    push_list(text, names, &told.reads, false, "reads ")?;
+    push_list(text, names, &told.changes, reads, "writes ")?;
+    push_list(text, names, &told.assigned, changes, "assigns ")?;
     push_printed(text, told.lines.as_bytes(), assigned)
 }
 
@@ -212,8 +203,7 @@ pub(crate) fn push_entry(
     ensures { OnOk result (text.new.items ≡ text.old.items ++ entry_text names.entry.now number entry (account_of told.now)) }
 {
     push_number(text, number)?;
-    text.extend_from_slice(b"  time ")?;
-    push_number(text, told.time)?;
+    push_labelled(text, b"  time ", told.time)?;
     text.extend_from_slice(b"  ")?;
     push_deed(text, names, entry, told.deed)?;
     push_parts(text, names, told)?;

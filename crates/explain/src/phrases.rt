@@ -27,6 +27,14 @@ pub(crate) fn push_number(text: &mut Vec<u8>, number: u64) -> Result<(), AllocEr
     text.extend_from_slice(digits.format(number).as_bytes())
 }
 
+/// Puts a number behind a text, with what stands before it.
+pub(crate) fn push_labelled(text: &mut Vec<u8>, label: &[u8], number: u64) -> Result<(), AllocError>
+    ensures { OnOk result (text.new.items ≡ text.old.items ++ (label.now ++ decimal number)) }
+{
+    text.extend_from_slice(label)?;
+    push_number(text, number)
+}
+
 // The letter of a digit.
 fn letter(digit: Digit) -> &'static str
     ensures { result.now ≡ digit_text digit }
@@ -133,8 +141,7 @@ fn push_place(text: &mut Vec<u8>, process: &Process) -> Result<(), AllocError>
 {
     text.extend_from_slice(b", ")?;
     text.extend_from_slice(word_of(process).as_bytes())?;
-    text.extend_from_slice(b" at line ")?;
-    push_number(text, process.place.line as u64)
+    push_labelled(text, b" at line ", process.place.line as u64)
 }
 
 // Puts the word and the line of a process behind a text.
@@ -155,7 +162,6 @@ pub(crate) fn push_process(
 ) -> Result<(), AllocError>
     ensures { OnOk result (text.new.items ≡ text.old.items ++ process_text names.entry.now process) }
 {
-    text.extend_from_slice(b"process ")?;
-    push_number(text, u64::from(process))?;
+    push_labelled(text, b"process ", u64::from(process))?;
     push_begin(text, names, process)
 }

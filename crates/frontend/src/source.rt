@@ -3,7 +3,7 @@ ghost use Rattle.std.specs.Prelude.{IfOk, IfErr};
 ghost use Rattle.frontend.specs.Sources.{IsDesignOf, IsSourceFault};
 
 use design::Design;
-use elaborate::{ElabFault, elaborate};
+use elaborate::{ElabFault, elaborate_owned};
 use std::alloc::Global;
 use thiserror::Error;
 use vparse::{ParseFault, parse};
@@ -31,7 +31,7 @@ pub fn read_design(alloc: Global, source: &[u8]) -> Result<Design, SourceFault>
         Ok(module) => module,
         Err(fault) => return Err(SourceFault::Parse(fault)),
     };
-    match elaborate(alloc, &module) {
+    match elaborate_owned(alloc, module) {
         Ok(design) => Ok(design),
         Err(fault) => Err(SourceFault::Elaborate(fault)),
     }

@@ -34,8 +34,17 @@ updated_register active ActivateNba = None
 updated_register active ActivateMonitor = None
 updated_register active (Advance time) = None
 
--- the seat has seen all values of the registers that a turn read or wrote or, after another entry, of the one updated, if
--- it is one of so many
+-- the seat has seen all values of the registers that a turn read
+abbrev pub HadMetReads : List (List Vector) → List (List Vector) → Option LogView → Type 0
+HadMetReads all new None = Unit {0}
+HadMetReads all new (Some log) = HasMetReads all new log.reads
+
+-- the seat has seen all values of the registers that a turn wrote or, after another entry, of the one updated, if it is one of
+-- so many
+abbrev pub HasMetWritten : List (List Vector) → List (List Vector) → ℕ → Option ℕ → Option LogView → Type 0
+HasMetWritten all new n updated None = (r : ℕ) → updated ≡ Some r → r < n → fresh_of new r ≡ fresh_of all r
+HasMetWritten all new n updated (Some log) = HasMetWrites all new log.writes
+
+-- the same also of those that a turn read
 abbrev pub HasMetLog : List (List Vector) → List (List Vector) → ℕ → Option ℕ → Option LogView → Type 0
-HasMetLog all new n updated None = (r : ℕ) → updated ≡ Some r → r < n → fresh_of new r ≡ fresh_of all r
-HasMetLog all new n updated (Some log) = HasMetReads all new log.reads × HasMetWrites all new log.writes
+HasMetLog all new n updated log = HadMetReads all new log × HasMetWritten all new n updated log

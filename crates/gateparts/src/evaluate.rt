@@ -61,24 +61,31 @@ impl<'g, H: Holding, R: Wait> RegReader for HeldReader<'g, H, R> {
     }
 }
 
+/// The cells of the registers, with their holder.
+#[derive(Drop)]
+pub struct HeldCells<'g, R: Wait> {
+    pub rt: &'g R,
+    pub cells: &'g RegCells,
+    pub holder: Holder,
+}
+
 /// Fills a log with the turn from a process state on, on the last value of each register. The holder comes back as it was.
 pub fn held_turn<H: Holding, R: Wait>(
-    rt: &R,
-    cells: &RegCells,
-    holder: Holder,
+    held: HeldCells<'_, R>,
     log: &mut TurnLog,
     design: &Design,
     state: &ProcState,
     now: u64,
 ) -> (Holder, Result<(), FillFault>)
-    requires cells { cells.now ≡ H.holds.cells }
-    requires holder { holder ≡ H.holds }
+    requires cells { held.cells.now ≡ H.holds.cells }
+    requires holder { held.holder ≡ H.holds }
     requires registers { length design.now.widths ≡ length H.holds.cells }
     requires now { now ≤ last_time }
     ensures same { result.0 ≡ H.holds }
     ensures turn { MatchResult result.1 (λ _. IsTurnLog design.now state.now now log.new) (IsNoTurn design.now state.now now log.new.reads) }
     ensures gave { MatchResult result.1 (λ _. GaveAll (IsLastIn H.holds) log.new.reads) (λ fault. fault ≡ fault_of.TooLong → GaveAll (IsLastIn H.holds) log.new.reads) }
 {
+    let HeldCells { rt, cells, holder } = held;
     let mut reader: HeldReader<'_, H, R> = HeldReader {
         rt,
         cells,

@@ -8,13 +8,14 @@
 //! Who has the lock takes these steps, in this order, to append an entry:
 //!
 //! 1. A turn that was evaluated without the lock is compared: `first_moved` of `regcells` names the first register that has
-//!    changed since the turn read it. A turn that is evaluated under the lock (`evaluate`) reads the last value of each register.
+//!    changed since the turn read it, and the seat meets those that it read. A turn that is evaluated under the lock
+//!    (`evaluate`) reads the last value of each register.
 //! 2. `Parts::updated` (`parts`) names the register that an update gives a value, while the update is still active.
 //! 3. `Parts::append` (`parts`) makes room for one entry, and applies it: `regions` makes its step on the regions and on the
 //!    cells, and appends its lines. Where memory is refused, journal, regions, registers, lines and end are as before.
 //! 4. The entry is pushed onto the journal, and the end Finish is stored where the run is finished.
-//! 5. `Parts::publish` (`parts`) tells the seat: it meets the registers that the entry read or wrote (`meeting` of `regcells`), and the log has
-//!    the entry in its name (`mark`), with that end behind it.
+//! 5. The seat is told: it meets the registers that the entry wrote (`Parts::show_written`, by `meeting` of `regcells`), and the
+//!    log has the entry in its name (`Parts::publish`, by `mark`), with that end behind it.
 //!
 //! A seat without an entry to append looks at the mark (`look`), or sees the whole log under the lock (`catch_up`).
 #![tactic(auto)]
@@ -24,10 +25,10 @@ mod log;
 mod mark;
 mod parts;
 
-pub use evaluate::{Holding, held_turn};
+pub use evaluate::{HeldCells, Holding, held_turn};
 pub use log::Item;
 pub use mark::{
-    Adds, Both, Compares, Looks, Makes, MarkCell, MarkPass, MarkView, Marks, Telling, Whole, add,
-    catch_up, look, new_mark, next_seat,
+    Addition, Adds, Both, Compares, Looks, Makes, MarkCell, MarkPass, MarkView, Marks, Telling,
+    Whole, add, catch_up, look, new_mark, next_seat,
 };
 pub use parts::Parts;

@@ -12,6 +12,8 @@ use Rattle.seeded.specs.declared.run.SeededRun.{SeededRun}
 use Rattle.conflicts.specs.declared.told.Race as found
 use Rattle.verdict.specs.declared.race.Race.{Race}
 use Rattle.verdict.specs.Races.{race_text}
+use Rattle.places.specs.declared.place.Process.{Process}
+use Rattle.naming.specs.Begins.{AreProcessesOf}
 use Rattle.naming.specs.Naming.{AreRacesTold, IsRaceTold, TellsBehind, TellsEach, races_text, tell}
 
 text_one : (t : Race) → races_text (t ∷ []) ≡ race_text t
@@ -27,42 +29,42 @@ text_more [] t = text_one t
 text_more (u ∷ us) t = ap (λ l. race_text u ++ l) (text_more us t) ∙ sym (append_assoc (race_text u) (races_text us) (race_text t))
 
 -- one race more is told
-pub told_more : (code : Compiled) (shown : List (Shown Entry End)) (prefix : Option (List ℕ)) (original : SeededRun) (n i : ℕ) (rs : List found.Race) (d : found.Race) (ts : List Race) (t : Race) → i < length rs
-    → AreRacesTold code shown prefix original n (take i rs) ts → IsRaceTold code shown prefix original (n + i) (get_or rs i d) t
-    → AreRacesTold code shown prefix original n (take (suc i) rs) (ts ++ t ∷ [])
-told_more code shown prefix original n i [] d ts t lt all one = absurd (omega (arith, lt))
-told_more code shown prefix original n zero (r ∷ rs) d [] t lt all one =
-    (subst (λ k. IsRaceTold code shown prefix original k r t) (omega arith) one, tt)
-told_more code shown prefix original n zero (r ∷ rs) d (u ∷ us) t lt all one = absurd all
-told_more code shown prefix original n (suc i) (r ∷ rs) d [] t lt all one = absurd all
-told_more code shown prefix original n (suc i) (r ∷ rs) d (u ∷ us) t lt (head, all) one =
-    (head, told_more code shown prefix original (n + 1) i rs d us t (omega (arith, lt)) all (subst (λ k. IsRaceTold code shown prefix original k (get_or rs i d) t) (omega arith) one))
+pub told_more : (begins : List Process) (code : Compiled) (shown : List (Shown Entry End)) (prefix : Option (List ℕ)) (original : SeededRun) (n i : ℕ) (rs : List found.Race) (d : found.Race) (ts : List Race) (t : Race) → i < length rs
+    → AreRacesTold begins code shown prefix original n (take i rs) ts → IsRaceTold begins code shown prefix original (n + i) (get_or rs i d) t
+    → AreRacesTold begins code shown prefix original n (take (suc i) rs) (ts ++ t ∷ [])
+told_more begins code shown prefix original n i [] d ts t lt all one = absurd (omega (arith, lt))
+told_more begins code shown prefix original n zero (r ∷ rs) d [] t lt all one =
+    (subst (λ k. IsRaceTold begins code shown prefix original k r t) (omega arith) one, tt)
+told_more begins code shown prefix original n zero (r ∷ rs) d (u ∷ us) t lt all one = absurd all
+told_more begins code shown prefix original n (suc i) (r ∷ rs) d [] t lt all one = absurd all
+told_more begins code shown prefix original n (suc i) (r ∷ rs) d (u ∷ us) t lt (head, all) one =
+    (head, told_more begins code shown prefix original (n + 1) i rs d us t (omega (arith, lt)) all (subst (λ k. IsRaceTold begins code shown prefix original k (get_or rs i d) t) (omega arith) one))
 
 -- with one more, all up to it are told
-pub tells_more : (code : Compiled) (shown : List (Shown Entry End)) (prefix : Option (List ℕ)) (original : SeededRun) (i : ℕ) (rs : List found.Race) (d : found.Race) (t : Race) (old mid new : List ℕ) → i < length rs
-    → TellsEach code shown prefix original (take i rs) old mid → IsRaceTold code shown prefix original (i + 1) (get_or rs i d) t → new ≡ mid ++ race_text t
-    → TellsEach code shown prefix original (take (i + 1) rs) old new
-tells_more code shown prefix original i rs d t old mid new lt tells one at = record {
+pub tells_more : (begins : List Process) (code : Compiled) (shown : List (Shown Entry End)) (prefix : Option (List ℕ)) (original : SeededRun) (i : ℕ) (rs : List found.Race) (d : found.Race) (t : Race) (old mid new : List ℕ) → i < length rs
+    → TellsEach begins code shown prefix original (take i rs) old mid → IsRaceTold begins code shown prefix original (i + 1) (get_or rs i d) t → new ≡ mid ++ race_text t
+    → TellsEach begins code shown prefix original (take (i + 1) rs) old new
+tells_more begins code shown prefix original i rs d t old mid new lt tells one at = record {
   told = tells.told ++ t ∷ [];
-  are_told = subst (λ k. AreRacesTold code shown prefix original 1 (take k rs) (tells.told ++ t ∷ [])) (sym (add-one i))
-      (told_more code shown prefix original 1 i rs d tells.told t lt tells.are_told (subst (λ k. IsRaceTold code shown prefix original k (get_or rs i d) t) (omega arith) one));
+  are_told = subst (λ k. AreRacesTold begins code shown prefix original 1 (take k rs) (tells.told ++ t ∷ [])) (sym (add-one i))
+      (told_more begins code shown prefix original 1 i rs d tells.told t lt tells.are_told (subst (λ k. IsRaceTold begins code shown prefix original k (get_or rs i d) t) (omega arith) one));
   new_is = at ∙ (ap (λ l. l ++ race_text t) tells.new_is ∙ (append_assoc old (races_text tells.told) (race_text t) ∙ ap (λ l. old ++ l) (sym (text_more tells.told t))));
 }
 
 -- at the start none is told
-pub tells_none : (code : Compiled) (shown : List (Shown Entry End)) (prefix : Option (List ℕ)) (original : SeededRun) (old : List ℕ) → TellsEach code shown prefix original [] old old
-tells_none code shown prefix original old = record { told = []; are_told = tt; new_is = sym (none_more old) }
+pub tells_none : (begins : List Process) (code : Compiled) (shown : List (Shown Entry End)) (prefix : Option (List ℕ)) (original : SeededRun) (old : List ℕ) → TellsEach begins code shown prefix original [] old old
+tells_none begins code shown prefix original old = record { told = []; are_told = tt; new_is = sym (none_more old) }
   where
     none_more : (xs : List ℕ) → xs ++ [] ≡ xs
     none_more [] = refl
     none_more (x ∷ xs) = ap (λ ys. x ∷ ys) (none_more xs)
 
 -- lines on the races of a run are lines on races
-pub tells_behind : {A E : Type 0} (r : Result A E) (code : Compiled) (limits : Limits) (shown : List (Shown Entry End)) (here prefix : Option (List ℕ)) (original : SeededRun) (rs : List found.Race) (old new : List ℕ) → here ≡ prefix
-    → IsRun code limits original → All (IsShown code limits original) rs → OnOk r (TellsEach code shown here original rs old new) → OnOk r (TellsBehind code limits shown prefix old new)
-tells_behind (Ok x) code limits shown here prefix original rs old new same is_run are_shown each = record {
+pub tells_behind : {A E : Type 0} (r : Result A E) (source : List ℕ) (begins : List Process) (code : Compiled) (limits : Limits) (shown : List (Shown Entry End)) (here prefix : Option (List ℕ)) (original : SeededRun) (rs : List found.Race) (old new : List ℕ) → AreProcessesOf source begins → here ≡ prefix
+    → IsRun code limits original → All (IsShown code limits original) rs → OnOk r (TellsEach begins code shown here original rs old new) → OnOk r (TellsBehind source code limits shown prefix old new)
+tells_behind (Ok x) source begins code limits shown here prefix original rs old new of_source same is_run are_shown each = record {
   lines = races_text each.told;
-  tells = tell original rs each.told is_run are_shown (subst (λ p. AreRacesTold code shown p original 1 rs each.told) same each.are_told) refl;
+  tells = tell begins original rs each.told of_source is_run are_shown (subst (λ p. AreRacesTold begins code shown p original 1 rs each.told) same each.are_told) refl;
   new_is = each.new_is;
 }
-tells_behind (Err x) code limits shown here prefix original rs old new same is_run are_shown each = tt
+tells_behind (Err x) source begins code limits shown here prefix original rs old new of_source same is_run are_shown each = tt

@@ -1,5 +1,5 @@
 -- Races that are told in lines.
-use Rattle.std.specs.Prelude.{◌≡◌, ℕ, ◌+◌, List, [], ◌∷◌, ◌++◌, Option, Some, None, option_map, slice_get, string_bytes}
+use Rattle.std.specs.Prelude.{◌≡◌, ℕ, ◌+◌, List, [], ◌∷◌, ◌++◌, Option, Some, None, slice_get, string_bytes}
 use Rattle.std.specs.List.{All}
 use Rattle.model.specs.declared.entry.Entry.{Entry}
 use Rattle.model.specs.declared.end.End.{End}
@@ -16,11 +16,14 @@ use Rattle.verdict.specs.declared.race.Race.{Race}
 use Rattle.verdict.specs.declared.race.Role.{Role}
 use Rattle.verdict.specs.declared.race.Run.{Run}
 use Rattle.verdict.specs.Races.{prefix_of, race_text}
+use Rattle.places.specs.declared.place.Process.{Process}
+use Rattle.naming.specs.Begins.{AreProcessesOf, begin_of}
 use Rattle.naming.specs.Words.{word_of, IsSiteTold}
 
--- a process is told by its number, and what it does in words; where it begins no clause says
-pub record IsRoleTold (role : found_role.Role) (told : Role) : Type 0 where
+-- a process is told by its number, where it begins among these, and what it does in words
+pub record IsRoleTold (begins : List Process) (role : found_role.Role) (told : Role) : Type 0 where
   pub number : told.number ≡ role.process
+  pub begin : told.begins ≡ begin_of begins role.process
   pub does : told.does.now ≡ word_of role.does
 
 -- the first line in which two texts differ, or none where they have the same lines
@@ -42,43 +45,44 @@ abbrev pub IsRunTold : List (Shown Entry End) → SeededRun → Run → Type 0
 IsRunTold shown run told = IsJournalTold shown run told.journal
 
 -- A race is told with a number: for what, when, by whom, and by the two runs.
-pub record IsRaceTold (code : Compiled) (shown : List (Shown Entry End)) (prefix : Option (List ℕ)) (original : SeededRun) (number : ℕ) (race : found.Race) (told : Race) : Type 0 where
+pub record IsRaceTold (begins : List Process) (code : Compiled) (shown : List (Shown Entry End)) (prefix : Option (List ℕ)) (original : SeededRun) (number : ℕ) (race : found.Race) (told : Race) : Type 0 where
   pub number_is : told.number ≡ number
   pub site : IsSiteTold code race.site told.site
   pub time_is : told.time ≡ race.time
-  pub first : IsRoleTold race.first told.first
-  pub second : IsRoleTold race.second told.second
+  pub first : IsRoleTold begins race.first told.first
+  pub second : IsRoleTold begins race.second told.second
   pub prefix_is : prefix_of told ≡ prefix
   pub difference : IsDifferenceTold (string_bytes original.lines) (string_bytes race.exchanged.lines) told.line told.original.line.now told.exchanged.line.now
   pub one : IsRunTold shown original told.original
   pub other : IsRunTold shown race.exchanged told.exchanged
 
 -- so each race is told, with numbers from one on
-abbrev pub AreRacesTold : Compiled → List (Shown Entry End) → Option (List ℕ) → SeededRun → ℕ → List found.Race → List Race → Type 0
-AreRacesTold code shown prefix original number [] [] = Unit {0}
-AreRacesTold code shown prefix original number (r ∷ rs) [] = ⊥
-AreRacesTold code shown prefix original number [] (t ∷ ts) = ⊥
-AreRacesTold code shown prefix original number (r ∷ rs) (t ∷ ts) =
-    IsRaceTold code shown prefix original number r t × AreRacesTold code shown prefix original (number + 1) rs ts
+abbrev pub AreRacesTold : List Process → Compiled → List (Shown Entry End) → Option (List ℕ) → SeededRun → ℕ → List found.Race → List Race → Type 0
+AreRacesTold begins code shown prefix original number [] [] = Unit {0}
+AreRacesTold begins code shown prefix original number (r ∷ rs) [] = ⊥
+AreRacesTold begins code shown prefix original number [] (t ∷ ts) = ⊥
+AreRacesTold begins code shown prefix original number (r ∷ rs) (t ∷ ts) =
+    IsRaceTold begins code shown prefix original number r t × AreRacesTold begins code shown prefix original (number + 1) rs ts
 
 -- the lines on races
 abbrev pub races_text : List Race → List ℕ
 races_text [] = []
 races_text (t ∷ ts) = race_text t ++ races_text ts
 
--- Races of a design are told in these lines: each is so in one lawful run in time, and is shown by another one.
-pub data TellsRaces (code : Compiled) (limits : Limits) (shown : List (Shown Entry End)) (prefix : Option (List ℕ)) (lines : List ℕ) : Type 0 where
-  tell : (original : SeededRun) (races : List found.Race) (told : List Race) → IsRun code limits original → All (IsShown code limits original) races
-      → AreRacesTold code shown prefix original 1 races told → lines ≡ races_text told → TellsRaces code limits shown prefix lines
+-- Races of a source's design are told in these lines, each process by where it begins: each is so in one lawful run in time, and is
+-- shown by another one.
+pub data TellsRaces (source : List ℕ) (code : Compiled) (limits : Limits) (shown : List (Shown Entry End)) (prefix : Option (List ℕ)) (lines : List ℕ) : Type 0 where
+  tell : (begins : List Process) (original : SeededRun) (races : List found.Race) (told : List Race) → AreProcessesOf source begins → IsRun code limits original → All (IsShown code limits original) races
+      → AreRacesTold begins code shown prefix original 1 races told → lines ≡ races_text told → TellsRaces source code limits shown prefix lines
 
 -- a text has grown by lines that tell races
-pub record TellsBehind (code : Compiled) (limits : Limits) (shown : List (Shown Entry End)) (prefix : Option (List ℕ)) (old new : List ℕ) : Type 0 where
+pub record TellsBehind (source : List ℕ) (code : Compiled) (limits : Limits) (shown : List (Shown Entry End)) (prefix : Option (List ℕ)) (old new : List ℕ) : Type 0 where
   pub lines : List ℕ
-  pub tells : TellsRaces code limits shown prefix lines
+  pub tells : TellsRaces source code limits shown prefix lines
   pub new_is : new ≡ old ++ lines
 
 -- a text has grown by lines that tell these races
-pub record TellsEach (code : Compiled) (shown : List (Shown Entry End)) (prefix : Option (List ℕ)) (original : SeededRun) (races : List found.Race) (old new : List ℕ) : Type 0 where
+pub record TellsEach (begins : List Process) (code : Compiled) (shown : List (Shown Entry End)) (prefix : Option (List ℕ)) (original : SeededRun) (races : List found.Race) (old new : List ℕ) : Type 0 where
   pub told : List Race
-  pub are_told : AreRacesTold code shown prefix original 1 races told
+  pub are_told : AreRacesTold begins code shown prefix original 1 races told
   pub new_is : new ≡ old ++ races_text told

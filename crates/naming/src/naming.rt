@@ -55,7 +55,7 @@ pub fn push_races<P: Progress>(
     progress: &P,
 ) -> Result<(), AllocError>
     requires { IfSome names.now.limits.until (λ until. until ≤ last_time) }
-    ensures { OnOk result (TellsBehind names.entry.now.design.now names.entry.now.limits names.entry.now.shown.now (option_map (λ path. path.now) names.entry.now.prefix) text.old.items text.new.items) }
+    ensures { OnOk result (TellsBehind names.entry.now.source.now names.entry.now.design.now names.entry.now.limits names.entry.now.shown.now (option_map (λ path. path.now) names.entry.now.prefix) text.old.items text.new.items) }
 {
     let processes = processes_of(alloc, names.source)?;
     let found = find_races(alloc, names.design, names.limits, TRIES, progress);
@@ -100,7 +100,7 @@ fn push_each<'a>(
     processes: &[places::Process],
     found: &'a Found,
 ) -> Result<(), AllocError>
-    ensures { OnOk result (TellsEach names.entry.now.design.now names.entry.now.shown.now (option_map (λ path. path.now) names.entry.now.prefix) found.entry.now.original found.entry.now.races.items text.old.items text.new.items) }
+    ensures { OnOk result (TellsEach processes.now names.entry.now.design.now names.entry.now.shown.now (option_map (λ path. path.now) names.entry.now.prefix) found.entry.now.original found.entry.now.races.items text.old.items text.new.items) }
 {
     for (place, race) in found.races.iter().enumerate() {
         let told = told_race(names, processes, &found.original, race, place + 1);
@@ -117,7 +117,7 @@ fn told_race<'a>(
     race: &'a conflicts::Race,
     number: usize,
 ) -> Race<'a>
-    ensures { IsRaceTold names.entry.now.design.now names.entry.now.shown.now (option_map (λ path. path.now) names.entry.now.prefix) original.entry.now number race.entry.now result }
+    ensures { IsRaceTold processes.now names.entry.now.design.now names.entry.now.shown.now (option_map (λ path. path.now) names.entry.now.prefix) original.entry.now number race.entry.now result }
 {
     let lines = lines_of(original, &race.exchanged);
     Race {
@@ -160,7 +160,7 @@ fn lines_of<'a>(one: &'a SeededRun, other: &'a SeededRun) -> Lines<'a>
 }
 
 fn role_of(processes: &[places::Process], role: deeds::Role) -> Role<'static>
-    ensures { IsRoleTold role result }
+    ensures { IsRoleTold processes.now role result }
 {
     Role {
         number: role.process,

@@ -1,9 +1,10 @@
 -- What the requests of the words, the files and the statuses tell of a command that ended.
-use Rattle.std.proofs.Common.{◌≡◌, ◌≢◌, ◌⊎◌, ◌==◌, ◌||◌, Bool, true, false, string_bytes, ◌++◌, ◌∙◌, ap, append_assoc, sym, subst, inl, inr, refl, ℕ, List, [], Option, Some, None, IfOk, IfErr, OnOk, Result, Ok, Err, map, option_map, unwrap_or, codes, drop, arith}
+use Rattle.std.proofs.Common.{◌≡◌, ◌≢◌, ◌⊎◌, ◌==◌, ◌||◌, Bool, true, false, string_bytes, ◌++◌, ◌∙◌, ap, append_assoc, sym, subst, inl, inr, refl, ℕ, List, [], Option, Some, None, IfOk, IfErr, OnOk, Result, Ok, Err, map, option_map, codes, drop, arith}
 use Rattle.std.specs.Io.KnownBytes.{Appends, Keeps}
 use Rattle.model.specs.declared.entry.Entry.{Entry}
 use Rattle.arguments.specs.declared.options.Options.{Options}
 use Rattle.clap.specs.Words.{Text, first_of}
+use Rattle.explain.specs.declared.telling.Window.{Window}
 use Rattle.program.specs.declared.fault.Stop.{Stop}
 use Rattle.arguments.specs.declared.request.Refusal.{Refusal}
 use Rattle.arguments.specs.declared.request.Refusal.TheVariants as refusal
@@ -22,11 +23,11 @@ use Rattle.program.specs.declared.ending.Ending.{Ending}
 use Rattle.program.specs.declared.ending.Ending.TheVariants as ending
 use Rattle.program.specs.declared.finding.Finding.TheVariants as finding
 use Rattle.program.specs.Program.{IsRefusalStatus, ended_status, ending_of, finding_status, help_text, right_text, status_of, stop_status, version_text}
-use Rattle.program.specs.Printed.{HasEnded, HasPrintedBy, HasRefused, HasRun, HasSearched, HasChecked, HasDumped, HasShown, HasWaves, IsDone, IsRight, IsUnprinted, IsWrong, checked, helped, ran, searched, versioned}
-use Rattle.program.specs.Told.{IsEndTold, IsTold, IsUnfinished, nothing, of_fault, of_source, of_stop}
+use Rattle.program.specs.Printed.{HasBegun, HasEnded, HasLeft, HasPrintedBy, HasRefused, HasRun, HasSearched, HasChecked, HasDumped, HasExplainedSome, HasShown, HasWaves, IsDone, IsLeft, IsRight, IsUnprinted, IsWrong, begun, checked, helped, interrupted, ran, searched, untouched, versioned}
+use Rattle.program.specs.Told.{HasExplainedTold, IsEndTold, IsTold, IsUnfinished, IsWanting, nothing, of_fault, of_source, of_stop}
 use Rattle.program.proofs.Statuses.{not_of_fault, not_of_stop}
 use Rattle.journal.specs.declared.counted.Counted.{Counted}
-use Rattle.files.specs.Saved.{AddsFile, SavesAllWhereAsked, KeepsFiles, Made, SavesWhereAsked}
+use Rattle.files.specs.Saved.{AddsFile, SavesAllWhereAsked, KeepsFiles, Made, SavesSomeWhereAsked, SavesWhereAsked}
 use Rattle.arguments.specs.Words.{AreWrong, Asks, Begins, AsksCheck, AsksRaces, AsksRun, AsksWaves, IsRefusal, extent_of, options_of, races_rows, run_rows}
 
 -- files
@@ -76,6 +77,32 @@ search_of_words words races old new files files' found asks h = record {
   shown = subst (λ (path : Option (List ℕ)). HasShown (extent_of (races_rows (drop 1 words))) path old new files files' found) (sym asks.is_races.journals)
       (subst (λ (extent : Extent). HasShown extent (option_map (λ path. path.now) races.journals) old new files files' found) asks.is_races.extent h);
 }
+
+pub some_saved_on : (a b c : Option (List Made)) (prefix : Option (List ℕ)) (journals : List (List Entry)) → KeepsFiles a b
+    → SavesSomeWhereAsked b c prefix journals → SavesSomeWhereAsked a c prefix journals
+some_saved_on a b c None journals h k = kept_on a b c h k
+some_saved_on None b c (Some p) journals h (count, k) = (count, tt)
+some_saved_on (Some fs) b c (Some p) journals h k = subst (λ (o : Option (List Made)). SavesSomeWhereAsked o c (Some p) journals) h k
+
+-- what a search left, where the files were the same before it
+left_on : (extent : Extent) (prefix : Option (List ℕ)) (old new : Option (List ℕ)) (a b c : Option (List Made)) → KeepsFiles a b
+    → HasLeft extent prefix old new b c → HasLeft extent prefix old new a c
+left_on extent prefix old new None b c h (inl (k, s)) = inl (k, tt)
+left_on extent prefix old new None b c h (inr begins) = inr (record {
+  source = begins.source;
+  design = begins.design;
+  is_design = begins.is_design;
+  first = begins.first;
+  is_first = begins.is_first;
+  printed = begins.printed;
+  saved = inl tt;
+})
+left_on extent prefix old new (Some fs) b c h k = subst (λ (o : Option (List Made)). HasLeft extent prefix old new o c) h k
+
+pub search_left_on : (extent : Extent) (prefix : Option (List ℕ)) (old new : Option (List ℕ)) (a b c : Option (List Made)) (r : Result Finding Fault) → KeepsFiles a b
+    → IfErr r (λ f. status_of f ≡ 6 → HasLeft extent prefix old new b c) → IfErr r (λ f. status_of f ≡ 6 → HasLeft extent prefix old new a c)
+search_left_on extent prefix old new a b c (Ok found) h k = tt
+search_left_on extent prefix old new a b c (Err f) h k = λ six. left_on extent prefix old new a b c h (k six)
 
 -- what a search shows, where the files were the same before it
 pub shown_on : (extent : Extent) (prefix : Option (List ℕ)) (old new : Option (List ℕ)) (a b c : Option (List Made)) (r : Result Finding Fault) → KeepsFiles a b
@@ -186,25 +213,38 @@ refused_by_status words old new files files' (Ok (ending.Wrong text)) h k e = h
 refused_by_status words old new files files' (Err f) h (inl one) e = absurd (omega (arith, one, e))
 refused_by_status words old new files files' (Err f) h (inr six) e = absurd (omega (arith, six, e))
 
-pub faulty_by_status : (ended : Result Ending Fault) (K : Type 0) → IfErr ended (λ f. status_of f ≡ 5 → K) → ended_status ended ≡ 5 → K
-faulty_by_status (Ok ending.Done) K h e = cc
-faulty_by_status (Ok (ending.Stopped s)) K h e = absurd (not_of_stop s 5 refl e)
-faulty_by_status (Ok (ending.Found finding.One)) K h e = cc
-faulty_by_status (Ok (ending.Found finding.Unfinished)) K h e = cc
-faulty_by_status (Ok (ending.Found finding.Several)) K h e = cc
-faulty_by_status (Ok (ending.Wrong text)) K h e = cc
-faulty_by_status (Err f) K h e = h e
+pub faulty_by_status : {E : Type 0} (window : Window) (old new : Option (List ℕ)) (contents : E → Option (List ℕ)) (err err' : Counted E) (ended : Result Ending Fault)
+    → IfErr ended (λ f. status_of f ≡ 5 → HasExplainedSome window old new f) → IsEndTold contents err err' ended → ended_status ended ≡ 5
+    → HasExplainedTold window old new contents err err'
+faulty_by_status window old new contents err err' (Ok ending.Done) h t e = cc
+faulty_by_status window old new contents err err' (Ok (ending.Stopped s)) h t e = absurd (not_of_stop s 5 refl e)
+faulty_by_status window old new contents err err' (Ok (ending.Found finding.One)) h t e = cc
+faulty_by_status window old new contents err err' (Ok (ending.Found finding.Unfinished)) h t e = cc
+faulty_by_status window old new contents err err' (Ok (ending.Found finding.Several)) h t e = cc
+faulty_by_status window old new contents err err' (Ok (ending.Wrong text)) h t e = cc
+faulty_by_status window old new contents err err' (Err f) h t e = record { fault = f; explained = h e; told = t }
 
 pub stopped_by_status : {E : Type 0} (words : List Text) (old new : Option (List ℕ)) (files files' : Option (List Made)) (contents : E → Option (List ℕ))
     (err err' : Counted E) (ended : Result Ending Fault) → IfOk ended (HasEnded words old new files files') → IsEndTold contents err err' ended
     → ended_status ended ≡ 4 → IsUnfinished words old new files files' contents err err'
 stopped_by_status words old new files files' contents err err' (Ok ending.Done) h t e = cc
-stopped_by_status words old new files files' contents err err' (Ok (ending.Stopped s)) h t e = inl (record { stop = s; has_run = h; told = t })
+stopped_by_status words old new files files' contents err err' (Ok (ending.Stopped s)) h t e = inl (record { stop = s; status_is = e; has_run = h; told = t })
 stopped_by_status words old new files files' contents err err' (Ok (ending.Found finding.One)) h t e = cc
 stopped_by_status words old new files files' contents err err' (Ok (ending.Found finding.Unfinished)) h t e = inr (h, t)
 stopped_by_status words old new files files' contents err err' (Ok (ending.Found finding.Several)) h t e = cc
 stopped_by_status words old new files files' contents err err' (Ok (ending.Wrong text)) h t e = cc
 stopped_by_status words old new files files' contents err err' (Err f) h t e = absurd (not_of_fault f 4 refl e)
+
+pub wanting_by_status : {E : Type 0} (words : List Text) (old new : Option (List ℕ)) (files files' : Option (List Made)) (contents : E → Option (List ℕ))
+    (err err' : Counted E) (ended : Result Ending Fault) → IfOk ended (HasEnded words old new files files') → IfErr ended (λ f. status_of f ≡ 6 → IsLeft words old new files files')
+    → IsEndTold contents err err' ended → ended_status ended ≡ 6 → IsWanting words old new files files' contents err err'
+wanting_by_status words old new files files' contents err err' (Ok ending.Done) h k t e = cc
+wanting_by_status words old new files files' contents err err' (Ok (ending.Stopped s)) h k t e = inl (record { stop = s; status_is = e; has_run = h; told = t })
+wanting_by_status words old new files files' contents err err' (Ok (ending.Found finding.One)) h k t e = cc
+wanting_by_status words old new files files' contents err err' (Ok (ending.Found finding.Unfinished)) h k t e = cc
+wanting_by_status words old new files files' contents err err' (Ok (ending.Found finding.Several)) h k t e = cc
+wanting_by_status words old new files files' contents err err' (Ok (ending.Wrong text)) h k t e = cc
+wanting_by_status words old new files files' contents err err' (Err f) h k t e = inr (k e)
 
 pub several_by_status : (words : List Text) (old new : Option (List ℕ)) (files files' : Option (List Made)) (ended : Result Ending Fault)
     → IfOk ended (HasEnded words old new files files') → ended_status ended ≡ 7 → HasSearched words old new files files' finding.Several
@@ -337,6 +377,35 @@ pub if_read : (K : Type 0) (words : List Text) (r : Result Ending Fault) → IfE
     → IfErr r (λ f. IsUnprinted words (status_of f) → K)
 if_read K words (Ok e) h = tt
 if_read K words (Err f) h = λ e. h (of_source_or_journal f (source_status words (status_of f) e))
+
+-- what is left where memory was refused
+
+six_not_one : (n : ℕ) → n ≡ 6 → n ≢ 1
+six_not_one n six one = omega (arith, six, one)
+
+pub left_unless_one : (words : List Text) (old new : Option (List ℕ)) (files files' : Option (List Made)) (r : Result Ending Fault) → IfErr r (λ f. status_of f ≢ 1 → Keeps old new)
+    → IfErr r (λ f. status_of f ≢ 1 → KeepsFiles files files') → IfErr r (λ f. status_of f ≡ 6 → IsLeft words old new files files')
+left_unless_one words old new files files' (Ok e) h k = tt
+left_unless_one words old new files files' (Err f) h k = λ six. untouched (h (six_not_one (status_of f) six)) (k (six_not_one (status_of f) six))
+
+pub left_of_dump : (words : List Text) (known : Option (List ℕ)) (files files' : Option (List Made)) (r : Result Ending Fault) → IfErr r (λ f. KeepsFiles files files')
+    → IfErr r (λ f. status_of f ≡ 6 → IsLeft words known known files files')
+left_of_dump words known files files' (Ok e) h = tt
+left_of_dump words known files files' (Err f) h = λ six. untouched (output_same known) h
+
+pub left_of_telling : (words : List Text) (old new : Option (List ℕ)) (files files' : Option (List Made)) (r : Result Ending Fault) → Begins words (codes "explain") → KeepsFiles files files'
+    → IfErr r (λ f. status_of f ≡ 6 → IsLeft words old new files files')
+left_of_telling words old new files files' (Ok e) begins k = tt
+left_of_telling words old new files files' (Err f) begins k = λ six. interrupted begins k
+
+pub left_of_search : (words : List Text) (races : RacesRequest) (old new : Option (List ℕ)) (files files' : Option (List Made)) → AsksRaces words races
+    → HasLeft races.extent (option_map (λ path. path.now) races.journals) old new files files' → IsLeft words old new files files'
+left_of_search words races old new files files' asks (inl (k, s)) = untouched k s
+left_of_search words races old new files files' asks (inr h) = begun (record {
+  begins = asks.begins;
+  begun = subst (λ (path : Option (List ℕ)). HasBegun (extent_of (races_rows (drop 1 words))) path old new files files') (sym asks.is_races.journals)
+      (subst (λ (extent : Extent). HasBegun extent (option_map (λ path. path.now) races.journals) old new files files') asks.is_races.extent h);
+})
 
 -- a journal is told up to its fault
 pub unless_told : (K : Type 0) (words : List Text) (r : Result Ending Fault) → Begins words (codes "explain") → IfErr r (λ f. status_of f ≡ 3 → K)

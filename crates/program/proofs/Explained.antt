@@ -1,5 +1,5 @@
 -- What is left of a journal that was told, and of one with a fault.
-use Rattle.std.proofs.Common.{◌≡◌, ◌∙◌, ap, subst, inl, inr, ℕ, List, ◌++◌, Option, Some, None, unwrap_or, Err, codes, drop}
+use Rattle.std.proofs.Common.{◌≡◌, ◌∙◌, ap, refl, subst, inl, inr, ℕ, List, ◌++◌, Option, Some, None, unwrap_or, Err, codes, drop}
 use Rattle.std.specs.Io.KnownBytes.{Appends, Keeps}
 use Rattle.clap.specs.Words.{Text}
 use Rattle.arguments.specs.declared.request.ExplainRequest.{ExplainRequest}
@@ -46,10 +46,10 @@ explained_by source window left a b c lawful h k = record { source = source; lef
 
 -- no journal was read, or one was told up to its fault
 pub refused_of : (source : List ℕ) (window : Window) (left a b : Option (List ℕ)) (f : ExplainFault) → UnlessBegun {X = Unit {0}} (Err f) (Keeps a b)
-    → IfReplay {X = Unit {0}} (Err f) (ExplainsTextFault source window left a b) → status_of (explain_fault f) ≡ 5 → HasExplainedSome window a b
+    → IfReplay {X = Unit {0}} (Err f) (ExplainsTextFault source window left a b) → status_of (explain_fault f) ≡ 5 → HasExplainedSome window a b (explain_fault f)
 refused_of source window left a b (explaining.Source f) h t e = inl h
 refused_of source window left a b (explaining.Read f) h t e = inl h
-refused_of source window left a b (explaining.Replay f) h t e = inr (record { source = source; left = left; fault = f; explains = t })
+refused_of source window left a b (explaining.Replay f) h t e = inr (f, refl, record { source = source; left = left; explains = t })
 refused_of source window left a b explaining.CannotWrite h t e = cc
 refused_of source window left a b explaining.Memory h t e = cc
 
@@ -68,5 +68,5 @@ told_performed words explain old new files files' asks h k = record {
 }
 
 pub refused_performed : (words : List Text) (explain : ExplainRequest) (old new : Option (List ℕ)) (f : Fault) → AsksExplain words explain
-    → (status_of f ≡ 5 → HasExplainedSome (window_of explain.from explain.to) old new) → status_of f ≡ 5 → HasExplainedSome (window_in words) old new
-refused_performed words explain old new f asks h e = subst (λ (w : Window). HasExplainedSome w old new) (window_asked words explain asks) (h e)
+    → (status_of f ≡ 5 → HasExplainedSome (window_of explain.from explain.to) old new f) → status_of f ≡ 5 → HasExplainedSome (window_in words) old new f
+refused_performed words explain old new f asks h e = subst (λ (w : Window). HasExplainedSome w old new f) (window_asked words explain asks) (h e)

@@ -1,5 +1,5 @@
 -- The runs of seeds as texts that were found.
-use Rattle.std.proofs.Common.{◌≡◌, ◌∙◌, sym, ℕ, zero, suc, ◌<◌, List, [], ◌∷◌, ◌++◌, length, get_or, arith, ap}
+use Rattle.std.proofs.Common.{◌≡◌, ◌∙◌, sym, ℕ, zero, suc, ◌<◌, ◌≤◌, List, [], ◌∷◌, ◌++◌, length, get_or, Some, arith, ap}
 use Rattle.std.specs.List.{All, AllPairs}
 use Rattle.std.proofs.lemmas.List.Elements.{All-nil, All-cons, All-head, All-tail}
 use Rattle.model.specs.declared.entry.Entry.{Entry}
@@ -60,10 +60,11 @@ all_apart rs ss h apart i j d lt in_range text end =
     let there : j < length rs = omega (arith, in_range, same_length rs ss h) in
     apart i j c lt there (sym one.0 ∙ (text ∙ other.0)) (sym one.1 ∙ (end ∙ other.1))
 
-pub samples_found : (n : ℕ) (code : Compiled) (extent : Extent) (rs : List SeededRun) (ss : List (Shown Entry End)) → AreOf rs ss
-    → All (IsRun code (limits_in extent)) rs → AllPairs seeded.AreDistinct rs → AreFound code extent (Sampled n) ss
-samples_found n code extent rs ss h all apart = record {
+pub samples_found : (n asked : ℕ) (code : Compiled) (extent : Extent) (rs : List SeededRun) (ss : List (Shown Entry End)) → extent.samples ≡ Some asked → n ≤ asked → length rs ≤ n
+    → AreOf rs ss → All (IsRun code (limits_in extent)) rs → AllPairs seeded.AreDistinct rs → AreFound code extent (Sampled n) ss
+samples_found n asked code extent rs ss some few enough h all apart = record {
   sound = all_found n code (limits_in extent) rs ss h all;
   distinct = all_apart rs ss h apart;
+  within = (asked, some, few, omega (arith, enough, same_length rs ss h));
   all = tt;
 }

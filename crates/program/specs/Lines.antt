@@ -1,5 +1,5 @@
 -- The line on standard error of each fault and of each stop.
-use Rattle.std.specs.Prelude.{ℕ, List, [], ◌++◌, codes, decimal, string_bytes}
+use Rattle.std.specs.Prelude.{ℕ, List, [], codes, decimal, string_bytes}
 use Rattle.telling.specs.Told.{line, shown_path}
 use Rattle.files.specs.declared.fault.FileFault.{FileFault}
 use Rattle.files.specs.declared.fault.FileFault.TheVariants as file

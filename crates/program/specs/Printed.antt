@@ -5,6 +5,7 @@ use Rattle.design.specs.Compiled.{Compiled, design_of}
 use Rattle.model.specs.Syntax.{Module}
 use Rattle.explain.specs.Explained.{IsLawfulText}
 use Rattle.explain.specs.Texts.{ExplainsText, ExplainsTextFault}
+use Rattle.explain.specs.declared.failure.ExplainFault.TheVariants as explaining
 use Rattle.explain.specs.declared.telling.Window.{Window}
 use Rattle.replay.specs.declared.fault.ReplayFault.{ReplayFault}
 use Rattle.vparse.specs.Spells.{Spells}
@@ -31,14 +32,15 @@ use Rattle.naming.specs.Naming.{TellsRaces}
 use Rattle.arguments.specs.declared.extent.Extent.{Extent}
 use Rattle.program.specs.declared.finding.Finding.{Finding}
 use Rattle.program.specs.declared.finding.Finding.TheVariants as finding
-use Rattle.program.specs.Findings.{AreFound, finding_of, first_text, limits_in}
+use Rattle.program.specs.Findings.{AreFound, HaveSomeEnds, finding_of, first_text, limits_in}
+use Rattle.program.specs.declared.fault.Fault.{Fault}
 use Rattle.program.specs.declared.fault.Stop.{Stop}
 use Rattle.clap.specs.Words.{Text, first_of}
 use Rattle.arguments.specs.Options.{CanRun, CanSearch}
 use Rattle.program.specs.declared.ending.Ending.{Ending}
 use Rattle.program.specs.declared.ending.Ending.TheVariants as ending
-use Rattle.program.specs.Program.{right_text, source_status_of, stop_of, version_text}
-use Rattle.files.specs.Saved.{AddsFile, Made, KeepsFiles, SavesAllWhereAsked, SavesWhereAsked}
+use Rattle.program.specs.Program.{explain_fault, right_text, source_status_of, stop_of, version_text}
+use Rattle.files.specs.Saved.{AddsFile, Made, KeepsFiles, SavesAllWhereAsked, SavesSomeWhereAsked, SavesWhereAsked}
 use Rattle.arguments.specs.Words.{AsksHelp, Begins, check_rows, explain_rows, extent_of, number_given, options_of, races_rows, run_rows, waves_rows}
 
 -- the limits of a run
@@ -90,27 +92,29 @@ pub record HasRun (words : List Text) (old new : Option (List ℕ)) (files files
   pub can_run : CanRun (options_of (run_rows (drop 1 words)))
   pub printed : HasPrintedBy (number_given (codes "seed") (run_rows (drop 1 words))) (options_of (run_rows (drop 1 words))) (first_of (codes "journal") (run_rows (drop 1 words))) old new files files' told
 
--- What is said of a search: races of the design that are so in lawful runs, in lines; and then what the texts are that were found.
-pub record IsReport (design : Compiled) (limits : Limits) (claim : Claim) (shown : List (Shown Entry End)) (prefix : Option (List ℕ)) (text : List ℕ) : Type 0 where
+-- What is said of a search: races of a source's design that are so in lawful runs, in lines; and then what the texts are that were found, and
+-- whether their ends tell them apart too.
+pub record IsReport (source : List ℕ) (design : Compiled) (limits : Limits) (claim : Claim) (shown : List (Shown Entry End)) (prefix : Option (List ℕ)) (text : List ℕ) : Type 0 where
   pub races : List ℕ
-  pub tells : TellsRaces design limits shown prefix races
+  pub tells : TellsRaces source design limits shown prefix races
   pub ends : Bool
+  pub apart : HaveSomeEnds shown ends
   pub text_is : text ≡ races ++ verdict_text claim limits.until (length shown) ends (first_text shown)
 
 -- What is told before a search: the races, where no journal is saved, so that none is named in their lines; and else nothing.
-abbrev pub IsToldFirst : Compiled → Limits → Option (List ℕ) → List ℕ → Type 0
-IsToldFirst design limits None first = TellsRaces design limits [] None first
-IsToldFirst design limits (Some prefix) first = first ≡ []
+abbrev pub IsToldFirst : List ℕ → Compiled → Limits → Option (List ℕ) → List ℕ → Type 0
+IsToldFirst source design limits None first = TellsRaces source design limits [] None first
+IsToldFirst source design limits (Some prefix) first = first ≡ []
 
 -- What makes, behind all that may be told before a search, lines that tell races.
-abbrev pub TellsOtherRaces : Compiled → Limits → List (Shown Entry End) → Option (List ℕ) → List ℕ → Type 0
-TellsOtherRaces design limits shown prefix others =
-    (first : List ℕ) → IsToldFirst design limits prefix first → TellsRaces design limits shown prefix (first ++ others)
+abbrev pub TellsOtherRaces : List ℕ → Compiled → Limits → List (Shown Entry End) → Option (List ℕ) → List ℕ → Type 0
+TellsOtherRaces source design limits shown prefix others =
+    (first : List ℕ) → IsToldFirst source design limits prefix first → TellsRaces source design limits shown prefix (first ++ others)
 
 -- What makes, behind all that may be told before a search, what is said of it.
-abbrev pub IsToldLast : Compiled → Limits → Claim → List (Shown Entry End) → Option (List ℕ) → List ℕ → Type 0
-IsToldLast design limits claim shown prefix last =
-    (first : List ℕ) → IsToldFirst design limits prefix first → IsReport design limits claim shown prefix (first ++ last)
+abbrev pub IsToldLast : List ℕ → Compiled → Limits → Claim → List (Shown Entry End) → Option (List ℕ) → List ℕ → Type 0
+IsToldLast source design limits claim shown prefix last =
+    (first : List ℕ) → IsToldFirst source design limits prefix first → IsReport source design limits claim shown prefix (first ++ last)
 
 -- Of the design that some source describes texts were found, so far as this says. Output grew by what is said of this search, their
 -- journals were saved where a prefix is given, and this was found.
@@ -122,7 +126,7 @@ pub record HasShown (extent : Extent) (prefix : Option (List ℕ)) (old new : Op
   pub shown : List (Shown Entry End)
   pub are_found : AreFound design extent claim shown
   pub report : List ℕ
-  pub is_report : IsReport design (limits_in extent) claim shown prefix report
+  pub is_report : IsReport source design (limits_in extent) claim shown prefix report
   pub printed : Appends old new report
   pub saved : SavesAllWhereAsked files files' prefix (map (λ s. s.moves.items) shown)
   pub finding : found ≡ finding_of claim (length shown)
@@ -133,6 +137,38 @@ pub record HasSearched (words : List Text) (old new : Option (List ℕ)) (files 
   pub begins : Begins words (codes "races")
   pub can_search : CanSearch (extent_of (races_rows (drop 1 words)))
   pub shown : HasShown (extent_of (races_rows (drop 1 words))) (first_of (codes "journals") (races_rows (drop 1 words))) old new files files' found
+
+-- output and files are as they were
+abbrev pub AreUntouched : Option (List ℕ) → Option (List ℕ) → Option (List Made) → Option (List Made) → Type 0
+AreUntouched old new files files' = Keeps old new × KeepsFiles files files'
+
+-- Texts were found of a design. Of their journals a beginning was saved where a prefix is given, and else none.
+pub record HasSavedSome (design : Compiled) (extent : Extent) (prefix : Option (List ℕ)) (files files' : Option (List Made)) : Type 0 where
+  pub claim : Claim
+  pub shown : List (Shown Entry End)
+  pub are_found : AreFound design extent claim shown
+  pub saved : SavesSomeWhereAsked files files' prefix (map (λ s. s.moves.items) shown)
+
+-- A search of the design that some source describes didn't come to its end: output grew by what is told before it and by nothing else, and the files are as they
+-- were, or grew by journals of texts that were found.
+pub record HasBegun (extent : Extent) (prefix : Option (List ℕ)) (old new : Option (List ℕ)) (files files' : Option (List Made)) : Type 0 where
+  pub source : List ℕ
+  pub design : Compiled
+  pub is_design : IsDesignOf source design
+  pub first : List ℕ
+  pub is_first : IsToldFirst source design (limits_in extent) prefix first
+  pub printed : Appends old new first
+  pub saved : KeepsFiles files files' ⊎ HasSavedSome design extent prefix files files'
+
+-- a search left nothing, or came so far
+abbrev pub HasLeft : Extent → Option (List ℕ) → Option (List ℕ) → Option (List ℕ) → Option (List Made) → Option (List Made) → Type 0
+HasLeft extent prefix old new files files' = AreUntouched old new files files' ⊎ HasBegun extent prefix old new files files'
+
+-- The words ask for a search for races. Output and files are as a search leaves them that goes as far as these words say, saves journals at paths that begin with the
+-- PREFIX of these words, if they give one, and didn't come to its end.
+pub record HasBegunSearch (words : List Text) (old new : Option (List ℕ)) (files files' : Option (List Made)) : Type 0 where
+  pub begins : Begins words (codes "races")
+  pub begun : HasBegun (extent_of (races_rows (drop 1 words))) (first_of (codes "journals") (races_rows (drop 1 words))) old new files files'
 
 -- output grew by the lines of a journal that is lawful for the design that some source describes, and what was left to
 -- read, where that is known, is the text of this journal
@@ -154,15 +190,15 @@ pub record HasExplained (window : Window) (old new : Option (List ℕ)) : Type 0
   pub explains : ExplainsText source window left old new
 
 -- So it is of a journal up to its first entry that isn't taken, and output grew by why it isn't.
-pub record HasExplainedFault (window : Window) (old new : Option (List ℕ)) : Type 0 where
+pub record HasExplainedFault (window : Window) (old new : Option (List ℕ)) (fault : ReplayFault) : Type 0 where
   pub source : List ℕ
   pub left : Option (List ℕ)
-  pub fault : ReplayFault
   pub explains : ExplainsTextFault source window left old new fault
 
--- no journal was read, and output is as it was; or one was told up to its fault
-abbrev pub HasExplainedSome : Window → Option (List ℕ) → Option (List ℕ) → Type 0
-HasExplainedSome window old new = Keeps old new ⊎ HasExplainedFault window old new
+-- no journal was read, and output is as it was; or one was told up to its fault, and this is that fault
+abbrev pub HasExplainedSome : Window → Option (List ℕ) → Option (List ℕ) → Fault → Type 0
+HasExplainedSome window old new f =
+    Keeps old new ⊎ ((fault : ReplayFault) × (f ≡ explain_fault (explaining.Replay fault)) × HasExplainedFault window old new fault)
 
 -- the window that these words ask for
 abbrev pub window_in : List Text → Window
@@ -259,6 +295,13 @@ HasEnded words old new files files' ending.Done = IsDone words old new files fil
 HasEnded words old new files files' (ending.Stopped stop) = HasRun words old new files files' (Some stop)
 HasEnded words old new files files' (ending.Found found) = HasSearched words old new files files' found
 HasEnded words old new files files' (ending.Wrong text) = HasRefused words old new files files'
+
+-- What is left where memory was refused, or a worker couldn't be started, before anything was done: output and files as they were; or of a search, what it left before
+-- its end; or where the words ask to be told a journal, the files as they were.
+pub data IsLeft (words : List Text) (old new : Option (List ℕ)) (files files' : Option (List Made)) : Type 0 where
+  untouched : Keeps old new → KeepsFiles files files' → IsLeft words old new files files'
+  begun : HasBegunSearch words old new files files' → IsLeft words old new files files'
+  interrupted : Begins words (codes "explain") → KeepsFiles files files' → IsLeft words old new files files'
 
 -- At status 2 and 3 nothing is printed, and at 5 neither, unless a journal is told, up to its fault.
 abbrev pub IsUnprinted : List Text → ℕ → Type 0

@@ -15,7 +15,6 @@ use Rattle.program.specs.declared.finding.Finding.TheVariants as finding
 use Rattle.program.specs.declared.fault.Stop.{Stop}
 use Rattle.program.specs.declared.fault.Stop.TheVariants as stop
 use Rattle.files.specs.Faults.{file_status}
-use Rattle.files.specs.declared.fault.FileFault.TheVariants as file
 use Rattle.explain.specs.declared.failure.ExplainFault.{ExplainFault}
 use Rattle.explain.specs.declared.failure.ExplainFault.TheVariants as explaining
 use Rattle.telling.specs.Told.{shown_path}

@@ -24,7 +24,7 @@ pub fn explain_journal<'a, F: Files, O: Write>(
     out: &mut O,
 ) -> Result<(), Fault<'a>>
     ensures explained { OnOk result (HasExplained (window_of request.now.from request.now.to) (O.contents out.old) (O.contents out.new)) }
-    ensures refused { IfErr result (λ fault. status_of fault ≡ 5 → HasExplainedSome (window_of request.now.from request.now.to) (O.contents out.old) (O.contents out.new)) }
+    ensures refused { IfErr result (λ fault. status_of fault ≡ 5 → HasExplainedSome (window_of request.now.from request.now.to) (O.contents out.old) (O.contents out.new) fault) }
     ensures nothing { IfErr result (λ fault. status_of fault ≡ 3 → Keeps (O.contents out.old) (O.contents out.new)) }
     ensures unsaved { KeepsFiles (F.made files.old) (F.made files.new) }
 {
@@ -50,7 +50,7 @@ fn explain_bytes<R: Read, O: Write, P: Progress>(
     progress: &P,
 ) -> Result<(), Fault<'static>>
     ensures explained { OnOk result (HasExplained window (O.contents out.old) (O.contents out.new)) }
-    ensures refused { IfErr result (λ fault. status_of fault ≡ 5 → HasExplainedSome window (O.contents out.old) (O.contents out.new)) }
+    ensures refused { IfErr result (λ fault. status_of fault ≡ 5 → HasExplainedSome window (O.contents out.old) (O.contents out.new) fault) }
     ensures nothing { IfErr result (λ fault. status_of fault ≡ 3 → Keeps (O.contents out.old) (O.contents out.new)) }
 {
     let told = explain(alloc, source, journal, window, out, progress);

@@ -11,10 +11,10 @@ ghost use Rattle.std.specs.Io.KnownBytes.{Appends, Keeps};
 ghost use Rattle.journal.specs.Counted.{held};
 ghost use Rattle.arguments.specs.Words.{AreWrong, Asks, AsksCheck, AsksExplain, AsksRaces, AsksReplay, AsksRun, AsksWaves, Begins, IsRefusal, texts_of};
 ghost use Rattle.program.specs.declared.finding.Finding.TheVariants as finding;
-ghost use Rattle.program.specs.Printed.{HasEnded, HasExplainedSome, HasRefused, HasSearched, IsDone, IsUnprinted, window_in};
+ghost use Rattle.program.specs.Printed.{HasEnded, HasExplainedSome, HasRefused, HasSearched, IsDone, IsLeft, IsUnprinted, window_in};
 ghost use Rattle.program.specs.Program.{IsRefusalStatus, ended_status, help_text, right_text, status_of, version_text};
 ghost use Rattle.files.specs.Saved.{KeepsFiles};
-ghost use Rattle.program.specs.Told.{IsTold, IsUnfinished};
+ghost use Rattle.program.specs.Told.{HasExplainedTold, IsTold, IsUnfinished, IsWanting};
 ghost use Rattle.program.specs.declared.ending.Ending.TheVariants as Ending;
 
 use crate::checking::check;
@@ -51,8 +51,9 @@ pub fn command<R: Threads + Wait + Sync, F: Files, O: Write, E: Write>(
     ensures done { result ≡ 0 → IsDone (texts_of words.now) (O.contents (held out.old)) (O.contents (held out.new)) (F.made files.old) (F.made files.new) }
     ensures wrong { result ≡ 2 → AreWrong (texts_of words.now) }
     ensures refused { result ≡ 3 → Begins (texts_of words.now) (codes "check") → HasRefused (texts_of words.now) (O.contents (held out.old)) (O.contents (held out.new)) (F.made files.old) (F.made files.new) }
-    ensures faulty { result ≡ 5 → Begins (texts_of words.now) (codes "explain") → HasExplainedSome (window_in (texts_of words.now)) (O.contents (held out.old)) (O.contents (held out.new)) }
+    ensures faulty { result ≡ 5 → Begins (texts_of words.now) (codes "explain") → HasExplainedTold (window_in (texts_of words.now)) (O.contents (held out.old)) (O.contents (held out.new)) E.contents err.old err.new }
     ensures stopped { result ≡ 4 → IsUnfinished (texts_of words.now) (O.contents (held out.old)) (O.contents (held out.new)) (F.made files.old) (F.made files.new) E.contents err.old err.new }
+    ensures wanting { result ≡ 6 → IsWanting (texts_of words.now) (O.contents (held out.old)) (O.contents (held out.new)) (F.made files.old) (F.made files.new) E.contents err.old err.new }
     ensures several { result ≡ 7 → HasSearched (texts_of words.now) (O.contents (held out.old)) (O.contents (held out.new)) (F.made files.old) (F.made files.new) finding.Several }
     ensures nothing { IsUnprinted (texts_of words.now) result → Keeps (O.contents (held out.old)) (O.contents (held out.new)) }
     ensures unsaved { (result ≡ 2) ⊎ ((result ≡ 3) ⊎ (result ≡ 5)) → KeepsFiles (F.made files.old) (F.made files.new) }
@@ -78,9 +79,10 @@ fn perform<'a, R: Threads + Wait + Sync, F: Files, O: Write>(
 ) -> Result<Ending, Fault<'a>>
     ensures ended { (words : List Text) → Asks words request.now → IfOk result (HasEnded words (O.contents (held out.old)) (O.contents (held out.new)) (F.made files.old) (F.made files.new)) }
     ensures checked { (words : List Text) → Asks words request.now → Begins words (codes "check") → IfErr result (λ fault. (status_of fault ≡ 1) ⊎ (status_of fault ≡ 6)) }
-    ensures refused { (words : List Text) → Asks words request.now → Begins words (codes "explain") → IfErr result (λ fault. status_of fault ≡ 5 → HasExplainedSome (window_in words) (O.contents (held out.old)) (O.contents (held out.new))) }
+    ensures refused { (words : List Text) → Asks words request.now → Begins words (codes "explain") → IfErr result (λ fault. status_of fault ≡ 5 → HasExplainedSome (window_in words) (O.contents (held out.old)) (O.contents (held out.new)) fault) }
     ensures nothing { (words : List Text) → Asks words request.now → IfErr result (λ fault. IsUnprinted words (status_of fault) → Keeps (O.contents (held out.old)) (O.contents (held out.new))) }
     ensures unsaved { IfErr result (λ fault. (status_of fault ≡ 3) ⊎ (status_of fault ≡ 5) → KeepsFiles (F.made files.old) (F.made files.new)) }
+    ensures wanting { (words : List Text) → Asks words request.now → IfErr result (λ fault. status_of fault ≡ 6 → IsLeft words (O.contents (held out.old)) (O.contents (held out.new)) (F.made files.old) (F.made files.new)) }
 {
     match request {
         Request::Run(request) => perform_run(rt, alloc, request, files, out),
@@ -135,6 +137,7 @@ fn perform_races<'a, F: Files, O: Write>(
     ensures ended { (words : List Text) → AsksRaces words request.now → IfOk result (HasEnded words (O.contents (held out.old)) (O.contents (held out.new)) (F.made files.old) (F.made files.new)) }
     ensures nothing { IfErr result (λ fault. (status_of fault ≡ 3) ⊎ (status_of fault ≡ 5) → Keeps (O.contents (held out.old)) (O.contents (held out.new))) }
     ensures unsaved { IfErr result (λ fault. (status_of fault ≡ 3) ⊎ (status_of fault ≡ 5) → KeepsFiles (F.made files.old) (F.made files.new)) }
+    ensures wanting { (words : List Text) → AsksRaces words request.now → IfErr result (λ fault. status_of fault ≡ 6 → IsLeft words (O.contents (held out.old)) (O.contents (held out.new)) (F.made files.old) (F.made files.new)) }
 {
     match search_races(alloc, request, files, out) {
         Ok(found) => Ok(Ending::Found(found)),
@@ -180,7 +183,7 @@ fn perform_explain<'a, F: Files, O: Write>(
     out: &mut Counted<O>,
 ) -> Result<Ending, Fault<'a>>
     ensures ended { (words : List Text) → AsksExplain words request.now → IfOk result (HasEnded words (O.contents (held out.old)) (O.contents (held out.new)) (F.made files.old) (F.made files.new)) }
-    ensures refused { (words : List Text) → AsksExplain words request.now → IfErr result (λ fault. status_of fault ≡ 5 → HasExplainedSome (window_in words) (O.contents (held out.old)) (O.contents (held out.new))) }
+    ensures refused { (words : List Text) → AsksExplain words request.now → IfErr result (λ fault. status_of fault ≡ 5 → HasExplainedSome (window_in words) (O.contents (held out.old)) (O.contents (held out.new)) fault) }
     ensures nothing { IfErr result (λ fault. status_of fault ≡ 3 → Keeps (O.contents (held out.old)) (O.contents (held out.new))) }
     ensures unsaved { KeepsFiles (F.made files.old) (F.made files.new) }
 {
@@ -228,6 +231,7 @@ pub fn without_words<R: Threads + Wait + Sync, F: Files, O: Write, E: Write>(
 ) -> u8
     ensures range { result ≤ 7 }
     ensures done { result ≡ 0 → IsDone [] (O.contents (held out.old)) (O.contents (held out.new)) (F.made files.old) (F.made files.new) }
+    ensures wanting { result ≡ 6 → IsWanting [] (O.contents (held out.old)) (O.contents (held out.new)) (F.made files.old) (F.made files.new) E.contents err.old err.new }
     ensures nothing { (result ≡ 2) ⊎ ((result ≡ 3) ⊎ (result ≡ 5)) → Keeps (O.contents (held out.old)) (O.contents (held out.new)) }
     ensures unsaved { (result ≡ 2) ⊎ ((result ≡ 3) ⊎ (result ≡ 5)) → KeepsFiles (F.made files.old) (F.made files.new) }
     ensures silent { (result ≡ 0) ⊎ (result ≡ 7) → err.new ≡ err.old }
@@ -245,6 +249,7 @@ fn refuse<O: Write, E: Write>(refusal: Refusal, out: &mut O, err: &mut Counted<E
     ensures status { IsRefusalStatus refusal result }
     ensures helped { result ≡ 0 → Appends (O.contents out.old) (O.contents out.new) (help_text refusal) }
     ensures nothing { (result ≡ 2) ⊎ ((result ≡ 3) ⊎ (result ≡ 5)) → Keeps (O.contents out.old) (O.contents out.new) }
+    ensures wanting { result ≡ 6 → Keeps (O.contents out.old) (O.contents out.new) }
     ensures silent { (result ≡ 0) ⊎ (result ≡ 7) → err.new ≡ err.old }
     ensures told { (words : List Text) → IsRefusal words refusal → IsTold E.contents err.old err.new words result }
 {

@@ -1,6 +1,6 @@
 //! Random lawful orders in place of the search of all of them.
 
-ghost use Rattle.std.specs.Prelude.{◌≡◌, IfOk};
+ghost use Rattle.std.specs.Prelude.{◌≡◌, IfOk, Some};
 ghost use Rattle.program.specs.Findings.{AreFound, AreOf, IsOf};
 ghost use Rattle.arguments.specs.Options.{CanSearch};
 
@@ -24,7 +24,8 @@ pub fn sampled<P: Progress>(
     count: u32,
     progress: &P,
 ) -> Result<Texts, AllocError>
-    requires { CanSearch extent }
+    requires can { CanSearch extent }
+    requires asked { extent.samples ≡ Some count }
     ensures { IfOk result (λ texts. AreFound design.now extent texts.claim texts.shown.items) }
 {
     let limits = Limits {

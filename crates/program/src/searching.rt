@@ -2,14 +2,14 @@
 //! wanted, whose numbers stand in the lines on races, they are told behind it. The lawful orders are searched, or random ones tried.
 //! Then the journals are written, and then what is said of the texts.
 
-ghost use Rattle.std.specs.Prelude.{◌≡◌, ◌≤◌, ◌⊎◌, IfErr, IfOk, IfSome, IsTrue, OnOk, ℕ, List, [], option_map};
+ghost use Rattle.std.specs.Prelude.{◌≡◌, ◌≤◌, ◌⊎◌, IfErr, IfOk, IfSome, IsTrue, None, OnOk, ℕ, List, [], length, option_map};
 ghost use Rattle.std.specs.Io.KnownBytes.{Appends, Keeps};
 ghost use Rattle.model.specs.Runs.{last_time};
 ghost use Rattle.frontend.specs.Sources.{IsDesignOf};
-ghost use Rattle.program.specs.Findings.{AreFound, IsOfSearch, OnEvery, first_text, limits_in};
+ghost use Rattle.program.specs.Findings.{AreFound, HaveSomeEnds, IsMet, IsWithin, OnEvery, first_text, limits_in};
 ghost use Rattle.arguments.specs.Options.{CanSearch};
 ghost use Rattle.program.specs.Program.{status_of};
-ghost use Rattle.program.specs.Printed.{HasShown, IsToldFirst, IsToldLast, TellsOtherRaces};
+ghost use Rattle.program.specs.Printed.{HasLeft, HasShown, IsToldFirst, IsToldLast, TellsOtherRaces};
 ghost use Rattle.naming.specs.Naming.{TellsRaces};
 ghost use Rattle.files.specs.Saved.{KeepsFiles, LeadsElsewhere, journal_path};
 
@@ -42,12 +42,15 @@ pub fn search_races<'a, F: Files, O: Write>(
         (O.contents out.old) (O.contents out.new) (F.made files.old) (F.made files.new)) }
     ensures nothing { IfErr result (λ fault. (status_of fault ≡ 3) ⊎ (status_of fault ≡ 5) → Keeps (O.contents out.old) (O.contents out.new)) }
     ensures unsaved { IfErr result (λ fault. (status_of fault ≡ 3) ⊎ (status_of fault ≡ 5) → KeepsFiles (F.made files.old) (F.made files.new)) }
+    ensures wanting { IfErr result (λ fault. status_of fault ≡ 6 → HasLeft request.now.extent (option_map (λ path. path.now) request.now.journals)
+        (O.contents out.old) (O.contents out.new) (F.made files.old) (F.made files.new)) }
     ensures spared { OnOk result (LeadsElsewhere (F.alike files.old) request.now.file.now (option_map (λ prefix. journal_path prefix.now 1) request.now.journals)) }
 {
     spare_first(alloc, request.file, request.journals, files)?;
     let source = read_file(alloc, request.file, files)?;
-    let design = read_design(alloc, source.as_slice())?;
-    search_design(alloc, source.as_slice(), &design, request, files, out)
+    let text = source.as_slice();
+    let design = read_design(alloc, text)?;
+    search_design(alloc, text, &design, request, files, out)
 }
 
 /// Searches for races of the design of a source.
@@ -59,10 +62,12 @@ fn search_design<F: Files, O: Write>(
     files: &mut F,
     out: &mut O,
 ) -> Result<Finding, Fault<'static>>
-    requires { (source : List ℕ) × IsDesignOf source design.now }
+    requires { IsDesignOf source.now design.now }
     ensures shown { IfOk result (HasShown request.now.extent (option_map (λ path. path.now) request.now.journals)
         (O.contents out.old) (O.contents out.new) (F.made files.old) (F.made files.new)) }
     ensures fault { IfErr result (λ fault. (status_of fault ≡ 1) ⊎ (status_of fault ≡ 6)) }
+    ensures wanting { IfErr result (λ fault. status_of fault ≡ 6 → HasLeft request.now.extent (option_map (λ path. path.now) request.now.journals)
+        (O.contents out.old) (O.contents out.new) (F.made files.old) (F.made files.new)) }
 {
     try_first(alloc, request.journals, files)?;
     tell_first(
@@ -87,6 +92,7 @@ fn names_of<'a>(
     request: &RacesRequest<'a>,
     shown: &'a [Shown<Entry, End>],
 ) -> Names<'a>
+    ensures source { result.source.now ≡ source.entry.now }
     ensures design { result.design.now ≡ design.entry.now }
     ensures limits { result.limits ≡ limits_in request.now.extent }
     ensures prefix { option_map (λ path. path.now) result.prefix ≡ option_map (λ path. path.now) request.now.journals }
@@ -113,8 +119,9 @@ fn tell_first<O: Write, P: Progress>(
 ) -> Result<(), Fault<'static>>
     requires until { IfSome names.now.limits.until (λ until. until ≤ last_time) }
     requires none { names.now.shown.now ≡ [] }
-    ensures told { OnOk result ((first : List ℕ) × IsToldFirst names.entry.now.design.now names.entry.now.limits (option_map (λ path. path.now) names.entry.now.prefix) first × Appends (O.contents out.old) (O.contents out.new) first) }
+    ensures told { OnOk result ((first : List ℕ) × IsToldFirst names.entry.now.source.now names.entry.now.design.now names.entry.now.limits (option_map (λ path. path.now) names.entry.now.prefix) first × Appends (O.contents out.old) (O.contents out.new) first) }
     ensures fault { IfErr result (λ fault. (status_of fault ≡ 1) ⊎ (status_of fault ≡ 6)) }
+    ensures untold { IfErr result (λ fault. status_of fault ≡ 6 → Keeps (O.contents out.old) (O.contents out.new)) }
 {
     let first = first_lines(alloc, names, progress)?;
     show_bytes(out, first.as_slice())?;
@@ -129,7 +136,7 @@ fn first_lines<P: Progress>(
 ) -> Result<Vec<u8>, AllocError>
     requires until { IfSome names.now.limits.until (λ until. until ≤ last_time) }
     requires none { names.now.shown.now ≡ [] }
-    ensures { IfOk result (λ first. IsToldFirst names.entry.now.design.now names.entry.now.limits (option_map (λ path. path.now) names.entry.now.prefix) first.items) }
+    ensures { IfOk result (λ first. IsToldFirst names.entry.now.source.now names.entry.now.design.now names.entry.now.limits (option_map (λ path. path.now) names.entry.now.prefix) first.items) }
 {
     match names.prefix {
         None => race_lines(alloc, names, progress),
@@ -144,7 +151,7 @@ fn other_lines<P: Progress>(
     progress: &P,
 ) -> Result<Vec<u8>, AllocError>
     requires { IfSome names.now.limits.until (λ until. until ≤ last_time) }
-    ensures { IfOk result (λ others. TellsOtherRaces names.entry.now.design.now names.entry.now.limits names.entry.now.shown.now (option_map (λ path. path.now) names.entry.now.prefix) others.items) }
+    ensures { IfOk result (λ others. TellsOtherRaces names.entry.now.source.now names.entry.now.design.now names.entry.now.limits names.entry.now.shown.now (option_map (λ path. path.now) names.entry.now.prefix) others.items) }
 {
     match names.prefix {
         None => Ok(Vec::new(alloc)),
@@ -159,7 +166,7 @@ fn race_lines<P: Progress>(
     progress: &P,
 ) -> Result<Vec<u8>, AllocError>
     requires { IfSome names.now.limits.until (λ until. until ≤ last_time) }
-    ensures { IfOk result (λ lines. TellsRaces names.entry.now.design.now names.entry.now.limits names.entry.now.shown.now (option_map (λ path. path.now) names.entry.now.prefix) lines.items) }
+    ensures { IfOk result (λ lines. TellsRaces names.entry.now.source.now names.entry.now.design.now names.entry.now.limits names.entry.now.shown.now (option_map (λ path. path.now) names.entry.now.prefix) lines.items) }
 {
     let mut lines = Vec::new(alloc);
     let pushed = push_races(alloc, &mut lines, names, progress);
@@ -186,7 +193,8 @@ fn find_texts<P: Progress>(
 
 /// The texts of all lawful orders, as far as they are searched.
 fn searched<P: Progress>(alloc: Global, design: &Design, extent: Extent, progress: &P) -> Texts
-    requires { CanSearch extent }
+    requires can { CanSearch extent }
+    requires all { extent.samples ≡ None }
     ensures { AreFound design.now extent result.claim result.shown.items }
 {
     let limits = Limits {
@@ -208,8 +216,11 @@ fn searched<P: Progress>(alloc: Global, design: &Design, extent: Extent, progres
 
 /// What is claimed of the texts of a search.
 fn claim_of(extent: Extent, explored: &Explored<Entry, End>) -> Claim
+    requires all { extent.samples ≡ None }
+    requires few { explored.now.nodes ≤ extent.max_states }
     ensures every { OnEvery result (IsTrue explored.now.covered) }
-    ensures searched { IsOfSearch result }
+    ensures within { IsWithin extent (length explored.now.shown.items) result }
+    ensures met { IsMet extent explored.now.covered explored.now.nodes (length explored.now.shown.items) result }
 {
     if explored.covered {
         return Claim::Every(explored.nodes as u64);
@@ -224,7 +235,9 @@ fn claim_of(extent: Extent, explored: &Explored<Entry, End>) -> Claim
 }
 
 /// Whether some of the texts have another end than the first.
-fn ends_differ(shown: &[Shown<Entry, End>]) -> bool {
+fn ends_differ(shown: &[Shown<Entry, End>]) -> bool
+    ensures { HaveSomeEnds shown.now result }
+{
     match shown.split_first() {
         Some((first, others)) => others.iter().any(|one| one.end != first.end),
         None => false,
@@ -239,7 +252,7 @@ fn last_lines<P: Progress>(
     progress: &P,
 ) -> Result<Vec<u8>, AllocError>
     requires { IfSome names.now.limits.until (λ until. until ≤ last_time) }
-    ensures { IfOk result (λ last. IsToldLast names.entry.now.design.now names.entry.now.limits claim names.entry.now.shown.now (option_map (λ path. path.now) names.entry.now.prefix) last.items) }
+    ensures { IfOk result (λ last. IsToldLast names.entry.now.source.now names.entry.now.design.now names.entry.now.limits claim names.entry.now.shown.now (option_map (λ path. path.now) names.entry.now.prefix) last.items) }
 {
     let mut last = other_lines(alloc, names, progress)?;
     let verdict = Verdict {

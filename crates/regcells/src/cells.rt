@@ -258,8 +258,15 @@ impl RegCells {
         self.registers[register].write::<Brand, R>(rt, &mut holder.passes[register], net, writes);
     }
 
-    /// The seat has then seen all values of a register, which begin with those that it had seen.
-    pub fn meet<R: Wait>(&self, rt: &R, seat: &mut RegSeat, holder: &mut Holder, register: RegId)
+    /// The seat has then seen all values of a register, which begin with those that it had seen. Tells the last, and its
+    /// version.
+    pub fn meet<R: Wait>(
+        &self,
+        rt: &R,
+        seat: &mut RegSeat,
+        holder: &mut Holder,
+        register: RegId,
+    ) -> Seen
         requires seat { seat.old.cells ≡ self.now }
         requires holder { holder.old.cells ≡ self.now }
         requires register { register < length self.now }
@@ -267,6 +274,8 @@ impl RegCells {
         ensures here { seen_of seat.new register ≡ seen_of holder.old register }
         ensures later { IsPrefix (seen_of seat.old register) (seen_of holder.old register) }
         ensures holder { holder.new ≡ holder.old }
+        ensures entry { slice_get (seen_of holder.old register) result.version ≡ Some result.value }
+        ensures version { length (seen_of holder.old register) ≡ result.version + 1 }
     {
         self.registers[register as usize].tell(
             rt,

@@ -30,22 +30,29 @@ fn net_at(nets: &[Net], place: usize) -> &Net
     &nets[place]
 }
 
-/// The first register that has changed since it was read.
+/// The first register that has changed since it was read. The seat has then seen all values of the registers that were read,
+/// up to that one.
 pub fn first_moved<R: Wait>(
     rt: &R,
     cells: &RegCells,
+    seat: &mut RegSeat,
     holder: &mut Holder,
     reads: &IndexMap<RegId, Seen>,
 ) -> Option<RegId>
-    requires cells { holder.old.cells ≡ cells.now }
+    requires seat { seat.old.cells ≡ cells.now }
+    requires holder { holder.old.cells ≡ cells.now }
     requires reads { AreReadsIn (length cells.now) reads.now.entries }
     ensures same { holder.new ≡ holder.old }
+    ensures cells { seat.new.cells ≡ seat.old.cells }
+    ensures met { Met seat.old.seen holder.old.seen seat.new.seen }
     ensures none { IfNone result ((k : ℕ) (d : ℕ × seens.Seen) → slice_get reads.now.entries k ≡ Some d → IsCurrentOf holder.old.seen d) }
+    ensures all { IfNone result (HasMetReads holder.old.seen seat.new.seen reads.now.entries) }
     ensures some { IfSome result (IsFirstMovedOf holder.old.seen reads.now.entries) }
+    ensures here { IfSome result (λ r. fresh_of seat.new.seen r ≡ fresh_of holder.old.seen r) }
 {
     for place in 0..reads.len() {
         let (register, seen) = read_at(reads, place);
-        let last = cells.get_held(rt, holder, register);
+        let last = cells.meet(rt, seat, holder, register);
         if last.version != seen.version {
             return Some(register);
         }

@@ -69,7 +69,8 @@ impl Register {
         seen_in(self.width, words)
     }
 
-    /// One load by the holder.
+    /// One load by the holder. Inlined, so that a caller who asks for the version alone makes no value.
+    #[inline(always)]
     pub fn check<R: Wait>(&self, rt: &R, pass: &mut RegPass) -> Seen
         requires register { name_of_pass pass.old ≡ name_of_register self.now }
         requires begun { IsBegun pass.old }
@@ -137,9 +138,9 @@ impl Register {
         self.cell.split_pass::<Notes>(pass)
     }
 
-    /// The seat's pass has then seen all that the holder's has. A join alone tells nothing: what the seat has seen is
-    /// compared with the holder's values at the next load.
-    pub fn tell<R: Wait>(&self, rt: &R, pass: &mut RegPass, all: &mut RegPass)
+    /// The seat's pass has then seen all that the holder's has, of which it tells the last. A join alone tells nothing: what the
+    /// seat has seen is compared with the holder's values at the next load.
+    pub fn tell<R: Wait>(&self, rt: &R, pass: &mut RegPass, all: &mut RegPass) -> Seen
         requires register { name_of_pass pass.old ≡ name_of_register self.now }
         requires all { name_of_pass all.old ≡ name_of_register self.now }
         requires holding { IsHolding all.old }
@@ -147,10 +148,13 @@ impl Register {
         ensures seen { seen_by pass.new ≡ seen_by all.old }
         ensures later { IsPrefix (seen_by pass.old) (seen_by all.old) }
         ensures same { cell_view all.new ≡ cell_view all.old }
+        ensures entry { slice_get (seen_by all.old) result.version ≡ Some result.value }
+        ensures version { length (seen_by all.old) ≡ result.version + 1 }
     {
         let note = self.cell.split_pass::<Notes>(pass);
         self.cell.join_pass::<Notes>(all, note);
-        self.check(rt, all);
+        let last = self.check(rt, all);
         *pass = self.cell.split_pass::<Notes>(all);
+        last
     }
 }

@@ -10,13 +10,6 @@ use Rattle.commitgate.specs.Closing.{AreAllSeats}
 in_order : (n : Named) (seats : List SeatView) → range_with_len 0 n.workers ≡ map (λ (s : SeatView). s.worker) seats → AreAllSeats n seats
 in_order n seats same = subst (λ (l : List ℕ). IsPermutation (range_with_len 0 n.workers) l) same (IsPermutation-refl (range_with_len 0 n.workers))
 
--- the only one
-pub one_seat : (n : Named) (s : SeatView) (seats : List SeatView) → n.workers ≡ 1 → s.worker ≡ 0 → seats ≡ s ∷ [] → AreAllSeats n seats
-one_seat n s seats count first is =
-    let numbers : 0 ∷ [] ≡ s.worker ∷ [] = ap (λ (k : ℕ). k ∷ []) (sym first) in
-    let all : range_with_len 0 n.workers ≡ 0 ∷ [] = ap (λ (k : ℕ). range_with_len 0 k) count in
-    in_order n seats (all ∙ numbers ∙ ap (λ (l : List SeatView). map (λ (t : SeatView). t.worker) l) (sym is))
-
 -- both of two
 pub two_seats : (n : Named) (s t : SeatView) (seats : List SeatView) → n.workers ≡ 2 → s.worker ≡ 0 → t.worker ≡ 1 → seats ≡ s ∷ t ∷ [] → AreAllSeats n seats
 two_seats n s t seats count first second is =

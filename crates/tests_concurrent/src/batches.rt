@@ -1,14 +1,13 @@
-// Several turns of one seat that are evaluated one after another and then committed in one holding of the lock: each is validated
-// against all that stands before it, and where memory is refused for one, those behind it are left.
+// Several turns of one seat that are evaluated one after another and then committed in one holding of the lock: where memory is refused
+// for one, those behind it are left. Turns of which none is refused are rows of `examples`.
 ghost use Rattle.std.specs.Prelude.{◌≡◌, length};
 ghost use Rattle.commitgate.specs.Batches.{AreOffered};
 
-use crate::alone::{Alone, play_alone};
 use crate::claims::{fail, holds};
-use crate::course::{Course, accepted, assert_closed, assert_journal, assert_turn, stale};
-use crate::examples::COPY;
+use crate::course::{Course, accepted, assert_journal, assert_turn};
+use crate::examples::APART;
+use crate::pair::{Pair, play_source};
 use crate::refused::granted;
-use crate::steps::{assert_read, assert_sees};
 use commitgate::{Closed, Naming, Reply, Seat, Ticket};
 use hoard::{Hoard, LARGEST_PIECE};
 use model::end::End;
@@ -20,11 +19,7 @@ use std::process::Abort;
 use std::sync::Wait;
 use turn::TurnLog;
 
-/// Three turns, of which none reads what another one writes. Each prints more than all before it, so each needs more memory.
-const APART: &str =
-    "module t; reg [7:0] a; reg [31:0] b; reg [127:0] c; initial begin a=8'd1; $display(\"%b\",a); end initial begin b=32'd2; $display(\"%b\",b); end initial begin c=128'd3; $display(\"%b\",c); end endmodule";
-
-// Its turns, and its journal.
+// The turns of the design, and its journal.
 const TURNS: u64 = 3;
 
 const JOURNAL: [Entry; 3] = [Entry::Turn(0), Entry::Turn(1), Entry::Turn(2)];
@@ -45,9 +40,9 @@ const PIECES: usize = 3 * ROOMS;
 
 // Turns of one seat that were evaluated and aren't committed yet: their tickets, and the log of each at its place.
 #[derive(Drop)]
-struct Batch<K: Naming> {
-    tickets: VecDeque<Ticket<K>>,
-    logs: Vec<TurnLog>,
+pub struct Batch<K: Naming> {
+    pub tickets: VecDeque<Ticket<K>>,
+    pub logs: Vec<TurnLog>,
 }
 
 impl<K: Naming> Batch<K> {
@@ -73,8 +68,8 @@ impl<K: Naming> Batch<K> {
     }
 }
 
-// The turns of these tickets, evaluated one after another.
-fn evaluated<K: Naming, R: Wait + Abort>(
+/// The turns of these tickets, evaluated one after another.
+pub fn evaluated<K: Naming, R: Wait + Abort>(
     course: &Course<'_, '_, K, R>,
     seat: &mut Seat<K>,
     tickets: Vec<Ticket<K>>,
@@ -112,13 +107,11 @@ fn commit<K: Naming, R: Wait + Abort>(
         tickets.len() <= replies.capacity(),
         "room for the answers",
     );
-    course
-        .gate
-        .commit_all(rt, course.alloc, seat, tickets, logs, replies);
+    course.gate.commit_all(rt, seat, tickets, logs, replies);
 }
 
-// The answers to a batch, which leave none of its tickets.
-fn committed<K: Naming, R: Wait + Abort>(
+/// The answers to a batch, which leave none of its tickets.
+pub fn committed<K: Naming, R: Wait + Abort>(
     course: &Course<'_, '_, K, R>,
     seat: &mut Seat<K>,
     batch: &mut Batch<K>,
@@ -135,8 +128,8 @@ fn committed<K: Naming, R: Wait + Abort>(
     replies
 }
 
-// The next answer.
-fn next<K: Naming>(rt: &impl Abort, replies: &mut VecDeque<Reply<K>>) -> Reply<K> {
+/// The next answer.
+pub fn next<K: Naming>(rt: &impl Abort, replies: &mut VecDeque<Reply<K>>) -> Reply<K> {
     replies.pop_front().expect(rt, "an answer")
 }
 
@@ -157,67 +150,6 @@ fn accept_all<K: Naming, R: Wait + Abort>(
 ) {
     let mut batch = evaluated(course, seat, tickets);
     assert_turns(course.rt, committed(course, seat, &mut batch), events);
-}
-
-// The last turn of a batch read a register when it was all x.
-fn assert_read_unknown(rt: &impl Abort, logs: &[TurnLog]) {
-    assert_read(rt, logs.last().expect(rt, "a log"), &[(0, 0, None)]);
-}
-
-// The first of two turns is accepted, and the second is stale, since it read what the first one changed.
-fn one_behind<K: Naming>(rt: &impl Abort, mut replies: VecDeque<Reply<K>>) -> Ticket<K> {
-    holds(rt, replies.len() == 2, "another number of answers");
-    assert_turn(rt, &accepted(rt, next(rt, &mut replies)), 0);
-    stale(rt, next(rt, &mut replies), 1)
-}
-
-// Both turns are evaluated before one is committed. Answers the ticket of the second one, which comes back.
-fn take_both<K: Naming, R: Wait + Abort>(
-    course: &Course<'_, '_, K, R>,
-    seat: &mut Seat<K>,
-    tickets: Vec<Ticket<K>>,
-) -> Ticket<K> {
-    let mut batch = evaluated(course, seat, tickets);
-    assert_read_unknown(course.rt, &batch.logs);
-    one_behind(course.rt, committed(course, seat, &mut batch))
-}
-
-// A list of one ticket.
-fn only<K: Naming>(rt: &impl Abort, alloc: Global, ticket: Ticket<K>) -> Vec<Ticket<K>> {
-    vec![in alloc; ticket].ok().expect(rt, "memory")
-}
-
-// The only worker commits two turns at once, and then the one that was stale by itself.
-#[derive(Drop)]
-struct Both;
-
-impl Alone for Both {
-    fn lead<K: Naming, R: Wait + Abort>(
-        &mut self,
-        course: &Course<'_, '_, K, R>,
-        seat: &mut Seat<K>,
-        tickets: Vec<Ticket<K>>,
-    ) {
-        let late = take_both(course, seat, tickets);
-        accept_all(course, seat, only(course.rt, course.alloc, late), 1..2);
-        assert_sees(course, seat, &[(1, 1, Some(1))]);
-    }
-}
-
-// The only worker commits all three turns at once.
-#[derive(Drop)]
-struct Three;
-
-impl Alone for Three {
-    fn lead<K: Naming, R: Wait + Abort>(
-        &mut self,
-        course: &Course<'_, '_, K, R>,
-        seat: &mut Seat<K>,
-        tickets: Vec<Ticket<K>>,
-    ) {
-        accept_all(course, seat, tickets, 0..TURNS);
-        assert_journal(course, seat, &JOURNAL);
-    }
 }
 
 // Commits the turns of a batch where no more than so many bytes of memory can be had. Behind that there is enough again.
@@ -293,7 +225,7 @@ fn commit_starved<K: Naming, R: Wait + Abort>(
     accepted
 }
 
-// The only worker commits three turns at once in so many bytes, and then those that were left in enough memory. How many
+// The first worker commits three turns at once in so many bytes, and then those that were left in enough memory. How many
 // were accepted at first.
 #[derive(Drop)]
 struct Starving<'h> {
@@ -302,11 +234,12 @@ struct Starving<'h> {
     accepted: u64,
 }
 
-impl<'h> Alone for Starving<'h> {
+impl<'h> Pair for Starving<'h> {
     fn lead<K: Naming, R: Wait + Abort>(
         &mut self,
         course: &Course<'_, '_, K, R>,
         seat: &mut Seat<K>,
+        _other: &mut Seat<K>,
         tickets: Vec<Ticket<K>>,
     ) {
         let mut batch = evaluated(course, seat, tickets);
@@ -331,21 +264,9 @@ fn play_starving<R: Wait + Abort>(rt: &R, alloc: Global, hoard: &mut Hoard, byte
         bytes,
         accepted: 0,
     };
-    let closed = play_alone(rt, alloc, APART, &mut starving);
+    let closed = play_source(rt, alloc, APART, &mut starving);
     assert_quiet(rt, &closed);
     starving.accepted
-}
-
-#[test]
-fn a_turn_that_read_what_one_before_it_changed_is_stale(rt: HostRuntime) {
-    let closed = play_alone(&rt, rt.alloc(), COPY, &mut Both);
-    assert_closed(&rt, &closed, End::Quiet, &[2]);
-}
-
-#[test]
-fn turns_that_read_nothing_of_each_other_stand_in_their_order(rt: HostRuntime) {
-    let closed = play_alone(&rt, rt.alloc(), APART, &mut Three);
-    assert_quiet(&rt, &closed);
 }
 
 #[test]

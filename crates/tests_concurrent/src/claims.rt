@@ -10,11 +10,6 @@ pub fn holds(rt: &impl Abort, is: bool, what: &str)
     assert!(rt; is, "{what}");
 }
 
-/// The same of something at a number.
-pub fn holds_at(rt: &impl Abort, is: bool, what: &str, number: u64) {
-    assert!(rt; is, "{what} {number}");
-}
-
 /// Ends the test.
 pub fn fail(rt: &impl Abort, what: &str) -> ! {
     panic!(rt; "{what}")

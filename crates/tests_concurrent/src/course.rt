@@ -6,7 +6,7 @@ ghost use Rattle.turn.specs.Reads.{GaveAll, Keeps};
 ghost use Rattle.gateparts.specs.Histories.{IsRead};
 
 use crate::claims::{fail, holds};
-use commitgate::{Closed, Gate, Grant, Naming, Reply, Seat, Ticket};
+use commitgate::{Closed, Gate, Grant, Naming, Reply, Rest, Seat, Ticket, UpdateReply};
 use design::{Design, RegId};
 use frontend::read_design;
 use model::end::End;
@@ -121,6 +121,16 @@ impl<'g, 'd, K: Naming, R: Wait + Abort> Course<'g, 'd, K, R> {
             .commit_held(self.rt, self.alloc, &mut log, seat, ticket)
     }
 
+    /// Makes an update.
+    pub fn update(&self, seat: &mut Seat<K>) -> UpdateReply<K> {
+        self.gate.update(self.rt, self.alloc, seat)
+    }
+
+    /// Changes the regions.
+    pub fn rest(&self, seat: &mut Seat<K>) -> Rest<K> {
+        self.gate.rest(self.rt, self.alloc, seat)
+    }
+
     /// What a seat reads of a register.
     pub fn read(&self, seat: &mut Seat<K>, register: RegId) -> Seen {
         holds(
@@ -134,9 +144,10 @@ impl<'g, 'd, K: Naming, R: Wait + Abort> Course<'g, 'd, K, R> {
 
 /// The design of a source.
 pub fn design_of(rt: &impl Abort, alloc: Global, source: &str) -> Design {
-    read_design(alloc, source.as_bytes())
-        .ok()
-        .expect(rt, "a module without faults")
+    match read_design(alloc, source.as_bytes()) {
+        Ok(design) => design,
+        Err(fault) => panic!(rt; "{fault}"),
+    }
 }
 
 /// The first ticket of those that are left.
@@ -154,19 +165,8 @@ pub fn last<K: Naming>(rt: &impl Abort, tickets: &mut Vec<Ticket<K>>) -> Ticket<
 pub fn accepted<K: Naming>(rt: &impl Abort, reply: Reply<K>) -> Grant<K> {
     match reply {
         Reply::Accepted(grant) => grant,
+        Reply::NoMemory(_) => fail(rt, "memory"),
         _ => fail(rt, "not accepted"),
-    }
-}
-
-/// The ticket of a turn that is stale for register 0, with so many tries. Any other answer ends the test.
-pub fn stale<K: Naming>(rt: &impl Abort, reply: Reply<K>, tries: u8) -> Ticket<K> {
-    match reply {
-        Reply::Stale(register, ticket) => {
-            holds(rt, register == 0, "another register");
-            holds(rt, ticket.tries() == tries, "other tries");
-            ticket
-        }
-        _ => fail(rt, "not stale"),
     }
 }
 
@@ -193,34 +193,35 @@ pub fn assert_turn<K: Naming>(rt: &impl Abort, grant: &Grant<K>, event: u64) {
     holds(rt, grant.tickets.is_empty(), "a ticket");
 }
 
-/// The journal has these entries, which the seat has then seen.
+/// Whether there is memory for a copy of the journal, which then has these entries. The seat has then seen them.
+pub fn is_copied<K: Naming, R: Wait + Abort>(
+    course: &Course<'_, '_, K, R>,
+    seat: &mut Seat<K>,
+    wanted: &[Entry],
+) -> bool {
+    let rt = course.rt;
+    match course.gate.snapshot(rt, course.alloc, seat) {
+        Ok(journal) => {
+            holds(rt, journal.as_slice() == wanted, "another journal");
+            true
+        }
+        Err(_) => false,
+    }
+}
+
+/// The journal has these entries.
 pub fn assert_journal<K: Naming, R: Wait + Abort>(
     course: &Course<'_, '_, K, R>,
     seat: &mut Seat<K>,
     wanted: &[Entry],
 ) {
-    let rt = course.rt;
-    let journal = course
-        .gate
-        .snapshot(rt, course.alloc, seat)
-        .expect(rt, "memory");
-    holds(rt, journal.as_slice() == wanted, "another journal");
+    holds(course.rt, is_copied(course, seat, wanted), "memory");
 }
 
 /// Puts tickets behind those that are there.
 pub fn keep<K: Naming>(rt: &impl Abort, tickets: &mut Vec<Ticket<K>>, more: Vec<Ticket<K>>) {
     for ticket in more {
         tickets.push(ticket).expect(rt, "room for a ticket");
-    }
-}
-
-// One seat.
-fn alone<K: Naming>(rt: &impl Abort, alloc: Global, seat: Seat<K>) -> Vec<Seat<K>>
-    ensures { result.items ≡ seat ∷ [] }
-{
-    match vec![in alloc; seat] {
-        Ok(seats) => seats,
-        Err(_) => fail(rt, "memory"),
     }
 }
 
@@ -232,21 +233,6 @@ fn both<K: Naming>(rt: &impl Abort, alloc: Global, one: Seat<K>, two: Seat<K>) -
         Ok(seats) => seats,
         Err(_) => fail(rt, "memory"),
     }
-}
-
-/// Closes the gate of one worker.
-#[tactic(auto, using(crate::proofs::Seats::one_seat))]
-pub fn close_one<K: Naming, R: Wait + Abort>(
-    rt: &R,
-    alloc: Global,
-    gate: Gate<'_, K>,
-    seat: Seat<K>,
-) -> Closed
-    requires { K.named.workers ≡ 1 }
-{
-    holds(rt, seat.worker() == 0, "another seat");
-    let seats = alone(rt, alloc, seat);
-    gate.close(rt, seats)
 }
 
 /// Closes the gate of two workers.

@@ -3,9 +3,9 @@ ghost use Rattle.std.specs.Prelude.{◌≡◌, map, IfSome};
 ghost use Rattle.eventpool.specs.Ends.{owner_card, thief_card};
 ghost use Rattle.eventpool.specs.Pools.{cards_of, IsPool};
 
-use crate::alone::{Alone, play_alone};
 use crate::claims::{fail, holds};
 use crate::course::{Course, design_of, last};
+use crate::pair::{Pair, play_source};
 use commitgate::{Blank, Gate, Naming, Seat, Ticket};
 use eventpool::{Owner, Pool, PutFault, Stolen, Tally, Thief, close};
 use hoard::Hoard;
@@ -134,18 +134,19 @@ enum Pooled {
     Refused,
 }
 
-impl Alone for Pooled {
+impl Pair for Pooled {
     fn lead<K: Naming, R: Wait + Abort>(
         &mut self,
         course: &Course<'_, '_, K, R>,
-        _seat: &mut Seat<K>,
+        _one: &mut Seat<K>,
+        _two: &mut Seat<K>,
         tickets: Vec<Ticket<K>>,
     ) {
-        let answer = match *self {
-            Pooled::Two => share_two(course.rt, course.alloc, tickets),
-            Pooled::Refused => put_more(course.rt, course.alloc, tickets),
-        };
-        answer.expect(course.rt, "memory");
+        let rt = course.rt;
+        match *self {
+            Pooled::Two => share_two(rt, course.alloc, tickets).expect(rt, "memory"),
+            Pooled::Refused => put_more(rt, course.alloc, tickets),
+        }
     }
 }
 
@@ -162,7 +163,7 @@ fn processes(rt: &impl Abort, alloc: Global, count: u32) -> String {
 // One thread has the tickets of a gate of so many processes.
 fn play_pooled<R: Wait + Abort>(rt: &R, alloc: Global, count: u32, mut pooled: Pooled) {
     let source = processes(rt, alloc, count);
-    let closed = play_alone(rt, alloc, source.as_str(), &mut pooled);
+    let closed = play_source(rt, alloc, source.as_str(), &mut pooled);
     holds(rt, closed.end() == End::Running, "another end");
 }
 
@@ -203,15 +204,11 @@ fn assert_rising(rt: &impl Abort, events: &[u64], count: usize) {
 
 // A deque has room for 64 tickets. The next put is refused where memory is, and then the ticket comes back, and the deque has
 // what it had.
-fn put_more<K: Naming, R: Wait + Abort>(
-    rt: &R,
-    alloc: Global,
-    mut tickets: Vec<Ticket<K>>,
-) -> Result<(), AllocError> {
-    let (mut owners, _thieves) = Pool::new::<Ticket<K>>(alloc, 2)?;
+fn put_more<K: Naming, R: Wait + Abort>(rt: &R, alloc: Global, mut tickets: Vec<Ticket<K>>) {
+    let (mut owners, _thieves) = Pool::new::<Ticket<K>>(alloc, 2).expect(rt, "memory");
     let more = last(rt, &mut tickets);
     holds(rt, fill(&mut owners, 0, tickets), "the first puts");
-    let hoard = Hoard::new(alloc, 0, 0)?;
+    let hoard = Hoard::new(alloc, 0, 0).expect(rt, "memory");
     let back = put_at(&mut owners, 0, more).expect(rt, "memory was refused");
     let back = put_at(&mut owners, 0, back).expect(rt, "memory was refused");
     drop(hoard);
@@ -224,7 +221,6 @@ fn put_more<K: Naming, R: Wait + Abort>(
     );
     let (_owners, got) = take_all(rt, alloc, owners, 0);
     assert_rising(rt, &got, 65);
-    Ok(())
 }
 
 #[test]
@@ -340,15 +336,19 @@ fn race<K: Naming + Send, R: Threads + Wait + Sync>(
 }
 
 // Each event of 256 stands once among those of four workers, and those of the owner rise.
-fn assert_got(rt: &impl Abort, got: Got) -> Result<(), AllocError> {
+fn assert_got(rt: &impl Abort, got: Got) {
     let mut events = got.mine;
     holds(rt, events.is_sorted(), "the owner's events rise");
-    events.extend_from_slice(&got.first)?;
-    events.extend_from_slice(&got.second)?;
-    events.extend_from_slice(&got.third)?;
+    put_behind(rt, &mut events, &got.first);
+    put_behind(rt, &mut events, &got.second);
+    put_behind(rt, &mut events, &got.third);
     events.sort_unstable();
     assert_rising(rt, &events, 256);
-    Ok(())
+}
+
+// Puts events behind others.
+fn put_behind(rt: &impl Abort, events: &mut Vec<u64>, more: &[u64]) {
+    events.extend_from_slice(more).expect(rt, "memory");
 }
 
 // Worker 0 puts tickets, and four workers share them.
@@ -367,7 +367,8 @@ fn share_all<K: Naming + Send, R: Threads + Wait + Abort + Sync>(
     let tally = close(owners, thieves);
     let stolen = got.first.len() + got.second.len() + got.third.len();
     assert_tally(rt, &tally, 256, got.mine.len() as u128, stolen as u128);
-    assert_got(rt, got)
+    assert_got(rt, got);
+    Ok(())
 }
 
 // Four workers share the tickets of a gate's processes.

@@ -4,12 +4,11 @@
 // 2. `generated` has journals that a generator makes: lawful ones, and ones that were cut, shuffled or changed.
 
 use crate::claims::{fail, holds};
-use crate::course::design_of;
 use commitgate::Closed;
 use design::Design;
 use drive::{DriveFault, drive};
 use model::entry::Entry;
-use replay::replay;
+use replay::{ReplayFault, replay};
 use std::alloc::Global;
 use std::process::Abort;
 use std::sync::Wait;
@@ -25,22 +24,27 @@ pub fn assert_lines(
     entries: &[Entry],
     lines: &str,
 ) {
-    let replayed = replay(alloc, design, entries)
-        .ok()
-        .expect(rt, "a lawful journal");
-    holds(
-        rt,
-        replayed.lines.as_str() == lines,
-        "other lines than the replay's",
-    );
+    match replay(alloc, design, entries) {
+        Ok(replayed) => holds(
+            rt,
+            replayed.lines.as_str() == lines,
+            "other lines than the replay's",
+        ),
+        Err(fault) => panic!(rt; "{fault}"),
+    }
+}
+
+// The fault of a replay, if it has one.
+fn fault_of(alloc: Global, design: &Design, entries: &[Entry]) -> Option<ReplayFault> {
+    replay(alloc, design, entries).err()
 }
 
 // The first entry that isn't lawful.
 fn assert_refused(rt: &impl Abort, alloc: Global, design: &Design, entries: &[Entry], entry: u64) {
-    let fault = replay(alloc, design, entries)
-        .err()
-        .expect(rt, "no lawful journal");
-    holds(rt, fault.entry == entry, "another entry than the replay's");
+    let fault = fault_of(alloc, design, entries).expect(rt, "no lawful journal");
+    if fault.entry != entry {
+        panic!(rt; "{fault}");
+    }
 }
 
 /// A journal that is led through a gate gives the lines of its replay, or the entry that the replay names. Answers those

@@ -1,13 +1,10 @@
 // Worked examples of one seat and of two: what each call answers, what the gate leaves, and what a stop changes.
 
-use crate::alone::{Alone, play_alone};
 use crate::claims::holds;
-use crate::course::{
-    Course, accepted, assert_closed, assert_journal, assert_left, assert_turn, design_of, last,
-};
+use crate::course::{Course, assert_closed, assert_journal, assert_left, design_of};
 use crate::driven::assert_lines;
 use crate::pair::{Pair, play_pair};
-use crate::steps::{Act, Led, Meanwhile, Side, Step, Told, assert_sees, lead};
+use crate::steps::{Act, Ended, Led, Meanwhile, Side, Step, Told, lead};
 use commitgate::{Naming, Seat, Ticket};
 use model::end::{End, Why};
 use model::entry::Entry;
@@ -69,6 +66,26 @@ const MOMENTS: &str =
 const BACK: &str =
     "module t; reg r, b; initial r=1'b0; initial r=1'b1; initial r=1'b0; initial b=r; endmodule";
 
+/// Four processes that give a register two values each.
+const NETS: &str =
+    "module t; reg [7:0] a; initial begin a=8'd2; a=8'd3; end initial begin a=8'd3; a=8'd2; end initial begin a=8'd3; a=8'd2; end initial begin a=8'd2; a=8'd2; end endmodule";
+
+/// The turns of four processes, in order.
+const JOURNAL_OF_FOUR: [Entry; 4] = [
+    Entry::Turn(0),
+    Entry::Turn(1),
+    Entry::Turn(2),
+    Entry::Turn(3),
+];
+
+/// Five updates, of which the second wakes a process.
+const UPDATES: &str =
+    "module t; reg a, b; initial begin a<=1'b0; b<=1'b1; a<=1'b1; a<=1'b0; a<=1'b1; end initial @(b) $display(\"b is %b\",b); endmodule";
+
+/// Three turns, of which none reads what another one writes. Each prints more than all before it, so each needs more memory.
+pub const APART: &str =
+    "module t; reg [7:0] a; reg [31:0] b; reg [127:0] c; initial begin a=8'd1; $display(\"%b\",a); end initial begin b=32'd2; $display(\"%b\",b); end initial begin c=128'd3; $display(\"%b\",c); end endmodule";
+
 /// A strobe before a nonblocking assignment of the register that it shows, and another at the next time.
 const STROBES: &str =
     "module t; reg a; initial begin a=1'b0; $strobe(\"s %b\",a); a<=1'b1; $display(\"d %b\",a); #1 $strobe(\"t %b\",a); end endmodule";
@@ -100,6 +117,112 @@ pub const THRICE: &[Step<'static>] = &[
 ];
 
 const EXAMPLES: &[Row<'static>] = &[
+    // a turn alone stands
+    Row {
+        source: "module t; reg [3:0] r; initial r=4'd9; endmodule",
+        steps: &[&[Step {
+            act: Act::Turn(0, ALONE),
+            told: Told::Entry(Entry::Turn(0)),
+            sees: &[(0, 1, Some(9))],
+            ..STEP
+        }]],
+        journal: &[Entry::Turn(0)],
+        committed: [1, 0],
+        ..PLAIN
+    },
+    // of the values that a turn gives a register each one that differs from the one before is a version
+    Row {
+        source: NETS,
+        steps: &[&[
+            Step {
+                act: Act::Turn(0, ALONE),
+                told: Told::Entry(Entry::Turn(0)),
+                sees: &[(0, 2, Some(3))],
+                ..STEP
+            },
+            Step {
+                act: Act::Turn(1, ALONE),
+                told: Told::Entry(Entry::Turn(1)),
+                sees: &[(0, 3, Some(2))],
+                ..STEP
+            },
+            Step {
+                act: Act::Turn(2, ALONE),
+                told: Told::Entry(Entry::Turn(2)),
+                sees: &[(0, 5, Some(2))],
+                ..STEP
+            },
+            Step {
+                act: Act::Turn(3, ALONE),
+                told: Told::Entry(Entry::Turn(3)),
+                sees: &[(0, 5, Some(2))],
+                ..STEP
+            },
+        ]],
+        journal: &JOURNAL_OF_FOUR,
+        committed: [4, 0],
+        ..PLAIN
+    },
+    // updates are made in order, up to one that wakes a process and as far as there is room for them
+    Row {
+        source: UPDATES,
+        steps: &[&[
+            Step {
+                act: Act::Turn(1, ALONE),
+                told: Told::Entry(Entry::Turn(1)),
+                ..STEP
+            },
+            Step {
+                act: Act::Turn(0, ALONE),
+                told: Told::Entry(Entry::Turn(0)),
+                ..STEP
+            },
+            Step {
+                act: Act::Rest,
+                told: Told::Entry(Entry::ActivateNba),
+                ..STEP
+            },
+            Step {
+                act: Act::Updates(&[(2, 0), (3, 1)], Ended::Woke),
+                ..STEP
+            },
+            Step {
+                act: Act::Updates(&[(4, 0), (5, 0)], Ended::NoRoom),
+                ..STEP
+            },
+            Step {
+                act: Act::Updates(&[(6, 0)], Ended::Nothing),
+                ..STEP
+            },
+            Step {
+                act: Act::Updates(&[], Ended::Nothing),
+                ..STEP
+            },
+            Step {
+                act: Act::Turn(7, ALONE),
+                told: Told::Entry(Entry::Turn(7)),
+                ..STEP
+            },
+            Step {
+                act: Act::Rest,
+                ..STEP
+            },
+        ]],
+        journal: &[
+            Entry::Turn(1),
+            Entry::Turn(0),
+            Entry::ActivateNba,
+            Entry::Update(2),
+            Entry::Update(3),
+            Entry::Update(4),
+            Entry::Update(5),
+            Entry::Update(6),
+            Entry::Turn(7),
+        ],
+        committed: [9, 0],
+        lines: "b is 1\n",
+        ..PLAIN
+    },
     // a turn that reads a register before another turn writes it is refused, and evaluated again it stands
     Row {
         source: COPY,
@@ -157,12 +280,7 @@ const EXAMPLES: &[Row<'static>] = &[
                 ..STEP
             }],
         ],
-        journal: &[
-            Entry::Turn(0),
-            Entry::Turn(1),
-            Entry::Turn(2),
-            Entry::Turn(3),
-        ],
+        journal: &JOURNAL_OF_FOUR,
         committed: [3, 1],
         ..PLAIN
     },
@@ -212,12 +330,7 @@ const EXAMPLES: &[Row<'static>] = &[
                 ..STEP
             },
         ]],
-        journal: &[
-            Entry::Turn(0),
-            Entry::Turn(1),
-            Entry::Turn(2),
-            Entry::Turn(3),
-        ],
+        journal: &JOURNAL_OF_FOUR,
         committed: [3, 1],
         ..PLAIN
     },
@@ -387,6 +500,58 @@ const EXAMPLES: &[Row<'static>] = &[
         journal: &[Entry::Turn(0), Entry::Turn(1), Entry::ActivateInactive],
         committed: [2, 1],
         end: End::Stopped(Why::Entries),
+        ..PLAIN
+    },
+    // nor does a stop of a quiet run
+    Row {
+        source: GLITCH,
+        glitches: 7,
+        steps: QUIET,
+        journal: &JOURNAL,
+        committed: [4, 3],
+        lines: "glitch\n",
+        ..PLAIN
+    },
+];
+
+/// Turns that are committed in one holding of the lock.
+const AT_ONCE: &[Row<'static>] = &[
+    // of two turns that are committed at once the one that read what the other changed is refused, and evaluated again it stands
+    Row {
+        source: COPY,
+        steps: &[&[
+            Step {
+                act: Act::Batch(&[0, 1], &[Told::Entry(Entry::Turn(0)), Told::Stale(1)]),
+                read: &[(0, 0, None)],
+                ..STEP
+            },
+            Step {
+                act: Act::Batch(&[1], &[Told::Entry(Entry::Turn(1))]),
+                sees: &[(1, 1, Some(1))],
+                ..STEP
+            },
+        ]],
+        journal: &[Entry::Turn(0), Entry::Turn(1)],
+        committed: [2, 0],
+        ..PLAIN
+    },
+    // turns that read nothing of each other stand in their order
+    Row {
+        source: APART,
+        steps: &[&[Step {
+            act: Act::Batch(
+                &[0, 1, 2],
+                &[
+                    Told::Entry(Entry::Turn(0)),
+                    Told::Entry(Entry::Turn(1)),
+                    Told::Entry(Entry::Turn(2)),
+                ],
+            ),
+            ..STEP
+        }]],
+        journal: &[Entry::Turn(0), Entry::Turn(1), Entry::Turn(2)],
+        committed: [3, 0],
+        lines: "00000001\n00000000000000000000000000000010\n00000000000000000000000000000000000000000000000000000000000000000000000000000000000000000000000000000000000000000000000000000011\n",
         ..PLAIN
     },
 ];
@@ -559,7 +724,7 @@ const QUIET: &[&[Step<'static>]] = &[&[
 
 impl Pair for Row<'_> {
     fn lead<K: Naming, R: Wait + Abort>(
-        &self,
+        &mut self,
         course: &Course<'_, '_, K, R>,
         one: &mut Seat<K>,
         two: &mut Seat<K>,
@@ -586,42 +751,23 @@ impl Pair for Row<'_> {
 // The run of a row leaves what it says, and its journal is replayed to its lines.
 fn assert_row<R: Wait + Abort>(rt: &R, alloc: Global, row: &Row<'_>) {
     let design = design_of(rt, alloc, row.source);
-    let closed = play_pair(rt, alloc, &design, row.max_entries, row);
+    let mut work = *row;
+    let closed = play_pair(rt, alloc, &design, row.max_entries, &mut work);
     assert_left(rt, &closed, row.journal, row.lines);
     assert_closed(rt, &closed, row.end, &row.committed);
     assert_lines(rt, alloc, &design, closed.entries(), closed.lines());
 }
 
-// The only worker takes the only turn, and looks back.
-#[derive(Drop)]
-struct TakeOne;
-
-impl Alone for TakeOne {
-    fn lead<K: Naming, R: Wait + Abort>(
-        &mut self,
-        course: &Course<'_, '_, K, R>,
-        seat: &mut Seat<K>,
-        mut tickets: Vec<Ticket<K>>,
-    ) {
-        let rt = course.rt;
-        let grant = accepted(rt, course.serve(seat, last(rt, &mut tickets)));
-        assert_turn(rt, &grant, 0);
-        assert_sees(course, seat, &[(0, 1, Some(9))]);
-        holds(rt, course.gate.entries(rt, seat) == 1, "other entries");
-        assert_journal(course, seat, &[Entry::Turn(0)]);
+#[test]
+fn each_call_answers_as_it_stands(rt: HostRuntime) {
+    for row in EXAMPLES {
+        assert_row(&rt, rt.alloc(), row);
     }
 }
 
 #[test]
-fn a_turn_alone_stands(rt: HostRuntime) {
-    let source = "module t; reg [3:0] r; initial r=4'd9; endmodule";
-    let closed = play_alone(&rt, rt.alloc(), source, &mut TakeOne);
-    assert_closed(&rt, &closed, End::Quiet, &[1]);
-}
-
-#[test]
-fn each_call_answers_as_it_stands(rt: HostRuntime) {
-    for row in EXAMPLES {
+fn turns_that_are_committed_at_once_stand_in_their_order(rt: HostRuntime) {
+    for row in AT_ONCE {
         assert_row(&rt, rt.alloc(), row);
     }
 }
@@ -640,18 +786,4 @@ fn a_stop_after_any_entry_leaves_what_was_committed(rt: HostRuntime) {
         };
         assert_row(&rt, rt.alloc(), &row);
     }
-}
-
-#[test]
-fn a_stop_of_a_quiet_run_changes_nothing(rt: HostRuntime) {
-    let row = Row {
-        source: GLITCH,
-        glitches: GLITCHES.len(),
-        steps: QUIET,
-        journal: &JOURNAL,
-        committed: [4, 3],
-        lines: "glitch\n",
-        ..PLAIN
-    };
-    assert_row(&rt, rt.alloc(), &row);
 }

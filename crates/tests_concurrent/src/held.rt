@@ -44,7 +44,7 @@ fn begin<K: Naming, R: Wait + Abort>(
 ) {
     let rt = course.rt;
     course.serve_at(seat, last(rt, &mut tickets), 0);
-    let rest = course.gate.rest(rt, course.alloc, seat);
+    let rest = course.rest(seat);
     holds(
         rt,
         matches!(rest, Rest::Changed(_)),
@@ -198,13 +198,18 @@ fn play<R: Threads + Wait + Abort + Sync>(rt: &R, alloc: Global, design: &Design
 fn registers_are_read_while_the_lock_is_held(rt: HostRuntime) {
     let design = design_of(&rt, rt.alloc(), SOURCE);
     let mut read = 0u32;
-    for _ in 0..MOST_HOLDINGS {
+    for count in 0..MOST_HOLDINGS {
         if play(&rt, rt.alloc(), &design) {
             read = read.saturating_add(1);
         }
         if read == HOLDINGS {
             return;
         }
+        holds(
+            &rt,
+            read > 0 || count < HOLDINGS,
+            "no reading of a held gate",
+        );
     }
     fail(&rt, "too few readings of a held gate");
 }

@@ -1,8 +1,8 @@
-// Gates of two workers, from the opening to the end.
+// Gates of two workers, from the opening to the end. Where the second one does nothing, the first leads the run alone.
 ghost use Rattle.std.specs.Prelude.{◌≡◌};
 
 use crate::claims::holds;
-use crate::course::{Course, close_two};
+use crate::course::{Course, close_two, design_of};
 use commitgate::{Blank, Closed, Gate, Naming, Seat, Ticket};
 use design::Design;
 use model::end::Limits;
@@ -15,7 +15,7 @@ use std::sync::Wait;
 pub trait Pair {
     /// Leads the run, with a ticket for each process.
     fn lead<K: Naming, R: Wait + Abort>(
-        &self,
+        &mut self,
         course: &Course<'_, '_, K, R>,
         one: &mut Seat<K>,
         two: &mut Seat<K>,
@@ -29,7 +29,7 @@ fn run<K: Naming, R: Wait + Abort, W: Pair>(
     alloc: Global,
     design: &Design,
     blank: Blank<'_>,
-    work: &W,
+    work: &mut W,
 ) -> Closed
     requires name { blank ≡ K.named }
     requires design { design.now ≡ K.named.code }
@@ -55,7 +55,7 @@ pub fn play_pair<R: Wait + Abort, W: Pair>(
     alloc: Global,
     design: &Design,
     max_entries: u32,
-    work: &W,
+    work: &mut W,
 ) -> Closed {
     holds(rt, max_entries > 0, "room for an entry");
     let limits = Limits {
@@ -64,4 +64,15 @@ pub fn play_pair<R: Wait + Abort, W: Pair>(
     };
     let blank = Gate::new(rt, alloc, design, 2, limits).expect(rt, "memory");
     run::<Brand, R, W>(rt, alloc, design, blank, work)
+}
+
+/// The same of the design of a source, with room enough.
+pub fn play_source<R: Wait + Abort, W: Pair>(
+    rt: &R,
+    alloc: Global,
+    source: &str,
+    work: &mut W,
+) -> Closed {
+    let design = design_of(rt, alloc, source);
+    play_pair(rt, alloc, &design, 1_000, work)
 }

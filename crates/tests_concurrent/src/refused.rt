@@ -3,10 +3,10 @@ ghost use Rattle.turn.specs.Answers.{IsTurnLog};
 ghost use Rattle.turn.specs.Reads.{GaveAll};
 ghost use Rattle.gateparts.specs.Histories.{IsRead};
 
-use crate::alone::{Alone, play_alone};
 use crate::claims::{fail, holds};
 use crate::course::{Course, first, keep};
 use crate::examples::COPY;
+use crate::pair::{Pair, play_source};
 use commitgate::{Closed, Grant, Naming, Reply, Rest, Seat, Ticket, UpdateReply};
 use hoard::Hoard;
 use model::end::End;
@@ -162,14 +162,8 @@ impl<'c, 'h, 'g, 'd, K: Naming, R: Wait + Abort> Starved<'c, 'h, 'g, 'd, K, R> {
         let course = self.course;
         self.leave(count);
         let came = match call {
-            Call::Update => {
-                let reply = course.gate.update(course.rt, course.alloc, seat);
-                came_of_update(course.rt, reply)
-            }
-            Call::Rest => {
-                let rest = course.gate.rest(course.rt, course.alloc, seat);
-                came_of_rest(course.rt, rest)
-            }
+            Call::Update => came_of_update(course.rt, course.update(seat)),
+            Call::Rest => came_of_rest(course.rt, course.rest(seat)),
         };
         self.hoard.shut();
         came
@@ -252,17 +246,18 @@ fn take_all(rt: &impl Abort, alloc: Global) -> Hoard {
     Hoard::new(alloc, PIECES, PIECE).expect(rt, "memory")
 }
 
-// The only worker leads the run in too little memory. This is how often it was refused.
+// The first worker leads the run in too little memory. This is how often it was refused.
 #[derive(Drop)]
 struct Starving {
     refused: Refused,
 }
 
-impl Alone for Starving {
+impl Pair for Starving {
     fn lead<K: Naming, R: Wait + Abort>(
         &mut self,
         course: &Course<'_, '_, K, R>,
         seat: &mut Seat<K>,
+        _other: &mut Seat<K>,
         tickets: Vec<Ticket<K>>,
     ) {
         let held = roomy(course.rt, course.alloc, tickets);
@@ -284,50 +279,76 @@ fn assert_quiet(rt: &impl Abort, closed: &Closed, entries: usize, lines: &str) {
     holds(rt, closed.lines() == lines, "the lines");
 }
 
-// How often memory was refused to the gate of a source, whose run is quiet at last and has these lines.
-fn play<R: Wait + Abort>(
-    rt: &R,
-    alloc: Global,
-    source: &str,
+// A source, the number of entries and the lines of its run, and which calls are refused memory in it.
+#[derive(Clone, Copy)]
+struct Row<'a> {
+    source: &'a str,
     entries: usize,
-    lines: &str,
-) -> Refused {
+    lines: &'a str,
+    evaluations: bool,
+    commits: bool,
+    updates: bool,
+    rests: bool,
+}
+
+const PLAIN: Row<'static> = Row {
+    source: COPY,
+    entries: 2,
+    lines: "",
+    evaluations: true,
+    commits: true,
+    updates: false,
+    rests: false,
+};
+
+/// A copy, a swap, a glitch that wakes a process, and an update that wakes one.
+const ROWS: &[Row<'static>] = &[
+    PLAIN,
+    Row {
+        source: "module t; reg a, b; initial begin a=1'b0; b=1'b1; #1 a<=b; b<=a; #1 $display(\"%b %b\",a,b); end endmodule",
+        entries: 8,
+        lines: "1 0\n",
+        ..PLAIN
+    },
+    Row {
+        source: "module t; reg a; initial begin a=1'b1; #1 a=1'b0; a=1'b1; end initial #0 @(posedge a) $display(\"glitch\"); endmodule",
+        entries: 7,
+        lines: "glitch\n",
+        rests: true,
+        ..PLAIN
+    },
+    Row {
+        source: "module t; reg a; initial begin a<=1'b0; a<=1'b1; end initial @(posedge a) $display(\"up %b\",a); endmodule",
+        entries: 6,
+        lines: "up 1\n",
+        updates: true,
+        ..PLAIN
+    },
+];
+
+// Memory was refused to each of these calls.
+fn assert_refused(rt: &impl Abort, refused: Refused, row: &Row<'_>) {
+    holds(
+        rt,
+        refused.evaluations > 0 || !row.evaluations,
+        "evaluations",
+    );
+    holds(rt, refused.commits > 0 || !row.commits, "commits");
+    holds(rt, refused.updates > 0 || !row.updates, "updates");
+    holds(rt, refused.rests > 0 || !row.rests, "rests");
+}
+
+// Memory is refused to the gate of a source, whose run is quiet at last and has these lines.
+fn play<R: Wait + Abort>(rt: &R, alloc: Global, row: &Row<'_>) {
     let mut starving = Starving { refused: NONE_YET };
-    let closed = play_alone(rt, alloc, source, &mut starving);
-    assert_quiet(rt, &closed, entries, lines);
-    starving.refused
+    let closed = play_source(rt, alloc, row.source, &mut starving);
+    assert_quiet(rt, &closed, row.entries, row.lines);
+    assert_refused(rt, starving.refused, row);
 }
 
 #[test]
-fn a_swap_runs_through_refusals(rt: HostRuntime) {
-    let source =
-        "module t; reg a, b; initial begin a=1'b0; b=1'b1; #1 a<=b; b<=a; #1 $display(\"%b %b\",a,b); end endmodule";
-    let refused = play(&rt, rt.alloc(), source, 8, "1 0\n");
-    holds(&rt, refused.evaluations > 0, "evaluations");
-    holds(&rt, refused.commits > 0, "commits");
-}
-
-#[test]
-fn a_glitch_runs_through_refusals(rt: HostRuntime) {
-    let source =
-        "module t; reg a; initial begin a=1'b1; #1 a=1'b0; a=1'b1; end initial #0 @(posedge a) $display(\"glitch\"); endmodule";
-    let refused = play(&rt, rt.alloc(), source, 7, "glitch\n");
-    holds(&rt, refused.evaluations > 0, "evaluations");
-    holds(&rt, refused.commits > 0, "commits");
-    holds(&rt, refused.rests > 0, "rests");
-}
-
-#[test]
-fn an_update_that_wakes_runs_through_refusals(rt: HostRuntime) {
-    let source =
-        "module t; reg a; initial begin a<=1'b0; a<=1'b1; end initial @(posedge a) $display(\"up %b\",a); endmodule";
-    let refused = play(&rt, rt.alloc(), source, 6, "up 1\n");
-    holds(&rt, refused.updates > 0, "updates");
-}
-
-#[test]
-fn a_copy_runs_through_refusals(rt: HostRuntime) {
-    let refused = play(&rt, rt.alloc(), COPY, 2, "");
-    holds(&rt, refused.evaluations > 0, "evaluations");
-    holds(&rt, refused.commits > 0, "commits");
+fn runs_go_on_through_refusals(rt: HostRuntime) {
+    for row in ROWS {
+        play(&rt, rt.alloc(), row);
+    }
 }

@@ -2,9 +2,9 @@
 // that is led through a gate. What was refused changes nothing.
 
 use crate::claims::{fail, holds};
-use crate::course::{Course, assert_closed, assert_left, design_of};
+use crate::course::{Course, assert_closed, assert_left, design_of, is_copied};
 use crate::examples::{COPY, THRICE, WRITERS};
-use crate::pair::{Pair, play_pair};
+use crate::pair::{Pair, play_source};
 use crate::steps::{Led, lead, ticket_of};
 use commitgate::{Naming, Reply, Seat, Ticket};
 use drive::{DriveFault, drive};
@@ -77,24 +77,6 @@ fn commit_held<K: Naming, R: Wait + Abort>(
     fail(course.rt, "not accepted")
 }
 
-// Whether there is memory for a copy of the journal, which then has these entries.
-fn is_copied<K: Naming, R: Wait + Abort>(
-    course: &Course<'_, '_, K, R>,
-    seat: &mut Seat<K>,
-) -> bool {
-    match course.gate.snapshot(course.rt, course.alloc, seat) {
-        Ok(entries) => {
-            holds(
-                course.rt,
-                entries.as_slice() == JOURNAL.as_slice(),
-                "another journal",
-            );
-            true
-        }
-        Err(_) => false,
-    }
-}
-
 // Copies the journal with more and more memory.
 fn copy<K: Naming, R: Wait + Abort>(
     course: &Course<'_, '_, K, R>,
@@ -103,7 +85,7 @@ fn copy<K: Naming, R: Wait + Abort>(
 ) {
     for count in 0..ROOMS {
         leave(course.rt, hoard, count);
-        if is_copied(course, seat) {
+        if is_copied(course, seat, &JOURNAL) {
             holds(course.rt, count > 0, "memory was refused");
             return;
         }
@@ -117,7 +99,7 @@ struct Starved;
 
 impl Pair for Starved {
     fn lead<K: Naming, R: Wait + Abort>(
-        &self,
+        &mut self,
         course: &Course<'_, '_, K, R>,
         one: &mut Seat<K>,
         two: &mut Seat<K>,
@@ -137,8 +119,7 @@ impl Pair for Starved {
 
 #[test]
 fn a_turn_under_the_lock_and_a_copy_of_the_journal_are_refused_memory(rt: HostRuntime) {
-    let design = design_of(&rt, rt.alloc(), WRITERS);
-    let closed = play_pair(&rt, rt.alloc(), &design, 1_000, &Starved);
+    let closed = play_source(&rt, rt.alloc(), WRITERS, &mut Starved);
     assert_closed(&rt, &closed, End::Quiet, &[3, 1]);
 }
 

@@ -1,14 +1,16 @@
 // Runs of two seats that the rows of a table lead, a step after another: what each call answers, how many entries there are then,
 // and what the seat reads.
 
+use crate::batches::{committed, evaluated, next};
 use crate::between::mixed;
 use crate::claims::{fail, holds};
 use crate::course::{Course, keep};
-use commitgate::{Grant, Naming, Reply, Rest, Seat, Ticket, UpdateReply};
+use commitgate::{Grant, Naming, Reply, Rest, Seat, Ticket, UpdateReply, UpdatesEnd};
 use design::RegId;
 use logic4::bits::Bits;
 use model::end::Why;
 use model::entry::Entry;
+use std::alloc::Global;
 use std::process::Abort;
 use std::sync::Wait;
 use turn::{Seen, TurnLog};
@@ -39,9 +41,23 @@ pub enum Act<'a> {
     Across(u64, u64, Meanwhile<'a>),
     /// Evaluates the turn of an event under the lock.
     Held(u64),
+    /// Evaluates the turns of these events, one after another, and commits them in one holding of the lock: what is told of each. The
+    /// last of them read what the step says.
+    Batch(&'a [u64], &'a [Told]),
     Update,
+    /// Makes updates in one holding of the lock, with room for two: the number of each and how many tickets it gives, and why there are
+    /// no more.
+    Updates(&'a [(u64, usize)], Ended),
     Rest,
     Stop,
+}
+
+/// Why no further update is made in a holding of the lock.
+#[derive(Clone, Copy)]
+pub enum Ended {
+    Woke,
+    Nothing,
+    NoRoom,
 }
 
 /// What the seat is told.
@@ -144,7 +160,8 @@ fn told_of<K: Naming>(rt: &impl Abort, led: &mut Led<K>, reply: Reply<K>) -> Tol
             Told::Stale(tries)
         }
         Reply::Stopped(why) => Told::Stopped(why),
-        _ => fail(rt, "memory, or no such ticket"),
+        Reply::Gone => fail(rt, "no such ticket"),
+        Reply::NoMemory(_) => fail(rt, "memory"),
     }
 }
 
@@ -164,7 +181,8 @@ fn told_of_rest<K: Naming>(rt: &impl Abort, led: &mut Led<K>, rest: Rest<K>) -> 
         Rest::Changed(grant) => kept(rt, led, grant),
         Rest::Quiet => Told::Nothing,
         Rest::Stopped(why) => Told::Stopped(why),
-        _ => fail(rt, "memory, or an event is active"),
+        Rest::Busy => fail(rt, "an event is active"),
+        Rest::NoMemory => fail(rt, "memory"),
     }
 }
 
@@ -243,6 +261,98 @@ fn across<K: Naming, R: Wait + Abort>(
     told_of(rt, led, reply)
 }
 
+// The tickets of these events, in this order.
+fn tickets_of<K: Naming>(
+    rt: &impl Abort,
+    alloc: Global,
+    tickets: &mut Vec<Ticket<K>>,
+    events: &[u64],
+) -> Vec<Ticket<K>> {
+    let mut found = Vec::new(alloc);
+    for event in events {
+        let ticket = ticket_of(rt, tickets, *event);
+        found.push(ticket).expect(rt, "room for a ticket");
+    }
+    found
+}
+
+// Several turns that are committed in one holding of the lock.
+fn batch<K: Naming, R: Wait + Abort>(
+    course: &Course<'_, '_, K, R>,
+    seat: &mut Seat<K>,
+    led: &mut Led<K>,
+    step: &Step<'_>,
+    events: &[u64],
+    wanted: &[Told],
+) {
+    let rt = course.rt;
+    let tickets = tickets_of(rt, course.alloc, &mut led.tickets, events);
+    let mut batch = evaluated(course, seat, tickets);
+    assert_read(rt, batch.logs.last().expect(rt, "a log"), step.read);
+    let mut replies = committed(course, seat, &mut batch);
+    holds(
+        rt,
+        replies.len() == wanted.len(),
+        "another number of answers",
+    );
+    for told in wanted {
+        let reply = next(rt, &mut replies);
+        holds(
+            rt,
+            told_of(rt, led, reply) == *told,
+            "another answer of several",
+        );
+    }
+}
+
+// Whether no further update was made for this reason.
+fn is_end(end: &UpdatesEnd, wanted: Ended) -> bool {
+    match wanted {
+        Ended::Woke => matches!(end, UpdatesEnd::Woke),
+        Ended::Nothing => matches!(end, UpdatesEnd::Nothing),
+        Ended::NoRoom => matches!(end, UpdatesEnd::NoRoom),
+    }
+}
+
+// Room for the grants of two updates.
+fn room<K: Naming>(rt: &impl Abort, alloc: Global) -> Vec<Grant<K>> {
+    let grants = Vec::with_capacity(alloc, 2).expect(rt, "memory");
+    holds(rt, grants.capacity() == 2, "another room");
+    grants
+}
+
+// Several updates that are made in one holding of the lock.
+fn updates<K: Naming, R: Wait + Abort>(
+    course: &Course<'_, '_, K, R>,
+    seat: &mut Seat<K>,
+    led: &mut Led<K>,
+    wanted: &[(u64, usize)],
+    ended: Ended,
+) {
+    let rt = course.rt;
+    let mut grants = room(rt, course.alloc);
+    let end = course.gate.update_all(rt, course.alloc, seat, &mut grants);
+    holds(rt, !matches!(end, UpdatesEnd::NoMemory), "memory");
+    holds(rt, is_end(&end, ended), "another end of the updates");
+    assert_grants(rt, &grants, wanted);
+    for grant in grants {
+        kept(rt, led, grant);
+    }
+}
+
+// The grants are those of these updates.
+fn assert_grants<K: Naming>(rt: &impl Abort, grants: &[Grant<K>], wanted: &[(u64, usize)]) {
+    holds(
+        rt,
+        grants.len() == wanted.len(),
+        "another number of updates",
+    );
+    for (grant, wanted) in grants.iter().zip(wanted) {
+        holds(rt, grant.entry == Entry::Update(wanted.0), "another update");
+        holds(rt, grant.tickets.len() == wanted.1, "other tickets");
+    }
+}
+
 // What a seat is told.
 fn answer<K: Naming, R: Wait + Abort>(
     course: &Course<'_, '_, K, R>,
@@ -267,8 +377,16 @@ fn answer<K: Naming, R: Wait + Abort>(
             let ticket = ticket_of(rt, &mut led.tickets, event);
             told_of(rt, led, course.commit_held(seat, ticket))
         }
-        Act::Update => told_of_update(rt, led, course.gate.update(rt, course.alloc, seat)),
-        Act::Rest => told_of_rest(rt, led, course.gate.rest(rt, course.alloc, seat)),
+        Act::Batch(events, wanted) => {
+            batch(course, seat, led, step, events, wanted);
+            Told::Nothing
+        }
+        Act::Updates(wanted, ended) => {
+            updates(course, seat, led, wanted, ended);
+            Told::Nothing
+        }
+        Act::Update => told_of_update(rt, led, course.update(seat)),
+        Act::Rest => told_of_rest(rt, led, course.rest(seat)),
         Act::Stop => {
             course.gate.stop(rt, seat);
             Told::Nothing

@@ -1,5 +1,5 @@
 //! Sources and modules.
 
 pub mod faults_told;
-mod parsing;
+pub mod parsing;
 mod tasks;

@@ -346,7 +346,8 @@ fn commit<K: Naming, P: Probe, R: Wait>(
         replies,
         steps: _,
     } = batch;
-    run.gate.commit_all(run.rt, run.alloc, &mut worker.seat, tickets, logs, replies);
+    run.gate
+        .commit_all(run.rt, &mut worker.seat, tickets, logs, replies);
     settle_all(run, batch, pace, &mut worker.seat, &mut worker.owner)
 }
 

@@ -5,22 +5,22 @@ ghost use Rattle.commitgate.specs.Journals.{IsLog};
 ghost use Rattle.commitgate.specs.Closing.{IsClosed, IsEndIn, Settled};
 
 use crate::closed::Closed;
+use crate::context::Context;
 use crate::naming::Naming;
 use crate::seat::Seat;
 use crate::state::GateState;
-use gateparts::{MarkCell, Parts};
+use gateparts::Parts;
 use std::sync::Wait;
 
 impl<'d, K: Naming> GateState<'d, K> {
     /// The number of entries that a seat appended. The log extends what it has seen, and has in its name just what it knows.
-    pub(crate) fn settle<R: Wait>(&mut self, rt: &R, mark: &MarkCell, mut seat: Seat<K>) -> u64
-        requires { mark.now.table.shared.table_id ≡ K.named.mark }
+    pub(crate) fn settle<R: Wait>(&mut self, context: &Context<'_, K, R>, mut seat: Seat<K>) -> u64
         ensures same { self.new ≡ self.old }
         ensures share { result ≡ length seat.mine }
         ensures settled { Settled self.old.log seat }
     {
         let share = seat.share();
-        self.greet(rt, mark, &mut seat);
+        self.greet(context, &mut seat);
         share
     }
 

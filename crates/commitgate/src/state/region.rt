@@ -9,15 +9,13 @@ ghost use Rattle.commitgate.specs.Closing.{IsEndOf};
 ghost use Rattle.commitgate.specs.Replies.{RestAnswered};
 ghost use Rattle.commitgate.specs.Told.{RestAnsweredTo, StoppedTo};
 
+use crate::context::Context;
 use crate::naming::Naming;
 use crate::reply::Rest;
 use crate::seat::Seat;
 use crate::state::GateState;
-use gateparts::MarkCell;
 use model::end::{End, LAST_TIME, Limits, Why};
 use model::entry::Entry;
-use regcells::RegCells;
-use std::alloc::Global;
 use std::sync::Wait;
 
 // Why a run stops at a change of the regions, if it does: its time is past the run's limit or, without one, past the
@@ -89,19 +87,14 @@ impl<'d, K: Naming> GateState<'d, K> {
     /// limit of time.
     pub fn change_region<R: Wait>(
         &mut self,
-        rt: &R,
-        cells: &RegCells,
-        mark: &MarkCell,
-        alloc: Global,
+        context: &Context<'_, K, R>,
         seat: &mut Seat<K>,
     ) -> Rest<K>
-        requires cells { cells.now ≡ K.named.cells }
-        requires mark { mark.now.table.shared.table_id ≡ K.named.mark }
         ensures state { RestAnswered K.named.code K.named.limits seat.old.worker self.old self.new result }
         ensures seat { (MustWait self.old (length (entries_of seat.old.seen)) → ⊥) → RestAnsweredTo K.named seat.old seat.new result }
     {
         self.known();
-        self.greet(rt, mark, seat);
+        self.greet(context, seat);
         match self.end() {
             End::Stopped(why) => return Rest::Stopped(why),
             End::Quiet => return Rest::Quiet,
@@ -111,17 +104,17 @@ impl<'d, K: Naming> GateState<'d, K> {
             return Rest::Busy;
         }
         if self.is_full() {
-            self.stop(rt, mark, seat, Why::Entries);
+            self.stop(context, seat, Why::Entries);
             self.known();
             return Rest::Stopped(Why::Entries);
         }
         let change = self.due_change();
         if let Some(why) = passed_limit(self.parts.limits, change) {
-            self.stop(rt, mark, seat, why);
+            self.stop(context, seat, why);
             self.known();
             return Rest::Stopped(why);
         }
-        match self.append(rt, cells, mark, alloc, seat, change, None) {
+        match self.append(context, seat, change, None) {
             Ok(grant) => {
                 self.known();
                 Rest::Changed(grant)
@@ -133,14 +126,9 @@ impl<'d, K: Naming> GateState<'d, K> {
     /// Makes the change of the regions that is due, or tells a worker without a ticket to wait, and then changes nothing.
     pub fn rest<R: Wait>(
         &mut self,
-        rt: &R,
-        cells: &RegCells,
-        mark: &MarkCell,
-        alloc: Global,
+        context: &Context<'_, K, R>,
         seat: &mut Seat<K>,
     ) -> Option<Rest<K>>
-        requires cells { cells.now ≡ K.named.cells }
-        requires mark { mark.now.table.shared.table_id ≡ K.named.mark }
         ensures state { IfSome result (λ rest. RestAnswered K.named.code K.named.limits seat.old.worker self.old self.new rest) }
         ensures some { IfSome result (λ rest. RestAnsweredTo K.named seat.old seat.new rest) }
         ensures none { IfNone result ((seat.new ≡ seat.old) × (self.new ≡ self.old)) }
@@ -149,20 +137,19 @@ impl<'d, K: Naming> GateState<'d, K> {
         if self.must_wait(seat.seen()) {
             return None;
         }
-        Some(self.change_region(rt, cells, mark, alloc, seat))
+        Some(self.change_region(context, seat))
     }
 
     /// Stops a run that goes on and has events left, for want of memory.
-    pub fn stop_for_memory<R: Wait>(&mut self, rt: &R, mark: &MarkCell, seat: &mut Seat<K>)
-        requires mark { mark.now.table.shared.table_id ≡ K.named.mark }
+    pub fn stop_for_memory<R: Wait>(&mut self, context: &Context<'_, K, R>, seat: &mut Seat<K>)
         ensures state { self.new ≡ stopped_for_memory K.named.code seat.old.worker self.old }
         ensures seat { StoppedTo K.named seat.old seat.new }
     {
         self.known();
-        self.greet(rt, mark, seat);
+        self.greet(context, seat);
         match self.end() {
             End::Running => {
-                self.stop(rt, mark, seat, Why::Memory);
+                self.stop(context, seat, Why::Memory);
                 self.known();
             }
             End::Quiet => {}

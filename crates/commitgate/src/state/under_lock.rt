@@ -2,17 +2,19 @@
 ghost use Rattle.std.specs.Prelude.{◌≡◌, MatchResult};
 ghost use Rattle.commitgate.specs.Tickets.{IsCurrent, most_tries};
 ghost use Rattle.commitgate.specs.HeldTurns.{is_refused, IsHeldTurn, IsNoHeldTurn};
-ghost use Rattle.commitgate.specs.Replies.{HeldAnswered};
-ghost use Rattle.commitgate.specs.Told.{HeldAnsweredTo};
+ghost use Rattle.turn.specs.Answers.{IsTurnLog};
+ghost use Rattle.turn.specs.Reads.{GaveAll};
+ghost use Rattle.gateparts.specs.Histories.{IsRead};
+ghost use Rattle.commitgate.specs.Answers.{MayCommit, AreCurrent};
+ghost use Rattle.commitgate.specs.Replies.{Answered, HeldAnswered};
+ghost use Rattle.commitgate.specs.Told.{CommitCauses, AnsweredTo, HeldAnsweredTo};
 
+use crate::context::Context;
 use crate::naming::Naming;
 use crate::reply::Reply;
 use crate::seat::Seat;
 use crate::state::GateState;
 use crate::ticket::Ticket;
-use gateparts::MarkCell;
-use regcells::RegCells;
-use std::alloc::Global;
 use std::sync::Wait;
 use turn::{FillFault, TurnLog};
 
@@ -30,13 +32,10 @@ impl<'d, K: Naming> GateState<'d, K> {
     /// Fills a log with the turn of a ticket's active evaluation, on the values under the lock.
     fn evaluate<R: Wait>(
         &mut self,
-        rt: &R,
-        cells: &RegCells,
-        alloc: Global,
+        context: &Context<'_, K, R>,
         log: &mut TurnLog,
         ticket: &Ticket<K>,
     ) -> Result<(), FillFault>
-        requires cells { cells.now ≡ K.named.cells }
         requires current { IsCurrent self.old.core ticket.now }
         ensures same { self.new ≡ self.old }
         ensures turn { MatchResult result (λ _. IsHeldTurn K.named.code self.old ticket.now log.new) (IsNoHeldTurn K.named.code self.old ticket.now) }
@@ -45,7 +44,30 @@ impl<'d, K: Naming> GateState<'d, K> {
         ticket.known();
         let state = ticket.state();
         let now = ticket.time();
-        self.parts.evaluate(rt, cells, alloc, log, state, now)
+        let (rt, cells) = (context.rt, context.cells);
+        self.parts.evaluate(rt, cells, log, state, now)
+    }
+
+    /// Appends a turn that was evaluated under the lock, in the name of a seat that has seen the whole log.
+    fn accept_held<R: Wait>(
+        &mut self,
+        context: &Context<'_, K, R>,
+        seat: &mut Seat<K>,
+        ticket: Ticket<K>,
+        log: &TurnLog,
+    ) -> Reply<K>
+        requires seen { seat.old.seen ≡ self.old.log }
+        requires may { MayCommit K.named.limits self.old ticket }
+        requires current { AreCurrent K.named.code self.old log.now.reads }
+        requires turn { IsTurnLog K.named.code ticket.state ticket.time log.now }
+        requires read { GaveAll (IsRead K.named.code self.old.histories) log.now.reads }
+        ensures state { Answered K.named.code K.named.limits seat.old.worker self.old ticket log.now.reads self.new result }
+        ensures seat { AnsweredTo K.named CommitCauses seat.old ticket log.now.reads seat.new result }
+    {
+        self.known();
+        ticket.known();
+        self.show_reads(context, seat, log.reads());
+        self.accept(context, seat, ticket, log)
     }
 
     /// Evaluates the turn of a ticket that was refused as stale as often as it may be, and appends it. A journal that is full stops
@@ -53,32 +75,27 @@ impl<'d, K: Naming> GateState<'d, K> {
     /// refused nothing changes.
     pub fn commit_held<R: Wait>(
         &mut self,
-        rt: &R,
-        cells: &RegCells,
-        mark: &MarkCell,
-        alloc: Global,
+        context: &Context<'_, K, R>,
         log: &mut TurnLog,
         seat: &mut Seat<K>,
         ticket: Ticket<K>,
     ) -> Reply<K>
-        requires cells { cells.now ≡ K.named.cells }
-        requires mark { mark.now.table.shared.table_id ≡ K.named.mark }
         requires tries { ticket.tries ≡ most_tries }
         ensures state { HeldAnswered K.named.code K.named.limits seat.old.worker self.old ticket self.new result }
         ensures seat { HeldAnsweredTo K.named seat.old ticket seat.new result }
     {
         self.known();
         ticket.known();
-        if let Some(reply) = self.barred(rt, mark, seat, &ticket) {
+        if let Some(reply) = self.barred(context, seat, &ticket, false) {
             return reply;
         }
-        match self.evaluate(rt, cells, alloc, log, &ticket) {
-            Ok(()) => self.accept(rt, cells, mark, alloc, seat, ticket, log),
+        match self.evaluate(context, log, &ticket) {
+            Ok(()) => self.accept_held(context, seat, ticket, log),
             Err(fault) => {
                 if is_memory(&fault) {
                     return Reply::NoMemory(ticket);
                 }
-                Reply::Stopped(self.stop_long(rt, mark, seat, &ticket))
+                Reply::Stopped(self.stop_long(context, seat, &ticket))
             }
         }
     }

@@ -5,9 +5,10 @@ use super::entry_refused;
 use crate::claims::holds;
 use crate::course::design_of;
 use design::Design;
+use model::end::Limits;
 use model::entry::Entry;
-use regions::State;
-use replay::replay;
+use progress::Untold;
+use seeded::run::{SeededRun, run_seeded};
 use std::alloc::Global;
 use std::process::Abort;
 use std::sync::Wait;
@@ -42,66 +43,18 @@ impl Numbers {
     }
 }
 
-// Keeps an entry, if it is permitted.
-fn keep_permitted(rt: &impl Abort, state: &State, entry: Entry, found: &mut Vec<Entry>) {
-    if state.legal(&entry) {
-        found.push(entry).expect(rt, "memory");
-    }
-}
-
-// The entries that are permitted now, of those whose numbers and times are below 24.
-fn permitted(rt: &impl Abort, alloc: Global, state: &State) -> Vec<Entry> {
-    let mut found = Vec::new(alloc);
-    keep_permitted(rt, state, Entry::ActivateInactive, &mut found);
-    keep_permitted(rt, state, Entry::ActivateNba, &mut found);
-    keep_permitted(rt, state, Entry::ActivateMonitor, &mut found);
-    for number in 0..24 {
-        keep_permitted(rt, state, Entry::Turn(number), &mut found);
-        keep_permitted(rt, state, Entry::Update(number), &mut found);
-        keep_permitted(rt, state, Entry::Advance(number), &mut found);
-    }
-    found
-}
-
-// The entries that are permitted after these.
-fn permitted_after(
-    rt: &impl Abort,
-    alloc: Global,
-    design: &Design,
-    entries: &[Entry],
-) -> Vec<Entry> {
-    let replayed = replay(alloc, design, entries)
-        .ok()
-        .expect(rt, "a lawful journal");
-    permitted(rt, alloc, &replayed.state)
-}
-
-// One of the entries that are permitted after these, if there is one.
-fn next_entry(
-    rt: &impl Abort,
-    alloc: Global,
-    design: &Design,
-    entries: &[Entry],
-    numbers: &mut Numbers,
-) -> Option<Entry> {
-    let found = permitted_after(rt, alloc, design, entries);
-    if found.is_empty() {
-        return None;
-    }
-    let place = numbers.below(found.len() as u64) as usize;
-    Some(found[place])
-}
-
 // A lawful journal of at most 20 entries.
-fn lawful(rt: &impl Abort, alloc: Global, design: &Design, numbers: &mut Numbers) -> Vec<Entry> {
-    let mut entries = Vec::new(alloc);
-    for _ in 0..20 {
-        let Some(entry) = next_entry(rt, alloc, design, &entries, numbers) else {
-            break;
-        };
-        entries.push(entry).expect(rt, "memory");
-    }
-    entries
+fn lawful(alloc: Global, design: &Design, seed: u64) -> Vec<Entry> {
+    let limits = Limits {
+        until: None,
+        max_entries: 20,
+    };
+    let SeededRun {
+        lines: _,
+        journal,
+        end: _,
+    } = run_seeded(alloc, design, limits, seed, &Untold);
+    journal
 }
 
 // The same entry with another number.
@@ -143,8 +96,8 @@ fn count_refused<R: Abort + Wait>(
     let design = design_of(rt, alloc, source);
     let mut refused = 0u32;
     for _ in 0..60 {
-        let entries = lawful(rt, alloc, &design, numbers);
-        let entries = altered(entries, numbers);
+        let seed = numbers.below(1 << 30);
+        let entries = altered(lawful(alloc, &design, seed), numbers);
         if entry_refused(rt, alloc, &design, &entries) > 0 {
             refused = refused.saturating_add(1);
         }

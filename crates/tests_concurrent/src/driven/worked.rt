@@ -1,10 +1,10 @@
 // Journals that were written by hand.
 
-use super::{answer, entry_refused};
+use super::{answer, entry_refused, fault_of};
 use crate::claims::holds;
 use crate::course::design_of;
 use model::entry::{Entry, Refusal};
-use replay::{Cause, ReplayFault, replay};
+use replay::{Cause, ReplayFault};
 use std::alloc::Global;
 use std::process::Abort;
 use std::sync::Wait;
@@ -121,30 +121,10 @@ const LAWFUL: &[(&str, &[Entry], &str)] = &[
     (SWAP, &[T0, A1, T1, N, U2, U3, A2, T4], "1 0\n"),
     (NUMBERED, &[T0, T1, I, T2, T3, N, U4, A5, T5], ""),
     (CLOCK, &[T0, Entry::Advance(10), T1], "t\n"),
-];
-
-/// Journals of sources, and the first entry that isn't lawful.
-const UNLAWFUL: &[(&str, &[Entry], u64)] = &[
-    (RACE, &[T0, T2, I], 3),
-    (RACE, &[T0, T1, T2, N], 4),
-    (RACE, &[T1, T0, T2, I, T4], 5),
-    (HI, &[T0, T0], 2),
-    (HI, &[T0, I], 2),
-    (HI, &[U0], 1),
-    (FINISH, &[T0, T1], 2),
-    (FINISH, &[T0, A1], 2),
-    (UPDATES, &[T0, T1, N, U3], 4),
-    (UPDATES, &[T0, T1, N, T2], 4),
-    (UPDATES, &[T0, T1, N, I], 4),
-    (DUE, &[A2], 1),
-    (DUE, &[T0, A3], 2),
-    (CLOCK, &[T0, A1], 2),
-    (CLOCK, &[T0, Entry::Advance(10), Entry::Advance(20)], 3),
-    (ENDLESS, &[T0], 1),
-];
-
-/// Lawful journals of sources with strobes, and their lines.
-const STROBED: &[(&str, &[Entry], &str)] = &[
+    // two writers in either order
+    (RACE, &[T0, T1, T2, I, T3], "1\n"),
+    (RACE, &[T1, T0, T2, I, T3], "0\n"),
+    // strobes show what stands after the updates
     (STROBE, &[T0, N, U1], "d 0\n"),
     (STROBE, &[T0, N, U1, M], "d 0\ns 1\n"),
     (STROBES, &[T0, T1, M], "p\nq\n"),
@@ -153,16 +133,38 @@ const STROBED: &[(&str, &[Entry], &str)] = &[
     (STROBE_LOST, &[T0], ""),
 ];
 
-/// Journals of sources with strobes, the first entry that isn't lawful, and why.
-const BARRED: &[(&str, &[Entry], u64, Refusal)] = &[
-    (STROBE, &[T0, M], 2, Refusal::NotDue),
-    (STROBE, &[T0, N, M], 3, Refusal::NotDue),
-    (STROBES, &[T0, M], 2, Refusal::NotDue),
-    (STROBES, &[T0, T1, A1], 3, Refusal::NotDue),
-    (STROBES, &[T0, T1, M, M], 4, Refusal::NotDue),
-    (STROBES_APART, &[T0, A1], 2, Refusal::NotDue),
-    (HI, &[T0, M], 2, Refusal::NotDue),
-    (STROBE_LOST, &[T0, M], 2, Refusal::Finished),
+/// Journals of sources, the first entry that isn't lawful, and why, where that is told.
+const UNLAWFUL: &[(&str, &[Entry], u64, Option<Refusal>)] = &[
+    (RACE, &[T0, T2, I], 3, None),
+    (RACE, &[T0, T1, T2, N], 4, None),
+    (RACE, &[T1, T0, T2, I, T4], 5, None),
+    (HI, &[T0, T0], 2, None),
+    (HI, &[T0, I], 2, None),
+    (HI, &[U0], 1, None),
+    (FINISH, &[T0, T1], 2, None),
+    (FINISH, &[T0, A1], 2, None),
+    (UPDATES, &[T0, T1, N, U3], 4, None),
+    (UPDATES, &[T0, T1, N, T2], 4, None),
+    (UPDATES, &[T0, T1, N, I], 4, None),
+    (DUE, &[A2], 1, None),
+    (DUE, &[T0, A3], 2, None),
+    (CLOCK, &[T0, A1], 2, None),
+    (
+        CLOCK,
+        &[T0, Entry::Advance(10), Entry::Advance(20)],
+        3,
+        None,
+    ),
+    (ENDLESS, &[T0], 1, None),
+    // strobes print neither early nor late
+    (STROBE, &[T0, M], 2, Some(Refusal::NotDue)),
+    (STROBE, &[T0, N, M], 3, Some(Refusal::NotDue)),
+    (STROBES, &[T0, M], 2, Some(Refusal::NotDue)),
+    (STROBES, &[T0, T1, A1], 3, Some(Refusal::NotDue)),
+    (STROBES, &[T0, T1, M, M], 4, Some(Refusal::NotDue)),
+    (STROBES_APART, &[T0, A1], 2, Some(Refusal::NotDue)),
+    (HI, &[T0, M], 2, Some(Refusal::NotDue)),
+    (STROBE_LOST, &[T0, M], 2, Some(Refusal::Finished)),
 ];
 
 // The journal is driven to its end, with these lines.
@@ -185,73 +187,32 @@ fn leads_along_a_lawful_journal(rt: HostRuntime) {
     }
 }
 
-#[test]
-fn two_writers_either_order(rt: HostRuntime) {
-    assert_driven(&rt, rt.alloc(), RACE, &[T0, T1, T2, I, T3], "1\n");
-    assert_driven(&rt, rt.alloc(), RACE, &[T1, T0, T2, I, T3], "0\n");
-}
-
-// The first entry of a source's journal that a gate doesn't take, or 0.
-fn entry_of<R: Abort + Wait>(rt: &R, alloc: Global, source: &str, entries: &[Entry]) -> u64 {
-    let design = design_of(rt, alloc, source);
-    entry_refused(rt, alloc, &design, entries)
-}
-
-// The gate of a source takes no more than the entries before this one.
+// The gate of a source takes no more than the entries before this one, which the replay refuses for this reason.
 fn assert_entry<R: Abort + Wait>(
     rt: &R,
     alloc: Global,
     source: &str,
     entries: &[Entry],
     entry: u64,
+    refusal: Option<Refusal>,
 ) {
-    holds(rt, entry_of(rt, alloc, source, entries) == entry, source);
+    let design = design_of(rt, alloc, source);
+    holds(
+        rt,
+        entry_refused(rt, alloc, &design, entries) == entry,
+        source,
+    );
+    if let Some(refusal) = refusal {
+        let cause = Cause::Refused(refusal);
+        let fault = fault_of(alloc, &design, entries);
+        holds(rt, fault == Some(ReplayFault { entry, cause }), source);
+    }
 }
 
 #[test]
 fn names_the_first_entry_that_is_not_lawful(rt: HostRuntime) {
-    for &(source, entries, entry) in UNLAWFUL {
-        assert_entry(&rt, rt.alloc(), source, entries, entry);
-    }
-}
-
-// The fault of the replay of a source's journal, if it has one.
-fn fault_of(
-    rt: &impl Abort,
-    alloc: Global,
-    source: &str,
-    entries: &[Entry],
-) -> Option<ReplayFault> {
-    let design = design_of(rt, alloc, source);
-    replay(alloc, &design, entries).err()
-}
-
-// The journal is refused for this reason at this entry, which is the first that a gate doesn't take.
-fn assert_barred<R: Abort + Wait>(
-    rt: &R,
-    alloc: Global,
-    source: &str,
-    entries: &[Entry],
-    entry: u64,
-    refusal: Refusal,
-) {
-    assert_entry(rt, alloc, source, entries, entry);
-    let cause = Cause::Refused(refusal);
-    let fault = fault_of(rt, alloc, source, entries);
-    holds(rt, fault == Some(ReplayFault { entry, cause }), source);
-}
-
-#[test]
-fn strobes_print_what_stands_after_the_updates(rt: HostRuntime) {
-    for &(source, entries, lines) in STROBED {
-        assert_driven(&rt, rt.alloc(), source, entries, lines);
-    }
-}
-
-#[test]
-fn strobes_print_neither_early_nor_late(rt: HostRuntime) {
-    for &(source, entries, entry, refusal) in BARRED {
-        assert_barred(&rt, rt.alloc(), source, entries, entry, refusal);
+    for &(source, entries, entry, refusal) in UNLAWFUL {
+        assert_entry(&rt, rt.alloc(), source, entries, entry, refusal);
     }
 }
 
@@ -270,5 +231,5 @@ fn delays(rt: &impl Abort, alloc: Global) -> Vec<Entry> {
 fn no_time_is_past_the_last(rt: HostRuntime) {
     let source = "module t; always #4294967295 ; endmodule";
     let entries = delays(&rt, rt.alloc());
-    assert_entry(&rt, rt.alloc(), source, &entries, 131_074);
+    assert_entry(&rt, rt.alloc(), source, &entries, 131_074, None);
 }

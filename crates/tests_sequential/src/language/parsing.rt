@@ -12,7 +12,7 @@ const PAGE: &[u8] =
     b"module t; // a\nreg [7:0] a, b$1; /* ** */ reg _c;\ninitial begin a = 8'hz1 & &b$1; _c <= #1 {a[0], 1'bx} <= !a; #5 @(posedge a or b$1, negedge _c) ; if (a === 4'd9) begin end else begin $display(\"%b\\n\\\"\", a, ~_c); $strobe(\"\"); end while (a < b$1) begin a = a ? b$1 : (a - 8'd1) << 2'd1; end if (a) begin end $finish; end\nalways ; endmodule\n";
 
 /// The fault of a text, or nothing where it is accepted.
-fn fault(alloc: Global, text: &[u8]) -> Option<ParseFault> {
+pub fn fault(alloc: Global, text: &[u8]) -> Option<ParseFault> {
     parse(alloc, text).err()
 }
 

@@ -3,27 +3,27 @@
 use crate::claims::{fail, holds_at};
 use elaborate::{ElabFault, elaborate};
 use model::tree::{Module, Process, Statement, Task};
-use std::alloc::{AllocError, Global};
+use std::alloc::Global;
 use std::process::Abort;
 
 /// A module whose one process shows a line of one byte. A source spells it only where the byte is one of ASCII.
-fn showing(alloc: Global, byte: u8) -> Result<Module, AllocError> {
-    let format = vec![in alloc; byte]?;
+fn showing(rt: &impl Abort, alloc: Global, byte: u8) -> Module {
+    let format = vec![in alloc; byte].ok().expect(rt, "memory");
     let body = Statement::Print(Task::Display, format, Vec::new(alloc));
     let process = Process {
         repeats: false,
         body,
     };
-    Ok(Module {
-        name: String::from_str(alloc, "t")?,
+    Module {
+        name: String::from_str(alloc, "t").expect(rt, "memory"),
         regs: Vec::new(alloc),
-        procs: vec![in alloc; process]?,
-    })
+        procs: vec![in alloc; process].ok().expect(rt, "memory"),
+    }
 }
 
 /// Whether a format of this byte alone is refused, as the fault that it is.
 fn is_refused(rt: &impl Abort, alloc: Global, byte: u8) -> bool {
-    let module = showing(alloc, byte).expect(rt, "memory");
+    let module = showing(rt, alloc, byte);
     match elaborate(alloc, &module) {
         Ok(_) => false,
         Err(ElabFault::BadFormat) => true,

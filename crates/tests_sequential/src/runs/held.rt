@@ -80,6 +80,19 @@ pub fn assert_read_at(
     holds_at(rt, is, "another place of register", register as usize);
 }
 
+// The turn of a process in a state, at a time below 2 to the 32. Tests share this call of `run_turn`, since it is dear to prove.
+fn turn_of(
+    alloc: Global,
+    design: &Design,
+    state: &ProcState,
+    now: u32,
+    held: &mut Held,
+) -> Result<TurnLog, TurnFault> {
+    // The answer tells that there are at most 1,024, which is what the reader takes.
+    let _registers = design.registers();
+    run_turn(alloc, design, state, u64::from(now), held)
+}
+
 /// The first turn of the first process of a source, at a time below 2 to the 32.
 pub fn try_first_turn(
     rt: &impl Abort,
@@ -90,9 +103,7 @@ pub fn try_first_turn(
 ) -> Result<TurnLog, TurnFault> {
     let design = design_of(rt, alloc, source);
     let state = beginning(rt, &design);
-    // The answer tells that there are at most 1,024, which is what the reader takes.
-    let _registers = design.registers();
-    run_turn(alloc, &design, &state, u64::from(now), held)
+    turn_of(alloc, &design, &state, now, held)
 }
 
 /// A turn that isn't too long.
@@ -113,8 +124,7 @@ pub fn turn_from(
     now: u32,
     held: &mut Held,
 ) -> TurnLog {
-    let _registers = design.registers();
-    short(rt, run_turn(alloc, design, &state, u64::from(now), held))
+    short(rt, turn_of(alloc, design, &state, now, held))
 }
 
 /// A turn, and the registers that it read.

@@ -3,11 +3,12 @@
 use super::compare::{assert_entries, assert_number};
 use super::dumps::{self, DUMPS, is_dumped};
 use super::held::text_of_fault;
+use super::journal_text::read;
 use crate::claims::{fail, holds};
 use crate::language::faults_told::is_told;
 use frontend::read_design;
 use hoard::Hoard;
-use journal::{Counted, ReadFault, WriteFault, read_journal, write_journal};
+use journal::{Counted, ReadFault, WriteFault, write_journal};
 use model::entry::Entry;
 use replay::{BytesFault, replay_bytes};
 use std::alloc::Global;
@@ -149,7 +150,7 @@ fn is_journal(
     count: usize,
 ) -> bool {
     leave(rt, hoard, count);
-    match read_journal(alloc, &mut Counted::new(row.text)) {
+    match read(alloc, row.text) {
         Ok(entries) => {
             assert_entries(rt, &entries, row.entries);
             true

@@ -1,12 +1,14 @@
 //! The source and the journal of a swap, cut at each length, and with each byte replaced by every value.
 
 use super::held::design_of;
+use super::journal_text::read;
 use super::refused::{ENTRIES, JOURNAL, SWAP};
 use super::replayed::outcome;
 use crate::claims::{holds, holds_at};
+use crate::language::parsing::fault;
 use design::Design;
 use elaborate::{ElabFault, elaborate};
-use journal::{Counted, ReadFault, read_journal};
+use journal::ReadFault;
 use model::entry::Entry;
 use model::tree::Module;
 use replay::Cause;
@@ -62,7 +64,7 @@ fn assert_read(
     lines: u64,
     wanted: Option<ReadFault>,
 ) {
-    match read_journal(alloc, &mut Counted::new(text)) {
+    match read(alloc, text) {
         Ok(entries) => {
             let count = entries.len() as u64;
             holds(rt, wanted.is_none(), "no fault");
@@ -250,7 +252,7 @@ fn a_source_with_a_byte_replaced_has_a_design_or_a_fault(rt: HostRuntime) {
 fn a_cut_source_is_no_module(rt: HostRuntime) {
     for len in 0..SWAP.len() {
         let text = SWAP.get(..len).expect(&rt, "a beginning");
-        let fault = parse(rt.alloc(), text).err().expect(&rt, "a fault");
+        let fault = fault(rt.alloc(), text).expect(&rt, "a fault");
         holds_at(&rt, may_refuse(fault, len, b' '), "cut at", len);
     }
 }

@@ -293,6 +293,7 @@ fn assert_turn(rt: &impl Abort, taken: &Taken, row: &Row<'_>) {
 #[test]
 fn first_turns(rt: HostRuntime) {
     one_value_is_left();
+    parts_are_known();
     for row in TURNS {
         let taken = first_turn(&rt, rt.alloc(), row.source.as_bytes(), value(row));
         assert_turn(&rt, &taken, row);
@@ -308,12 +309,22 @@ fn three() -> Held {
     Held::all(Bits::from_u64(4, 3))
 }
 
-// The first turn of the first process, in a log that is kept.
+// Fills a log that is kept with the first turn of the first process, if memory suffices.
+fn fill(
+    rt: &impl Abort,
+    log: &mut TurnLog,
+    design: &Design,
+    held: &mut Held,
+) -> Result<(), FillFault> {
+    let state = beginning(rt, design);
+    let _registers = design.registers();
+    fill_turn(log, design, &state, 7, held)
+}
+
+// The first turn of the first process of a source, in a log that is kept.
 fn turn_in(rt: &impl Abort, alloc: Global, log: &mut TurnLog, source: &str, held: &mut Held) {
     let design = design_of(rt, alloc, source.as_bytes());
-    let state = beginning(rt, &design);
-    let _registers = design.registers();
-    match fill_turn(log, &design, &state, 7, held) {
+    match fill(rt, log, &design, held) {
         Ok(()) => {}
         Err(FillFault::Memory) => fail(rt, "memory"),
         Err(FillFault::TooLong) => fail(rt, "too long"),
@@ -386,11 +397,9 @@ fn is_over_without_memory(
     design: &Design,
     log: &mut TurnLog,
 ) -> bool {
-    let state = beginning(rt, design);
-    let _registers = design.registers();
     let mut held = three();
     let _hoard = Hoard::new(alloc, 0, 8).expect(rt, "memory");
-    fill_turn(log, design, &state, 7, &mut held).is_ok()
+    fill(rt, log, design, &mut held).is_ok()
 }
 
 // A turn that is refused memory in a new log takes none in one that an earlier turn has grown.
@@ -430,11 +439,6 @@ fn parts_are_known()
     ensures past { piece {A = ℕ} (1 ∷ 2 ∷ 3 ∷ []) (record { from = 1; to = 4 }) ≡ [] }
     ensures joined { joined_two (vector 120 7) (vector 9 2) ≡ vector 120 7 }
 {}
-
-#[test]
-fn takes_a_part_or_none(_rt: HostRuntime) {
-    parts_are_known();
-}
 
 /// When the first nonblocking assignment is due.
 fn first_due(log: &TurnLog) -> u64 {

@@ -1,24 +1,18 @@
-use Rattle.std.proofs.Common.{◌≡◌, ◌∙◌, ap, ap₂, true, codes}
-use Rattle.clap.specs.Built.{AddsSubcommand}
-use Rattle.clap.specs.Simple.{App, Shape, app_of, app_of_fields, new_app, on_top, with_subcommand}
-use Rattle.arguments.specs.Words.{run_app, whole_app}
-use Rattle.arguments.proofs.GivenLemmas.{if_ok}
+-- One command more; all of them at the end.
+use Rattle.std.proofs.Common.{◌≡◌, ◌∙◌, ap, take}
+use Rattle.std.proofs.lemmas.List.{take_all, take_more}
+use Rattle.arguments.specs.Words.{bare_app, every_task, with_tasks}
+use Rattle.arguments.proofs.TaskLemmas.{all_tasks, task_more}
 use Rattle.arguments.proofs.commands.program.Goals as goal
 
+pub loop-task-preserved : goal.loop-task-preserved
+loop-task-preserved c =
+    task_more c.every-tasks.result.now c.loop-task.task-index _ c.loop-task.whole c.in_ok-whole.whole c.in_ok-next.next
+    (take_more c.every-tasks.result.now c.loop-task.task-index _ c.loop-task-test.true) c.in_ok-next.ensures.rules c.in_ok-next.ensures.app c.in_ok-whole.ensures
+    c.loop-task.invariant
+
 pub returns : goal.returns
-unfolding whole_app
 returns c =
-    let asks_all : App → App = λ a. on_top (λ (s : Shape). record s { has_version = true; subcommand_required = true; arg_required_else_help = true }) a in
-    let asks_both : App → App = λ a. on_top (λ (s : Shape). record s { subcommand_required = true; arg_required_else_help = true }) a in
-    let asks_help : App → App = λ a. on_top (λ (s : Shape). record s { arg_required_else_help = true }) a in
-    let begun : app_of c.about.result ≡ new_app (codes "vsimtx") = ap app_of_fields c.about.ensures ∙ c.new.ensures.app in
-    let asked : app_of c.arg_required_else_help.result ≡ asks_all (new_app (codes "vsimtx")) =
-    ap app_of_fields c.arg_required_else_help.ensures ∙ (ap asks_help (ap app_of_fields c.subcommand_required.ensures) ∙ (ap asks_both (ap app_of_fields c.version.ensures) ∙ ap asks_all begun)) in
-    let with_run : app_of c.in_ok-subcommand.field-0 ≡ with_subcommand (asks_all (new_app (codes "vsimtx"))) run_app.top =
-    c.in_ok-subcommand.ensures.shape c.in_ok-run_command.ensures.rules.local ∙ ap₂ with_subcommand asked (ap (λ (a : App). a.top) c.in_ok-run_command.ensures.app) in
-    let with_replay = c.in_ok-subcommand-2.ensures.shape c.in_ok-replay_command.ensures.rules.local ∙ ap₂ with_subcommand with_run (ap (λ (a : App). a.top) c.in_ok-replay_command.ensures.app) in
-    let with_races = c.in_ok-subcommand-3.ensures.shape c.in_ok-races_command.ensures.rules.local ∙ ap₂ with_subcommand with_replay (ap (λ (a : App). a.top) c.in_ok-races_command.ensures.app) in
-    let with_check = c.in_ok-subcommand-4.ensures.shape c.in_ok-check_command.ensures.rules.local ∙ ap₂ with_subcommand with_races (ap (λ (a : App). a.top) c.in_ok-check_command.ensures.app) in
-    let with_explain = c.in_ok-subcommand-5.ensures.shape c.in_ok-explain_command.ensures.rules.local ∙ ap₂ with_subcommand with_check (ap (λ (a : App). a.top) c.in_ok-explain_command.ensures.app) in
-    if_ok (AddsSubcommand c.in_ok-subcommand-5.field-0 c.in_ok-waves_command.field-0) (λ d. app_of d ≡ whole_app) c.subcommand-6.result
-    (λ d added. added.shape c.in_ok-waves_command.ensures.rules.local ∙ ap₂ with_subcommand with_explain (ap (λ (a : App). a.top) c.in_ok-waves_command.ensures.app)) c.subcommand-6.ensures
+    let all : take c.loop-task.task-index c.every-tasks.result.now ≡ every_task =
+    take_all c.loop-task.task-index c.every-tasks.result.now c.loop-task-test.false ∙ c.every-tasks.ensures in
+    c.loop-task.invariant ∙ (ap (with_tasks bare_app) all ∙ all_tasks)

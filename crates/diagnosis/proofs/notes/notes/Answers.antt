@@ -5,7 +5,7 @@ use Rattle.diagnosis.proofs.notes.notes.Goals as goal
 
 pub loop-left-preserved : goal.loop-left-preserved
 loop-left-preserved c =
-    note_front _ c.loop-left.left.now _ c.note_of.result _ _ (omega (arith, c.in-len1-up.len_at_least)) c.note_of.ensures c.in_ok-add.ensures c.loop-left.invariant
+    note_front _ c.loop-left.left.now _ c.note_of-note.result _ _ (omega (arith, c.in-len1-up.len_at_least)) c.note_of-note.ensures c.in_ok-add.ensures c.loop-left.invariant
 
 pub returns : goal.returns
 returns c =

@@ -1,5 +1,5 @@
--- One entry more, or the fault of the journal.
-use Rattle.std.proofs.Common.{◌+◌, sym, subst}
+-- One entry more, or why the journal has a fault there.
+use Rattle.std.proofs.Common.{◌+◌, refl, sym, subst}
 use Rattle.std.specs.Prelude.{slice_index_or}
 use Rattle.model.specs.declared.entry.Entry.TheVariants.{Turn}
 use Rattle.replay.specs.declared.fault.Cause.{Cause}
@@ -9,6 +9,25 @@ use Rattle.replay.specs.Faults.{IsCauseOf}
 use Rattle.explain.proofs.Next.{next_failure}
 use Rattle.explain.proofs.Sending.{next_told}
 use Rattle.explain.proofs.telling.explain_next.Goals as goal
+
+-- These six are written out, since the search for them is long.
+pub returns-in-Ok-clause-code : goal.returns-in-Ok-clause-code
+returns-in-Ok-clause-code c = c.step.ensures.code
+
+pub returns-in-Err-NotTaken-clause-code : goal.returns-in-Err-NotTaken-clause-code
+returns-in-Err-NotTaken-clause-code c = c.step.ensures.code
+
+pub returns-in-Err-Memory-clause-code : goal.returns-in-Err-Memory-clause-code
+returns-in-Err-Memory-clause-code c = c.step.ensures.code
+
+pub returns-in-Err-NotTaken-clause-at : goal.returns-in-Err-NotTaken-clause-at
+returns-in-Err-NotTaken-clause-at c = refl
+
+pub returns-in-Err-NotTaken-clause-state : goal.returns-in-Err-NotTaken-clause-state
+returns-in-Err-NotTaken-clause-state c = c.in-Err-NotTaken.ensures.err
+
+pub returns-in-Err-Memory-clause-state : goal.returns-in-Err-Memory-clause-state
+returns-in-Err-Memory-clause-state c = c.in-Err-Memory.ensures.err
 
 pub returns-in-Ok-clause-told : goal.returns-in-Ok-clause-told
 returns-in-Ok-clause-told c =

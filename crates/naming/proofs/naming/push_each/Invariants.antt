@@ -4,4 +4,4 @@ use Rattle.naming.proofs.naming.push_each.Given as goal
 
 abbrev pub invariant-loop-place : goal.invariant-loop-place
 invariant-loop-place l =
-    TellsEach l.names.design.now l.names.shown.now (option_map (λ path. path.now) l.names.prefix) l.found.original (take l.place l.found.races.items) l.initial.text.items l.text.items
+    TellsEach l.processes l.names.design.now l.names.shown.now (option_map (λ path. path.now) l.names.prefix) l.found.original (take l.place l.found.races.items) l.initial.text.items l.text.items

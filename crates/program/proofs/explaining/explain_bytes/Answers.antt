@@ -1,6 +1,7 @@
 -- The journal was told, or told up to its fault.
-use Rattle.std.proofs.Common.{◌∙◌, ap, sym}
+use Rattle.std.proofs.Common.{◌∙◌, ap, subst, sym}
 use Rattle.journal.specs.Counted.{held}
+use Rattle.program.specs.Printed.{HasExplainedSome}
 use Rattle.program.specs.Program.{status_of}
 use Rattle.program.proofs.Explained.{explained_by, refused_of}
 use Rattle.program.proofs.explaining.explain_bytes.Goals as goal
@@ -12,5 +13,6 @@ returns-in_ok-send_off-in-Ok-clause-explained g c =
 
 pub returns-in-Err-clause-refused : goal.returns-in-Err-clause-refused
 returns-in-Err-clause-refused g c = λ e.
-    refused_of c.args.source.now c.args.window (g.R.Read.remaining (held c.args.journal.now)) (g.O.Write.contents c.args.out.now) (g.O.Write.contents c.explain-told.new.out) c.in-Err.fault
-    c.in-Err.ensures.nothing c.in-Err.ensures.stopped (sym (ap status_of c.told_fault.ensures) ∙ e)
+    subst (HasExplainedSome c.args.window (g.O.Write.contents c.args.out.now) (g.O.Write.contents c.explain-told.new.out)) (sym c.told_fault.ensures)
+    (refused_of c.args.source.now c.args.window (g.R.Read.remaining (held c.args.journal.now)) (g.O.Write.contents c.args.out.now) (g.O.Write.contents c.explain-told.new.out) c.in-Err.fault
+    c.in-Err.ensures.nothing c.in-Err.ensures.stopped (sym (ap status_of c.told_fault.ensures) ∙ e))

@@ -1,10 +1,10 @@
 -- What the status tells of how a command ended.
-use Rattle.std.proofs.Common.{◌≡◌, ◌⊎◌, ◌≤◌, ◌∙◌, sym, subst, ℕ}
+use Rattle.std.proofs.Common.{◌≡◌, ◌⊎◌, ◌≤◌, ◌∙◌, inr, sym, subst, ℕ}
 use Rattle.journal.specs.Counted.{held}
 use Rattle.arguments.specs.Words.{texts_of}
-use Rattle.program.specs.Printed.{IsUnprinted}
+use Rattle.program.specs.Printed.{IsUnprinted, untouched, window_in}
 use Rattle.program.specs.Told.{IsTold}
-use Rattle.program.proofs.Ended.{IsSourceStatus, done_by_status, right_by_status, faulty_by_status, refused_by_status, stopped_by_status, several_by_status, nothing_by_status, unsaved_by_status, silent_by_status, source_status, told_by_status, refused_done, refused_wrong, not_of_refusal, kept}
+use Rattle.program.proofs.Ended.{IsSourceStatus, done_by_status, right_by_status, faulty_by_status, refused_by_status, stopped_by_status, wanting_by_status, several_by_status, nothing_by_status, unsaved_by_status, silent_by_status, source_status, told_by_status, refused_done, kept}
 use Rattle.program.proofs.Statuses.{at_most_seven}
 use Rattle.program.proofs.program.command.Goals as goal
 
@@ -27,11 +27,17 @@ returns-in-Ok-clause-refused g c = λ e begins.
 
 pub returns-in-Ok-clause-faulty : goal.returns-in-Ok-clause-faulty
 returns-in-Ok-clause-faulty g c = λ e begins.
-    faulty_by_status c.perform-ended.result _ (c.perform-ended.ensures.refused (texts_of c.args.words.now) c.in-Ok.ensures.asked begins) (sym c.finish.ensures.status ∙ e)
+    faulty_by_status (window_in (texts_of c.args.words.now)) (g.O.Write.contents (held c.args.out.now)) (g.O.Write.contents (held c.perform-ended.new.out)) g.E.Write.contents c.args.err.now c.finish.new.err c.perform-ended.result
+    (c.perform-ended.ensures.refused (texts_of c.args.words.now) c.in-Ok.ensures.asked begins) c.finish.ensures.told (sym c.finish.ensures.status ∙ e)
 
 pub returns-in-Ok-clause-stopped : goal.returns-in-Ok-clause-stopped
 returns-in-Ok-clause-stopped g c = λ e.
     stopped_by_status (texts_of c.args.words.now) (g.O.Write.contents (held c.args.out.now)) (g.O.Write.contents (held c.perform-ended.new.out)) (g.F.Files.made c.args.files.now) (g.F.Files.made c.perform-ended.new.files) g.E.Write.contents c.args.err.now c.finish.new.err c.perform-ended.result (c.perform-ended.ensures.ended (texts_of c.args.words.now) c.in-Ok.ensures.asked) c.finish.ensures.told (sym c.finish.ensures.status ∙ e)
+
+pub returns-in-Ok-clause-wanting : goal.returns-in-Ok-clause-wanting
+returns-in-Ok-clause-wanting g c = λ e.
+    wanting_by_status (texts_of c.args.words.now) (g.O.Write.contents (held c.args.out.now)) (g.O.Write.contents (held c.perform-ended.new.out)) (g.F.Files.made c.args.files.now) (g.F.Files.made c.perform-ended.new.files) g.E.Write.contents c.args.err.now c.finish.new.err c.perform-ended.result (c.perform-ended.ensures.ended (texts_of c.args.words.now) c.in-Ok.ensures.asked)
+    (c.perform-ended.ensures.wanting (texts_of c.args.words.now) c.in-Ok.ensures.asked) c.finish.ensures.told (sym c.finish.ensures.status ∙ e)
 
 pub returns-in-Ok-clause-several : goal.returns-in-Ok-clause-several
 returns-in-Ok-clause-several g c = λ e.
@@ -68,3 +74,6 @@ returns-in-Err-clause-told g c = c.refuse.ensures.told (texts_of c.args.words.no
 
 pub returns-in-Err-clause-nothing : goal.returns-in-Err-clause-nothing
 returns-in-Err-clause-nothing g c = λ e. c.refuse.ensures.nothing (source_status (texts_of c.args.words.now) c.refuse.result e)
+
+pub returns-in-Err-clause-wanting : goal.returns-in-Err-clause-wanting
+returns-in-Err-clause-wanting g c = λ six. inr (untouched (c.refuse.ensures.wanting six) (kept (g.F.Files.made c.args.files.now)))

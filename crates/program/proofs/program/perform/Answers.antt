@@ -1,11 +1,9 @@
 -- What is asked for was done, and a check is no other request.
-use Rattle.std.proofs.Common.{◌≡◌, ap, subst}
+use Rattle.std.proofs.Common.{ap, subst}
 use Rattle.std.specs.Io.KnownBytes.{Keeps}
 use Rattle.journal.specs.Counted.{held}
 use Rattle.arguments.specs.Words.{Asks, AsksExplain}
-use Rattle.program.specs.Program.{status_of}
-use Rattle.files.specs.Saved.{KeepsFiles}
-use Rattle.program.proofs.Ended.{check_alone, explain_alone, if_err, if_read, is_check, is_explain, kept, one_only, output_same, unless_one, unless_told, version_performed}
+use Rattle.program.proofs.Ended.{check_alone, explain_alone, if_err, if_read, is_check, is_explain, kept, left_of_dump, left_of_telling, left_unless_one, one_only, output_same, unless_one, unless_told, version_performed}
 use Rattle.program.proofs.program.perform.Goals as goal
 
 pub returns-in-Run-clause-checked : goal.returns-in-Run-clause-checked
@@ -95,3 +93,35 @@ returns-in-Version-clause-nothing g c = λ words asks.
 
 pub returns-in-Version-clause-unsaved : goal.returns-in-Version-clause-unsaved
 returns-in-Version-clause-unsaved g c = if_err _ c.perform_version.result (λ f source. kept (g.F.Files.made c.args.files.now))
+
+pub returns-in-Run-clause-wanting : goal.returns-in-Run-clause-wanting
+returns-in-Run-clause-wanting g c = λ words asks.
+    left_unless_one words (g.O.Write.contents (held c.args.out.now)) (g.O.Write.contents (held c.perform_run.new.out)) (g.F.Files.made c.args.files.now) (g.F.Files.made c.perform_run.new.files) c.perform_run.result c.perform_run.ensures.nothing c.perform_run.ensures.unsaved
+
+pub returns-in-Replay-clause-wanting : goal.returns-in-Replay-clause-wanting
+returns-in-Replay-clause-wanting g c = λ words asks.
+    left_unless_one words (g.O.Write.contents (held c.args.out.now)) (g.O.Write.contents (held c.perform_replay.new.out)) (g.F.Files.made c.args.files.now) (g.F.Files.made c.perform_replay.new.files) c.perform_replay.result c.perform_replay.ensures.nothing
+    (if_err _ c.perform_replay.result (λ f other. c.perform_replay.ensures.unsaved))
+
+pub returns-in-Races-clause-wanting : goal.returns-in-Races-clause-wanting
+returns-in-Races-clause-wanting g c = λ words asks. c.perform_races.ensures.wanting words (subst (Asks words) c.in-Races.is asks)
+
+pub returns-in-Check-clause-wanting : goal.returns-in-Check-clause-wanting
+returns-in-Check-clause-wanting g c = λ words asks.
+    left_unless_one words (g.O.Write.contents (held c.args.out.now)) (g.O.Write.contents (held c.perform_check.new.out)) (g.F.Files.made c.args.files.now) (g.F.Files.made c.perform_check.new.files) c.perform_check.result c.perform_check.ensures.nothing
+    (if_err _ c.perform_check.result (λ f other. c.perform_check.ensures.unsaved))
+
+pub returns-in-Explain-clause-wanting : goal.returns-in-Explain-clause-wanting
+returns-in-Explain-clause-wanting g c = λ words asks.
+    let own : AsksExplain words c.in-Explain.request = subst (Asks words) c.in-Explain.is asks in
+    left_of_telling words (g.O.Write.contents (held c.args.out.now)) (g.O.Write.contents (held c.perform_explain.new.out)) (g.F.Files.made c.args.files.now) (g.F.Files.made c.perform_explain.new.files) c.perform_explain.result own.begins c.perform_explain.ensures.unsaved
+
+pub returns-in-Waves-clause-wanting : goal.returns-in-Waves-clause-wanting
+returns-in-Waves-clause-wanting g c = λ words asks.
+    left_of_dump words (g.O.Write.contents (held c.args.out.now)) (g.F.Files.made c.args.files.now) (g.F.Files.made c.perform_waves.new.files) c.perform_waves.result c.perform_waves.ensures.unsaved
+
+pub returns-in-Version-clause-wanting : goal.returns-in-Version-clause-wanting
+returns-in-Version-clause-wanting g c = λ words asks.
+    let left = Keeps (g.O.Write.contents (held c.args.out.now)) (g.O.Write.contents (held c.perform_version.new.out)) in
+    left_unless_one words (g.O.Write.contents (held c.args.out.now)) (g.O.Write.contents (held c.perform_version.new.out)) (g.F.Files.made c.args.files.now) (g.F.Files.made c.args.files.now) c.perform_version.result (one_only left c.perform_version.result c.perform_version.ensures.fault)
+    (if_err _ c.perform_version.result (λ f other. kept (g.F.Files.made c.args.files.now)))

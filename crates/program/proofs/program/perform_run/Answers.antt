@@ -1,5 +1,5 @@
 -- What the words ask for was done.
-use Rattle.std.proofs.Common.{◌≡◌, sym, subst, option_map}
+use Rattle.std.proofs.Common.{sym, subst}
 use Rattle.journal.specs.Counted.{held}
 use Rattle.program.specs.declared.ending.Ending.{Ending}
 use Rattle.program.specs.Printed.{HasEnded}

@@ -1,5 +1,5 @@
 -- Three texts, one behind another.
-use Rattle.std.proofs.Common.{codes, [], ◌∷◌, ◌++◌}
+use Rattle.std.proofs.Common.{codes, [], ◌∷◌}
 use Rattle.program.proofs.Ended.{appends_then}
 use Rattle.program.proofs.program.perform_version.Goals as goal
 

@@ -1,5 +1,5 @@
 -- A run on workers, with its lines and its journal.
-use Rattle.std.proofs.Common.{◌≡◌, ◌∙◌, ap, List, ℕ, Option, rules, subst}
+use Rattle.std.proofs.Common.{List, ℕ, Option, rules, subst}
 use Rattle.std.specs.Prelude.{option_map}
 use Rattle.std.specs.Io.KnownBytes.{Appends}
 use Rattle.model.specs.declared.entry.Entry.{Entry}

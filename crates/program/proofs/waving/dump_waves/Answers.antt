@@ -1,5 +1,5 @@
 -- The dump that was put, by what was read and computed before.
-use Rattle.std.proofs.Common.{◌≡◌, ◌∙◌, sym, subst, ℕ, List, None, Result, Ok, Err, OnErr}
+use Rattle.std.proofs.Common.{◌∙◌, sym, subst, ℕ, List, None, Result, Ok, Err, OnErr}
 use Rattle.model.specs.declared.entry.Entry.{Entry}
 use Rattle.files.specs.Saved.{AddsFile}
 use Rattle.program.specs.Printed.{IsDumpOf}

@@ -1,9 +1,7 @@
 //! Keys of states that two orders of turns lead to.
 
-use super::super::held::design_of;
-use super::{apply_all, start};
+use super::{Known, apply_all, assert_after};
 use crate::claims::holds;
-use design::Design;
 use model::entry::Entry;
 use regions::Machine;
 use statekeys::{Scratch, key};
@@ -84,29 +82,22 @@ fn key_behind(rt: &impl Abort, alloc: Global, run: &mut Machine<'_>, entries: &[
     key_of(alloc, run).expect(rt, "memory")
 }
 
-// The key after these entries of a run of a design.
-fn key_after(rt: &impl Abort, alloc: Global, design: &Design, entries: &[Entry]) -> Vec<u8> {
-    let mut run = start(rt, alloc, design);
-    key_behind(rt, alloc, &mut run, entries)
-}
-
-// Whether both orders lead to one key.
-fn have_one_key(rt: &impl Abort, alloc: Global, design: &Design) -> bool {
+/// Two turns in both orders lead to one key, or not.
+pub(super) fn assert_keys(rt: &impl Abort, alloc: Global, run: &mut Machine<'_>, wanted: bool) {
     let [first, second] = &ORDERS;
-    let one = key_after(rt, alloc, design, first);
-    let other = key_after(rt, alloc, design, second);
-    one.as_slice() == other.as_slice()
-}
-
-// What a row says.
-fn assert_keys(rt: &impl Abort, alloc: Global, source: &str, wanted: bool) {
-    let design = design_of(rt, alloc, source.as_bytes());
-    holds(rt, have_one_key(rt, alloc, &design) == wanted, source);
+    let mut copy = run.copy(alloc).expect(rt, "memory");
+    let one = key_behind(rt, alloc, run, first);
+    let other = key_behind(rt, alloc, &mut copy, second);
+    holds(
+        rt,
+        (one.as_slice() == other.as_slice()) == wanted,
+        "the keys",
+    );
 }
 
 #[test]
 fn keys_of_two_orders(rt: HostRuntime) {
     for (source, wanted) in ROWS {
-        assert_keys(&rt, rt.alloc(), source, wanted);
+        assert_after(&rt, rt.alloc(), source, &[], Known::HasOneKey(wanted));
     }
 }

@@ -1,15 +1,12 @@
 -- Each answer says what the lock keeps, and what the seat is told.
-use Rattle.std.proofs.Common.{◌≡◌, ℕ, length, sym, ap, ◌∙◌, subst, inr, Some, None}
-use Rattle.std.specs.Prelude.{slice_get}
+use Rattle.std.proofs.Common.{◌≡◌, length, sym, ap, ◌∙◌, subst, inr, None}
 use Rattle.std.proofs.lemmas.List.{length-map}
-use mathlib.Core.List.{IsPrefix}
-use Rattle.turn.specs.declared.memory.Seen.{Seen}
 use Rattle.turn.specs.Reads.{GaveAll}
 use Rattle.design.specs.Compiled.{design_of}
 use Rattle.gateparts.specs.GateState.{GateState}
 use Rattle.regcells.specs.Meetings.{fresh_of, Rises}
 use Rattle.commitgate.specs.Seats.{SeatView}
-use Rattle.gateparts.specs.Histories.{hist, IsFirstMovedIn}
+use Rattle.gateparts.specs.Histories.{hist, IsRead, IsFirstMovedIn}
 use Rattle.gateparts.specs.Evaluated.{turn_at}
 use Rattle.commitgate.specs.Answers.{IsRecorded, MayCommit, AreCurrent, stopped}
 use Rattle.commitgate.specs.Told as told
@@ -65,68 +62,60 @@ returns-in-Some-stale-clause-seat g c =
     (subst (λ (h : GateState). IsFirstMovedIn (design_of n.code) h.journal c.args.reads.now.entries r) same c.in-Some-stale.ensures.moved)
     (subst (λ (h : GateState). fresh_of new.fresh r ≡ hist (design_of n.code) h.journal r) same c.in-Some-stale.ensures.met)
 
-pub show_reads-requires-clause-reads : goal.show_reads-requires-clause-reads
-show_reads-requires-clause-reads g c =
-    long_reads_in g.K.Naming.named.code (length g.K.Naming.named.cells) c.args.ticket c.args.reads.now.entries c.known.ensures.widths c.known-2.ensures.own c.requires.turn
-
 pub stop_long-requires-clause-seen : goal.stop_long-requires-clause-seen
 stop_long-requires-clause-seen g c =
-    let same = c.show_reads.ensures.same ∙ c.stale.ensures.same ∙ of_none c.barred.result _ c.barred.ensures.same c.in_default.is in
-    let kept = of_none c.stale.result _ c.stale.ensures.kept c.in_default-stale.is in
+    let same = c.stale.ensures.same ∙ of_none c.barred.result _ c.barred.ensures.same c.in_default.is in
     let greeted = of_none c.barred.result _ c.barred.ensures.greeted c.in_default.is in
-    ap (λ (v : SeatView). v.seen) c.show_reads.ensures.seat ∙ ap (λ (v : SeatView). v.seen) (kept ∙ greeted) ∙ ap (λ (h : GateState). h.log) (sym same)
+    ap (λ (v : SeatView). v.seen) c.stale.ensures.seat ∙ ap (λ (v : SeatView). v.seen) greeted ∙ ap (λ (h : GateState). h.log) (sym same)
 
 pub stop_long-requires-clause-may : goal.stop_long-requires-clause-may
 stop_long-requires-clause-may g c =
-    let same = c.show_reads.ensures.same ∙ c.stale.ensures.same ∙ of_none c.barred.result _ c.barred.ensures.same c.in_default.is in
+    let same = c.stale.ensures.same ∙ of_none c.barred.result _ c.barred.ensures.same c.in_default.is in
     subst (λ (h : GateState). MayCommit g.K.Naming.named.limits h c.args.ticket) (sym same) (of_none c.barred.result _ c.barred.ensures.may c.in_default.is)
 
 pub stop_long-requires-clause-long : goal.stop_long-requires-clause-long
 stop_long-requires-clause-long g c =
     let n = g.K.Naming.named in
     let held = c.args.self.now in
+    let reads = c.args.reads.now.entries in
     let barred = of_none c.barred.result _ c.barred.ensures.same c.in_default.is in
-    let same = c.show_reads.ensures.same ∙ c.stale.ensures.same ∙ barred in
     let may = of_none c.barred.result _ c.barred.ensures.may c.in_default.is in
-    let seat = of_none c.stale.result _ c.stale.ensures.kept c.in_default-stale.is ∙ of_none c.barred.result _ c.barred.ensures.greeted c.in_default.is in
-    let current = subst (λ (h : GateState). AreCurrent n.code h c.args.reads.now.entries) barred (of_none c.stale.result _ c.stale.ensures.none c.in_default-stale.is) in
-    let begins = subst (λ (v : SeatView). (k : ℕ) (d : ℕ × Seen) → slice_get c.args.reads.now.entries k ≡ Some d → IsPrefix (fresh_of v.fresh d.0) (fresh_of held.histories d.0)) seat
-    (subst (λ (h : GateState). (k : ℕ) (d : ℕ × Seen) → slice_get c.args.reads.now.entries k ≡ Some d → IsPrefix (fresh_of c.stale.new.seat.fresh d.0) (fresh_of h.histories d.0)) (c.stale.ensures.same ∙ barred) c.show_reads.ensures.begins) in
-    subst (λ (h : GateState). turn_at n.code h c.args.ticket.process c.args.ticket.state ≡ None) (sym same)
-    (long_by n held c.args.ticket c.args.reads.now.entries c.args.seat.now.fresh c.known.ensures.kept may.current c.known-2.ensures.own c.requires.turn c.requires.recorded current (sym (length-map held.values length) ∙ ap length c.known.ensures.guarded.store) begins)
+    let current = subst (λ (h : GateState). AreCurrent n.code h reads) barred (of_none c.stale.result _ c.stale.ensures.none c.in_default-stale.is) in
+    let read = subst (λ (h : GateState). GaveAll (IsRead n.code h.histories) reads) barred (of_none c.stale.result _ c.stale.ensures.read c.in_default-stale.is) in
+    subst (λ (h : GateState). turn_at n.code h c.args.ticket.process c.args.ticket.state ≡ None) (sym (c.stale.ensures.same ∙ barred))
+    (long_by n held c.args.ticket reads c.known.ensures.kept may.current c.known-2.ensures.own c.requires.turn read current (sym (length-map held.values length) ∙ ap length c.known.ensures.guarded.store))
 
 pub returns-clause-state : goal.returns-clause-state
 returns-clause-state g c =
     let n = g.K.Naming.named in
     let held = c.args.self.now in
+    let reads = c.args.reads.now.entries in
     let barred = of_none c.barred.result _ c.barred.ensures.same c.in_default.is in
-    let same = c.show_reads.ensures.same ∙ c.stale.ensures.same ∙ barred in
+    let same = c.stale.ensures.same ∙ barred in
     let may = of_none c.barred.result _ c.barred.ensures.may c.in_default.is in
-    let current = subst (λ (h : GateState). AreCurrent n.code h c.args.reads.now.entries) barred (of_none c.stale.result _ c.stale.ensures.none c.in_default-stale.is) in
-    let seat = of_none c.stale.result _ c.stale.ensures.kept c.in_default-stale.is ∙ of_none c.barred.result _ c.barred.ensures.greeted c.in_default.is in
-    let worker = ap (λ (v : SeatView). v.worker) c.show_reads.ensures.seat ∙ ap (λ (v : SeatView). v.worker) seat in
-    let begins = subst (λ (v : SeatView). (k : ℕ) (d : ℕ × Seen) → slice_get c.args.reads.now.entries k ≡ Some d → IsPrefix (fresh_of v.fresh d.0) (fresh_of held.histories d.0)) seat
-    (subst (λ (h : GateState). (k : ℕ) (d : ℕ × Seen) → slice_get c.args.reads.now.entries k ≡ Some d → IsPrefix (fresh_of c.stale.new.seat.fresh d.0) (fresh_of h.histories d.0)) (c.stale.ensures.same ∙ barred) c.show_reads.ensures.begins) in
-    read_stopped n.code n.limits c.args.seat.now.worker c.args.self.now c.args.ticket c.args.reads.now.entries c.stop_long.result c.stop_long.new.self c.stop_long.ensures.why
+    let current = subst (λ (h : GateState). AreCurrent n.code h reads) barred (of_none c.stale.result _ c.stale.ensures.none c.in_default-stale.is) in
+    let read = subst (λ (h : GateState). GaveAll (IsRead n.code h.histories) reads) barred (of_none c.stale.result _ c.stale.ensures.read c.in_default-stale.is) in
+    let worker = ap (λ (v : SeatView). v.worker) c.stale.ensures.seat ∙ ap (λ (v : SeatView). v.worker) (of_none c.barred.result _ c.barred.ensures.greeted c.in_default.is) in
+    read_stopped n.code n.limits c.args.seat.now.worker held c.args.ticket reads c.stop_long.result c.stop_long.new.self c.stop_long.ensures.why
     may current
-    (long_by n held c.args.ticket c.args.reads.now.entries c.args.seat.now.fresh c.known.ensures.kept may.current c.known-2.ensures.own c.requires.turn c.requires.recorded current (sym (length-map held.values length) ∙ ap length c.known.ensures.guarded.store) begins)
+    (long_by n held c.args.ticket reads c.known.ensures.kept may.current c.known-2.ensures.own c.requires.turn read current (sym (length-map held.values length) ∙ ap length c.known.ensures.guarded.store))
     (c.stop_long.ensures.state ∙ (λ i. stopped (worker i) c.stop_long.result (same i)))
 
 pub returns-clause-seat : goal.returns-clause-seat
 returns-clause-seat g c =
     let n = g.K.Naming.named in
     let old = c.args.seat.now in
-    let fresh = c.show_reads.new.seat.fresh in
-    let kept = of_none c.stale.result _ c.stale.ensures.kept c.in_default-stale.is ∙ of_none c.barred.result _ c.barred.ensures.greeted c.in_default.is in
-    let seat = c.show_reads.ensures.seat ∙ ap (λ (v : SeatView). record v { fresh = fresh }) kept in
+    let fresh = c.stale.new.seat.fresh in
+    let greeted = of_none c.barred.result _ c.barred.ensures.greeted c.in_default.is in
+    let seat = c.stale.ensures.seat ∙ ap (λ (v : SeatView). record v { fresh = fresh }) greeted in
     let reads = c.args.reads.now.entries in
     let new = c.stop_long.new.seat in
     let causes = told.ReadCauses n c.args.ticket.process reads new in
     let barred = of_none c.barred.result _ c.barred.ensures.same c.in_default.is in
-    let same = c.show_reads.ensures.same ∙ c.stale.ensures.same ∙ barred in
-    let current = current_told n c.show_reads.new.seat.worker c.stop_long.result c.args.self.now c.stop_long.new.self reads new c.known.ensures.kept
-    (c.stop_long.ensures.state ∙ ap (stopped c.show_reads.new.seat.worker c.stop_long.result) same) c.stop_long.ensures.seen
+    let same = c.stale.ensures.same ∙ barred in
+    let current = current_told n c.stale.new.seat.worker c.stop_long.result c.args.self.now c.stop_long.new.self reads new c.known.ensures.kept
+    (c.stop_long.ensures.state ∙ ap (stopped c.stale.new.seat.worker c.stop_long.result) same) c.stop_long.ensures.seen
     (subst (λ (h : GateState). AreCurrent n.code h reads) barred (of_none c.stale.result _ c.stale.ensures.none c.in_default-stale.is)) in
-    let long = stopped_for n (λ why. why ≡ c.stop_long.result) causes c.show_reads.new.seat c.stop_long.result new (λ _. inr (c.stop_long.ensures.why, current)) c.stop_long.ensures.seat in
-    stopped_first n old c.args.self.now.log c.barred.ensures.later fresh (subst (λ (v : SeatView). Rises v.fresh fresh) kept c.show_reads.ensures.rises) causes c.stop_long.result new
+    let long = stopped_for n (λ why. why ≡ c.stop_long.result) causes c.stale.new.seat c.stop_long.result new (λ _. inr (c.stop_long.ensures.why, current)) c.stop_long.ensures.seat in
+    stopped_first n old c.args.self.now.log c.barred.ensures.later fresh (subst (λ (v : SeatView). Rises v.fresh fresh) greeted c.stale.ensures.rises) causes c.stop_long.result new
     (subst (λ (v : SeatView). told.IsStopped n causes v c.stop_long.result new) seat long)

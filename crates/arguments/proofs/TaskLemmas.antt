@@ -1,0 +1,165 @@
+-- The commands of the tasks, one for all: how they are built, what is found in their words, and what that says of the words.
+use Rattle.std.proofs.Common.{◌≡◌, ◌∙◌, ◌+◌, ◌++◌, ap, ap₂, refl, sym, subst, ℕ, List, [], ◌∷◌, map, drop, take, true, false, codes, Some, None}
+use Rattle.std.proofs.lemmas.List.{map-append}
+use Rattle.clap.specs.Built.{IsParsedFrom, AddsArg, AddsSubcommand}
+use Rattle.clap.specs.Words.{App, HasKind, Row, Text, app_of, found_of, is_simple, is_simple_and_free, kind_of, new_app, rule_of, with_rule, with_subcommand}
+use Rattle.clap.specs.declared.builder.arg.Arg.{Arg}
+use Rattle.clap.specs.declared.builder.command.Command.{Command}
+use Rattle.clap.specs.declared.error.Error.{Error}
+use Rattle.clap.specs.declared.parser.matches.ArgMatches.{ArgMatches}
+use Rattle.arguments.specs.declared.parameters.Parameter.{Parameter}
+use Rattle.arguments.specs.declared.request.Request.{Request}
+use Rattle.arguments.specs.declared.request.Request.TheVariants as request
+use Rattle.arguments.specs.declared.task.Task.{Task}
+use Rattle.arguments.specs.declared.task.Task.TheVariants as task
+use Rattle.arguments.specs.Arguments.{Gives, HasRules, Takes, parameters_of, rule, rule_for, rules_of, workers_parser, until_parser, entries_parser, seed_parser}
+use Rattle.arguments.specs.Words.{Asks, AsksTwoOrders, Begins, FailsAs, IsAskedBy, IsRunOf, IsReplayOf, IsRacesOf, IsCheckOf, IsExplainOf, IsWavesOf, app_by, argument_of, bare_app, every_task, faults_by, rows_by, with_arguments, with_tasks, word_of, run_app, replay_app, races_app, check_app, explain_app, waves_app, whole_app, run_rows, replay_rows, races_rows, check_rows, explain_rows, waves_rows, run_faults, replay_faults, races_faults, check_faults, explain_faults, waves_faults}
+use Rattle.arguments.proofs.GivenLemmas.{given, one_more, required_text}
+use Rattle.arguments.proofs.WordLemmas.{run_fails, replay_fails, races_fails, check_fails, explain_fails, waves_fails, two_orders_fail}
+
+-- how a command is built
+
+with_arguments_more : (app : App) (ps : List Parameter) (p : Parameter) → with_arguments app (ps ++ p ∷ []) ≡ with_rule (with_arguments app ps) (argument_of p)
+with_arguments_more app [] p = refl
+with_arguments_more app (q ∷ ps) p = with_arguments_more (with_rule app (argument_of q)) ps p
+
+with_tasks_more : (app : App) (ts : List Task) (t : Task) → with_tasks app (ts ++ t ∷ []) ≡ with_subcommand (with_tasks app ts) (app_by t).top
+with_tasks_more app [] t = refl
+with_tasks_more app (u ∷ ts) t = with_tasks_more (with_subcommand app (app_by u).top) ts t
+
+pub task_app : (asked : Task) → with_arguments (new_app (word_of asked)) (parameters_of asked) ≡ app_by asked
+unfolding run_app replay_app races_app check_app explain_app waves_app
+task_app task.Run = refl
+task_app task.Replay = refl
+task_app task.Races = refl
+task_app task.Check = refl
+task_app task.Explain = refl
+task_app task.Waves = refl
+
+pub all_tasks : with_tasks bare_app every_task ≡ whole_app
+unfolding whole_app
+all_tasks = refl
+
+pub task_is_simple : (asked : Task) → is_simple (app_by asked) ≡ true
+unfolding run_app replay_app races_app check_app explain_app waves_app
+task_is_simple task.Run = refl
+task_is_simple task.Replay = refl
+task_is_simple task.Races = refl
+task_is_simple task.Check = refl
+task_is_simple task.Explain = refl
+task_is_simple task.Waves = refl
+
+pub task_is_free : (asked : Task) → is_simple_and_free (app_by asked) ≡ true
+unfolding run_app replay_app races_app check_app explain_app waves_app
+task_is_free task.Run = refl
+task_is_free task.Replay = refl
+task_is_free task.Races = refl
+task_is_free task.Check = refl
+task_is_free task.Explain = refl
+task_is_free task.Waves = refl
+
+-- what is found in the words
+
+pub task_gives : (asked : Task) (cmd : Command) (m : ArgMatches) → IsParsedFrom cmd m → HasRules cmd (rules_of asked) → Gives asked (found_of m)
+task_gives task.Run cmd m p h = record {
+  file = required_text cmd m (rules_of task.Run) 0 (rule (codes "FILE") true None) p h refl refl refl refl;
+  workers = given cmd m (rules_of task.Run) 1 (rule (codes "workers") false (Some workers_parser)) workers_parser p h refl refl refl refl;
+  until = given cmd m (rules_of task.Run) 2 (rule (codes "until") false (Some until_parser)) until_parser p h refl refl refl refl;
+  max_entries = given cmd m (rules_of task.Run) 3 (rule (codes "max-entries") false (Some entries_parser)) entries_parser p h refl refl refl refl;
+  seed = given cmd m (rules_of task.Run) 5 (rule (codes "seed") false (Some seed_parser)) seed_parser p h refl refl refl refl;
+}
+task_gives task.Replay cmd m p h = record {
+  file = required_text cmd m (rules_of task.Replay) 0 (rule (codes "FILE") true None) p h refl refl refl refl;
+  journal = required_text cmd m (rules_of task.Replay) 1 (rule (codes "JOURNAL") true None) p h refl refl refl refl;
+}
+task_gives task.Races cmd m p h = record {
+  file = required_text cmd m (rules_of task.Races) 0 (rule (codes "FILE") true None) p h refl refl refl refl;
+  until = given cmd m (rules_of task.Races) 1 (rule (codes "until") false (Some until_parser)) until_parser p h refl refl refl refl;
+  max_entries = given cmd m (rules_of task.Races) 2 (rule (codes "max-entries") false (Some entries_parser)) entries_parser p h refl refl refl refl;
+  max_states = given cmd m (rules_of task.Races) 3 (rule (codes "max-states") false (Some entries_parser)) entries_parser p h refl refl refl refl;
+  max_texts = given cmd m (rules_of task.Races) 4 (rule (codes "max-texts") false (Some entries_parser)) entries_parser p h refl refl refl refl;
+  samples = given cmd m (rules_of task.Races) 6 (rule (codes "samples") false (Some entries_parser)) entries_parser p h refl refl refl refl;
+  seed = given cmd m (rules_of task.Races) 7 (rule (codes "seed") false (Some seed_parser)) seed_parser p h refl refl refl refl;
+}
+task_gives task.Check cmd m p h = record { file = required_text cmd m (rules_of task.Check) 0 (rule (codes "FILE") true None) p h refl refl refl refl }
+task_gives task.Explain cmd m p h = record {
+  file = required_text cmd m (rules_of task.Explain) 0 (rule (codes "FILE") true None) p h refl refl refl refl;
+  journal = required_text cmd m (rules_of task.Explain) 1 (rule (codes "JOURNAL") true None) p h refl refl refl refl;
+  from = given cmd m (rules_of task.Explain) 2 (rule (codes "from") false (Some entries_parser)) entries_parser p h refl refl refl refl;
+  to = given cmd m (rules_of task.Explain) 3 (rule (codes "to") false (Some entries_parser)) entries_parser p h refl refl refl refl;
+}
+task_gives task.Waves cmd m p h = record {
+  file = required_text cmd m (rules_of task.Waves) 0 (rule (codes "FILE") true None) p h refl refl refl refl;
+  journal = required_text cmd m (rules_of task.Waves) 1 (rule (codes "JOURNAL") true None) p h refl refl refl refl;
+  out = required_text cmd m (rules_of task.Waves) 2 (rule (codes "out") true None) p h refl refl refl refl;
+}
+
+-- what that says of the words
+
+pub task_fails : (asked : Task) (words own : List Text) (e : Error) → Begins words (word_of asked) → own ≡ drop 1 words → HasKind (faults_by asked own) e
+    → FailsAs words (kind_of e)
+unfolding run_faults replay_faults races_faults check_faults explain_faults waves_faults
+task_fails task.Run words own e begins same h = run_fails words own e begins same h
+task_fails task.Replay words own e begins same h = replay_fails words own e begins same h
+task_fails task.Races words own e begins same h = races_fails words own e begins same h
+task_fails task.Check words own e begins same h = check_fails words own e begins same h
+task_fails task.Explain words own e begins same h = explain_fails words own e begins same h
+task_fails task.Waves words own e begins same h = waves_fails words own e begins same h
+
+pub task_asks : (asked : Task) (words own : List Text) (rows : List Row) (r : Request) → Begins words (word_of asked) → own ≡ drop 1 words → rows ≡ rows_by asked own
+    → IsAskedBy asked rows r → Asks words r
+unfolding run_rows replay_rows races_rows check_rows explain_rows waves_rows
+task_asks asked words own rows (request.Run run) begins same found (e, is) = record {
+  begins = subst (λ (t : Task). Begins words (word_of t)) e begins;
+  is_run = subst (λ (r : List Row). IsRunOf r run) (found ∙ (ap (λ (t : Task). rows_by t own) e ∙ ap (rows_by task.Run) same)) is;
+}
+task_asks asked words own rows (request.Replay replay) begins same found (e, is) = record {
+  begins = subst (λ (t : Task). Begins words (word_of t)) e begins;
+  is_replay = subst (λ (r : List Row). IsReplayOf r replay) (found ∙ (ap (λ (t : Task). rows_by t own) e ∙ ap (rows_by task.Replay) same)) is;
+}
+task_asks asked words own rows (request.Races races) begins same found (e, is) = record {
+  begins = subst (λ (t : Task). Begins words (word_of t)) e begins;
+  is_races = subst (λ (r : List Row). IsRacesOf r races) (found ∙ (ap (λ (t : Task). rows_by t own) e ∙ ap (rows_by task.Races) same)) is;
+}
+task_asks asked words own rows (request.Check check) begins same found (e, is) = record {
+  begins = subst (λ (t : Task). Begins words (word_of t)) e begins;
+  is_check = subst (λ (r : List Row). IsCheckOf r check) (found ∙ (ap (λ (t : Task). rows_by t own) e ∙ ap (rows_by task.Check) same)) is;
+}
+task_asks asked words own rows (request.Explain explain) begins same found (e, is) = record {
+  begins = subst (λ (t : Task). Begins words (word_of t)) e begins;
+  is_explain = subst (λ (r : List Row). IsExplainOf r explain) (found ∙ (ap (λ (t : Task). rows_by t own) e ∙ ap (rows_by task.Explain) same)) is;
+}
+task_asks asked words own rows (request.Waves waves) begins same found (e, is) = record {
+  begins = subst (λ (t : Task). Begins words (word_of t)) e begins;
+  is_waves = subst (λ (r : List Row). IsWavesOf r waves) (found ∙ (ap (λ (t : Task). rows_by t own) e ∙ ap (rows_by task.Waves) same)) is;
+}
+task_asks asked words own rows request.Version begins same found h = absurd h
+
+pub task_two_orders : (asked : Task) (words own : List Text) (rows : List Row) (e : Error) → Begins words (word_of asked) → own ≡ drop 1 words → rows ≡ rows_by asked own
+    → AsksTwoOrders asked rows (kind_of e) → FailsAs words (kind_of e)
+unfolding run_rows
+task_two_orders asked words own rows e begins same found (is_run, two, kind) =
+    two_orders_fail words own rows e (subst (λ (t : Task). Begins words (word_of t)) is_run begins) same
+    (found ∙ ap (λ (t : Task). rows_by t own) is_run) two kind
+
+-- one word or option more
+pub argument_more : (asked : Task) (taken : List Parameter) (i : ℕ) (p : Parameter) (c d : Command) (a : Arg)
+    → take (i + 1) taken ≡ take i taken ++ p ∷ [] → Takes a (rule_for p) → rule_of a ≡ argument_of p → AddsArg c a d
+    → HasRules c (map rule_for (take i taken)) → app_of c ≡ with_arguments (new_app (word_of asked)) (take i taken)
+    → HasRules d (map rule_for (take (i + 1) taken)) × (app_of d ≡ with_arguments (new_app (word_of asked)) (take (i + 1) taken))
+argument_more asked taken i p c d a more takes is added rules app =
+    let list : map rule_for (take (i + 1) taken) ≡ map rule_for (take i taken) ++ rule_for p ∷ [] =
+    ap (map rule_for) more ∙ map-append rule_for (take i taken) (p ∷ []) in (
+      subst (HasRules d) (sym list) (one_more c d a (map rule_for (take i taken)) (rule_for p) rules takes added),
+      added.shape takes.local
+          ∙ (ap₂ with_rule app is
+          ∙ (sym (with_arguments_more (new_app (word_of asked)) (take i taken) p) ∙ ap (with_arguments (new_app (word_of asked))) (sym more))),
+    )
+
+-- one command more
+pub task_more : (tasks : List Task) (i : ℕ) (t : Task) (c d next : Command) → take (i + 1) tasks ≡ take i tasks ++ t ∷ []
+    → HasRules next (rules_of t) → app_of next ≡ app_by t → AddsSubcommand c next d
+    → app_of c ≡ with_tasks bare_app (take i tasks) → app_of d ≡ with_tasks bare_app (take (i + 1) tasks)
+task_more tasks i t c d next more rules is added app =
+    added.shape rules.local
+    ∙ (ap₂ with_subcommand app (ap (λ (a : App). a.top) is) ∙ (sym (with_tasks_more bare_app (take i tasks) t) ∙ ap (with_tasks bare_app) (sym more)))

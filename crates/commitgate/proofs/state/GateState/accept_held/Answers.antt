@@ -1,0 +1,60 @@
+-- The seat has met what was read, and then the turn is accepted.
+use Rattle.std.proofs.Common.{◌≡◌, ℕ, length, sym, ap, ◌∙◌, subst}
+use mathlib.Core.List.{IsPrefix}
+use Rattle.turn.specs.Reads.{GaveAll}
+use Rattle.gateparts.specs.Log.{Log}
+use Rattle.gateparts.specs.GateState.{GateState}
+use Rattle.gateparts.specs.Histories.{IsRead}
+use Rattle.regcells.specs.Meetings.{AreReadsIn, HasMetReads}
+use Rattle.commitgate.specs.Seats.{SeatView}
+use Rattle.commitgate.specs.Answers.{MayCommit, AreCurrent}
+use Rattle.commitgate.specs.Replies.{Answered}
+use Rattle.commitgate.specs.Told.{CommitCauses, AnsweredTo}
+use Rattle.gateparts.proofs.Beginnings.{prefix_self}
+use Rattle.commitgate.proofs.Tellings.{answered_first}
+use Rattle.commitgate.proofs.Validating.{reads_in}
+use Rattle.commitgate.proofs.state.GateState.accept_held.Goals as goal
+
+pub show_reads-requires : goal.show_reads-requires
+show_reads-requires g c = record {
+  reads = subst (λ rs. AreReadsIn (length g.K.Naming.named.cells) rs) (sym c.reads.ensures)
+      (reads_in g.K.Naming.named.code (length g.K.Naming.named.cells) c.args.ticket c.args.log.now c.known.ensures.widths c.known-2.ensures.own c.requires.turn);
+}
+
+pub accept-requires-clause-seen : goal.accept-requires-clause-seen
+accept-requires-clause-seen g c =
+    ap (λ (v : SeatView). v.seen) c.show_reads.ensures.seat ∙ c.requires.seen ∙ ap (λ (h : GateState). h.log) (sym c.show_reads.ensures.same)
+
+pub accept-requires-clause-may : goal.accept-requires-clause-may
+accept-requires-clause-may g c =
+    subst (λ (h : GateState). MayCommit g.K.Naming.named.limits h c.args.ticket) (sym c.show_reads.ensures.same) c.requires.may
+
+pub accept-requires-clause-current : goal.accept-requires-clause-current
+accept-requires-clause-current g c =
+    subst (λ (h : GateState). AreCurrent g.K.Naming.named.code h c.args.log.now.reads) (sym c.show_reads.ensures.same) c.requires.current
+
+pub accept-requires-clause-read : goal.accept-requires-clause-read
+accept-requires-clause-read g c =
+    subst (λ (h : GateState). GaveAll (IsRead g.K.Naming.named.code h.histories) c.args.log.now.reads) (sym c.show_reads.ensures.same) c.requires.read
+
+pub accept-requires-clause-met : goal.accept-requires-clause-met
+accept-requires-clause-met g c =
+    subst (λ (h : GateState). HasMetReads h.histories c.show_reads.new.seat.fresh c.args.log.now.reads) (sym c.show_reads.ensures.same)
+    (subst (λ rs. HasMetReads c.args.self.now.histories c.show_reads.new.seat.fresh rs) c.reads.ensures c.show_reads.ensures.met)
+
+pub returns-clause-state : goal.returns-clause-state
+returns-clause-state g c =
+    let n = g.K.Naming.named in
+    let worker = ap (λ (v : SeatView). v.worker) c.show_reads.ensures.seat in
+    subst (λ (h : GateState). Answered n.code n.limits c.args.seat.now.worker h c.args.ticket c.args.log.now.reads c.accept.new.self c.accept.result) c.show_reads.ensures.same
+    (subst (λ (w : ℕ). Answered n.code n.limits w c.show_reads.new.self c.args.ticket c.args.log.now.reads c.accept.new.self c.accept.result) worker c.accept.ensures.state)
+
+pub returns-clause-seat : goal.returns-clause-seat
+returns-clause-seat g c =
+    let n = g.K.Naming.named in
+    let old = c.args.seat.now in
+    let log : Log = c.args.self.now.log in
+    let fresh = c.show_reads.new.seat.fresh in
+    let seat = c.show_reads.ensures.seat ∙ ap (λ (l : Log). record old { seen = l; fresh = fresh }) c.requires.seen in
+    answered_first n old log (subst (λ (l : Log). IsPrefix l log) (sym c.requires.seen) (prefix_self log)) fresh c.show_reads.ensures.rises CommitCauses c.args.ticket c.args.log.now.reads c.accept.new.seat c.accept.result
+    (subst (λ (v : SeatView). AnsweredTo n CommitCauses v c.args.ticket c.args.log.now.reads c.accept.new.seat c.accept.result) seat c.accept.ensures.seat)

@@ -1,0 +1,244 @@
+//! What stands before a lexeme, as far as its note wants it.
+
+use crate::notes::Note;
+use crate::words::{Advice, is_same};
+
+/// Whether a body is to follow.
+#[derive(Clone, Copy)]
+enum Body {
+    None,
+    /// Behind an `if` or a `while`, in whose condition so many parentheses are open.
+    Condition(usize),
+    Next,
+}
+
+/// Which square brackets are open.
+#[derive(Clone, Copy)]
+enum Brackets {
+    None,
+    /// Of a declaration.
+    Range,
+    Select,
+}
+
+/// How far the head of the last module has come.
+#[derive(Clone, Copy)]
+enum Module {
+    None,
+    /// Up to `module`.
+    Word,
+    /// Up to its name.
+    Name,
+    Body,
+}
+
+/// Whether a `reg` is being declared.
+#[derive(Clone, Copy)]
+enum Declaration {
+    None,
+    Register,
+    /// Behind a name's `=`.
+    Value,
+}
+
+/// How far the head of a `$display` or a `$strobe` has come.
+#[derive(Clone, Copy)]
+enum Call {
+    None,
+    Name,
+    /// Up to its parenthesis.
+    Open,
+}
+
+/// What stands before a lexeme.
+#[derive(Clone, Copy)]
+pub(crate) struct Before<'a> {
+    last: &'a [u8],
+    /// Whether the last word is one of Verilog behind which a range can stand.
+    declares: bool,
+    body: Body,
+    brackets: Brackets,
+    module: Module,
+    declaration: Declaration,
+    call: Call,
+}
+
+pub(crate) const NOTHING: Before<'static> = Before {
+    last: b"",
+    declares: false,
+    body: Body::None,
+    brackets: Brackets::None,
+    module: Module::None,
+    declaration: Declaration::None,
+    call: Call::None,
+};
+
+fn condition_after(open: usize, text: &[u8]) -> Body {
+    match text {
+        [b'('] => Body::Condition(open.saturating_add(1)),
+        [b')'] if open <= 1 => Body::Next,
+        [b')'] => Body::Condition(open - 1),
+        _ if open == 0 => Body::None,
+        _ => Body::Condition(open),
+    }
+}
+
+fn body_after(body: Body, text: &[u8]) -> Body {
+    match text {
+        b"if" | b"while" => Body::Condition(0),
+        b"else" => Body::Next,
+        _ => match body {
+            Body::Condition(open) => condition_after(open, text),
+            _ => Body::None,
+        },
+    }
+}
+
+fn module_after(module: Module, text: &[u8]) -> Module {
+    if is_same(text, b"module") {
+        return Module::Word;
+    }
+    match module {
+        Module::None => Module::None,
+        Module::Word => Module::Name,
+        _ => Module::Body,
+    }
+}
+
+fn declaration_after(declaration: Declaration, text: &[u8]) -> Declaration {
+    match text {
+        b"reg" => Declaration::Register,
+        b";" | b"initial" | b"always" => Declaration::None,
+        _ => match declaration {
+            Declaration::Register if is_same(text, b"=") => Declaration::Value,
+            Declaration::Value if is_same(text, b",") => Declaration::Register,
+            _ => declaration,
+        },
+    }
+}
+
+fn call_after(call: Call, text: &[u8]) -> Call {
+    match text {
+        b"$display" | b"$strobe" => Call::Name,
+        b"(" => match call {
+            Call::Name => Call::Open,
+            _ => Call::None,
+        },
+        _ => Call::None,
+    }
+}
+
+/// Whether a range can stand behind a word in Verilog, by the note on it: so it can behind each word that declares.
+fn has_range(text: &[u8], note: Option<Note>) -> bool {
+    match note {
+        None => is_same(text, b"reg"),
+        Some(note) => match note.advice {
+            Advice::OneModule => true,
+            Advice::Net => true,
+            Advice::Register => true,
+            Advice::Subroutine => true,
+            Advice::Unsigned => true,
+            _ => false,
+        },
+    }
+}
+
+impl<'a> Before<'a> {
+    /// What stands before the next lexeme, by this one and the note on it.
+    pub(crate) fn after(self, text: &'a [u8], note: Option<Note>) -> Before<'a> {
+        Before {
+            last: text,
+            declares: has_range(text, note),
+            body: body_after(self.body, text),
+            brackets: self.brackets_after(text),
+            module: module_after(self.module, text),
+            declaration: declaration_after(self.declaration, text),
+            call: call_after(self.call, text),
+        }
+    }
+
+    fn brackets_after(self, text: &[u8]) -> Brackets {
+        match text {
+            b"[" if self.declares || self.in_declaration() => Brackets::Range,
+            b"[" => Brackets::Select,
+            b"]" | b";" => Brackets::None,
+            _ => self.brackets,
+        }
+    }
+
+    /// Whether a `reg` is being declared, and no value is given to it.
+    pub(crate) fn in_declaration(self) -> bool {
+        match self.declaration {
+            Declaration::Register => true,
+            _ => false,
+        }
+    }
+
+    /// Whether `begin` has to come, and doesn't.
+    pub(crate) fn lacks_block(self, text: &[u8]) -> bool {
+        match self.body {
+            Body::Next => !is_same(text, b"begin"),
+            _ => false,
+        }
+    }
+
+    /// Whether a format has to come.
+    pub(crate) fn takes_format(self) -> bool {
+        match self.call {
+            Call::Open => true,
+            _ => false,
+        }
+    }
+
+    /// Whether a `*` stands for all registers here. Behind a parenthesis it can be no operator.
+    pub(crate) fn takes_events(self) -> bool {
+        is_same(self.last, b"@") || is_same(self.last, b"(")
+    }
+
+    /// Whether a parenthesis begins the ports of a module here.
+    pub(crate) fn takes_ports(self) -> bool {
+        match self.module {
+            Module::Name => true,
+            _ => false,
+        }
+    }
+
+    /// Whether a square bracket makes a memory of a name that is being declared here.
+    pub(crate) fn takes_words(self) -> bool {
+        self.in_declaration() && !self.declares
+    }
+
+    /// Whether a `:` gives a block its name here.
+    pub(crate) fn takes_name(self) -> bool {
+        is_same(self.last, b"begin")
+    }
+
+    /// Whether a module has begun.
+    pub(crate) fn has_module(self) -> bool {
+        match self.module {
+            Module::None => false,
+            _ => true,
+        }
+    }
+
+    /// Whether square brackets are open.
+    pub(crate) fn in_brackets(self) -> bool {
+        match self.brackets {
+            Brackets::None => false,
+            _ => true,
+        }
+    }
+
+    /// Whether the square brackets of a select are open.
+    pub(crate) fn in_select(self) -> bool {
+        match self.brackets {
+            Brackets::Select => true,
+            _ => false,
+        }
+    }
+
+    /// Whether a number that begins with these bytes is one that can't stand here.
+    pub(crate) fn lacks_size(self, b: u8, rest: &[u8]) -> bool {
+        b == b'\'' || !(rest.contains(&b'\'') || is_same(self.last, b"#") || self.in_brackets())
+    }
+}

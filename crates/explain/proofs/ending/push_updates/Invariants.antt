@@ -1,9 +1,0 @@
--- What is still to be put are the lines of the events that are left.
-use Rattle.std.proofs.Common.{◌≡◌, ◌++◌, drop, map}
-use Rattle.regions.specs.Queue.{update_event}
-use Rattle.explain.specs.Endings.{region_lines}
-use Rattle.explain.proofs.ending.push_updates.Given as goal
-
-abbrev pub invariant-loop-i : goal.invariant-loop-i
-invariant-loop-i l =
-    l.text.items ++ region_lines l.names l.region (map update_event (drop l.i l.events.items)) ≡ l.fn.text.items ++ region_lines l.names l.region (map update_event l.events.items)

@@ -1,0 +1,9 @@
+-- What is still to be put are the parts that are left.
+use Rattle.std.proofs.Common.{◌≡◌, ◌++◌, drop}
+use Rattle.explain.specs.Lines.{list_text}
+use Rattle.explain.proofs.lines.push_list.Given as goal
+
+abbrev pub invariant-loop-place : goal.invariant-loop-place
+invariant-loop-place g l =
+    l.text.items ++ list_text (g.P.Part.part_text l.names) l.word l.behind l.place (drop l.place l.parts)
+    ≡ l.fn.text.items ++ list_text (g.P.Part.part_text l.names) l.word l.behind 0 l.parts
