@@ -3,7 +3,7 @@ use Rattle.std.proofs.Common.{◌≡◌, ◌<◌, sym, ap, List, [], ◌∷◌, 
 use Rattle.std.specs.Str.{bytes_eq}
 use Rattle.std.proofs.lemmas.Slice.Eq.{bytes_eq-Decides}
 use Rattle.std.proofs.lemmas.Bool.Decides.{nat_tests}
-use Rattle.arguments.specs.Words.{Begins, texts_of}
+use Rattle.arguments.specs.CommandWords.{Begins, texts_of}
 
 pub second_text : {Z : Type 0} (words : List (String Z)) (word : String Z) → 1 < length words → word ≡ get_or words 1 word
     → Begins (texts_of words) (string_bytes word)

@@ -13,7 +13,7 @@ use Rattle.arguments.specs.declared.request.Request.TheVariants as request
 use Rattle.arguments.specs.declared.task.Task.{Task}
 use Rattle.arguments.specs.declared.task.Task.TheVariants as task
 use Rattle.arguments.specs.Arguments.{Gives, HasRules, Takes, parameters_of, rule, rule_for, rules_of, workers_parser, until_parser, entries_parser, seed_parser}
-use Rattle.arguments.specs.Words.{Asks, AsksTwoOrders, Begins, FailsAs, IsAskedBy, IsRunOf, IsReplayOf, IsRacesOf, IsCheckOf, IsExplainOf, IsWavesOf, app_by, argument_of, bare_app, every_task, faults_by, rows_by, with_arguments, with_tasks, word_of, run_app, replay_app, races_app, check_app, explain_app, waves_app, whole_app, run_rows, replay_rows, races_rows, check_rows, explain_rows, waves_rows, run_faults, replay_faults, races_faults, check_faults, explain_faults, waves_faults}
+use Rattle.arguments.specs.CommandWords.{Asks, AsksTwoOrders, Begins, FailsAs, IsAskedBy, IsRunOf, IsReplayOf, IsRacesOf, IsCheckOf, IsExplainOf, IsWavesOf, app_by, argument_of, bare_app, every_task, faults_by, rows_by, with_arguments, with_tasks, word_of, run_app, replay_app, races_app, check_app, explain_app, waves_app, whole_app, run_rows, replay_rows, races_rows, check_rows, explain_rows, waves_rows, run_faults, replay_faults, races_faults, check_faults, explain_faults, waves_faults}
 use Rattle.arguments.proofs.GivenLemmas.{given, one_more, required_text}
 use Rattle.arguments.proofs.WordLemmas.{run_fails, replay_fails, races_fails, check_fails, explain_fails, waves_fails, two_orders_fail}
 
@@ -163,3 +163,28 @@ pub task_more : (tasks : List Task) (i : ℕ) (t : Task) (c d next : Command) �
 task_more tasks i t c d next more rules is added app =
     added.shape rules.local
     ∙ (ap₂ with_subcommand app (ap (λ (a : App). a.top) is) ∙ (sym (with_tasks_more bare_app (take i tasks) t) ∙ ap (with_tasks bare_app) (sym more)))
+
+-- which task is asked for
+
+-- none of these tasks is
+abbrev pub NoneBegins : List Text → List Task → Type 0
+NoneBegins words [] = Unit {0}
+NoneBegins words (t ∷ ts) = (Begins words (word_of t) → ⊥) × NoneBegins words ts
+
+none_then : (words : List Text) (ts : List Task) (t : Task) → NoneBegins words ts → (Begins words (word_of t) → ⊥) → NoneBegins words (ts ++ t ∷ [])
+none_then words [] t before unasked = (unasked, tt)
+none_then words (u ∷ ts) t before unasked = (before.0, none_then words ts t before.1 unasked)
+
+-- nor one more
+pub none_more : (words : List Text) (tasks : List Task) (i : ℕ) (t : Task) → take (i + 1) tasks ≡ take i tasks ++ t ∷ []
+    → (Begins words (word_of t) → ⊥) → NoneBegins words (take i tasks) → NoneBegins words (take (i + 1) tasks)
+none_more words tasks i t more unasked before = subst (NoneBegins words) (sym more) (none_then words (take i tasks) t before unasked)
+
+-- nor any other, where they are all
+pub none_of_every : (words : List Text) (asked : Task) → NoneBegins words every_task → Begins words (word_of asked) → ⊥
+none_of_every words task.Run none = none.0
+none_of_every words task.Replay none = none.1.0
+none_of_every words task.Races none = none.1.1.0
+none_of_every words task.Check none = none.1.1.1.0
+none_of_every words task.Explain none = none.1.1.1.1.0
+none_of_every words task.Waves none = none.1.1.1.1.1.0

@@ -14,7 +14,7 @@ use Rattle.clap.specs.declared.parser.matches.ArgMatches.{ArgMatches}
 use Rattle.arguments.specs.declared.request.Refusal.{Refusal}
 use Rattle.arguments.specs.declared.request.Refusal.TheVariants as refusal
 use Rattle.arguments.specs.Arguments.{IsGiven}
-use Rattle.arguments.specs.Words.{number_given, AsksNoTask, Begins, FailsAs, IsRefusal, IsRefusalBy, MayFail, of_run, of_two_orders, of_replay, of_races, of_check, of_explain, of_waves, of_others, has_two_orders, other_faults, check_app, check_faults, explain_app, explain_faults, races_app, races_faults, replay_app, replay_faults, run_app, run_faults, run_rows, waves_app, waves_faults, whole_app}
+use Rattle.arguments.specs.CommandWords.{number_given, AsksNoTask, Begins, FailsAs, IsRefusal, IsRefusalBy, MayFail, of_run, of_two_orders, of_replay, of_races, of_check, of_explain, of_waves, of_others, has_two_orders, other_faults, check_app, check_faults, explain_app, explain_faults, races_app, races_faults, replay_app, replay_faults, run_app, run_faults, run_rows, waves_app, waves_faults, whole_app}
 
 whole_is_free : is_simple_and_free whole_app ≡ true
 unfolding whole_app run_app replay_app races_app check_app explain_app waves_app

@@ -1,3 +1,3 @@
 pub mod Arguments
 pub mod Options
-pub mod Words
+pub mod CommandWords

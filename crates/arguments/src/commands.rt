@@ -4,7 +4,7 @@ ghost use Rattle.std.specs.Prelude.{◌≡◌, [], IfErr, IfOk};
 ghost use Rattle.clap.specs.Words.{HasKind, IsAmong, app_of, found_of, kind_of, new_app, rows_of};
 ghost use Rattle.clap.specs.declared.error.kind.ErrorKind.TheVariants.{ArgumentConflict, MissingSubcommand};
 ghost use Rattle.arguments.specs.Arguments.{Gives, HasRules, rules_of};
-ghost use Rattle.arguments.specs.Words.{app_by, bare_app, faults_by, other_faults, rows_by, texts_of, whole_app, word_of};
+ghost use Rattle.arguments.specs.CommandWords.{app_by, bare_app, faults_by, other_faults, rows_by, texts_of, whole_app, word_of};
 
 use crate::parameters::{argument, parameters};
 use crate::task::Task;

@@ -2,7 +2,7 @@
 
 /// The limits of the runs, the most states and texts of a search, and how many random orders are tried in its place, if
 /// any, from which seed.
-#[derive(Clone, Copy, Debug, PartialEq, Eq)]
+#[derive(Clone, Copy)]
 pub struct Extent {
     pub until: Option<u64>,
     pub max_entries: u32,

@@ -5,7 +5,7 @@ ghost use Rattle.clap.specs.Words.{first_of, found_of, rows_of};
 ghost use Rattle.model.specs.Runs.{last_time};
 ghost use Rattle.arguments.specs.Arguments.{IsGiven, GivesRun, GivesReplay, GivesRaces, GivesCheck, GivesExplain, GivesWaves, workers_parser, until_parser, entries_parser, seed_parser};
 ghost use Rattle.arguments.specs.Options.{CanRun, CanSearch};
-ghost use Rattle.arguments.specs.Words.{IsCheckOf, IsExplainOf, IsRacesOf, IsReplayOf, IsRunOf, IsWavesOf, extent_of, has_two_orders, number_given, options_of};
+ghost use Rattle.arguments.specs.CommandWords.{IsCheckOf, IsExplainOf, IsRacesOf, IsReplayOf, IsRunOf, IsWavesOf, extent_of, has_two_orders, number_given, options_of};
 
 use crate::extent::Extent;
 use crate::options::Options;

@@ -2,7 +2,7 @@
 
 /// On 1 to 16 workers, up to a time of at most 2 to the 48 where one is given, and with at least one entry in its
 /// journal.
-#[derive(Clone, Copy, Debug, PartialEq, Eq)]
+#[derive(Clone, Copy)]
 pub struct Options {
     pub workers: u32,
     pub until: Option<u64>,

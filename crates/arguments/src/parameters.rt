@@ -3,7 +3,7 @@
 ghost use Rattle.std.specs.Prelude.{◌≡◌, None, Some, true, false, codes};
 ghost use Rattle.clap.specs.Words.{rule_of};
 ghost use Rattle.arguments.specs.Arguments.{Takes, parameters_of, rule, rule_for, workers_parser, until_parser, entries_parser, seed_parser};
-ghost use Rattle.arguments.specs.Words.{argument_of, choice, place};
+ghost use Rattle.arguments.specs.CommandWords.{argument_of, choice, place};
 
 use crate::task::Task;
 use clap::{Arg, ArgAction, value_parser};

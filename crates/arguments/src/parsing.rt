@@ -8,7 +8,7 @@ ghost use Rattle.std.specs.Prelude.{◌≡◌, ◌⊎◌, IfErr, IfOk, IfSome, N
 ghost use Rattle.clap.specs.Words.{found_of, kind_of, rows_of};
 ghost use Rattle.clap.specs.declared.error.kind.ErrorKind.TheVariants.{ArgumentConflict, MissingSubcommand, OutOfMemory};
 ghost use Rattle.arguments.specs.Arguments.{Gives, GivesRun};
-ghost use Rattle.arguments.specs.Words.{Asks, AsksNoTask, AsksTwoOrders, Begins, FailsAs, IsAskedBy, IsRefusal, IsRefusalBy, texts_of, word_of};
+ghost use Rattle.arguments.specs.CommandWords.{Asks, AsksNoTask, AsksTwoOrders, Begins, FailsAs, IsAskedBy, IsRefusal, IsRefusalBy, texts_of, word_of};
 ghost use Rattle.arguments.specs.declared.task.Task.{Task};
 ghost use Rattle.arguments.specs.declared.task.Task.TheVariants.{Run};
 
@@ -66,23 +66,11 @@ fn asked_task(words: &[String]) -> Option<Task>
     ensures some { IfSome result (λ task. Begins (texts_of words.now) (word_of task)) }
     ensures none { result ≡ None → (asked : Task) → Begins (texts_of words.now) (word_of asked) → ⊥ }
 {
-    if begins(words, "run") {
-        return Some(Task::Run);
-    }
-    if begins(words, "replay") {
-        return Some(Task::Replay);
-    }
-    if begins(words, "races") {
-        return Some(Task::Races);
-    }
-    if begins(words, "check") {
-        return Some(Task::Check);
-    }
-    if begins(words, "explain") {
-        return Some(Task::Explain);
-    }
-    if begins(words, "waves") {
-        return Some(Task::Waves);
+    let tasks = Task::every();
+    for task in tasks {
+        if begins(words, task.word()) {
+            return Some(*task);
+        }
     }
     None
 }

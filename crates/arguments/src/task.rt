@@ -1,7 +1,7 @@
 //! The tasks of the program, each of which one word asks for.
 
 ghost use Rattle.std.specs.Prelude.{◌≡◌};
-ghost use Rattle.arguments.specs.Words.{every_task, word_of};
+ghost use Rattle.arguments.specs.CommandWords.{every_task, word_of};
 
 /// What the word after the program's name may ask for, besides the program's version.
 #[derive(Clone, Copy)]

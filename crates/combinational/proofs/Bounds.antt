@@ -7,7 +7,7 @@ use Rattle.model.specs.Design.{Process, Statement, Empty, Assign, AssignAfter, A
 use Rattle.model.specs.Turns.{contains}
 use Rattle.model.specs.TurnCases.{all_but}
 use Rattle.design.specs.declared.tree.Process as trees
-use Rattle.design.specs.Trees.{process_of}
+use Rattle.design.specs.DesignTrees.{process_of}
 use Rattle.design.specs.Sound.{IsSoundExpression, AreSoundExpressions, IsSoundStatement, AreSoundStatements}
 use Rattle.phases.specs.Combinational.{reads_one, reads, written_one, written}
 use Rattle.phases.proofs.Blocks.{append_tells}

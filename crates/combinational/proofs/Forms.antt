@@ -2,7 +2,7 @@
 use Rattle.std.proofs.Common.{◌≡◌, ap, sym, ◌∙◌}
 use Rattle.model.specs.Design as model
 use Rattle.model.specs.Design.{Assign}
-use Rattle.design.specs.Trees.{statement_of, expression_of, statement_node}
+use Rattle.design.specs.DesignTrees.{statement_of, expression_of, statement_node}
 use Rattle.design.specs.declared.tree.Statement.{Statement, fold-roll-Statement}
 use Rattle.design.specs.declared.tree.Statement.TheOpen.{Statement-F}
 use Rattle.design.specs.declared.tree.Statement.TheVariants as form

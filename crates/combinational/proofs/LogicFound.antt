@@ -6,10 +6,10 @@ use Rattle.std.proofs.lemmas.List.Elements.{All-get_or}
 use Rattle.model.specs.Design.{Design, Process, Statement, Await, Statements, End, Then, Trigger, all_of, size, statements_of, process_at, first_place}
 use Rattle.model.specs.Turns.{OnChange, contains, parts, short_turn}
 use Rattle.model.specs.declared.tree.Change.TheVariants.{Any}
-use Rattle.design.specs.Trees.{process_of}
+use Rattle.design.specs.DesignTrees.{process_of}
 use Rattle.design.specs.Compiled.{Compiled, design_of}
-use Rattle.design.specs.Standing.{controls_of}
-use Rattle.design.specs.Places.{remainder_at}
+use Rattle.design.specs.DesignInvariant.{controls_of}
+use Rattle.design.specs.CodePlaces.{remainder_at}
 use Rattle.design.specs.Sound.{AreSoundStatements}
 use Rattle.design.specs.Meaning.{IsCompiled}
 use Rattle.phases.specs.Phase.{Block, IsBlock}
@@ -33,7 +33,7 @@ same_block design p b c rest inputs more fewer block =
               reads = λ r used. ap (λ xs. contains xs r) (sym inputs) ∙ h.reads r used;
               writes = λ r wrote. more r (h.writes r wrote);
               all = λ r out. h.all r (fewer r out);
-              laters = h.laters;
+              nbas = h.nbas;
               lines = h.lines;
               strobes = h.strobes;
               finish = h.finish;

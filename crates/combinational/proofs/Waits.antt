@@ -8,8 +8,8 @@ use Rattle.model.proofs.PlaceLaws.{Stands, statement_there}
 use Rattle.design.specs.declared.code.Node.TheVariants as node
 use Rattle.design.specs.declared.code.ProcState.{ProcState}
 use Rattle.design.specs.Compiled.{Compiled, design_of}
-use Rattle.design.specs.Standing.{controls_of, remainder_of, pending_part, IsStateOf}
-use Rattle.design.specs.Places.{remainder_at}
+use Rattle.design.specs.DesignInvariant.{controls_of, remainder_of, pending_part, IsStateOf}
+use Rattle.design.specs.CodePlaces.{remainder_at}
 use Rattle.design.specs.Meaning.{IsCompiled, IsFine}
 use Rattle.phases.proofs.Blocks.{body_at, no_more}
 

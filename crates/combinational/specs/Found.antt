@@ -4,8 +4,8 @@ use Rattle.model.specs.declared.tree.Change.TheVariants.{Any}
 use Rattle.model.specs.Design.{Trigger}
 use Rattle.model.specs.Turns.{contains}
 use Rattle.design.specs.Compiled.{Compiled, design_of}
-use Rattle.design.specs.Standing.{controls_of}
-use Rattle.design.specs.Places.{remainder_at}
+use Rattle.design.specs.DesignInvariant.{controls_of}
+use Rattle.design.specs.CodePlaces.{remainder_at}
 use Rattle.phases.specs.Phase.{Block, triggers, IsBlock}
 use Rattle.combinational.specs.declared.block.Logic.{Logic}
 use Rattle.combinational.specs.declared.network.Network.{Network}

@@ -2,10 +2,10 @@
 ghost use Rattle.std.specs.Prelude.{◌≡◌, ℕ, ◌+◌, ◌<◌, ◌≤◌, true, false, List, [], map, length, Some, slice_get, IfOk, IfSome};
 ghost use Rattle.model.specs.Design.{Trigger as Triggered, Statements, Await, End, Then, process_at, first_place};
 ghost use Rattle.model.specs.Turns.{contains, parts};
-ghost use Rattle.design.specs.Trees.{process_of, statements_of};
+ghost use Rattle.design.specs.DesignTrees.{process_of, statements_of};
 ghost use Rattle.design.specs.Compiled.{design_of};
-ghost use Rattle.design.specs.Standing.{controls_of};
-ghost use Rattle.design.specs.Places.{remainder_at};
+ghost use Rattle.design.specs.DesignInvariant.{controls_of};
+ghost use Rattle.design.specs.CodePlaces.{remainder_at};
 ghost use Rattle.phases.specs.Combinational.{reads as all_reads, written, settled};
 ghost use Rattle.combinational.specs.Found.{any_change, HasLogic};
 

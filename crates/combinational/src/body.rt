@@ -1,7 +1,7 @@
 //! What the statements of a body may read and write, and what they write for certain.
 ghost use Rattle.std.specs.Prelude.{◌≡◌, ℕ, List};
 ghost use Rattle.model.specs.Turns.{contains};
-ghost use Rattle.design.specs.Trees.{statement_of, statements_of};
+ghost use Rattle.design.specs.DesignTrees.{statement_of, statements_of};
 ghost use Rattle.phases.specs.Combinational.{is_plain_one, is_plain as plain, reads_one, reads as all_reads, written_one, written, settled_one, settled};
 
 use crate::expression::reads;

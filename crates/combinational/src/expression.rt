@@ -2,7 +2,7 @@
 ghost use Rattle.std.specs.Prelude.{◌≡◌};
 ghost use Rattle.model.specs.Syntax.{registers_of, all_registers_of};
 ghost use Rattle.model.specs.Turns.{contains};
-ghost use Rattle.design.specs.Trees.{expression_of, expressions_of};
+ghost use Rattle.design.specs.DesignTrees.{expression_of, expressions_of};
 
 use design::RegId;
 use design::tree::Expression;

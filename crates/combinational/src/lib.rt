@@ -8,4 +8,4 @@ mod expression;
 mod network;
 
 pub use block::{Logic, is_among};
-pub use network::{Network, network_of};
+pub use network::{Network, network_of, share};

@@ -27,9 +27,10 @@ fn logics_of(alloc: Global, design: &Design) -> Result<Vec<Option<Logic>>, Alloc
     Ok(logics)
 }
 
-// Whether two lists have a register in common.
-fn share(registers: &[RegId], others: &[RegId]) -> bool
-    ensures { result ≡ false → (r : ℕ) → contains registers.now r ≡ true → contains others.now r ≡ false }
+/// Whether two lists have a register in common.
+pub fn share(registers: &[RegId], others: &[RegId]) -> bool
+    ensures common { result ≡ true → (r : ℕ) × (contains registers.now r ≡ true) × (contains others.now r ≡ true) }
+    ensures apart { result ≡ false → (r : ℕ) → contains registers.now r ≡ true → contains others.now r ≡ false }
 {
     for register in registers {
         if is_among(others, *register) {

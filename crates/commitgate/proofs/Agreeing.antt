@@ -10,9 +10,9 @@ use Rattle.turn.specs.Reads.{Agrees, AreDeclared, GaveAll}
 use Rattle.regcells.specs.Values.{last_value}
 use Rattle.regcells.proofs.Lasts.{last_at}
 use Rattle.regcells.specs.Meetings.{fresh_of}
-use Rattle.gateparts.specs.Histories.{IsEntryOf, IsRead}
-use Rattle.gateparts.proofs.Beginnings.{prefix_get}
-use Rattle.gateparts.proofs.Histories.{value_of_last}
+use Rattle.runstate.specs.Histories.{IsEntryOf, IsRead}
+use Rattle.runstate.proofs.Beginnings.{prefix_get}
+use Rattle.runstate.proofs.Histories.{value_of_last}
 
 -- Versions alone are compared: what was recorded stands in a beginning of the register's list, so where its version is the last,
 -- its value is.

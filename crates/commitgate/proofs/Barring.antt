@@ -7,35 +7,35 @@ use Rattle.model.specs.declared.end.Why.{Why}
 use Rattle.model.specs.declared.end.Why.TheVariants.{TooLong}
 use Rattle.model.specs.declared.end.Limits.{Limits}
 use Rattle.design.specs.Compiled.{Compiled, design_of}
-use Rattle.design.specs.Standing.{IsStateOf}
+use Rattle.design.specs.DesignInvariant.{IsStateOf}
 use Rattle.turn.specs.declared.memory.Seen.{Seen}
 use Rattle.turn.specs.declared.log.FillFault.TheVariants as fault
-use Rattle.turn.specs.Answers.{IsNoTurn}
+use Rattle.turn.specs.TurnAnswers.{IsNoTurn}
 use Rattle.turn.specs.Reads.{Agrees, GaveAll}
 use Rattle.regcells.specs.Values.{last_value}
 use Rattle.commitgate.specs.declared.reply.Reply.{Reply}
 use Rattle.commitgate.specs.declared.reply.Reply.TheVariants as replies
 use Rattle.commitgate.specs.declared.reply.Reply.TheVariants.{Accepted, Stale, Gone, NoMemory}
 use Rattle.commitgate.specs.Named.{Named}
-use Rattle.gateparts.specs.Log.{entries_of}
-use Rattle.gateparts.specs.GateState.{GateState}
-use Rattle.gateparts.specs.Guarded.{Guarded}
-use Rattle.commitgate.specs.Kept.{Kept}
+use Rattle.runstate.specs.Log.{entries_of}
+use Rattle.runstate.specs.GateState.{GateState}
+use Rattle.runstate.specs.Guarded.{Guarded}
+use Rattle.commitgate.specs.GateInvariant.{GateInvariant}
 use Rattle.regcells.specs.Meetings.{fresh_of, Rises, AreReadsIn}
 use Rattle.commitgate.specs.Seats.{SeatView}
 use Rattle.commitgate.specs.Tickets.{TicketView, IsCurrent, again}
-use Rattle.gateparts.specs.Histories.{hist, IsRead, IsCurrentIn, IsFirstMovedIn}
-use Rattle.gateparts.proofs.Items.{entries_ended}
-use Rattle.gateparts.specs.Evaluated.{turn_at}
-use Rattle.commitgate.specs.Answers.{IsRecorded, MayCommit, AreCurrent, StopsAt, Full, Long, LongStopsAt, FullLong, CurrentLong, stopped}
-use Rattle.commitgate.specs.Answers as answers
+use Rattle.runstate.specs.Histories.{hist, IsRead, IsCurrentIn, IsFirstMovedIn}
+use Rattle.runstate.proofs.Items.{entries_ended}
+use Rattle.runstate.specs.Evaluated.{turn_at}
+use Rattle.commitgate.specs.GateAnswers.{IsRecorded, MayCommit, AreCurrent, StopsAt, Full, Long, LongStopsAt, FullLong, CurrentLong, stopped}
+use Rattle.commitgate.specs.GateAnswers as answers
 use Rattle.commitgate.specs.Replies.{Barred, Answered, LongAnswered}
-use Rattle.commitgate.specs.Told.{AreCurrentTo, CommitCauses, LongCauses, ReadCauses, IsStopped, IsStale, BarredTo, AnsweredTo, LongAnsweredTo}
+use Rattle.commitgate.specs.SeatAnswers.{AreCurrentTo, CommitCauses, LongCauses, ReadCauses, IsStopped, IsStale, BarredTo, AnsweredTo, LongAnsweredTo}
 use Rattle.commitgate.proofs.Agreeing.{agrees}
 use Rattle.commitgate.proofs.AtLock.{long_at_lock}
 use Rattle.commitgate.proofs.Tellings.{tell_refused}
 use Rattle.commitgate.proofs.Validating.{get_all}
-use Rattle.gateparts.proofs.Beginnings.{prefix_self}
+use Rattle.runstate.proofs.Beginnings.{prefix_self}
 
 -- what holds where there is none
 pub of_none : {A : Type 0} (o : Option A) (P : Type 0) → IfNone o P → o ≡ None → P
@@ -105,7 +105,7 @@ barred_long_told n old ticket reads new (replies.Stopped why) h = stopped_for n 
 barred_long_told n old ticket reads new (NoMemory back) h = absurd h
 
 -- a register that was read has changed
-pub tell_stale : (n : Named) (old : SeatView) (held : GateState) → Guarded n.code n.limits held → Kept n held → IsPrefix old.seen held.log
+pub tell_stale : (n : Named) (old : SeatView) (held : GateState) → Guarded n.code n.limits held → GateInvariant n held → IsPrefix old.seen held.log
     → (ticket back : TicketView) (reads : List (ℕ × Seen)) (r : ℕ) (new : SeatView) → new ≡ record old { seen = held.log; fresh = new.fresh } → Rises old.fresh new.fresh → held.end ≡ None
     → back ≡ again ticket → IsFirstMovedIn (design_of n.code) held.journal reads r → fresh_of new.fresh r ≡ hist (design_of n.code) held.journal r
     → IsStale n old ticket reads r back new
@@ -125,7 +125,7 @@ long_reads_in code m ticket reads e own turn k d at =
     subst (λ j. d.0 < j) (sym e) (get_all (λ (r : ℕ × Seen). r.0 < length code.widths) reads (turn ticket.process own).0 k d at)
 
 -- where what was read is current, the ticket's evaluation has no short turn
-pub long_by : (n : Named) (held : GateState) (ticket : TicketView) (reads : List (ℕ × Seen)) → Kept n held → IsCurrent held.core ticket → IsStateOf n.code ticket.process ticket.state
+pub long_by : (n : Named) (held : GateState) (ticket : TicketView) (reads : List (ℕ × Seen)) → GateInvariant n held → IsCurrent held.core ticket → IsStateOf n.code ticket.process ticket.state
     → IsNoTurn n.code ticket.state ticket.time reads fault.TooLong → GaveAll (IsRead n.code held.histories) reads → AreCurrent n.code held reads
     → length held.values ≡ length n.code.widths
     → turn_at n.code held ticket.process ticket.state ≡ None
@@ -138,7 +138,7 @@ long_by n held ticket reads kept current own turn gave cur count =
     (subst (Agrees reads) (sym kept.values) agree)
 
 -- what is current under the lock is current in what a seat has seen that saw the run stopped
-pub current_told : (n : Named) (worker : ℕ) (why : Why) (held held' : GateState) (reads : List (ℕ × Seen)) (new : SeatView) → Kept n held → held' ≡ stopped worker why held → new.seen ≡ held'.log
+pub current_told : (n : Named) (worker : ℕ) (why : Why) (held held' : GateState) (reads : List (ℕ × Seen)) (new : SeatView) → GateInvariant n held → held' ≡ stopped worker why held → new.seen ≡ held'.log
     → AreCurrent n.code held reads → AreCurrentTo n reads new
 current_told n worker why held held' reads new kept is seen current k d at =
     let journal : held.journal ≡ entries_of new.seen =

@@ -8,7 +8,7 @@ use Rattle.std.proofs.Crossing.{crosses}
 use Rattle.crossbeam_utils.proofs.atomic.seq_cell.Wide.TheSendSync as cell
 use Rattle.design.specs.contracts.design.Design as Design
 use Rattle.regcells.proofs.cells.RegCells.TheSendSync as cells
-use Rattle.gateparts.proofs.Crossing.{parts_send}
+use Rattle.runstate.proofs.Crossing.{run_state_send}
 use Rattle.commitgate.specs.declared.naming.Naming as Naming
 use Rattle.commitgate.proofs.ticket.Ticket.TheSendSync as ticket
 use Rattle.commitgate.specs.contracts.state.GateState as State
@@ -19,7 +19,7 @@ use Rattle.commitgate.specs.contracts.gate.Gate as Gate
 module _ (l : NamedLft) (design : IsSync Design.the_row) where
   module _ (K : RattleType) (n : Naming.Ghosts K.Denot) (k : IsSend K) where
     state_fields : AllSend (shape (inside.the_type l K n)).fields
-    state_fields = (parts_send l design, (search (ticket.the_send, crosses, sendable) depth 20, (search (crosses, sendable) depth 40, tt)))
+    state_fields = (run_state_send l design, (search (ticket.the_send, crosses, sendable) depth 20, (search (crosses, sendable) depth 40, tt)))
 
     inside_send : IsSend (inside.the_field l K n).row
     inside_send = struct_send (shape (inside.the_type l K n)) state_fields

@@ -5,6 +5,7 @@ mod AtLock
 mod Currents
 mod Firsts
 mod Guards
+mod Readings
 mod Standings
 mod Meetings
 mod Tellings

@@ -5,7 +5,7 @@ use native.Mathlib.Decide.{ℕ_discrete}
 use mathlib.Core.List.{IsPrefix}
 use Rattle.logic4.specs.Vector.{Vector}
 use Rattle.regcells.specs.Meetings.{fresh_of, Rises, Met}
-use Rattle.gateparts.proofs.Beginnings.{prefix_self, prefix_trans}
+use Rattle.runstate.proofs.Beginnings.{prefix_self, prefix_trans}
 
 -- it has seen all that it had seen
 pub met_rises : (old all new : List (List Vector)) → Met old all new → Rises old new

@@ -3,14 +3,14 @@ use Rattle.std.proofs.Common.{◌≡◌, ℕ, zero, suc, ◌-◌, List, [], ◌�
 use Rattle.crossbeam_utils.specs.Seq.{cell_view}
 use Rattle.crossbeam_utils.specs.declared.atomic.seq_cell.Doing.{Doing}
 use Rattle.atomic_table.specs.declared.shared.Seat.{Seat}
-use Rattle.regcells.specs.Seats as regs
-use Rattle.gateparts.specs.declared.mark.MarkView.{MarkView}
-use Rattle.gateparts.specs.declared.parts.Parts.{Parts}
+use Rattle.regcells.specs.CellSeats as regs
+use Rattle.runstate.specs.declared.mark.MarkView.{MarkView}
+use Rattle.runstate.specs.declared.run_state.RunState.{RunState}
 use Rattle.commitgate.specs.Named.{Named}
-use Rattle.gateparts.specs.Log.{Log}
-use Rattle.gateparts.specs.Parts.{gate_state_of}
-use Rattle.gateparts.specs.Marked.{keeper}
-use Rattle.commitgate.specs.Standing.{Stands}
+use Rattle.runstate.specs.Log.{Log}
+use Rattle.runstate.specs.RunState.{gate_state_of}
+use Rattle.runstate.specs.Marked.{keeper}
+use Rattle.commitgate.specs.StateInvariant.{Stands}
 use Rattle.commitgate.specs.Blanks.{IsBlank}
 use Rattle.commitgate.proofs.Standings.{guarded_same, kept_start}
 
@@ -18,7 +18,7 @@ abbrev pub MarkPass : Type 0
 MarkPass = Seat (List ℕ) (Doing (List ℕ) MarkView)
 
 -- The lock keeps what it is to keep, once the seats are made.
-pub stands_first : (n : Named) (room : ℕ) (committed : List ℕ) (seats : List regs.Fresh) (p : Parts) (whole : MarkPass) → IsBlank n room committed seats p
+pub stands_first : (n : Named) (room : ℕ) (committed : List ℕ) (seats : List regs.Fresh) (p : RunState) (whole : MarkPass) → IsBlank n room committed seats p
     → whole.table_id ≡ n.mark → cell_view whole ≡ keeper (cell_view whole).made []
     → Stands n p.design.now p.limits p.holder whole.table_id (cell_view whole) (gate_state_of (record p { whole = whole }))
 stands_first n room committed seats p whole b mark keeps =

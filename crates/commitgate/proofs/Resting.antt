@@ -11,29 +11,29 @@ use Rattle.model.specs.declared.end.End.TheVariants.{Quiet}
 use Rattle.model.specs.States.{State, Event, is_evaluation}
 use Rattle.model.specs.Runs.{run, after, has_any, is_quiet, Ends}
 use Rattle.design.specs.Compiled.{design_of}
-use Rattle.gateparts.specs.declared.log.Item.TheVariants.{Did, Ended}
+use Rattle.runstate.specs.declared.log.Item.TheVariants.{Did, Ended}
 use Rattle.commitgate.specs.Named.{Named}
-use Rattle.gateparts.specs.Log.{Log, entries_of, end_from, end_in}
-use Rattle.gateparts.specs.GateState.{GateState, state_in}
-use Rattle.gateparts.specs.Guarded.{Guarded}
-use Rattle.commitgate.specs.Kept.{Kept}
+use Rattle.runstate.specs.Log.{Log, entries_of, end_from, end_in}
+use Rattle.runstate.specs.GateState.{GateState, state_in}
+use Rattle.runstate.specs.Guarded.{Guarded}
+use Rattle.commitgate.specs.GateInvariant.{GateInvariant}
 use Rattle.regcells.specs.Meetings.{Rises}
 use Rattle.commitgate.specs.Seats.{SeatView}
-use Rattle.commitgate.specs.Journals.{Stays}
-use Rattle.commitgate.specs.Answers.{HasNoUpdate, IsRegionChange, MustWait, stopped}
-use Rattle.commitgate.specs.Regions.{IsDueChange, IsPassed, why_past}
-use Rattle.commitgate.specs.Told.{MemoryCauses, RestCauses, IsQuietTo, IsBusy, IsRefused, IsStopped, HasMetEntry}
+use Rattle.commitgate.specs.GateJournals.{Stays}
+use Rattle.commitgate.specs.GateAnswers.{HasNoUpdate, IsRegionChange, MustWait, stopped}
+use Rattle.commitgate.specs.DueRegions.{IsDueChange, IsPassed, why_past}
+use Rattle.commitgate.specs.SeatAnswers.{MemoryCauses, RestCauses, IsQuietTo, IsBusy, IsRefused, IsStopped, HasMetEntry}
 use Rattle.logic4.specs.Vector.{Vector}
 use Rattle.model.specs.declared.end.Limits.{Limits}
-use Rattle.gateparts.proofs.Beginnings.{prefix_trans}
-use Rattle.gateparts.proofs.Logs.{end_join}
+use Rattle.runstate.proofs.Beginnings.{prefix_trans}
+use Rattle.runstate.proofs.Logs.{end_join}
 use Rattle.commitgate.proofs.Guards.{unfinished}
 use Rattle.commitgate.proofs.Meetings.{rises_self}
 use Rattle.commitgate.proofs.Staying.{quiet_stays}
 use Rattle.commitgate.proofs.Tellings.{after_log, tell_refused, tell_ended}
 
 -- no event is left
-pub tell_quiet : (n : Named) (old : SeatView) (held : GateState) → Guarded n.code n.limits held → Kept n held → IsPrefix old.seen held.log → (new : SeatView) → new ≡ record old { seen = held.log }
+pub tell_quiet : (n : Named) (old : SeatView) (held : GateState) → Guarded n.code n.limits held → GateInvariant n held → IsPrefix old.seen held.log → (new : SeatView) → new ≡ record old { seen = held.log }
     → held.end ≡ None → is_quiet (state_in n.code held) ≡ true → IsQuietTo n old new
 tell_quiet n old held g k later new is running quiet = record {
   refused = tell_refused n old held g k later new old.fresh is (rises_self old.fresh) running;
@@ -46,7 +46,7 @@ tell_quiet n old held g k later new is running quiet = record {
 }
 
 -- the call stored the end
-pub tell_stop : (n : Named) (causes : Why → Type 0) (old mid new : SeatView) (why : Why) (held same held' : GateState) → Guarded n.code n.limits held' → Kept n held' → IsPrefix old.seen held.log
+pub tell_stop : (n : Named) (causes : Why → Type 0) (old mid new : SeatView) (why : Why) (held same held' : GateState) → Guarded n.code n.limits held' → GateInvariant n held' → IsPrefix old.seen held.log
     → same ≡ held → mid ≡ record old { seen = held.log } → held' ≡ stopped mid.worker why same → new ≡ record mid { seen = held'.log; stored = Some why } → causes why → IsStopped n causes old why new
 tell_stop n causes old mid new why held same held' g' k' later same_is mid_is state new_is cause =
     let log : held'.log ≡ held.log ++ (mid.worker, Ended why) ∷ [] = ap (λ (h : GateState). h.log) state ∙ ap (λ (h : GateState). h.log ++ (mid.worker, Ended why) ∷ []) same_is in
@@ -76,7 +76,7 @@ no_end_before seen log p none = by_case (end_in seen) refl
     by_case (Some why) is = absurd (end_remains why p.0 (sym (ap (λ o. end_from o p.0) is) ∙ sym (end_join None seen p.0) ∙ ap end_in p.1 ∙ none))
 
 -- the call stored that memory was refused: the run went on, with an event left
-pub memory_cause : (n : Named) (old new : SeatView) (held held' : GateState) → Guarded n.code n.limits held' → Kept n held' → Kept n held → IsPrefix old.seen held.log → held.end ≡ None
+pub memory_cause : (n : Named) (old new : SeatView) (held held' : GateState) → Guarded n.code n.limits held' → GateInvariant n held' → GateInvariant n held → IsPrefix old.seen held.log → held.end ≡ None
     → new.seen ≡ held'.log → is_quiet (state_in n.code held') ≡ false → MemoryCauses n old new Memory
 memory_cause n old new held held' g' k' k later running seen left = (
   refl,
@@ -92,7 +92,7 @@ below_or : (a b : ℕ) → (a ≤ b → ⊥) → b < a
 below_or a b h = omega (arith, h)
 
 -- an event is active, and the worker was not to wait
-pub tell_busy : (n : Named) (old : SeatView) (held : GateState) → Guarded n.code n.limits held → Kept n held → IsPrefix old.seen held.log → (new : SeatView) → new ≡ record old { seen = held.log }
+pub tell_busy : (n : Named) (old : SeatView) (held : GateState) → Guarded n.code n.limits held → GateInvariant n held → IsPrefix old.seen held.log → (new : SeatView) → new ≡ record old { seen = held.log }
     → held.end ≡ None → has_any held.core.active ≡ true
     → (MustWait held (length (entries_of old.seen)) → ⊥)
     → IsRefused n old new × IsBusy n old new

@@ -14,38 +14,38 @@ use Rattle.model.specs.States.{State, Action, Evaluate, Update, Event, is_evalua
 use Rattle.model.specs.Runs.{after, action_in, has_any, EndsIn, IsLawful, AreTimely}
 use Rattle.design.specs.declared.code.ProcState.{ProcState}
 use Rattle.design.specs.Compiled.{Compiled, design_of}
-use Rattle.design.specs.Standing as standing
-use Rattle.design.specs.Standing.{IsStateOf}
+use Rattle.design.specs.DesignInvariant as standing
+use Rattle.design.specs.DesignInvariant.{IsStateOf}
 use Rattle.design.proofs.Numbered.{states_are_equal}
 use Rattle.regions.specs.Queue.{Core, state_of}
 use Rattle.regions.specs.Queue as queue
-use Rattle.regions.specs.Passing.{HasOwnStates}
+use Rattle.regions.specs.StatePassing.{HasOwnStates}
 use Rattle.regions.specs.Find.{update_numbers}
 use Rattle.turn.specs.declared.memory.Seen.{Seen}
-use Rattle.gateparts.specs.declared.log.Item.TheVariants.{Ended}
+use Rattle.runstate.specs.declared.log.Item.TheVariants.{Ended}
 use Rattle.commitgate.specs.Named.{Named}
-use Rattle.gateparts.specs.Log.{Log, entries_of, end_in, items_of}
-use Rattle.gateparts.specs.GateState.{GateState, state_in}
-use Rattle.gateparts.specs.Guarded.{MayEnd, Guarded}
-use Rattle.commitgate.specs.Kept.{Kept}
+use Rattle.runstate.specs.Log.{Log, entries_of, end_in, items_of}
+use Rattle.runstate.specs.GateState.{GateState, state_in}
+use Rattle.runstate.specs.Guarded.{MayEnd, Guarded}
+use Rattle.commitgate.specs.GateInvariant.{GateInvariant}
 use Rattle.regcells.specs.Meetings.{Rises}
 use Rattle.commitgate.specs.Seats.{SeatView, Follows}
 use Rattle.commitgate.specs.Tickets.{TicketView, IsCurrent, process_in, ticket_for}
-use Rattle.commitgate.specs.Journals.{HasNoUpdate, EndHolds, IsLog, IsActiveTicket, made_active, AreTicketsOf}
-use Rattle.commitgate.specs.Answers.{IsGranted, stopped}
+use Rattle.commitgate.specs.GateJournals.{HasNoUpdate, EndHolds, IsLog, IsActiveTicket, made_active, AreTicketsOf}
+use Rattle.commitgate.specs.GateAnswers.{IsGranted, stopped}
 use Rattle.commitgate.specs.declared.reply.Reply.{Reply}
 use Rattle.commitgate.specs.declared.reply.Reply.TheVariants as replies
 use Rattle.commitgate.specs.declared.reply.Reply.TheVariants.{Accepted, Stale, Gone, NoMemory}
-use Rattle.commitgate.specs.Told.{AnsweredTo, HasMetEntry, IsAppended, IsRefused, IsStopped, IsGone}
-use Rattle.gateparts.proofs.Beginnings.{prefix_trans}
+use Rattle.commitgate.specs.SeatAnswers.{AnsweredTo, HasMetEntry, IsAppended, IsRefused, IsStopped, IsGone}
+use Rattle.runstate.proofs.Beginnings.{prefix_trans}
 use Rattle.commitgate.proofs.Guards.{guarded_stop, lawful_of}
 use Rattle.commitgate.proofs.Standings.{kept_stop, process_below}
-use Rattle.commitgate.specs.Journals.{has_event}
+use Rattle.commitgate.specs.GateJournals.{has_event}
 use Rattle.commitgate.proofs.Staying.{end_stays}
 use Rattle.commitgate.proofs.Meetings.{rises_self, rises_both}
 
 -- the state after what the lock has
-pub after_log : (n : Named) (held : GateState) → Guarded n.code n.limits held → Kept n held → after (design_of n.code) (entries_of held.log) ≡ Some (state_in n.code held)
+pub after_log : (n : Named) (held : GateState) → Guarded n.code n.limits held → GateInvariant n held → after (design_of n.code) (entries_of held.log) ≡ Some (state_in n.code held)
 after_log n held g k =
     ap (after (design_of n.code)) (sym k.journal_is) ∙ ap (option_map (λ e. e.state)) g.ran.is_run ∙ ap Some g.ran.state_is
 
@@ -54,7 +54,7 @@ some_after : (o : Option State) (s : State) (P : State → Type 0) → o ≡ Som
 some_after o s P is h = subst (λ (x : Option State). IsSomeAnd x P) (sym is) h
 
 -- the log under the lock is one of the gate's
-pub is_log : (n : Named) (held : GateState) → Guarded n.code n.limits held → Kept n held → IsLog n held.log
+pub is_log : (n : Named) (held : GateState) → Guarded n.code n.limits held → GateInvariant n held → IsLog n held.log
 is_log n held g k = record {
   lawful = subst (IsLawful (design_of n.code)) k.journal_is (lawful_of n.code n.limits held g);
   few = subst (λ (j : List Entry). length j ≤ n.limits.max_entries) k.journal_is g.few;
@@ -71,7 +71,7 @@ is_log n held g k = record {
         (some_after (after (design_of n.code) (entries_of held.log)) (state_in n.code held) (λ s. EndsIn (design_of n.code) n.limits (length (entries_of held.log)) s (Stopped why)) (after_log n held g k)
         (subst (λ (j : List Entry). EndsIn (design_of n.code) n.limits (length j) (state_in n.code held) (Stopped why)) k.journal_is h))
 
-module _ (n : Named) (old : SeatView) (held : GateState) (g : Guarded n.code n.limits held) (k : Kept n held) (later : IsPrefix old.seen held.log) where
+module _ (n : Named) (old : SeatView) (held : GateState) (g : Guarded n.code n.limits held) (k : GateInvariant n held) (later : IsPrefix old.seen held.log) where
   -- a seat that has seen the log, and perhaps more of the registers
   abbrev pub greeted : List (List Vector) → SeatView
   greeted fresh = record old { seen = held.log; fresh = fresh }
@@ -174,9 +174,9 @@ current_active code held ticket low h =
 pub current_below : (core : Core) (ticket : TicketView) → IsCurrent core ticket → ticket.process < length core.processes
 current_below core ticket h = process_below core.processes ticket.process ticket.state h.evaluation.1
 
-module _ (n : Named) (old : SeatView) (held : GateState) (g : Guarded n.code n.limits held) (k : Kept n held) (later : IsPrefix old.seen held.log) where
+module _ (n : Named) (old : SeatView) (held : GateState) (g : Guarded n.code n.limits held) (k : GateInvariant n held) (later : IsPrefix old.seen held.log) where
   -- the entry was appended
-  abbrev pub tell_appended : (held' : GateState) (g' : Guarded n.code n.limits held') (k' : Kept n held') (entry : Entry) (position : ℕ) (named : Entry) (tickets : List TicketView) (new : SeatView)
+  abbrev pub tell_appended : (held' : GateState) (g' : Guarded n.code n.limits held') (k' : GateInvariant n held') (entry : Entry) (position : ℕ) (named : Entry) (tickets : List TicketView) (new : SeatView)
       → IsGranted n.code old.worker held entry position named tickets held'
       → new.worker ≡ old.worker → new.seen ≡ held'.log → new.mine ≡ old.mine ++ position ∷ []
       → new.stored ≡ (if (state_in n.code held').finished then Some Finish else old.stored) → Rises old.fresh new.fresh
@@ -210,7 +210,7 @@ module _ (n : Named) (old : SeatView) (held : GateState) (g : Guarded n.code n.l
   }
 
 -- the run is stopped for this reason, in what the seat has then seen
-pub tell_ended : (n : Named) (causes : Why → Type 0) (old new : SeatView) (why : Why) (held' : GateState) → Guarded n.code n.limits held' → Kept n held' → Follows old new → new.mine ≡ old.mine
+pub tell_ended : (n : Named) (causes : Why → Type 0) (old new : SeatView) (why : Why) (held' : GateState) → Guarded n.code n.limits held' → GateInvariant n held' → Follows old new → new.mine ≡ old.mine
     → new.seen ≡ held'.log → held'.end ≡ Some why → (new.stored ≡ old.stored) ⊎ ((new.stored ≡ Some why) × causes why) → IsStopped n causes old why new
 tell_ended n causes old new why held' g' k' follows mine seen ended stored =
     let end : end_in new.seen ≡ Some why = ap end_in seen ∙ sym k'.end_is ∙ ended in
@@ -231,7 +231,7 @@ refused_by false P h f = λ p. clash (h.1 p)
     clash e = cc
 
 -- no active evaluation is the ticket's
-pub tell_gone : (n : Named) (old : SeatView) (held : GateState) (ticket : TicketView) (current : Bool) (new : SeatView) → Guarded n.code n.limits held → Kept n held → IsPrefix old.seen held.log
+pub tell_gone : (n : Named) (old : SeatView) (held : GateState) (ticket : TicketView) (current : Bool) (new : SeatView) → Guarded n.code n.limits held → GateInvariant n held → IsPrefix old.seen held.log
     → new ≡ record old { seen = held.log } → held.end ≡ None → IsStateOf n.code ticket.process ticket.state
     → (IsTrue current ↔ IsCurrent held.core ticket) → current ≡ false
     → ((p : ℕ) → action_in held.core.active ticket.event ≡ Some (Evaluate p) → p < length held.core.processes)

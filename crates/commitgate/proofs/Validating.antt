@@ -9,25 +9,25 @@ use Rattle.model.specs.States.{Evaluate}
 use Rattle.model.specs.Runs.{action_in, turn_of, least}
 use Rattle.regions.specs.Find.{update_numbers}
 use Rattle.design.specs.Compiled.{Compiled, design_of}
-use Rattle.design.specs.Standing.{IsStateOf}
+use Rattle.design.specs.DesignInvariant.{IsStateOf}
 use Rattle.design.specs.Fits.{FitsRegister}
 use Rattle.turn.specs.declared.memory.Seen.{Seen}
-use Rattle.turn.specs.Logs.{LogView}
-use Rattle.turn.specs.Answers.{IsTurnLog}
+use Rattle.turn.specs.TurnLogs.{LogView}
+use Rattle.turn.specs.TurnAnswers.{IsTurnLog}
 use Rattle.turn.specs.Reads.{Agrees, GaveAll}
 use Rattle.regcells.specs.Values.{last_value}
 use Rattle.commitgate.specs.Named.{Named}
-use Rattle.gateparts.specs.Log.{Log, entries_of}
-use Rattle.gateparts.specs.GateState.{GateState, state_in}
-use Rattle.commitgate.specs.Kept.{Kept}
+use Rattle.runstate.specs.Log.{Log, entries_of}
+use Rattle.runstate.specs.GateState.{GateState, state_in}
+use Rattle.commitgate.specs.GateInvariant.{GateInvariant}
 use Rattle.regcells.specs.Meetings.{fresh_of, IsCurrentOf, IsFirstMovedOf, AreReadsIn, AreWritesIn}
 use Rattle.commitgate.specs.Tickets.{TicketView, IsCurrent}
-use Rattle.gateparts.specs.Histories.{hist, IsRead, IsFirstMovedIn}
-use Rattle.gateparts.specs.Working.{IsLogIn, register_in, updated_register, HasMetLog}
-use Rattle.gateparts.specs.Evaluated.{IsLogOfEvent}
-use Rattle.commitgate.specs.Answers.{IsRecorded, AreCurrent}
-use Rattle.commitgate.specs.Told.{HasMet, HasMetEntry}
-use Rattle.gateparts.proofs.Beginnings.{prefix_get, prefix_self}
+use Rattle.runstate.specs.Histories.{hist, IsRead, IsFirstMovedIn}
+use Rattle.runstate.specs.SeatMeetings.{IsLogIn, register_in, updated_register, HasMetLog}
+use Rattle.runstate.specs.Evaluated.{IsLogOfEvent}
+use Rattle.commitgate.specs.GateAnswers.{IsRecorded, AreCurrent}
+use Rattle.commitgate.specs.SeatAnswers.{HasMet, HasMetEntry}
+use Rattle.runstate.proofs.Beginnings.{prefix_get, prefix_self}
 use Rattle.regcells.proofs.Places.{or_of, within}
 use Rattle.commitgate.proofs.Agreeing.{agrees}
 use Rattle.regions.proofs.Evaluated.{turn_of-is}
@@ -98,12 +98,12 @@ pub recorded_held : (code : Compiled) (all fresh : List (List Vector)) (reads : 
 recorded_held code all fresh reads gave = gave_map (IsRead code all) (IsRecorded code all fresh) reads (λ r s h. inl h) gave
 
 -- current by the lists is current by the journal
-pub current_by : (n : Named) (held : GateState) (reads : List (ℕ × Seen)) → Kept n held → AreReadsIn (length n.code.widths) reads
+pub current_by : (n : Named) (held : GateState) (reads : List (ℕ × Seen)) → GateInvariant n held → AreReadsIn (length n.code.widths) reads
     → ((k : ℕ) (d : ℕ × Seen) → slice_get reads k ≡ Some d → IsCurrentOf held.histories d) → AreCurrent n.code held reads
 current_by n held reads kept low cur k d at = ap length (sym (kept.histories d.0 (low k d at))) ∙ cur k d at
 
 -- and moved by the lists is moved by the journal
-pub moved_by : (n : Named) (held : GateState) (reads : List (ℕ × Seen)) (r : ℕ) (fresh : List (List Vector)) → Kept n held → AreReadsIn (length n.code.widths) reads
+pub moved_by : (n : Named) (held : GateState) (reads : List (ℕ × Seen)) (r : ℕ) (fresh : List (List Vector)) → GateInvariant n held → AreReadsIn (length n.code.widths) reads
     → IsFirstMovedOf held.histories reads r → GaveAll (IsRecorded n.code held.histories fresh) reads → IsPrefix (fresh_of fresh r) (fresh_of held.histories r)
     → IsFirstMovedIn (design_of n.code) held.journal reads r
 moved_by n held reads r fresh kept low m gave begins =
@@ -126,7 +126,7 @@ moved_by n held reads r fresh kept low m gave begins =
     apart len version other lt ne same = omega (arith, lt, ne, same)
 
 -- the log is that of the ticket's turn
-pub given_by : (n : Named) (held : GateState) (ticket : TicketView) (log : LogView) → Kept n held → IsCurrent held.core ticket → IsStateOf n.code ticket.process ticket.state
+pub given_by : (n : Named) (held : GateState) (ticket : TicketView) (log : LogView) → GateInvariant n held → IsCurrent held.core ticket → IsStateOf n.code ticket.process ticket.state
     → IsTurnLog n.code ticket.state ticket.time log → GaveAll (IsRead n.code held.histories) log.reads → AreCurrent n.code held log.reads
     → length held.values ≡ length n.code.widths
     → IsLogOfEvent n.code held ticket.event log
@@ -147,7 +147,7 @@ same_number : (p q : ℕ) → Some (Evaluate p) ≡ Some (Evaluate q) → p ≡ 
 same_number p q e = cc
 
 -- the seat has met what the turn read and wrote
-pub met_turn : (n : Named) (held held' : GateState) (event : ℕ) (log : LogView) (seen : Log) (fresh : List (List Vector)) (m : ℕ) → Kept n held' → seen ≡ held'.log
+pub met_turn : (n : Named) (held held' : GateState) (event : ℕ) (log : LogView) (seen : Log) (fresh : List (List Vector)) (m : ℕ) → GateInvariant n held' → seen ≡ held'.log
     → IsLogOfEvent n.code held event log → AreReadsIn (length n.code.widths) log.reads → AreWritesIn (length n.code.widths) log.writes
     → HasMetLog held'.histories fresh m None (Some log) → HasMetEntry n (state_in n.code held) (entries.Turn event) seen fresh
 met_turn n held held' event log seen fresh m kept is h reads writes met p turn action found =
@@ -164,7 +164,7 @@ met_turn n held held' event log seen fresh m kept is h reads writes met p turn a
     }
 
 -- the seat has met the register of an update
-pub met_update : (n : Named) (held held' : GateState) (number : ℕ) (seen : Log) (fresh : List (List Vector)) (m : ℕ) → m ≡ length n.code.widths → Kept n held' → seen ≡ held'.log
+pub met_update : (n : Named) (held held' : GateState) (number : ℕ) (seen : Log) (fresh : List (List Vector)) (m : ℕ) → m ≡ length n.code.widths → GateInvariant n held' → seen ≡ held'.log
     → least (update_numbers held.core.active) ≡ Some number
     → HasMetLog held'.histories fresh m (updated_register held.core.active (entries.Update number)) None → HasMetEntry n (state_in n.code held) (entries.Update number) seen fresh
 met_update n held held' number seen fresh m e kept is first met r v action low =

@@ -1,19 +1,19 @@
--- Turns that are evaluated under the lock.
+-- Turns on the values under the lock.
 use Rattle.std.specs.Prelude.{◌≡◌, Bool, true, false, None}
 use Rattle.design.specs.Compiled.{Compiled}
-use Rattle.turn.specs.Logs.{LogView}
+use Rattle.turn.specs.TurnLogs.{LogView}
 use Rattle.turn.specs.declared.log.FillFault.{FillFault}
 use Rattle.turn.specs.declared.log.FillFault.TheVariants.{TooLong, Memory}
-use Rattle.turn.specs.Answers.{IsTurnLog}
+use Rattle.turn.specs.TurnAnswers.{IsTurnLog}
 use Rattle.turn.specs.Reads.{GaveAll}
-use Rattle.gateparts.specs.GateState.{GateState}
+use Rattle.runstate.specs.GateState.{GateState}
 use Rattle.commitgate.specs.Tickets.{TicketView}
-use Rattle.gateparts.specs.Histories.{IsRead}
-use Rattle.gateparts.specs.Evaluated.{turn_at}
-use Rattle.commitgate.specs.Answers.{AreCurrent}
+use Rattle.runstate.specs.Histories.{IsRead}
+use Rattle.runstate.specs.Evaluated.{turn_at}
+use Rattle.commitgate.specs.GateAnswers.{AreCurrent}
 
 -- the log is the turn from a ticket's state on, and what was read of it stands in the histories and is current
-pub record IsHeldTurn (code : Compiled) (held : GateState) (ticket : TicketView) (log : LogView) : Type 0 where
+pub record IsCurrentTurn (code : Compiled) (held : GateState) (ticket : TicketView) (log : LogView) : Type 0 where
   pub turn : IsTurnLog code ticket.state ticket.time log
   pub recorded : GaveAll (IsRead code held.histories) log.reads
   pub current : AreCurrent code held log.reads

@@ -4,7 +4,7 @@ use mathlib.Core.List.{IsPrefix}
 use Rattle.logic4.specs.Vector.{Vector, unknown}
 use Rattle.model.specs.declared.end.Why.{Why}
 use Rattle.design.specs.Compiled.{Compiled}
-use Rattle.gateparts.specs.Log.{Log}
+use Rattle.runstate.specs.Log.{Log}
 use Rattle.regcells.specs.Meetings.{Rises}
 
 -- What contracts see of a seat: its worker; the beginning of the gate's log that it has seen; the positions in the

@@ -5,11 +5,11 @@ ghost use Rattle.crossbeam_utils.specs.Seq.{cell_view};
 ghost use Rattle.model.specs.Runs.{last_time};
 ghost use Rattle.model.specs.States.{start};
 ghost use Rattle.design.specs.Compiled.{design_of};
-ghost use Rattle.design.specs.Standing.{IsStateOf};
-ghost use Rattle.regions.specs.Passing.{HasOwnStates};
-ghost use Rattle.gateparts.specs.GateState.{state_in};
-ghost use Rattle.gateparts.specs.Parts.{gate_state_of};
-ghost use Rattle.gateparts.specs.Marked.{keeper};
+ghost use Rattle.design.specs.DesignInvariant.{IsStateOf};
+ghost use Rattle.regions.specs.StatePassing.{HasOwnStates};
+ghost use Rattle.runstate.specs.GateState.{state_in};
+ghost use Rattle.runstate.specs.RunState.{gate_state_of};
+ghost use Rattle.runstate.specs.Marked.{keeper};
 ghost use Rattle.commitgate.specs.Blanks.{first_fresh};
 ghost use Rattle.commitgate.specs.Seats.{new_seat};
 ghost use Rattle.commitgate.specs.Tickets.{IsFirstTickets};
@@ -20,9 +20,9 @@ use crate::seat::Seat;
 use crate::state::GateState;
 use crate::ticket::Ticket;
 use design::Design;
-use gateparts::{MarkCell, MarkPass, Parts, new_mark, next_seat};
 use model::end::Limits;
 use regcells::{RegCells, RegSeat};
+use runstate::{MarkCell, MarkPass, RunState, new_mark, next_seat};
 use std::alloc::{AllocError, Global};
 use std::marker::{Brand, Model};
 use std::sync::Wait;
@@ -36,7 +36,7 @@ pub struct Blank<'d> {
     mark: MarkCell,
     // Room for a number of each worker, so that a gate closes without asking for memory.
     committed: Vec<u64>,
-    parts: Parts<'d>,
+    run_state: RunState<'d>,
 }
 
 impl<'d> Model for Blank<'d> {
@@ -52,9 +52,9 @@ impl<'d> Model for Blank<'d> {
     ghost use Rattle.std.specs.Vec.{vec_capacity};
     ghost use Rattle.commitgate.specs.Blanks.{IsBlank};
 
-    ghost view = { λ b. record { code = b.parts.design.now; workers = b.workers; limits = b.parts.limits; cells = b.cells; mark = b.mark.table.shared.table_id } };
+    ghost view = { λ b. record { code = b.run_state.design.now; workers = b.workers; limits = b.run_state.limits; cells = b.cells; mark = b.mark.table.shared.table_id } };
 
-    ghost invariant = { λ b. IsBlank (record { code = b.parts.design.now; workers = b.workers; limits = b.parts.limits; cells = b.cells; mark = b.mark.table.shared.table_id }) (vec_capacity b.committed) b.committed.items b.seats.items b.parts };
+    ghost invariant = { λ b. IsBlank (record { code = b.run_state.design.now; workers = b.workers; limits = b.run_state.limits; cells = b.cells; mark = b.mark.table.shared.table_id }) (vec_capacity b.committed) b.committed.items b.seats.items b.run_state };
 }
 
 impl<'d> Gate<'d, Brand> {
@@ -77,30 +77,33 @@ impl<'d> Gate<'d, Brand> {
         let (cells, holder, seats) = RegCells::new(rt, alloc, design, workers)?;
         let (mark, whole) = new_mark(alloc)?;
         let committed = Vec::with_capacity(alloc, workers as usize)?;
-        let parts = Parts::new(alloc, design, limits, holder, whole)?;
+        let run_state = RunState::new(alloc, design, limits, holder, whole)?;
         Ok(Blank {
             workers,
             cells,
             seats,
             mark,
             committed,
-            parts,
+            run_state,
         })
     }
 }
 
 // A ticket for the first event of each process.
-fn first_tickets<K: Naming>(alloc: Global, parts: &Parts<'_>) -> Result<Vec<Ticket<K>>, AllocError>
-    requires code { parts.now.design.now ≡ K.named.code }
-    requires starts { state_in K.named.code (gate_state_of parts.now) ≡ start (design_of K.named.code) }
-    requires states { HasOwnStates (IsStateOf K.named.code) parts.now.regions }
+fn first_tickets<K: Naming>(
+    alloc: Global,
+    run_state: &RunState<'_>,
+) -> Result<Vec<Ticket<K>>, AllocError>
+    requires code { run_state.now.design.now ≡ K.named.code }
+    requires starts { state_in K.named.code (gate_state_of run_state.now) ≡ start (design_of K.named.code) }
+    requires states { HasOwnStates (IsStateOf K.named.code) run_state.now.regions }
     ensures { IfOk result (λ tickets. IsFirstTickets K.named.code tickets.items) }
 {
-    let time = parts.regions.time();
+    let time = run_state.regions.time();
     let mut tickets = Vec::new(alloc);
-    for process in 0..parts.design.processes() {
+    for process in 0..run_state.design.processes() {
         let event = u64::from(process);
-        match parts.regions.evaluation(event) {
+        match run_state.regions.evaluation(event) {
             Some((process, state)) => tickets.push(Ticket::new(event, process, state, time))?,
             None => unreachable!(),
         }
@@ -151,11 +154,11 @@ impl<'d> Blank<'d> {
             seats,
             mark,
             committed,
-            mut parts,
+            mut run_state,
         } = self;
-        let tickets = first_tickets::<K>(alloc, &parts)?;
-        let seats = seat_all::<K>(alloc, workers, &mark, &mut parts.whole, seats)?;
-        let state = GateState::new(alloc, parts);
+        let tickets = first_tickets::<K>(alloc, &run_state)?;
+        let seats = seat_all::<K>(alloc, workers, &mark, &mut run_state.whole, seats)?;
+        let state = GateState::new(alloc, run_state);
         let gate = Gate::under_name(cells, mark, state, committed);
         Ok((gate, seats, tickets))
     }

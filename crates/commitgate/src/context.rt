@@ -2,8 +2,8 @@
 ghost use Rattle.std.specs.Prelude.{◌≡◌};
 
 use crate::naming::Naming;
-use gateparts::MarkCell;
 use regcells::RegCells;
+use runstate::MarkCell;
 use std::alloc::Global;
 use std::marker::PhantomData;
 use std::sync::Wait;

@@ -5,13 +5,13 @@
 //! Robinson):
 //!
 //! 1. Read phase, without the lock. The turn is evaluated with the worker's `Seat` as its reader, which loads the cells of the
-//!    registers; the log of the turn has each version that it read, and what it would write (`reader`, `seated`, `seat`).
+//!    registers; the log of the turn has each version that it read, and what it would write (`read_phase`, `reader`, `seat`).
 //! 2. Validation, under the lock. No turn is appended to a run that is stopped or whose journal is full, or for a ticket that
 //!    isn't of an active evaluation; then each version that was read is compared with the register's (`state/commit`). Where
 //!    a register has changed since, the ticket comes back with one more try. After `MAX_TRIES` of them the turn is evaluated
 //!    under the lock, and then it can't be stale (`state/under_lock`).
 //! 3. Write phase, still under the lock. The entry is applied and appended, the seat is told of it, and each evaluation that
-//!    became active gets a ticket (`state`, over `gateparts`). A turn that is too long stops the run in its place
+//!    became active gets a ticket (`state`, over `runstate`). A turn that is too long stops the run in its place
 //!    (`state/long`).
 //!
 //! A worker without a ticket asks for the first active update, or for all of them in one holding of the lock
@@ -31,10 +31,10 @@ mod context;
 mod gate;
 mod laws;
 mod naming;
+mod read_phase;
 mod reader;
 mod reply;
 mod seat;
-mod seated;
 mod state;
 mod ticket;
 
@@ -44,9 +44,9 @@ pub use context::Context;
 pub use gate::Gate;
 pub use laws::shares_add_up;
 pub use naming::Naming;
+pub use read_phase::{ReadPhase, ReadWatch, Seating, Unwatched, evaluate};
 pub use reader::SeatReader;
 pub use reply::{Grant, Reply, Rest, UpdateReply, UpdatesEnd};
 pub use seat::Seat;
-pub use seated::{SeatedReader, Seating};
 pub use state::GateState;
 pub use ticket::{MAX_TRIES, Ticket};

@@ -3,7 +3,7 @@ ghost use Rattle.std.specs.Prelude.{◌≡◌, ℕ, ◌+◌, ◌<◌, length};
 ghost use Rattle.turn.specs.declared.memory.Seen as seens;
 ghost use Rattle.regcells.specs.Meetings.{fresh_of};
 ghost use Rattle.commitgate.specs.Seats.{ReadsOn};
-ghost use Rattle.gateparts.specs.Histories.{IsRead};
+ghost use Rattle.runstate.specs.Histories.{IsRead};
 
 use crate::naming::Naming;
 use crate::seat::Seat;
@@ -58,7 +58,7 @@ impl<'g, K: Naming, R: Wait> SeatReader<'g, K, R> {
 
 impl<'g, K: Naming, R: Wait> RegReader for SeatReader<'g, K, R> {
     ghost use Rattle.std.specs.Prelude.{ℕ, length};
-    ghost use Rattle.gateparts.specs.Histories.{IsRead};
+    ghost use Rattle.runstate.specs.Histories.{IsRead};
 
     ghost registers = { length K.named.code.widths };
 

@@ -2,17 +2,17 @@
 ghost use Rattle.std.specs.Prelude.{◌≡◌, ◌+◌, ◌<◌, [], None, length, slice_set};
 ghost use mathlib.Core.List.{IsPrefix};
 ghost use Rattle.crossbeam_utils.specs.Seq.{cell_view};
-ghost use Rattle.gateparts.specs.Log.{entries_of, positions_of, stored_of};
-ghost use Rattle.gateparts.specs.Marked.{seated};
+ghost use Rattle.runstate.specs.Log.{entries_of, positions_of, stored_of};
+ghost use Rattle.runstate.specs.Marked.{seated};
 ghost use Rattle.regcells.specs.Meetings.{fresh_of};
 ghost use Rattle.commitgate.specs.Seats.{ReadsOn, LooksOn};
-ghost use Rattle.gateparts.specs.Histories.{IsEntryOf};
+ghost use Rattle.runstate.specs.Histories.{IsEntryOf};
 
 use crate::naming::Naming;
 use crate::ticket::Ticket;
 use design::RegId;
-use gateparts::{MarkCell, MarkPass, look};
 use regcells::{RegCells, RegSeat};
+use runstate::{MarkCell, MarkPass, look};
 use std::alloc::Global;
 use std::marker::{Model, PhantomData};
 use std::sync::Wait;
@@ -37,13 +37,13 @@ pub struct Seat<K: Naming> {
 impl<K: Naming> Model for Seat<K> {
     ghost use Rattle.crossbeam_utils.specs.Seq.{cell_view};
     ghost use Rattle.commitgate.specs.Seats.{SeatView};
-    ghost use Rattle.commitgate.specs.Sitting.{Sits};
+    ghost use Rattle.commitgate.specs.SeatInvariant.{SeatInvariant};
 
     ghost Value = { SeatView };
 
     ghost view = { λ s. record { worker = s.worker; seen = (cell_view s.pass).seen; mine = (cell_view s.pass).mine; stored = (cell_view s.pass).stored; fresh = s.regs.seen } };
 
-    ghost invariant = { λ s. Sits K.named s.worker s.entries s.share s.regs s.pass.table_id (cell_view s.pass) };
+    ghost invariant = { λ s. SeatInvariant K.named s.worker s.entries s.share s.regs s.pass.table_id (cell_view s.pass) };
 }
 
 impl<K: Naming> Seat<K> {

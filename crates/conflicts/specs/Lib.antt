@@ -1,2 +1,2 @@
-pub mod Endings
+pub mod RunEndings
 pub mod Races

@@ -5,7 +5,7 @@ use Rattle.model.specs.declared.end.Limits.{Limits}
 use Rattle.model.specs.Design.{Design}
 use Rattle.design.specs.Compiled.{Compiled, design_of}
 use Rattle.seeded.specs.declared.run.SeededRun.{SeededRun}
-use Rattle.seeded.specs.Runs.{IsRun}
+use Rattle.seeded.specs.SeededRun.{IsRun}
 use Rattle.seeded.specs.Samples.{AreDistinct}
 use Rattle.conflicts.specs.declared.told.Race.{Race}
 use Rattle.conflicts.specs.declared.told.Tries.{Tries}

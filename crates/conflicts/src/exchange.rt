@@ -1,7 +1,7 @@
 //! The second run of a conflict, in which its two entries are exchanged.
 ghost use Rattle.std.specs.Prelude.{◌≡◌, IfOk, IfSome};
-ghost use Rattle.seeded.specs.Runs.{HasComeTo, IsRun};
-ghost use Rattle.conflicts.specs.Endings.{HasTimeLimit, EndsAt};
+ghost use Rattle.seeded.specs.SeededRun.{HasComeTo, IsRun};
+ghost use Rattle.conflicts.specs.RunEndings.{EndsAt};
 
 use crate::conflicts::Conflict;
 use crate::follow::{follow_on, lead_all, repeat};
@@ -85,7 +85,6 @@ fn go_on<P: Progress>(
     conflict: &Conflict,
     progress: &P,
 ) -> Result<Option<End>, AllocError>
-    requires until { HasTimeLimit task.limits }
     requires come { HasComeTo task.limits run.old.journal.items run.old.machine }
     ensures come { HasComeTo task.entry.limits run.new.journal.items run.new.machine }
     ensures code { run.new.machine.code ≡ run.old.machine.code }
@@ -130,7 +129,6 @@ fn lead_exchanged<P: Progress>(
     conflict: &Conflict,
     progress: &P,
 ) -> Result<Option<SeededRun>, AllocError>
-    requires until { HasTimeLimit task.limits }
     requires come { HasComeTo task.limits run.old.journal.items run.old.machine }
     ensures { IfOk result (λ made. IfSome made (IsRun run.old.machine.code task.entry.limits)) }
 {
@@ -157,7 +155,6 @@ pub(crate) fn exchange<P: Progress>(
     conflict: &Conflict,
     progress: &P,
 ) -> Result<Option<SeededRun>, AllocError>
-    requires until { HasTimeLimit task.limits }
     ensures { IfOk result (λ made. IfSome made (IsRun task.entry.design.now task.entry.limits)) }
 {
     let mut run = Run::start(task.alloc, task.design)?;

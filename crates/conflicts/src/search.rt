@@ -1,12 +1,9 @@
 //! The search for races.
 ghost use Rattle.std.specs.Prelude.{◌<◌, ◌≤◌, IfOk, IfSome, vec_len};
 ghost use Rattle.std.specs.List.{All};
-ghost use Rattle.model.specs.declared.end.Limits.{Limits};
-ghost use Rattle.model.specs.Runs.{last_time};
-ghost use Rattle.design.specs.Compiled.{Compiled};
-ghost use Rattle.seeded.specs.Runs.{IsRun};
+ghost use Rattle.seeded.specs.SeededRun.{IsRun};
 ghost use Rattle.seeded.specs.Samples.{AreDistinct};
-ghost use Rattle.conflicts.specs.Endings.{HasTimeLimit};
+ghost use Rattle.conflicts.specs.RunEndings.{HasTimeLimit, IsOfAnyDesign};
 ghost use Rattle.conflicts.specs.Races.{IsShown, IsWithin};
 
 use crate::conflicts::{Conflict, Conflicts, Group, MOST_OF_A_GROUP};
@@ -25,7 +22,7 @@ use std::alloc::{AllocError, Global};
 
 // A run of no entries, for which there was no memory.
 fn nothing(alloc: Global) -> SeededRun
-    ensures { (code : Compiled) (limits : Limits) → IsRun code limits result }
+    ensures { IsOfAnyDesign result }
 {
     SeededRun {
         lines: String::new(alloc),
@@ -58,7 +55,6 @@ fn differing<P: Progress>(
     conflict: &Conflict,
     progress: &P,
 ) -> Result<Option<SeededRun>, AllocError>
-    requires until { HasTimeLimit task.limits }
     ensures exchanged { IfOk result (λ made. IfSome made (IsRun task.entry.design.now task.entry.limits)) }
     ensures differ { IfOk result (λ made. IfSome made (AreDistinct task.entry.original.now)) }
 {
@@ -83,7 +79,6 @@ fn race_of<P: Progress>(
     conflict: &Conflict,
     progress: &P,
 ) -> Result<Option<Race>, AllocError>
-    requires until { HasTimeLimit task.limits }
     ensures { IfOk result (λ race. IfSome race (IsShown task.entry.design.now task.entry.limits task.entry.original.now)) }
 {
     let exchanged = match differing(task, conflict, progress)? {
@@ -131,7 +126,6 @@ impl Trials {
 
     // Tries a conflict within the bounds, unless a race of its group is told.
     fn try_conflict<P: Progress>(&mut self, task: Task<'_>, conflict: &Conflict, progress: &P)
-        requires until { HasTimeLimit task.limits }
         requires within { IsWithin task.bounds self.old }
         requires shown { All (IsShown task.design.now task.limits task.original.now) self.old.races.items }
         ensures within { IsWithin task.entry.bounds self.new }
@@ -159,7 +153,6 @@ impl Trials {
         round: usize,
         progress: &P,
     )
-        requires until { HasTimeLimit task.limits }
         requires within { IsWithin task.bounds self.old }
         requires shown { All (IsShown task.design.now task.limits task.original.now) self.old.races.items }
         ensures within { IsWithin task.entry.bounds self.new }
@@ -175,7 +168,6 @@ impl Trials {
 
 // Tries the conflicts of a first run, those of the first round first.
 fn try_all<P: Progress>(task: Task<'_>, conflicts: &Conflicts, progress: &P) -> Trials
-    requires until { HasTimeLimit task.limits }
     ensures within { IsWithin task.entry.bounds result }
     ensures shown { All (IsShown task.entry.design.now task.entry.limits task.entry.original.now) result.races.items }
 {
@@ -202,7 +194,7 @@ pub fn find_races<P: Progress>(
     bounds: Tries,
     progress: &P,
 ) -> Found
-    requires until { IfSome limits.until (λ until. until ≤ last_time) }
+    requires until { HasTimeLimit limits }
     // The first run is lawful and in time, and its lines and its end are told.
     ensures original { IsRun design.now limits result.original }
     // What each race says of its two processes is so in the first run. Its second run is lawful and in time too, there the two come

@@ -1,4 +1,7 @@
 //! What second runs are made from.
+ghost use Rattle.std.specs.Prelude.{◌≤◌};
+ghost use Rattle.std.specs.Option.{ForSome};
+ghost use Rattle.model.specs.Runs.{last_time};
 
 use crate::moves::Move;
 use crate::told::Tries;
@@ -7,7 +10,7 @@ use model::end::Limits;
 use seeded::run::SeededRun;
 use std::alloc::Global;
 
-/// A search: its design, limits and bounds, and its first run with the moves of that.
+/// A search: its design, limits and bounds, and its first run with the moves of that. The limit of time isn't past the last time.
 #[derive(Clone, Copy)]
 pub(crate) struct Task<'a> {
     pub(crate) alloc: Global,
@@ -16,4 +19,5 @@ pub(crate) struct Task<'a> {
     pub(crate) bounds: Tries,
     pub(crate) original: &'a SeededRun,
     pub(crate) moves: &'a [Move],
+    ghost until: { ForSome limits.until (λ until. until ≤ last_time) },
 }

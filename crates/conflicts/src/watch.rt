@@ -2,8 +2,8 @@
 ghost use Rattle.std.specs.Prelude.{◌≡◌, IfSome, None};
 ghost use Rattle.model.specs.Runs.{refusal};
 ghost use Rattle.regions.specs.Machine.{state_at};
-ghost use Rattle.seeded.specs.Runs.{HasComeTo, IsRun};
-ghost use Rattle.conflicts.specs.Endings.{HasTimeLimit, EndsAt};
+ghost use Rattle.seeded.specs.SeededRun.{HasComeTo, IsRun};
+ghost use Rattle.conflicts.specs.RunEndings.{HasTimeLimit, EndsAt};
 
 use crate::conflicts::Conflicts;
 use crate::moves::Move;
@@ -161,7 +161,10 @@ impl Watch {
         match entry {
             Entry::Turn(number) => self.note_turn(design, machine, number),
             Entry::Update(number) => self.note_update(machine, number),
-            _ => {
+            Entry::ActivateInactive
+            | Entry::ActivateNba
+            | Entry::ActivateMonitor
+            | Entry::Advance(_) => {
                 self.stretch.find_conflicts(&mut self.conflicts);
                 Some(Noted {
                     wanted: Move::Change(entry),

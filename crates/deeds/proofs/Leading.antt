@@ -12,14 +12,14 @@ use Rattle.model.specs.Runs.{Effect, silent, step, run_from, run, after, joined}
 use Rattle.model.proofs.RunLaws.{run_from-append}
 use Rattle.design.specs.declared.code.ProcState.{ProcState}
 use Rattle.design.specs.Compiled.{Compiled, design_of}
-use Rattle.turn.specs.Logs.{LogView}
+use Rattle.turn.specs.TurnLogs.{LogView}
 use Rattle.regions.specs.Queue.{Core}
 use Rattle.regions.specs.Reader.{IsTurnOn}
 use Rattle.regions.specs.Evaluations.{IsEvaluation}
-use Rattle.regions.specs.Logs.{IsTaken, IsLogFor}
+use Rattle.regions.specs.StepLogs.{IsTaken, IsLogFor}
 use Rattle.regions.specs.Machine.{Position, state_at, Stands}
 use Rattle.regions.proofs.Given.{given_turn}
-use Rattle.deeds.specs.Logs.{IsTurnLogged}
+use Rattle.deeds.specs.DeedLogs.{IsTurnLogged}
 use Rattle.deeds.specs.Witnesses.{IsLed}
 
 -- a run of one entry more

@@ -1,3 +1,3 @@
-pub mod Logs
+pub mod DeedLogs
 pub mod Roles
 pub mod Witnesses

@@ -26,7 +26,7 @@ waits_for r (Until time) = false
 -- goes on to wait for a change of it
 abbrev pub does_to : ℕ → Does → Turn → Bool
 does_to r Writes turn = list_any (λ w. w.0 == r) turn.writes
-does_to r Assigns turn = list_any (λ l. l.register == r) turn.laters
+does_to r Assigns turn = list_any (λ l. l.register == r) turn.nbas
 does_to r Updates turn = false
 does_to r Reads turn = list_any (λ u. r == u) turn.uses
 does_to r Waits turn = waits_for r turn.wait

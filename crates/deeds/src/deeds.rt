@@ -2,11 +2,11 @@
 ghost use Rattle.std.specs.Prelude.{◌≡◌, ◌==◌, IfSome};
 ghost use Rattle.std.specs.List.{list_any};
 ghost use Rattle.model.specs.Turns.{Turn};
-ghost use Rattle.turn.specs.Logs.{wait_of};
+ghost use Rattle.turn.specs.TurnLogs.{wait_of};
 ghost use Rattle.turn.specs.Reads.{registers};
 ghost use Rattle.regions.specs.Machine.{state_at};
 ghost use Rattle.deeds.specs.Roles as roles;
-ghost use Rattle.deeds.specs.Logs.{IsTurnLogged, IsLogged, IsUpdateOf};
+ghost use Rattle.deeds.specs.DeedLogs.{IsTurnLogged, IsLogged, IsUpdateOf};
 
 use crate::role::{Does, Site};
 use design::{Control, Design, RegId};

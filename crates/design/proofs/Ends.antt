@@ -6,7 +6,7 @@ use Rattle.model.specs.Design.{Design, Process, End, size, statements_of, first_
 use Rattle.model.specs.Turns.{whole}
 use Rattle.design.specs.declared.code.Node.{Node}
 use Rattle.design.specs.Sound.{AreSoundStatements}
-use Rattle.design.specs.Places.{statement_count, end_place}
+use Rattle.design.specs.CodePlaces.{statement_count, end_place}
 use Rattle.design.specs.Compiled.{Compiled, design_of}
 use Rattle.design.specs.Meaning.{IsFine}
 use Rattle.design.specs.Emit.{Emitted, with_all, with_bodies, starts_of, first_of, end_node, end_nodes}

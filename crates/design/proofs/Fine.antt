@@ -12,10 +12,10 @@ use Rattle.design.specs.declared.code.Op.{Op}
 use Rattle.design.specs.declared.code.Shown.{Shown}
 use Rattle.design.specs.declared.code.Shown.TheVariants as shown
 use Rattle.design.specs.declared.code.Span.{Span}
-use Rattle.design.specs.Trees.{conversion_of}
+use Rattle.design.specs.DesignTrees.{conversion_of}
 use Rattle.design.specs.Sound.{AreSoundExpressions, how_many}
-use Rattle.design.specs.Steps.{Computes, piece}
-use Rattle.design.specs.Places.{remainder_at}
+use Rattle.design.specs.ExpressionSteps.{Computes, piece}
+use Rattle.design.specs.CodePlaces.{remainder_at}
 use Rattle.design.specs.Compiled.{Compiled, design_of}
 use Rattle.design.specs.Meaning.{IsFine, IsLine}
 use Rattle.design.specs.Generate.{own_code}

@@ -20,7 +20,7 @@ use Rattle.design.specs.declared.code.Op.{Op}
 use Rattle.design.specs.declared.code.Op.TheVariants.{Unary, Binary, Join, Resize, Choose}
 use Rattle.design.specs.Operate.{sized, combined, joined_two}
 use Rattle.design.specs.Sound.{IsSoundExpression, AreSoundExpressions}
-use Rattle.design.specs.Steps.{topmost, act, run_ops, reads_of, all_reads, Computes}
+use Rattle.design.specs.ExpressionSteps.{topmost, act, run_ops, reads_of, all_reads, Computes}
 use Rattle.design.specs.Generate.{direct_step, step_or, join_code, expression_code, parts_code, own_code, fitted_code, assigned_code}
 
 pub run_ops-append : (values : Store) (xs ys : List Op) (st : List Vector) → run_ops values (xs ++ ys) st ≡ run_ops values ys (run_ops values xs st)

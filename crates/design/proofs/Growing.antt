@@ -9,7 +9,7 @@ use Rattle.design.specs.declared.code.Op.{Op}
 use Rattle.design.specs.declared.code.Shown.{Shown}
 use Rattle.design.specs.declared.code.Shown.TheVariants as shown
 use Rattle.design.specs.declared.code.Span.{Span}
-use Rattle.design.specs.Steps.{piece}
+use Rattle.design.specs.ExpressionSteps.{piece}
 use Rattle.design.specs.Generate.{own_code}
 use Rattle.design.specs.Emit.{Emitted, with_node, with_ops, with_shown, with_control, with_valued, with_line, conversion_from, span_behind}
 use Rattle.design.proofs.Places.{drop-length-append, sits_there}

@@ -3,7 +3,7 @@ use Rattle.std.proofs.Common.{◌≡◌, ℕ, zero, suc, ◌+◌, ◌-◌, ◌<�
 use Rattle.design.specs.declared.tree.Expression.{Expression}
 use Rattle.design.specs.declared.tree.Statement.{Statement}
 use Rattle.design.specs.Sound.{IsSoundExpression, AreSoundExpressions, how_many}
-use Rattle.design.specs.Trees.{expression_of, expressions_of, statement_of, statements_of}
+use Rattle.design.specs.DesignTrees.{expression_of, expressions_of, statement_of, statements_of}
 use Rattle.model.specs.Design as tree
 use Rattle.model.specs.Design.{inside}
 use Rattle.design.specs.declared.extents.Extent.{Extent}

@@ -8,9 +8,9 @@ use Rattle.model.specs.Turns.{whole}
 use Rattle.model.specs.Design.{size, statements_of, first_place, all_of}
 use Rattle.design.specs.declared.tree.Process.{Process}
 use Rattle.design.specs.declared.extents.Extent.{Extent}
-use Rattle.design.specs.Trees.{process_of}
+use Rattle.design.specs.DesignTrees.{process_of}
 use Rattle.design.specs.Sound.{IsSound, AreSoundStatements}
-use Rattle.design.specs.Places.{statement_count, end_place}
+use Rattle.design.specs.CodePlaces.{statement_count, end_place}
 use Rattle.design.specs.Compiled.{Compiled, design_of}
 use Rattle.design.specs.Meaning.{IsCompiled}
 use Rattle.design.specs.Extents.{all_extents, extents, IsMeasured}

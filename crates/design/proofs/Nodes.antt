@@ -10,8 +10,8 @@ use Rattle.model.specs.Turns.{Remainder, At, parts}
 use Rattle.design.specs.declared.code.Node.TheVariants as node
 use Rattle.design.specs.declared.code.Span.{Span}
 use Rattle.design.specs.Sound.{AreSoundExpressions, IsSoundStatement, AreSoundStatements, how_many}
-use Rattle.design.specs.Steps.{piece}
-use Rattle.design.specs.Places.{remainder_at}
+use Rattle.design.specs.ExpressionSteps.{piece}
+use Rattle.design.specs.CodePlaces.{remainder_at}
 use Rattle.design.specs.Compiled.{Compiled, design_of}
 use Rattle.design.specs.Meaning.{IsFine, IsLine}
 use Rattle.design.specs.Generate.{own_code, assigned_code}

@@ -7,9 +7,9 @@ use Rattle.logic4.specs.Vector.{Vector}
 use Rattle.model.specs.Design.{Design, Process, Statement, Empty, Assign, AssignAfter, AssignLater, Delay, Await, If, While, Print, Finish, Statements, End, Then, inside, all_of, size, statements_of, statement_at}
 use Rattle.model.specs.Turns.{Remainder, At, Set, parts}
 use Rattle.design.specs.declared.code.ProcState.{ProcState}
-use Rattle.design.specs.Places.{remainders, remainders_inside, all_remainders, remainder_at, statement_count, end_place, IsPlaceOf}
+use Rattle.design.specs.CodePlaces.{remainders, remainders_inside, all_remainders, remainder_at, statement_count, end_place, IsPlaceOf}
 use Rattle.design.specs.Compiled.{Compiled, design_of}
-use Rattle.design.specs.Standing.{pending_part, remainder_of, IsStateOf}
+use Rattle.design.specs.DesignInvariant.{pending_part, remainder_of, IsStateOf}
 use Rattle.design.specs.Equal.{StatesAreEqual}
 use Rattle.design.proofs.Placed.{length_remainders, length_remainders_inside}
 use Rattle.design.proofs.Whole.{length_all_remainders, left_at_end}

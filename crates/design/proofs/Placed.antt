@@ -2,7 +2,7 @@
 use Rattle.std.proofs.Common.{◌≡◌, ℕ, ◌+◌, ◌≤◌, inl, List, [], ◌∷◌, ◌++◌, length, refl, ap, arith, length-append}
 use Rattle.model.specs.Design.{Design, Statement, Empty, Assign, AssignAfter, AssignLater, Delay, Await, If, While, Print, Finish, Statements, End, Then, inside, all_of, size, statements_of, statement_at, first_place}
 use Rattle.model.specs.Turns.{Remainder, At, parts}
-use Rattle.design.specs.Places.{remainders, remainders_inside, all_remainders, remainder_at, IsPlaceOf}
+use Rattle.design.specs.CodePlaces.{remainders, remainders_inside, all_remainders, remainder_at, IsPlaceOf}
 use Rattle.design.specs.Emit.{first_of}
 use Rattle.design.proofs.Places.{Sits, sits_first, sits_left, sits_right, sits_behind}
 

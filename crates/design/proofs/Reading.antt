@@ -11,7 +11,7 @@ use Rattle.model.specs.Design.{Process, Statement, Empty, Assign, AssignAfter, A
 use Rattle.design.specs.declared.code.Op.{Op}
 use Rattle.design.specs.declared.code.Op.TheVariants.{Unary, Binary, Join, Resize, Choose}
 use Rattle.design.specs.Sound.{IsSoundExpression, AreSoundExpressions, IsSoundStatement, AreSoundStatements}
-use Rattle.design.specs.Steps.{IsOpOf}
+use Rattle.design.specs.ExpressionSteps.{IsOpOf}
 use Rattle.design.specs.Generate.{direct_step, step_or, join_code, expression_code, parts_code, own_code, assigned_code}
 use Rattle.design.specs.Emit.{Emitted, with_ops, with_shown, with_line, with_statement, with_all, with_bodies, first_of}
 use Rattle.design.proofs.Emitted.{delay_node, await_node, if_node, while_node}

@@ -3,7 +3,7 @@ use Rattle.std.proofs.Common.{◌≡◌, ℕ, ◌+◌, List, length, refl, subst
 use Rattle.std.proofs.Common.{Result, Ok, Err, OnOk}
 use Rattle.model.specs.Design as model
 use Rattle.model.specs.Design.{If, inside, size, all_of}
-use Rattle.design.specs.Trees.{statement_of, statements_of, expression_of, statement_node}
+use Rattle.design.specs.DesignTrees.{statement_of, statements_of, expression_of, statement_node}
 use Rattle.design.specs.declared.extents.Extent.{Extent}
 use Rattle.design.specs.Sound.{IsSoundStatement, AreSoundStatements}
 use Rattle.design.specs.Extents.{AreMeasured, AreMeasuredInside}

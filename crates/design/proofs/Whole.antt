@@ -4,7 +4,7 @@ use Rattle.std.proofs.lemmas.List.{append-nil}
 use Rattle.std.specs.Prelude.{slice_index_or}
 use Rattle.model.specs.Design.{Design, Process, End, all_of, size, statements_of, first_place, process_at}
 use Rattle.model.specs.Turns.{Remainder, parts, whole}
-use Rattle.design.specs.Places.{remainders, all_remainders, remainder_at, end_place}
+use Rattle.design.specs.CodePlaces.{remainders, all_remainders, remainder_at, end_place}
 use Rattle.design.specs.Emit.{first_of}
 use Rattle.design.proofs.Places.{drop-length-append}
 use Rattle.design.proofs.Placed.{Placed, placed_all, length_remainders, Leads, leads}

@@ -7,7 +7,7 @@ use Rattle.design.specs.declared.tree.Process.{Process}
 use Rattle.design.specs.declared.code.Node.{Node}
 use Rattle.design.specs.declared.code.Op.{Op}
 use Rattle.design.specs.declared.code.Shown.{Shown}
-use Rattle.design.specs.Trees.{tree_design}
+use Rattle.design.specs.DesignTrees.{tree_design}
 
 -- the names and the widths of the registers by number, the processes, the node at each place, the steps of expressions, the pieces
 -- of lines, the triggers of each event control by its number, and where each process begins

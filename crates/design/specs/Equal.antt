@@ -2,7 +2,7 @@
 use Rattle.std.specs.Prelude.{◌≡◌, ◌↔◌, ℕ}
 use Rattle.design.specs.declared.code.ProcState.{ProcState}
 use Rattle.design.specs.Compiled.{Compiled}
-use Rattle.design.specs.Standing.{remainder_of, IsStateOf}
+use Rattle.design.specs.DesignInvariant.{remainder_of, IsStateOf}
 
 -- two states of processes are the same just where they are of the same process and stand for the same remainder
 abbrev pub StatesAreEqual : Type 0

@@ -11,10 +11,10 @@ use Rattle.design.specs.declared.code.Shown.{Shown}
 use Rattle.design.specs.declared.code.Shown.TheVariants as shown
 use Rattle.design.specs.declared.code.Node.{Node}
 use Rattle.design.specs.declared.code.Node.TheVariants as node
-use Rattle.design.specs.Trees.{conversion_of}
+use Rattle.design.specs.DesignTrees.{conversion_of}
 use Rattle.design.specs.Sound.{IsSound}
-use Rattle.design.specs.Steps.{IsOpOf, Computes, piece}
-use Rattle.design.specs.Places.{remainder_at, IsPlaceOf, statement_count}
+use Rattle.design.specs.ExpressionSteps.{IsOpOf, Computes, piece}
+use Rattle.design.specs.CodePlaces.{remainder_at, IsPlaceOf, statement_count}
 use Rattle.design.specs.Compiled.{Compiled, design_of}
 
 -- the two ways of a test: into a body or past it (9.4, 9.6)

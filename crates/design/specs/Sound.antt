@@ -51,6 +51,10 @@ abbrev mutual
   AreSoundStatements widths End = Unit {0}
   AreSoundStatements widths (Then s ss) = IsSoundStatement widths s × AreSoundStatements widths ss
 
+-- widths of registers: each has 1 to 128 digits
+abbrev pub AreWidths : List ℕ → Type 0
+AreWidths widths = All (λ w. 1 ≤ w) widths × AreWithin widths
+
 -- at most 1,024 registers of 1 to 128 digits, and at most 256 processes of sound statements
 pub record IsSound (design : Design) : Type 0 where
   pub some_digit : All (λ w. 1 ≤ w) design.widths

@@ -1,6 +1,6 @@
 //! Registers' numbers, and the event controls that wait for them.
 ghost use Rattle.std.specs.Prelude.{◌≡◌};
-ghost use Rattle.design.specs.Waking.{wakes_by};
+ghost use Rattle.design.specs.ControlWaking.{wakes_by};
 ghost use Rattle.model.specs.States as states;
 
 use logic4::digit::Edge;

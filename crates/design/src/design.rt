@@ -3,11 +3,11 @@ ghost use Rattle.std.specs.Prelude.{◌≡◌, ◌<◌, ◌≤◌, length, map, 
 ghost use Rattle.std.specs.List.{All};
 ghost use Rattle.logic4.specs.Vector.{AreWithin, greatest_width};
 ghost use Rattle.model.specs.Turns.{whole};
-ghost use Rattle.design.specs.Trees.{tree_design};
+ghost use Rattle.design.specs.DesignTrees.{tree_design};
 ghost use Rattle.design.specs.Sound.{IsSound};
 ghost use Rattle.design.specs.Compiled.{design_of};
 ghost use Rattle.design.specs.Meaning.{IsCompiled};
-ghost use Rattle.design.specs.Standing.{remainder_of, controls_of, IsStateOf};
+ghost use Rattle.design.specs.DesignInvariant.{remainder_of, controls_of, IsStateOf};
 
 use crate::code::{Node, Op, ProcState, Shown};
 use crate::control::{Control, RegId};

@@ -1,19 +1,17 @@
 //! The nodes of statements, in the order of the text: the node of a statement stands at the statement's place.
 ghost use Rattle.std.specs.Prelude.{◌≡◌, ◌<◌, ◌≤◌, ◌+◌, ◌++◌, ◌∷◌, [], length, map, drop, slice_get, Some, OnOk, IfOk, List};
-ghost use Rattle.std.specs.List.{All};
-ghost use Rattle.logic4.specs.Vector.{AreWithin};
 ghost use Rattle.model.specs.Design as model;
 ghost use Rattle.model.specs.Design.{inside, size};
 ghost use Rattle.design.specs.declared.code.Node.TheVariants as node;
-ghost use Rattle.design.specs.Sound.{IsSoundExpression, IsSoundStatement, AreSoundStatements};
-ghost use Rattle.design.specs.Trees.{expression_of, statement_of, statements_of};
-ghost use Rattle.design.specs.Generate.{own_code};
+ghost use Rattle.design.specs.Sound.{AreWidths, IsSoundExpression, IsSoundStatement, AreSoundStatements};
+ghost use Rattle.design.specs.DesignTrees.{expression_of, statement_of, statements_of};
+ghost use Rattle.design.specs.Generate.{own_code, assigned_code};
 ghost use Rattle.design.specs.Extents.{AreMeasured, AreMeasuredInside, extent_of};
 ghost use Rattle.design.specs.Emit.{with_node, with_control, with_valued, with_statement, with_all, first_of, next_of};
 ghost use Rattle.design.specs.Emitter.{emitted_of};
 
 use crate::code::{Node, Op, Shown};
-use crate::control::{Control, Trigger};
+use crate::control::{Control, RegId, Trigger};
 use crate::extents::Extent;
 use crate::tree::{Expression, Statement};
 use std::alloc::{AllocError, Global};
@@ -42,6 +40,14 @@ fn next_of(table: &[Extent], place: usize, statements: &[Statement], after: usiz
     ensures { result ≡ next_of place (statements_of statements.now) after }
 {
     first_of(table[place].whole, &statements[1..], after)
+}
+
+// A choice between two bodies, as a statement has it (9.4).
+#[derive(Clone, Copy)]
+struct Choice<'a> {
+    condition: &'a Expression,
+    body: &'a [Statement],
+    otherwise: &'a [Statement],
 }
 
 impl Emitter {
@@ -105,8 +111,7 @@ impl Emitter {
         missed: usize,
     ) -> Result<(), AllocError>
         requires sound { IsSoundExpression widths.now (expression_of condition.now) }
-        requires some_digit { All (λ w. 1 ≤ w) widths.now }
-        requires few_digits { AreWithin widths.now }
+        requires widths { AreWidths widths.now }
         ensures node { OnOk result (emitted_of self.new ≡ with_valued (emitted_of self.old) (own_code widths.now (expression_of condition.now)) (λ s. node.Branch s taken missed)) }
         ensures length { OnOk result (length self.new.nodes.items ≡ length self.old.nodes.items + 1) }
     {
@@ -118,27 +123,91 @@ impl Emitter {
         })
     }
 
-    // The test of a choice between bodies, the first of which stands next.
+    // The test of a choice, the first of whose bodies stands next.
     fn choice(
         &mut self,
         widths: &[u32],
         table: &[Extent],
-        condition: &Expression,
-        body: &[Statement],
-        otherwise: &[Statement],
+        choice: Choice<'_>,
         next: usize,
     ) -> Result<(), AllocError>
-        requires sound { IsSoundExpression widths.now (expression_of condition.now) }
-        requires some_digit { All (λ w. 1 ≤ w) widths.now }
-        requires few_digits { AreWithin widths.now }
-        requires measured { slice_get table.now (length self.old.nodes.items) ≡ Some (extent_of (length self.old.nodes.items) (model.If (expression_of condition.now) (statements_of body.now) (statements_of otherwise.now))) }
-        ensures node { OnOk result (emitted_of self.new ≡ with_valued (emitted_of self.old) (own_code widths.now (expression_of condition.now)) (λ s. node.Branch s (first_of (length self.old.nodes.items + 1) (statements_of body.now) next) (first_of (length self.old.nodes.items + 1 + size (statements_of body.now)) (statements_of otherwise.now) next))) }
+        requires sound { IsSoundExpression widths.now (expression_of choice.condition.now) }
+        requires widths { AreWidths widths.now }
+        requires measured { slice_get table.now (length self.old.nodes.items) ≡ Some (extent_of (length self.old.nodes.items) (model.If (expression_of choice.condition.now) (statements_of choice.body.now) (statements_of choice.otherwise.now))) }
+        ensures node { OnOk result (emitted_of self.new ≡ with_valued (emitted_of self.old) (own_code widths.now (expression_of choice.entry.condition.now)) (λ s. node.Branch s (first_of (length self.old.nodes.items + 1) (statements_of choice.entry.body.now) next) (first_of (length self.old.nodes.items + 1 + size (statements_of choice.entry.body.now)) (statements_of choice.entry.otherwise.now) next))) }
         ensures length { OnOk result (length self.new.nodes.items ≡ length self.old.nodes.items + 1) }
     {
         let place = self.nodes.len();
-        let taken = first_of(place + 1, body, next);
-        let missed = first_of(table[place].body, otherwise, next);
-        self.test(widths, condition, taken, missed)
+        let taken = first_of(place + 1, choice.body, next);
+        let missed = first_of(table[place].body, choice.otherwise, next);
+        self.test(widths, choice.condition, taken, missed)
+    }
+
+    fn assign(
+        &mut self,
+        widths: &[u32],
+        register: RegId,
+        value: &Expression,
+        next: usize,
+    ) -> Result<(), AllocError>
+        requires declared { register < length widths.now }
+        requires sound { IsSoundExpression widths.now (expression_of value.now) }
+        requires widths { AreWidths widths.now }
+        ensures node { OnOk result (emitted_of self.new ≡ with_valued (emitted_of self.old) (assigned_code widths.now register (expression_of value.now)) (λ s. node.Assign register s next)) }
+        ensures length { OnOk result (length self.new.nodes.items ≡ length self.old.nodes.items + 1) }
+    {
+        let value = self.assigned(widths, register, value)?;
+        self.put(Node::Assign {
+            register,
+            value,
+            next,
+        })
+    }
+
+    fn assign_after(
+        &mut self,
+        widths: &[u32],
+        register: RegId,
+        delay: u32,
+        value: &Expression,
+        next: usize,
+    ) -> Result<(), AllocError>
+        requires declared { register < length widths.now }
+        requires sound { IsSoundExpression widths.now (expression_of value.now) }
+        requires widths { AreWidths widths.now }
+        ensures node { OnOk result (emitted_of self.new ≡ with_valued (emitted_of self.old) (assigned_code widths.now register (expression_of value.now)) (λ s. node.AssignAfter register delay s next)) }
+        ensures length { OnOk result (length self.new.nodes.items ≡ length self.old.nodes.items + 1) }
+    {
+        let value = self.assigned(widths, register, value)?;
+        self.put(Node::AssignAfter {
+            register,
+            delay,
+            value,
+            next,
+        })
+    }
+
+    fn assign_later(
+        &mut self,
+        widths: &[u32],
+        register: RegId,
+        delay: u32,
+        value: &Expression,
+        next: usize,
+    ) -> Result<(), AllocError>
+        requires declared { register < length widths.now }
+        requires sound { IsSoundExpression widths.now (expression_of value.now) }
+        requires widths { AreWidths widths.now }
+        ensures node { OnOk result (emitted_of self.new ≡ with_valued (emitted_of self.old) (assigned_code widths.now register (expression_of value.now)) (λ s. node.AssignLater register delay s next)) }
+        ensures length { OnOk result (length self.new.nodes.items ≡ length self.old.nodes.items + 1) }
+    {
+        let value = self.assigned(widths, register, value)?;
+        self.put(Node::AssignLater {
+            register,
+            delay,
+            value,
+            next,
+        })
     }
 
     // A statement and those inside it, which lead to the next place.
@@ -151,8 +220,7 @@ impl Emitter {
         next: usize,
     ) -> Result<(), AllocError>
         requires sound { IsSoundStatement widths.now (statement_of statement.now) }
-        requires some_digit { All (λ w. 1 ≤ w) widths.now }
-        requires few_digits { AreWithin widths.now }
+        requires widths { AreWidths widths.now }
         requires measured { slice_get table.now (length self.old.nodes.items) ≡ Some (extent_of (length self.old.nodes.items) (statement_of statement.now)) }
         requires inside { AreMeasuredInside table.now (length self.old.nodes.items) (statement_of statement.now) }
         ensures code { OnOk result (emitted_of self.new ≡ with_statement widths.now next (emitted_of self.old) (statement_of statement.now)) }
@@ -160,36 +228,12 @@ impl Emitter {
     {
         match statement {
             Statement::Empty => self.put(Node::Skip { next }),
-            Statement::Assign(register, expression) => {
-                let register = *register;
-                let value = self.assigned(widths, register, expression)?;
-                self.put(Node::Assign {
-                    register,
-                    value,
-                    next,
-                })
+            Statement::Assign(register, value) => self.assign(widths, *register, value, next),
+            Statement::AssignAfter(register, delay, value) => {
+                self.assign_after(widths, *register, *delay, value, next)
             }
-            Statement::AssignAfter(register, delay, expression) => {
-                let register = *register;
-                let delay = *delay;
-                let value = self.assigned(widths, register, expression)?;
-                self.put(Node::AssignAfter {
-                    register,
-                    delay,
-                    value,
-                    next,
-                })
-            }
-            Statement::AssignLater(register, delay, expression) => {
-                let register = *register;
-                let delay = *delay;
-                let value = self.assigned(widths, register, expression)?;
-                self.put(Node::AssignLater {
-                    register,
-                    delay,
-                    value,
-                    next,
-                })
+            Statement::AssignLater(register, delay, value) => {
+                self.assign_later(widths, *register, *delay, value, next)
             }
             Statement::Delay(delay, body) => {
                 self.delay(*delay, body, next)?;
@@ -200,7 +244,12 @@ impl Emitter {
                 self.emit_all(widths, table, body, next)
             }
             Statement::If(condition, body, otherwise) => {
-                self.choice(widths, table, condition, body, otherwise, next)?;
+                let choice = Choice {
+                    condition,
+                    body,
+                    otherwise,
+                };
+                self.choice(widths, table, choice, next)?;
                 self.emit_all(widths, table, body, next)?;
                 self.emit_all(widths, table, otherwise, next)
             }
@@ -232,8 +281,7 @@ impl Emitter {
         after: usize,
     ) -> Result<(), AllocError>
         requires sound { AreSoundStatements widths.now (statements_of statements.now) }
-        requires some_digit { All (λ w. 1 ≤ w) widths.now }
-        requires few_digits { AreWithin widths.now }
+        requires widths { AreWidths widths.now }
         requires measured { AreMeasured table.now (length self.old.nodes.items) (statements_of statements.now) }
         ensures code { OnOk result (emitted_of self.new ≡ with_all widths.now after (emitted_of self.old) (statements_of statements.now)) }
         ensures length { OnOk result (length self.new.nodes.items ≡ length self.old.nodes.items + size (statements_of statements.now)) }

@@ -1,9 +1,8 @@
 //! The steps of expressions: the operands from left to right, each at its size, and then the operator.
 ghost use Rattle.std.specs.Prelude.{◌≡◌, ◌<◌, ◌≤◌, ◌++◌, ◌∷◌, [], true, length, OnOk};
-ghost use Rattle.std.specs.List.{All};
-ghost use Rattle.logic4.specs.Vector.{AreWithin};
-ghost use Rattle.design.specs.Sound.{IsSoundExpression, AreSoundExpressions};
-ghost use Rattle.design.specs.Trees.{expression_of, expressions_of};
+ghost use Rattle.design.specs.declared.code.Op.TheVariants as op;
+ghost use Rattle.design.specs.Sound.{AreWidths, IsSoundExpression, AreSoundExpressions};
+ghost use Rattle.design.specs.DesignTrees.{expression_of, expressions_of};
 ghost use Rattle.design.specs.Generate.{direct_step, expression_code, parts_code, join_code, own_code, assigned_code};
 
 use crate::code::{Op, Size};
@@ -18,6 +17,44 @@ fn put(ops: &mut Vec<Op>, op: Op) -> Result<(), AllocError>
 {
     ops.push(op)?;
     Ok(())
+}
+
+fn load(ops: &mut Vec<Op>, register: RegId, size: Size) -> Result<(), AllocError>
+    ensures { OnOk result (ops.new.items ≡ ops.old.items ++ op.Load register size ∷ []) }
+{
+    put(ops, Op::Load { register, size })
+}
+
+fn pick(ops: &mut Vec<Op>, register: RegId, index: u32, size: Size) -> Result<(), AllocError>
+    ensures { OnOk result (ops.new.items ≡ ops.old.items ++ op.Pick register index size ∷ []) }
+{
+    put(
+        ops,
+        Op::Pick {
+            register,
+            index,
+            size,
+        },
+    )
+}
+
+// The step of an operator on two vectors of a size.
+fn combine(
+    ops: &mut Vec<Op>,
+    operator: BinaryOperator,
+    size: Size,
+    asked: Size,
+) -> Result<(), AllocError>
+    ensures { OnOk result (ops.new.items ≡ ops.old.items ++ op.Binary operator size asked ∷ []) }
+{
+    put(
+        ops,
+        Op::Binary {
+            operator,
+            size,
+            asked,
+        },
+    )
 }
 
 fn join(ops: &mut Vec<Op>, is_first: bool) -> Result<(), AllocError>
@@ -62,33 +99,12 @@ fn emit(
     expression: &Expression,
 ) -> Result<(), AllocError>
     requires sound { IsSoundExpression widths.now (expression_of expression.now) }
-    requires some_digit { All (λ w. 1 ≤ w) widths.now }
-    requires few_digits { AreWithin widths.now }
+    requires widths { AreWidths widths.now }
     ensures { OnOk result (ops.new.items ≡ ops.old.items ++ expression_code widths.now asked (expression_of expression.now)) }
 {
     match expression {
-        Expression::Register(register) => {
-            let register = *register;
-            put(
-                ops,
-                Op::Load {
-                    register,
-                    size: asked,
-                },
-            )
-        }
-        Expression::Select(register, index) => {
-            let register = *register;
-            let index = *index;
-            put(
-                ops,
-                Op::Pick {
-                    register,
-                    index,
-                    size: asked,
-                },
-            )
-        }
+        Expression::Register(register) => load(ops, *register, asked),
+        Expression::Select(register, index) => pick(ops, *register, *index, asked),
         Expression::Literal(value) => {
             let value = value.resize(asked.get());
             put(ops, Op::Constant { value })
@@ -114,14 +130,7 @@ fn emit(
                 Some(op) => put(ops, op),
                 None => {
                     emit(ops, widths, other, right)?;
-                    put(
-                        ops,
-                        Op::Binary {
-                            operator,
-                            size,
-                            asked,
-                        },
-                    )
+                    combine(ops, operator, size, asked)
                 }
             }
         }
@@ -137,8 +146,7 @@ fn emit(
 #[cycle(emit)]
 fn emit_parts(ops: &mut Vec<Op>, widths: &[u32], parts: &[Expression]) -> Result<(), AllocError>
     requires sound { AreSoundExpressions widths.now (expressions_of parts.now) }
-    requires some_digit { All (λ w. 1 ≤ w) widths.now }
-    requires few_digits { AreWithin widths.now }
+    requires widths { AreWidths widths.now }
     ensures { OnOk result (ops.new.items ≡ ops.old.items ++ parts_code widths.now true (expressions_of parts.now)) }
 {
     let mut is_first = true;
@@ -157,8 +165,7 @@ pub fn emit_own(
     expression: &Expression,
 ) -> Result<(), AllocError>
     requires sound { IsSoundExpression widths.now (expression_of expression.now) }
-    requires some_digit { All (λ w. 1 ≤ w) widths.now }
-    requires few_digits { AreWithin widths.now }
+    requires widths { AreWidths widths.now }
     ensures { OnOk result (ops.new.items ≡ ops.old.items ++ own_code widths.now (expression_of expression.now)) }
 {
     emit(ops, widths, own_size(widths, expression), expression)
@@ -173,8 +180,7 @@ pub fn emit_assigned(
 ) -> Result<(), AllocError>
     requires declared { register < length widths.now }
     requires sound { IsSoundExpression widths.now (expression_of expression.now) }
-    requires some_digit { All (λ w. 1 ≤ w) widths.now }
-    requires few_digits { AreWithin widths.now }
+    requires widths { AreWidths widths.now }
     ensures { OnOk result (ops.new.items ≡ ops.old.items ++ assigned_code widths.now register (expression_of expression.now)) }
 {
     let width = width_of(widths, register);

@@ -1,7 +1,7 @@
 //! How far each statement reaches: a table by places, filled in one pass, from which the places behind statements are
 //! read. A place is an index of the table, so none overflows.
 ghost use Rattle.std.specs.Prelude.{◌≡◌, ◌<◌, ◌+◌, ◌++◌, ◌∷◌, [], length, slice_set, OnOk, IfOk, map};
-ghost use Rattle.design.specs.Trees.{statement_of, statements_of, process_of};
+ghost use Rattle.design.specs.DesignTrees.{statement_of, statements_of, process_of};
 ghost use Rattle.design.specs.Extents.{body_extent, extent_of, extents, extents_inside, all_extents};
 
 use crate::tree::{Process, Statement};

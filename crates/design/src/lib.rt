@@ -6,7 +6,7 @@
 //!    Expressions are steps on a stack of vectors, whose sizes are fixed.
 //! 3. `Design::new` makes the code of a tree, and keeps both.
 //!
-//! What the layer above uses: `Design` stands for the design of the definitions, and `specs/Standing.antt` says which
+//! What the layer above uses: `Design` stands for the design of the definitions, and `specs/DesignInvariant.antt` says which
 //! remainder each `ProcState` stands for. The type keeps that each node does what the first statement of its
 //! remainder does (`specs/Meaning.antt`).
 #![tactic(auto)]
@@ -28,3 +28,4 @@ pub use ascii::Ascii;
 pub use code::ProcState;
 pub use control::{Control, RegId, Trigger};
 pub use design::Design;
+pub use sizes::{Sizing, sizing_of};

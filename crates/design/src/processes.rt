@@ -1,12 +1,11 @@
 //! The code of processes: their statements, and behind all of them the node of the end of each.
 ghost use Rattle.std.specs.Prelude.{◌≡◌, ◌<◌, ◌≤◌, ◌+◌, ◌^◌, ◌++◌, length, map, OnOk, IfOk};
 ghost use Rattle.std.specs.List.{All};
-ghost use Rattle.logic4.specs.Vector.{AreWithin};
-ghost use Rattle.design.specs.Sound.{IsSound, AreSoundStatements};
-ghost use Rattle.design.specs.Trees.{statements_of, process_of, tree_design};
+ghost use Rattle.design.specs.Sound.{AreWidths, IsSound, AreSoundStatements};
+ghost use Rattle.design.specs.DesignTrees.{statements_of, process_of, tree_design};
 ghost use Rattle.design.specs.Extents.{IsMeasured};
 ghost use Rattle.design.specs.Emit.{with_node, with_bodies, starts_of, end_node, end_nodes, all_code};
-ghost use Rattle.design.specs.Places.{statement_count};
+ghost use Rattle.design.specs.CodePlaces.{statement_count};
 ghost use Rattle.design.specs.Emitter.{emitted_of};
 
 use crate::code::Node;
@@ -26,8 +25,7 @@ impl Emitter {
         end: usize,
     ) -> Result<Vec<usize>, AllocError>
         requires sound { All (λ p. AreSoundStatements widths.now (statements_of p.body.items)) processes.now }
-        requires some_digit { All (λ w. 1 ≤ w) widths.now }
-        requires few_digits { AreWithin widths.now }
+        requires widths { AreWidths widths.now }
         requires measured { IsMeasured table.now (length self.old.nodes.items) (map process_of processes.now) }
         requires fits { end + length processes.now < 2 ^ 64 }
         ensures code { IfOk result (λ v. emitted_of self.new ≡ with_bodies widths.now end (emitted_of self.old) (map process_of processes.now)) }

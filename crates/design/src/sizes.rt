@@ -1,11 +1,11 @@
 //! The own sizes of expressions (5.4.1, table 5-22).
 ghost use Rattle.std.specs.Prelude.{◌≡◌, ◌<◌, ◌≤◌, ◌+◌, max, length, slice_index};
-ghost use Rattle.std.specs.List.{All};
-ghost use Rattle.logic4.specs.Vector.{AreWithin, greatest_width};
+ghost use Rattle.logic4.specs.Vector.{greatest_width};
 ghost use Rattle.model.specs.Expressions as size;
 ghost use Rattle.model.specs.Expressions.{sizing_of};
-ghost use Rattle.design.specs.Sound.{IsSoundExpression, AreSoundExpressions, HasSome};
-ghost use Rattle.design.specs.Trees.{expression_of, expressions_of};
+ghost use Rattle.design.specs.Sizings.{sizing_from};
+ghost use Rattle.design.specs.Sound.{AreWidths, IsSoundExpression, AreSoundExpressions, HasSome};
+ghost use Rattle.design.specs.DesignTrees.{expression_of, expressions_of};
 
 use crate::code::Size;
 use crate::control::RegId;
@@ -25,25 +25,56 @@ pub fn greater(left: Size, right: Size) -> Size
 
 pub fn width_of(widths: &[u32], register: RegId) -> Size
     requires declared { register < length widths.now }
-    requires some_digit { All (λ w. 1 ≤ w) widths.now }
-    requires few_digits { AreWithin widths.now }
+    requires widths { AreWidths widths.now }
     ensures { result ≡ slice_index widths.now register }
 {
     Size::new(widths[register as usize])
 }
 
+/// How an operator takes its operands (5.4.1, table 5-22).
+#[derive(Clone, Copy)]
+pub enum Sizing {
+    /// Both at the size asked.
+    BothAsked,
+    /// The left one at the size asked, and the right one at its own.
+    LeftAsked,
+    /// Both at the greater of their own sizes.
+    Greatest,
+    /// Each at its own size.
+    EachOwn,
+}
+
+/// The way of each operator.
+pub fn sizing_of(operator: BinaryOperator) -> Sizing
+    ensures { sizing_from result ≡ sizing_of operator }
+{
+    match operator {
+        BinaryOperator::Or
+        | BinaryOperator::Xor
+        | BinaryOperator::And
+        | BinaryOperator::Add
+        | BinaryOperator::Subtract => Sizing::BothAsked,
+        BinaryOperator::ShiftLeft | BinaryOperator::ShiftRight => Sizing::LeftAsked,
+        BinaryOperator::Equal
+        | BinaryOperator::NotEqual
+        | BinaryOperator::CaseEqual
+        | BinaryOperator::CaseNotEqual => Sizing::Greatest,
+        BinaryOperator::Less
+        | BinaryOperator::LessEqual
+        | BinaryOperator::Greater
+        | BinaryOperator::GreaterEqual => Sizing::Greatest,
+        BinaryOperator::LogicalOr | BinaryOperator::LogicalAnd => Sizing::EachOwn,
+    }
+}
+
 fn result_size(operator: BinaryOperator, left: Size, right: Size) -> Size
     ensures { result ≡ size.result_size (sizing_of operator) left right }
 {
-    match operator {
-        BinaryOperator::Or => greater(left, right),
-        BinaryOperator::Xor => greater(left, right),
-        BinaryOperator::And => greater(left, right),
-        BinaryOperator::Add => greater(left, right),
-        BinaryOperator::Subtract => greater(left, right),
-        BinaryOperator::ShiftLeft => left,
-        BinaryOperator::ShiftRight => left,
-        _ => Size::new(1),
+    match sizing_of(operator) {
+        Sizing::BothAsked => greater(left, right),
+        Sizing::LeftAsked => left,
+        Sizing::Greatest => Size::new(1),
+        Sizing::EachOwn => Size::new(1),
     }
 }
 
@@ -51,17 +82,11 @@ fn result_size(operator: BinaryOperator, left: Size, right: Size) -> Size
 pub fn left_size(operator: BinaryOperator, asked: Size, left: Size, right: Size) -> Size
     ensures { result ≡ size.left_size (sizing_of operator) asked left right }
 {
-    match operator {
-        BinaryOperator::Or => asked,
-        BinaryOperator::Xor => asked,
-        BinaryOperator::And => asked,
-        BinaryOperator::Add => asked,
-        BinaryOperator::Subtract => asked,
-        BinaryOperator::ShiftLeft => asked,
-        BinaryOperator::ShiftRight => asked,
-        BinaryOperator::LogicalOr => left,
-        BinaryOperator::LogicalAnd => left,
-        _ => greater(left, right),
+    match sizing_of(operator) {
+        Sizing::BothAsked => asked,
+        Sizing::LeftAsked => asked,
+        Sizing::Greatest => greater(left, right),
+        Sizing::EachOwn => left,
     }
 }
 
@@ -69,17 +94,11 @@ pub fn left_size(operator: BinaryOperator, asked: Size, left: Size, right: Size)
 pub fn right_size(operator: BinaryOperator, asked: Size, left: Size, right: Size) -> Size
     ensures { result ≡ size.right_size (sizing_of operator) asked left right }
 {
-    match operator {
-        BinaryOperator::Or => asked,
-        BinaryOperator::Xor => asked,
-        BinaryOperator::And => asked,
-        BinaryOperator::Add => asked,
-        BinaryOperator::Subtract => asked,
-        BinaryOperator::ShiftLeft => right,
-        BinaryOperator::ShiftRight => right,
-        BinaryOperator::LogicalOr => right,
-        BinaryOperator::LogicalAnd => right,
-        _ => greater(left, right),
+    match sizing_of(operator) {
+        Sizing::BothAsked => asked,
+        Sizing::LeftAsked => right,
+        Sizing::Greatest => greater(left, right),
+        Sizing::EachOwn => right,
     }
 }
 
@@ -88,7 +107,10 @@ fn unary_size(operator: UnaryOperator, own: Size) -> Size
 {
     match operator {
         UnaryOperator::Not => own,
-        _ => Size::new(1),
+        UnaryOperator::LogicalNot
+        | UnaryOperator::ReduceAnd
+        | UnaryOperator::ReduceOr
+        | UnaryOperator::ReduceXor => Size::new(1),
     }
 }
 
@@ -98,7 +120,10 @@ pub fn operand_size(operator: UnaryOperator, asked: Size, own: Size) -> Size
 {
     match operator {
         UnaryOperator::Not => asked,
-        _ => own,
+        UnaryOperator::LogicalNot
+        | UnaryOperator::ReduceAnd
+        | UnaryOperator::ReduceOr
+        | UnaryOperator::ReduceXor => own,
     }
 }
 
@@ -106,8 +131,7 @@ pub fn operand_size(operator: UnaryOperator, asked: Size, own: Size) -> Size
 #[cycle(own)]
 pub fn own_size(widths: &[u32], expression: &Expression) -> Size
     requires sound { IsSoundExpression widths.now (expression_of expression.now) }
-    requires some_digit { All (λ w. 1 ≤ w) widths.now }
-    requires few_digits { AreWithin widths.now }
+    requires widths { AreWidths widths.now }
     ensures { result ≡ size.own_size widths.now (expression_of expression.now) }
 {
     match expression {
@@ -130,8 +154,7 @@ fn total_size(widths: &[u32], parts: &[Expression]) -> Size
     requires sound { AreSoundExpressions widths.now (expressions_of parts.now) }
     requires some { HasSome (expressions_of parts.now) }
     requires within { size.total_size widths.now (expressions_of parts.now) ≤ greatest_width }
-    requires some_digit { All (λ w. 1 ≤ w) widths.now }
-    requires few_digits { AreWithin widths.now }
+    requires widths { AreWidths widths.now }
     ensures { result ≡ size.total_size widths.now (expressions_of parts.now) }
 {
     let mut total = 0;

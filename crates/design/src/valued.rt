@@ -1,11 +1,9 @@
 //! The values and the lines of statements.
 ghost use Rattle.std.specs.Prelude.{◌≡◌, ◌<◌, ◌≤◌, ◌+◌, ◌∷◌, [], length, map, drop, OnOk, IfOk, List};
-ghost use Rattle.std.specs.List.{All};
-ghost use Rattle.logic4.specs.Vector.{AreWithin};
 ghost use Rattle.model.specs.Design as model;
 ghost use Rattle.model.specs.Elaboration.{argument_count};
-ghost use Rattle.design.specs.Sound.{IsSoundExpression, AreSoundExpressions, how_many};
-ghost use Rattle.design.specs.Trees.{expression_of, expressions_of, piece_of};
+ghost use Rattle.design.specs.Sound.{AreWidths, IsSoundExpression, AreSoundExpressions, how_many};
+ghost use Rattle.design.specs.DesignTrees.{expression_of, expressions_of, piece_of};
 ghost use Rattle.design.specs.Generate.{own_code, assigned_code};
 ghost use Rattle.design.specs.Emit.{with_ops, with_shown, with_line, span_behind};
 ghost use Rattle.design.specs.Emitter.{emitted_of};
@@ -21,8 +19,7 @@ impl Emitter {
     /// The steps of a condition or of an argument, and where they stand.
     pub fn own(&mut self, widths: &[u32], expression: &Expression) -> Result<Span, AllocError>
         requires sound { IsSoundExpression widths.now (expression_of expression.now) }
-        requires some_digit { All (λ w. 1 ≤ w) widths.now }
-        requires few_digits { AreWithin widths.now }
+        requires widths { AreWidths widths.now }
         ensures ops { IfOk result (λ s. emitted_of self.new ≡ with_ops (emitted_of self.old) (own_code widths.now (expression_of expression.now))) }
         ensures span { IfOk result (λ s. s ≡ span_behind self.old.ops.items (own_code widths.now (expression_of expression.now))) }
         ensures nodes { IfOk result (λ s. length self.new.nodes.items ≡ length self.old.nodes.items) }
@@ -42,8 +39,7 @@ impl Emitter {
     ) -> Result<Span, AllocError>
         requires declared { register < length widths.now }
         requires sound { IsSoundExpression widths.now (expression_of expression.now) }
-        requires some_digit { All (λ w. 1 ≤ w) widths.now }
-        requires few_digits { AreWithin widths.now }
+        requires widths { AreWidths widths.now }
         ensures ops { IfOk result (λ s. emitted_of self.new ≡ with_ops (emitted_of self.old) (assigned_code widths.now register (expression_of expression.now))) }
         ensures span { IfOk result (λ s. s ≡ span_behind self.old.ops.items (assigned_code widths.now register (expression_of expression.now))) }
         ensures nodes { IfOk result (λ s. length self.new.nodes.items ≡ length self.old.nodes.items) }
@@ -72,8 +68,7 @@ impl Emitter {
     ) -> Result<usize, AllocError>
         requires given { next + argument_count (piece_of piece ∷ []) ≤ length arguments.now }
         requires sound { AreSoundExpressions widths.now (expressions_of arguments.now) }
-        requires some_digit { All (λ w. 1 ≤ w) widths.now }
-        requires few_digits { AreWithin widths.now }
+        requires widths { AreWidths widths.now }
         ensures used { IfOk result (λ n. n ≡ next + argument_count (piece_of piece ∷ [])) }
         ensures line { IfOk result (λ n. (ps : List model.Piece) → with_line widths.now (emitted_of self.new) ps (expressions_of (drop n arguments.now)) ≡ with_line widths.now (emitted_of self.old) (piece_of piece ∷ ps) (expressions_of (drop next arguments.now))) }
         ensures nodes { IfOk result (λ s. length self.new.nodes.items ≡ length self.old.nodes.items) }
@@ -100,8 +95,7 @@ impl Emitter {
     ) -> Result<Span, AllocError>
         requires count { argument_count (map piece_of format.now) ≡ how_many (expressions_of arguments.now) }
         requires sound { AreSoundExpressions widths.now (expressions_of arguments.now) }
-        requires some_digit { All (λ w. 1 ≤ w) widths.now }
-        requires few_digits { AreWithin widths.now }
+        requires widths { AreWidths widths.now }
         ensures line { IfOk result (λ s. emitted_of self.new ≡ with_line widths.now (emitted_of self.old) (map piece_of format.now) (expressions_of arguments.now)) }
         ensures span { IfOk result (λ s. s ≡ record { from = length self.old.shown.items; to = length self.new.shown.items }) }
         ensures nodes { IfOk result (λ s. length self.new.nodes.items ≡ length self.old.nodes.items) }

@@ -6,7 +6,7 @@ use Rattle.diagnosis.specs.declared.lexemes.Lexeme.{Lexeme}
 use Rattle.diagnosis.specs.PlainLexemes.{plain_lexeme}
 use Rattle.diagnosis.specs.declared.notes.Note.{Note}
 use Rattle.diagnosis.specs.Lexemes.{PlainLexeme, AreLexemes}
-use Rattle.diagnosis.specs.Words.{advice_of}
+use Rattle.diagnosis.specs.LackedWords.{advice_of}
 use Rattle.diagnosis.specs.Notes.{IsNoteOf, AreNotes, HasNotes, ended, silent, told}
 
 pub note_more : (all ls : List PlainLexeme) (l : PlainLexeme) (o : Option Note) (old new : List Note) → MatchOption o (advice_of l.text ≡ None) (IsNoteOf l) → new ≡ old ++ option_to_list o

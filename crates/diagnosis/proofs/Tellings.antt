@@ -5,7 +5,7 @@ use Rattle.std.proofs.lemmas.List.{take_all}
 use Rattle.places.specs.declared.spot.Spot.{Spot}
 use Rattle.places.specs.Spots.{PlainSpot}
 use Rattle.places.specs.PlainSpots.{plain_spot}
-use Rattle.diagnosis.specs.Told.{IsSpotAt, found, later}
+use Rattle.diagnosis.specs.FaultPlaces.{IsSpotAt, found, later}
 
 pub front_found : (p : PlainSpot → Bool) (xs : List Spot) (d : Spot) → 1 ≤ length xs → p (plain_spot (get_or xs 0 d)) ≡ true → IsSpotAt p (map plain_spot xs) (get_or xs 0 d).byte
 front_found p [] d some h = absurd (omega arith)

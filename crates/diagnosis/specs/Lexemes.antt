@@ -1,6 +1,6 @@
 -- A text as lexemes, whatever it is: words, numbers, strings, and else single bytes.
-use Rattle.std.specs.Prelude.{◌≡◌, ℕ, suc, ◌+◌, ◌-◌, ◌<◌, List, [], ◌∷◌, ◌++◌, length, Bool, true, false, not, ◌&&◌, ◌||◌, ◌==◌, if◌then◌else◌}
-use Rattle.tokens.specs.Bytes.{is_letter, is_digit, in_line, span}
+use Rattle.std.specs.Prelude.{◌≡◌, ℕ, suc, ◌+◌, ◌-◌, ◌<◌, List, [], ◌∷◌, ◌++◌, length, Bool, false, not, ◌&&◌, ◌||◌, ◌==◌, if◌then◌else◌}
+use Rattle.tokens.specs.ByteClasses.{is_letter, is_digit, in_word, in_number, in_line, span}
 use Rattle.places.specs.Spots.{skip_len, Skips}
 
 -- A lexeme, its first byte, and the one behind its last, counted from 0.
@@ -17,10 +17,6 @@ begins_word b = is_letter b || b == 36
 abbrev pub begins_number : ℕ → Bool
 begins_number b = is_digit b || b == 39
 
--- Goes on with a word: a letter, _, a digit or $; and with a number, which may have ? and ' too.
-abbrev pub goes_on : Bool → ℕ → Bool
-goes_on number b = is_letter b || is_digit b || b == 36 || (number && (b == 63 || b == 39))
-
 -- n and the length of a string behind its first `"`: up to the next one that isn't escaped, that included, or to the end of
 -- its line.
 abbrev pub string_len : ℕ → Bool → List ℕ → ℕ
@@ -36,8 +32,8 @@ sign_len b (c ∷ cs) = if b == 47 && c == 42 then suc (suc (length cs)) else 1
 unfoldable pub lexeme_len : List ℕ → ℕ
 lexeme_len [] = 0
 lexeme_len (b ∷ bs) =
-    if begins_word b then suc (span (goes_on false) bs)
-    else (if begins_number b then suc (span (goes_on true) bs)
+    if begins_word b then suc (span in_word bs)
+    else (if begins_number b then suc (span in_number bs)
     else (if b == 34 then suc (string_len 0 false bs)
     else (if b == 96 then suc (span in_line bs)
     else sign_len b bs)))

@@ -1,5 +1,5 @@
-pub mod Told
+pub mod FaultPlaces
 pub mod Lexemes
 pub mod PlainLexemes
-pub mod Words
+pub mod LackedWords
 pub mod Notes

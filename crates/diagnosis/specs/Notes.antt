@@ -2,7 +2,7 @@
 use Rattle.std.specs.Prelude.{◌≡◌, ◌⊎◌, ℕ, List, [], ◌∷◌, true, Some, None}
 use Rattle.diagnosis.specs.declared.notes.Note.{Note}
 use Rattle.diagnosis.specs.Lexemes.{PlainLexeme, AreLexemes}
-use Rattle.diagnosis.specs.Words.{advice_of, suits}
+use Rattle.diagnosis.specs.LackedWords.{advice_of, suits}
 
 -- A note on a lexeme: it has the lexeme's bytes, and the advice of the table where its word stands there, else one that suits it.
 pub record IsNoteOf (l : PlainLexeme) (n : Note) : Type 0 where

@@ -3,7 +3,7 @@
 ghost use Rattle.std.specs.Prelude.{◌≡◌, ◌⊎◌, [], IfOk, IfNone, IfSome};
 ghost use Rattle.design.specs.Compiled.{Compiled};
 ghost use Rattle.frontend.specs.Sources.{IsDesignOf, IsSourceFault};
-ghost use Rattle.diagnosis.specs.Told.{IsTextPlace, IsModulePlace, IsFaultPlace};
+ghost use Rattle.diagnosis.specs.FaultPlaces.{IsTextPlace, IsModulePlace, IsFaultPlace};
 ghost use Rattle.frontend.specs.declared.source.SourceFault.TheVariants.{Parse};
 ghost use Rattle.vparse.specs.declared.parser.ParseFault.TheVariants.{Memory};
 ghost use Rattle.diagnosis.specs.Notes.{HasNotes};

@@ -2,13 +2,13 @@
 //! token is a lexeme of one byte.
 
 ghost use Rattle.std.specs.Prelude.{false, ◌≡◌, ◌≤◌, ◌<◌, ◌++◌, [], ◌∷◌, length, map, IfOk, OnOk};
-ghost use Rattle.tokens.specs.Bytes.{is_letter, span};
 ghost use Rattle.diagnosis.specs.Lexemes as spec;
 ghost use Rattle.diagnosis.specs.Lexemes.{AreLexemes};
 ghost use Rattle.diagnosis.specs.PlainLexemes.{plain_lexeme};
 
-use places::{behind_skipped, line_span};
+use places::behind_skipped;
 use std::alloc::{AllocError, Global};
+use tokens::spans::{Class, is_digit, is_letter, span};
 
 /// A lexeme, its first byte, and the one behind its last, counted from 0.
 #[derive(Clone, Copy)]
@@ -16,12 +16,6 @@ pub struct Lexeme<'a> {
     pub text: &'a [u8],
     pub begin: usize,
     pub end: usize,
-}
-
-pub fn is_letter(b: u8) -> bool
-    ensures { result ≡ is_letter b }
-{
-    (b >= b'A' && b <= b'Z') || (b >= b'a' && b <= b'z') || b == b'_'
 }
 
 fn begins_word(b: u8) -> bool
@@ -34,30 +28,7 @@ fn begins_word(b: u8) -> bool
 pub fn begins_number(b: u8) -> bool
     ensures { result ≡ spec.begins_number b }
 {
-    (b >= b'0' && b <= b'9') || b == b'\''
-}
-
-/// Whether a byte goes on with a word, or with a number, which may have a `?` and a `'` too.
-fn goes_on(number: bool, b: u8) -> bool
-    ensures { result ≡ spec.goes_on number b }
-{
-    is_letter(b) || (b >= b'0' && b <= b'9') || b == b'$' || (number && (b == b'?' || b == b'\''))
-}
-
-fn run_len(number: bool, text: &[u8]) -> usize
-    ensures value { result ≡ span (spec.goes_on number) text.now }
-    ensures within { result ≤ length text.now }
-{
-    let mut left = text;
-    let mut n = 0;
-    while let [b, rest @ ..] = left {
-        if !goes_on(number, *b) {
-            break;
-        }
-        n += 1;
-        left = rest;
-    }
-    n
+    is_digit(b) || b == b'\''
 }
 
 /// The length of a string behind its first `"`: up to the next one that isn't escaped, that included, or to the end of its line.
@@ -92,10 +63,10 @@ fn lexeme_len(text: &[u8]) -> usize
     ensures within { result ≤ length text.now }
 {
     match text {
-        [b, rest @ ..] if begins_word(*b) => run_len(false, rest) + 1,
-        [b, rest @ ..] if begins_number(*b) => run_len(true, rest) + 1,
+        [b, rest @ ..] if begins_word(*b) => span(Class::Word, rest) + 1,
+        [b, rest @ ..] if begins_number(*b) => span(Class::Number, rest) + 1,
         [b'"', rest @ ..] => string_len(rest) + 1,
-        [b'`', rest @ ..] => line_span(rest) + 1,
+        [b'`', rest @ ..] => span(Class::Line, rest) + 1,
         [b'/', b'*', ..] => text.len(),
         _ => 1,
     }

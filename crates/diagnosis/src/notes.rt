@@ -3,15 +3,16 @@
 ghost use Rattle.std.specs.Prelude.{◌≡◌, ◌≤◌, ◌+◌, ◌++◌, false, true, None, length, option_to_list, codes, IfOk, IfSome, OnOk, MatchOption};
 ghost use Rattle.std.specs.Str.{bytes_eq};
 ghost use Rattle.diagnosis.specs.PlainLexemes.{plain_lexeme};
-ghost use Rattle.diagnosis.specs.Words as spec;
-ghost use Rattle.diagnosis.specs.Words.{advice_of, suits};
+ghost use Rattle.diagnosis.specs.LackedWords as spec;
+ghost use Rattle.diagnosis.specs.LackedWords.{advice_of, suits};
 ghost use Rattle.diagnosis.specs.declared.words.Advice.TheVariants.{Format};
 ghost use Rattle.diagnosis.specs.Notes.{IsNoteOf, HasNotes};
 
 use crate::before::{Before, NOTHING};
-use crate::lexemes::{Lexeme, begins_number, is_letter, lexemes};
+use crate::lexemes::{Lexeme, begins_number, lexemes};
 use crate::words::{Advice, advice_of, is_same};
 use std::alloc::{AllocError, Global};
+use tokens::spans::is_letter;
 
 /// What a source has from its byte `begin` to before its byte `end`, counted from 0, and what to write instead.
 #[derive(Clone, Copy)]

@@ -4,9 +4,10 @@ use crate::diagnose::Diagnosis;
 use crate::notes::Note;
 use elaborate::ElabFault;
 use frontend::SourceFault;
-use places::{Place, before, last_line, line_span, place_of_byte};
+use places::{Place, before, last_line, place_of_byte};
 use std::alloc::{AllocError, Global};
 use std::{fmt, str};
+use tokens::spans::{Class, span};
 use unicode_width::UnicodeWidthChar;
 use vparse::ParseFault;
 
@@ -48,7 +49,7 @@ fn rest_of_line(source: &[u8], byte: usize) -> &[u8] {
         return &[];
     }
     let rest = source.split_at(byte).1;
-    match rest.split_at(line_span(rest)).0 {
+    match rest.split_at(span(Class::Line, rest)).0 {
         [line @ .., b'\r'] => line,
         line => line,
     }

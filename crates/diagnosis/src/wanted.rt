@@ -2,7 +2,7 @@
 
 ghost use Rattle.std.specs.Prelude.{◌≡◌, true, map, IfSome};
 ghost use Rattle.places.specs.PlainSpots.{plain_spot};
-ghost use Rattle.diagnosis.specs.Told.{is_name, is_named, is_call, tells, wants, IsSpotAt};
+ghost use Rattle.diagnosis.specs.FaultPlaces.{is_name, is_named, is_call, tells, wants, IsSpotAt};
 
 use crate::notes::conversions;
 use elaborate::ElabFault;

@@ -2,7 +2,7 @@
 
 ghost use Rattle.std.specs.Prelude.{◌≡◌};
 ghost use Rattle.std.specs.Str.{bytes_eq};
-ghost use Rattle.diagnosis.specs.Words as spec;
+ghost use Rattle.diagnosis.specs.LackedWords as spec;
 
 use std::fmt;
 
@@ -173,7 +173,7 @@ pub(crate) fn is_same(text: &[u8], word: &[u8]) -> bool
 }
 
 /// What to write instead of a word, where the language lacks it.
-#[tactic(auto, unfolding(crate::specs::Words::advice_of))]
+#[tactic(auto, unfolding(crate::specs::LackedWords::advice_of))]
 pub(crate) fn advice_of(text: &[u8]) -> Option<Advice>
     ensures { result ≡ spec.advice_of text.now }
 {

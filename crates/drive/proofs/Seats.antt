@@ -3,11 +3,11 @@ use Rattle.std.proofs.Common.{◌≡◌, List, sym, subst}
 use Rattle.std.specs.Prelude.{Result, MatchResult}
 use Rattle.logic4.specs.Vector.{Vector}
 use Rattle.design.specs.Compiled.{Compiled}
-use Rattle.turn.specs.Logs.{LogView}
+use Rattle.turn.specs.TurnLogs.{LogView}
 use Rattle.turn.specs.declared.log.FillFault.{FillFault}
 use Rattle.turn.specs.Reads.{GaveAll}
 use Rattle.turn.specs.declared.log.FillFault.TheVariants as fault
-use Rattle.gateparts.specs.Histories.{IsRead}
+use Rattle.runstate.specs.Histories.{IsRead}
 
 -- what the reader gave, the seat gave
 pub given_by : (code : Compiled) (s t : List (List Vector)) (log : LogView) (r : Result (Unit {0}) FillFault) → t ≡ s

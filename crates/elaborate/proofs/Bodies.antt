@@ -3,10 +3,10 @@ use Rattle.std.proofs.Common.{◌≡◌, List, [], ◌∷◌, ◌++◌, map, ref
 use Rattle.model.specs.Design.{Statements, End, Then}
 use Rattle.model.specs.Elaboration.{Declared, alone, all_resolved, followed_by, resolved}
 use Rattle.model.specs.Syntax.{Text, Expression, Also}
-use Rattle.model.specs.Trees as source
-use Rattle.design.specs.Trees as tree
+use Rattle.model.specs.SourceTrees as source
+use Rattle.design.specs.DesignTrees as tree
 use Rattle.design.specs.declared.tree.Statement as program
-use Rattle.design.specs.Trees.{statement_of, statements_of}
+use Rattle.design.specs.DesignTrees.{statement_of, statements_of}
 
 pub one_more : (ss : List program.Statement) (s : program.Statement) → statements_of (ss ++ s ∷ []) ≡ followed_by (statements_of ss) (alone (statement_of s))
 one_more [] s = refl

@@ -1,7 +1,7 @@
 -- What is found first among declared names.
 use Rattle.std.proofs.Common.{◌≡◌, List, [], ◌∷◌, ◌++◌, Option, Some, None, refl, sym, ap, ◌∙◌, append_assoc, append-nil}
 use Rattle.model.specs.Elaboration.{Declared, Fault}
-use Rattle.elaborate.specs.Findings.{or_else, found_name, found_names}
+use Rattle.elaborate.specs.FirstFindings.{or_else, found_name, found_names}
 
 -- one behind another
 pub or_else_assoc : (a b c : Option Fault) → or_else (or_else a b) c ≡ or_else a (or_else b c)

@@ -9,7 +9,7 @@ use Rattle.std.specs.Cmp.Lexicographic.{nat_list_eq_equiv}
 use Rattle.model.specs.Syntax.{Text}
 use Rattle.model.specs.Elaboration.{Declared, has_name, is_declared, is_range, number_of, range_of, width_of, widths_of}
 use Rattle.elaborate.specs.Registers.{with_ranges, AreRegisters}
-use Rattle.elaborate.specs.Findings.{found_name}
+use Rattle.elaborate.specs.FirstFindings.{found_name}
 use Rattle.indexmap.specs.IndexSet.{insert_key}
 
 module _ {K : Type 0} (bytes : K → Text) where

@@ -8,8 +8,8 @@ use Rattle.model.specs.Elaboration as model
 use Rattle.model.specs.Elaboration.{Fault, Declared, is_declared, is_range, is_index, range_of, parts_size, most_registers, most_processes, greatest_delay, count_of, is_format_for, pieces_of, fault_where, undeclared, declaration_faults, expression_faults, all_expression_faults, delay_faults, statement_faults, all_statement_faults, names_in, all_names_in, faults, declared}
 use Rattle.elaborate.specs.declared.fault.ElabFault.{ElabFault}
 use Rattle.elaborate.specs.declared.fault.ElabFault.TheVariants as fault
-use Rattle.elaborate.specs.Faults.{first, IsFirstFault}
-use Rattle.elaborate.specs.Findings.{or_else, found_where, unknown, unknown_among, used, all_used, used_in, all_used_in, used_by, found_name, found_names, found_concat, found, all_found, found_delay, found_format, found_in, all_found_in, found_by, found_among, found_module, IsFirstOf}
+use Rattle.elaborate.specs.ModuleFaults.{first, IsFirstFault}
+use Rattle.elaborate.specs.FirstFindings.{or_else, found_where, unknown, unknown_among, used, all_used, used_in, all_used_in, used_by, found_name, found_names, found_concat, found, all_found, found_delay, found_format, found_in, all_found_in, found_by, found_among, found_module, IsFirstOf}
 
 -- What is found first settles the faults: where nothing is found there is none, and a fault that is found is the first.
 abbrev pub Settles : Option Fault → List Fault → Type 0

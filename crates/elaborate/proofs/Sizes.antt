@@ -3,9 +3,9 @@ use Rattle.std.proofs.Common.{◌≡◌, ℕ, ◌+◌, nat_lt, List, [], ◌∷�
 use Rattle.std.proofs.lemmas.Bool.Decides.{nat_tests}
 use Rattle.logic4.specs.Vector.{greatest_width}
 use Rattle.model.specs.declared.tree.Expression as program
-use Rattle.model.specs.Trees.{expression_of, expressions}
+use Rattle.model.specs.SourceTrees.{expression_of, expressions}
 use Rattle.model.specs.Elaboration.{count_of}
-use Rattle.elaborate.specs.Findings.{capped}
+use Rattle.elaborate.specs.FirstFindings.{capped}
 
 -- there are as many arguments as there are
 pub count_is : (es : List program.Expression) → count_of (expressions (map expression_of es)) ≡ length es

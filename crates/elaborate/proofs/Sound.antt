@@ -12,7 +12,7 @@ use Rattle.model.specs.Design.{Statements, End, Then, Piece}
 use Rattle.model.specs.Elaboration as model
 use Rattle.model.specs.Elaboration.{Fault, Declared, has_name, is_declared, number_of, is_range, is_index, range_of, width_of, widths_of, parts_size, most_registers, most_processes, greatest_delay, count_of, is_format_for, pieces_of, argument_count, resolved, all_resolved, followed_by, statements_of, block_of, process_of, design_of, declared, assignment, trigger_of}
 use Rattle.design.specs.Sound.{HasSome, how_many, IsSoundExpression, AreSoundExpressions, IsSoundStatement, AreSoundStatements, IsSound}
-use Rattle.elaborate.specs.Findings.{or_else, found_where, unknown, unknown_among, used, all_used, used_in, all_used_in, used_by, found_name, found_names, found_concat, found, all_found, found_delay, found_format, found_in, all_found_in, found_by, found_few, found_among}
+use Rattle.elaborate.specs.FirstFindings.{or_else, found_where, unknown, unknown_among, used, all_used, used_in, all_used_in, used_by, found_name, found_names, found_concat, found, all_found, found_delay, found_format, found_in, all_found_in, found_by, found_few, found_among}
 use Rattle.elaborate.specs.Small.{IsSmall, AreSmall, IsShort, IsSmallStatement, AreSmallStatements, AreSmallProcesses}
 use Rattle.elaborate.specs.Formed.{HasParts, IsFormed, AreFormed, IsFormedStatement, AreFormedStatements, AreFormedProcesses}
 use Rattle.elaborate.proofs.Lookups.{allowed}

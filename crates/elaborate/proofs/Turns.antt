@@ -7,13 +7,13 @@ use Rattle.model.specs.Elaboration.{Declared, Fault, all_resolved, block_of, fol
 use Rattle.model.specs.declared.tree.Statement as statement
 use Rattle.model.specs.declared.tree.Expression as expression
 use Rattle.model.specs.declared.tree.Declaration as declaration
-use Rattle.model.specs.Trees as source
-use Rattle.model.specs.Trees.{statement_of, statements, expression_of, declaration_of}
+use Rattle.model.specs.SourceTrees as source
+use Rattle.model.specs.SourceTrees.{statement_of, statements, expression_of, declaration_of}
 use Rattle.design.specs.declared.tree.Expression as made
-use Rattle.design.specs.Trees as tree
+use Rattle.design.specs.DesignTrees as tree
 use Rattle.elaborate.specs.declared.fault.ElabFault.{ElabFault}
 use Rattle.elaborate.specs.Registers.{all_declared, of_range}
-use Rattle.elaborate.specs.Findings.{or_else, found_names, IsFirstOf}
+use Rattle.elaborate.specs.FirstFindings.{or_else, found_names, IsFirstOf}
 use Rattle.elaborate.specs.Small.{AreSmallStatements}
 use Rattle.elaborate.proofs.Found.{found_names_append}
 use Rattle.elaborate.proofs.Bodies.{followed_by_assoc, followed_by_end, resolved_are}

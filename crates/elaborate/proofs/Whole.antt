@@ -4,9 +4,9 @@ use Rattle.model.specs.Syntax.{Module}
 use Rattle.model.specs.Design.{Design, Process}
 use Rattle.model.specs.Elaboration.{Declared, Fault, declared, design_of, process_of, widths_of, faults}
 use Rattle.elaborate.specs.declared.fault.ElabFault.{ElabFault}
-use Rattle.elaborate.specs.Faults.{IsFirstFault}
+use Rattle.elaborate.specs.ModuleFaults.{IsFirstFault}
 use Rattle.elaborate.specs.Formed.{AreFormedProcesses}
-use Rattle.elaborate.specs.Findings.{or_else, found_names, found_among, found_module, IsFirstOf}
+use Rattle.elaborate.specs.FirstFindings.{or_else, found_names, found_among, found_module, IsFirstOf}
 use Rattle.design.specs.Sound.{IsSound}
 use Rattle.elaborate.specs.Small.{AreSmallProcesses}
 use Rattle.elaborate.proofs.Settled.{Settles, module_settles, first_fault}

@@ -3,7 +3,7 @@ use Rattle.std.specs.Prelude.{List, [], ◌∷◌, Option, Some, None}
 use Rattle.model.specs.Elaboration as model
 use Rattle.model.specs.Design as design
 use Rattle.design.specs.declared.tree.Piece.{Piece}
-use Rattle.design.specs.Trees.{piece_of}
+use Rattle.design.specs.DesignTrees.{piece_of}
 use Rattle.elaborate.specs.declared.format.Reading.{Reading}
 use Rattle.elaborate.specs.declared.format.Reading.TheVariants.{AtByte, AfterPercent, AfterZero}
 

@@ -1,6 +1,6 @@
 pub mod Registers
-pub mod Findings
+pub mod FirstFindings
 pub mod Formats
 pub mod Small
-pub mod Faults
+pub mod ModuleFaults
 pub mod Formed

@@ -1,6 +1,6 @@
 //! The nodes of a design's tree, with what each stands for.
 ghost use Rattle.std.specs.Prelude.{◌≡◌, map, unwrap_or, IfOk, OnOk};
-ghost use Rattle.design.specs.Trees.{expression_of, expressions_of, piece_of, statement_of, statements_of};
+ghost use Rattle.design.specs.DesignTrees.{expression_of, expressions_of, piece_of, statement_of, statements_of};
 ghost use Rattle.model.specs.Design as model;
 ghost use Rattle.model.specs.Elaboration.{alone, assignment, followed_by};
 ghost use Rattle.model.specs.Syntax as syntax;

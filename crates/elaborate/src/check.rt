@@ -5,13 +5,14 @@ ghost use Rattle.model.specs.Expressions.{own_size, result_size, sizing_of, tota
 ghost use Rattle.model.specs.Elaboration as model;
 ghost use Rattle.model.specs.Syntax.{Literal, Select};
 ghost use Rattle.logic4.specs.Vector.{greatest_width};
-ghost use Rattle.model.specs.Trees.{expression_of, expressions, process_of, statement_of, statements};
+ghost use Rattle.model.specs.SourceTrees.{expression_of, expressions, process_of, statement_of, statements};
 ghost use Rattle.elaborate.specs.Formed.{IsFormed, AreFormed, IsFormedStatement, AreFormedStatements, AreFormedProcesses};
-ghost use Rattle.elaborate.specs.Findings.{verdict, or_else, capped, found_where, found, all_found, found_delay, found_format, found_in, all_found_in, found_by};
+ghost use Rattle.elaborate.specs.FirstFindings.{verdict, or_else, capped, found_where, found, all_found, found_delay, found_format, found_in, all_found_in, found_by};
 
 use crate::finding::Finding;
 use crate::format;
 use crate::names::Names;
+use design::{Sizing, sizing_of};
 use logic4::bits::{Bits, MAX_WIDTH};
 use model::tree::{BinaryOperator, Expression, Process, Statement, UnaryOperator};
 
@@ -127,7 +128,7 @@ fn expression<'a>(names: &Names, e: &'a Expression) -> Checked<'a>
         Expression::Binary(op, e, f) => binary(*op, expression(names, e), expression(names, f)),
         Expression::Conditional(c, e, f) => {
             let test = expression(names, c);
-            chosen(test, expression(names, e), expression(names, f))
+            conditional(test, expression(names, e), expression(names, f))
         }
     }
 }
@@ -155,7 +156,10 @@ fn unary<'a>(op: UnaryOperator, operand: Checked<'a>) -> Checked<'a>
     Checked {
         size: match op {
             UnaryOperator::Not => operand.size,
-            _ => 1,
+            UnaryOperator::LogicalNot
+            | UnaryOperator::ReduceAnd
+            | UnaryOperator::ReduceOr
+            | UnaryOperator::ReduceXor => 1,
         },
         verdict: operand.verdict,
     }
@@ -174,18 +178,15 @@ fn binary<'a>(op: BinaryOperator, left: Checked<'a>, right: Checked<'a>) -> Chec
 fn binary_size(op: BinaryOperator, left: u32, right: u32) -> u32
     ensures { result ≡ result_size (sizing_of op) left right }
 {
-    match op {
-        BinaryOperator::Or
-        | BinaryOperator::Xor
-        | BinaryOperator::And
-        | BinaryOperator::Add
-        | BinaryOperator::Subtract => left.max(right),
-        BinaryOperator::ShiftLeft | BinaryOperator::ShiftRight => left,
-        _ => 1,
+    match sizing_of(op) {
+        Sizing::BothAsked => left.max(right),
+        Sizing::LeftAsked => left,
+        Sizing::Greatest => 1,
+        Sizing::EachOwn => 1,
     }
 }
 
-fn chosen<'a>(test: Checked<'a>, left: Checked<'a>, right: Checked<'a>) -> Checked<'a>
+fn conditional<'a>(test: Checked<'a>, left: Checked<'a>, right: Checked<'a>) -> Checked<'a>
     ensures size { result.size ≡ max left.entry.size right.entry.size }
     ensures verdict { verdict result.verdict
         ≡ or_else (verdict test.entry.verdict) (or_else (verdict left.entry.verdict) (verdict right.entry.verdict)) }

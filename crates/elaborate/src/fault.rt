@@ -1,6 +1,6 @@
 //! The faults of a module.
 
-use std::alloc::{AllocError, AllocFailed};
+use std::alloc::AllocError;
 use thiserror::Error;
 
 /// Why a module has no design. The names are those that stand in the module.
@@ -43,17 +43,6 @@ impl From<AllocError> for ElabFault {
     ghost from_gives = { λ _ e. e ≡ Memory };
 
     fn from(_: AllocError) -> ElabFault {
-        ElabFault::Memory
-    }
-}
-
-impl<T: Drop> From<AllocFailed<T>> for ElabFault {
-    ghost use Rattle.elaborate.specs.declared.fault.ElabFault.TheVariants.{Memory};
-    ghost use Rattle.std.specs.Prelude.{◌≡◌};
-
-    ghost from_gives = { λ _ e. e ≡ Memory };
-
-    fn from(_: AllocFailed<T>) -> ElabFault {
         ElabFault::Memory
     }
 }

@@ -1,6 +1,6 @@
 //! What a walk over the tree finds first, with the name as it stands in the tree.
 ghost use Rattle.std.specs.Prelude.{IfOk};
-ghost use Rattle.elaborate.specs.Findings.{IsFaultOf, plain};
+ghost use Rattle.elaborate.specs.FirstFindings.{IsFaultOf, plain};
 
 use crate::fault::ElabFault;
 use std::alloc::{AllocError, Global};

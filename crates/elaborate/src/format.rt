@@ -2,7 +2,7 @@
 ghost use Rattle.std.specs.Prelude.{◌≡◌, ◌≤◌, ◌↔◌, ◌++◌, ◌∷◌, [], map, option_map, unwrap_or, IsNone, IfSome, IfOk, OnOk};
 ghost use Rattle.model.specs.Design.{Byte};
 ghost use Rattle.model.specs.Elaboration.{AtByte, AfterPercent, argument_count, pieces_of, read_byte};
-ghost use Rattle.design.specs.Trees.{piece_of};
+ghost use Rattle.design.specs.DesignTrees.{piece_of};
 ghost use Rattle.elaborate.specs.Formats.{reading_of, step_of, shown};
 
 use design::Ascii;

@@ -4,9 +4,8 @@ ghost use Rattle.logic4.specs.Vector.{greatest_width};
 ghost use Rattle.model.specs.Elaboration.{is_declared, is_range, most_registers, number_of, range_of, width_of, widths_of};
 ghost use Rattle.design.specs.Compiled.{design_of};
 ghost use Rattle.design.specs.Sound.{IsSound};
-ghost use Rattle.design.specs.Trees.{tree_design};
-ghost use Rattle.elaborate.specs.declared.fault.ElabFault.TheVariants.{Memory};
-ghost use Rattle.elaborate.specs.Findings.{verdict, unknown, found_name, IsFirstOf};
+ghost use Rattle.design.specs.DesignTrees.{tree_design};
+ghost use Rattle.elaborate.specs.FirstFindings.{verdict, unknown, found_name, IsFirstOf};
 
 use crate::fault::ElabFault;
 use crate::finding::Finding;
@@ -60,7 +59,7 @@ impl Names {
         ensures fault { IfErr result (λ f. IsFirstOf f (found_name self (name.now, range))) }
     {
         match self.allowed(name, range) {
-            Ok(()) => self.with(alloc, name, range),
+            Ok(()) => Ok(self.with(alloc, name, range)?),
             Err(finding) => Err(finding.fault(alloc)),
         }
     }
@@ -79,10 +78,9 @@ impl Names {
         }
     }
 
-    fn with(self, alloc: Global, name: &str, range: Range) -> Result<Names, ElabFault>
+    fn with(self, alloc: Global, name: &str, range: Range) -> Result<Names, AllocError>
         requires { found_name self (name.now, range) ≡ None }
-        ensures added { IfOk result (λ names. names ≡ self ++ (name.now, range) ∷ []) }
-        ensures fault { IfErr result (λ f. f ≡ Memory) }
+        ensures { IfOk result (λ names. names ≡ self ++ (name.now, range) ∷ []) }
     {
         let Names {
             mut names,

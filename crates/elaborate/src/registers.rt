@@ -1,8 +1,8 @@
 //! The registers of a module, in the order of their declarations.
 ghost use Rattle.std.specs.Prelude.{◌≡◌, ◌++◌, [], None, map, string_bytes, IfOk, IfErr, OnOk};
-ghost use Rattle.model.specs.Trees.{declaration_of};
+ghost use Rattle.model.specs.SourceTrees.{declaration_of};
 ghost use Rattle.elaborate.specs.Registers.{all_declared, of_range};
-ghost use Rattle.elaborate.specs.Findings.{found_names, IsFirstOf};
+ghost use Rattle.elaborate.specs.FirstFindings.{found_names, IsFirstOf};
 
 use crate::fault::ElabFault;
 use crate::names::{Names, Range};

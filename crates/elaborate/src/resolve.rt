@@ -1,10 +1,10 @@
 //! A tree over the numbers of registers, from one over their names. Blocks become the lists of their statements.
 ghost use Rattle.std.specs.Prelude.{◌≡◌, [], map, unwrap_or, IfOk, OnOk};
-ghost use Rattle.design.specs.Trees as tree;
+ghost use Rattle.design.specs.DesignTrees as tree;
 ghost use Rattle.model.specs.Elaboration as model;
 ghost use Rattle.model.specs.Design as designs;
 ghost use Rattle.model.specs.Elaboration.{all_resolved, assignment, block_of, followed_by, number_of, pieces_of, resolved};
-ghost use Rattle.model.specs.Trees.{expression_of, expressions, process_of, statement_of, statements, trigger_of};
+ghost use Rattle.model.specs.SourceTrees.{expression_of, expressions, process_of, statement_of, statements, trigger_of};
 ghost use Rattle.elaborate.specs.Small.{IsSmall, AreSmall, IsShort, IsSmallStatement, AreSmallStatements, AreSmallProcesses};
 
 use crate::names::Names;

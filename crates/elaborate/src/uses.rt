@@ -1,7 +1,7 @@
 //! Names that are used and not declared, in the order of the text.
 ghost use Rattle.std.specs.Prelude.{◌≡◌, map};
-ghost use Rattle.model.specs.Trees.{expression_of, expressions, statement_of, statements, trigger_of, process_of};
-ghost use Rattle.elaborate.specs.Findings.{verdict, used, all_used, unknown_among, used_in, all_used_in, used_by};
+ghost use Rattle.model.specs.SourceTrees.{expression_of, expressions, statement_of, statements, trigger_of, process_of};
+ghost use Rattle.elaborate.specs.FirstFindings.{verdict, used, all_used, unknown_among, used_in, all_used_in, used_by};
 
 use crate::finding::Finding;
 use crate::names::Names;

@@ -3,15 +3,15 @@ use Rattle.std.proofs.Common.{◌≡◌, ℕ, ◌+◌, ◌≤◌, List, [], ◌�
 use Rattle.crossbeam_deque.specs.Tasks.{FindsFew}
 use Rattle.eventpool.specs.declared.rule.Hand.{Hand}
 use Rattle.eventpool.specs.Ends.{Owning}
-use Rattle.eventpool.specs.Logs.{tickets_of, NamedBelow, AreHands, IsDealt}
-use Rattle.eventpool.specs.Rules.{owner, thief, Kept, Removed, Bare, Accounts}
+use Rattle.eventpool.specs.DequeLog.{tickets_of, NamedBelow, AreHands, IsDealt}
+use Rattle.eventpool.specs.DequeRule.{owner, thief, DequeInvariant, Removed, Bare, Accounts}
 use Rattle.eventpool.proofs.Logs.{got_no_more, tickets_length, begins_length}
 use Rattle.eventpool.proofs.Moves.{finds_few}
 
 module _ {T : Type 0} where
   -- a steal from a FIFO deque finds nothing only where nothing is there
-  pub finds_fifo : (flavor port : ℕ) (v : Hand T) → flavor ≡ 0 → v.named ≡ true → FindsFew Kept (min flavor 1) port v (Bare v)
-  finds_fifo flavor port v fifo may = subst (λ (f : ℕ). FindsFew Kept (min f 1) port v (Bare v)) (sym fifo) (finds_few port v may)
+  pub finds_fifo : (flavor port : ℕ) (v : Hand T) → flavor ≡ 0 → v.named ≡ true → FindsFew DequeInvariant (min flavor 1) port v (Bare v)
+  finds_fifo flavor port v fifo may = subst (λ (f : ℕ). FindsFew DequeInvariant (min f 1) port v (Bare v)) (sym fifo) (finds_few port v may)
 
   -- an owner that removed a ticket is an owner
   pub owner_removed : (v w : Hand T) (xs : List T) → v ≡ owner v.given v.put v.mine v.seen v.back → w ≡ record v { mine = v.mine ++ xs; seen = w.seen } → w ≡ owner w.given w.put w.mine w.seen w.back

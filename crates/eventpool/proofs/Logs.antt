@@ -3,7 +3,7 @@ use Rattle.std.proofs.Common.{◌≡◌, ◌≢◌, ℕ, suc, ◌+◌, ◌<◌, 
 use Rattle.std.specs.Prelude.{◌==◌}
 use Rattle.std.proofs.lemmas.Bool.Decides.{eqb_tells}
 use mathlib.Core.List.{IsPrefix}
-use Rattle.eventpool.specs.Logs.{tickets_of, own, got_by, NamedBelow, AreHands}
+use Rattle.eventpool.specs.DequeLog.{tickets_of, own, got_by, NamedBelow, AreHands}
 
 -- beginnings
 module _ {A : Type 0} where

@@ -6,8 +6,8 @@ use lib.ListN.{get_elem?}
 use Rattle.crossbeam_deque.specs.Tasks.{Pushes, Takes, Finds, FindsFew, Learns, Forks, Merges}
 use Rattle.crossbeam_deque.proofs.Lists.{at_set}
 use Rattle.eventpool.specs.declared.rule.Hand.{Hand}
-use Rattle.eventpool.specs.Logs.{tickets_of, got_by, AreHands}
-use Rattle.eventpool.specs.Rules.{owner, thief, nobody, Fits, Kept, Removed, AllGone, Bare, Accounts}
+use Rattle.eventpool.specs.DequeLog.{tickets_of, got_by, AreHands}
+use Rattle.eventpool.specs.DequeRule.{owner, thief, nobody, Fits, DequeInvariant, Removed, AllGone, Bare, Accounts}
 use Rattle.eventpool.proofs.Logs.{eqb_self, eqb_off, begins_self, begins_none, begins_on, got_more, got_other, got_none, named_more, named_wider, hands_more, tickets_more}
 
 off : false ≡ true → ⊥
@@ -43,7 +43,7 @@ module _ {T : Type 0} where
       (λ (x : (j ≢ port) × (get_elem? views j ≡ some u)). others j u x.0 x.1)
       (at_set views port j w u e)
 
-  pub begins : Kept {T = T} [] (owner 1 [] [] [] [] ∷ [])
+  pub begins : DequeInvariant {T = T} [] (owner 1 [] [] [] [] ∷ [])
   begins = record { seat = λ k. k; opened = 1; log = []; each = one }
     where
       first : Fits {T = T} (λ k. k) 1 [] [] 0 (owner 1 [] [] [] [])
@@ -60,7 +60,7 @@ module _ {T : Type 0} where
       let x = f.owns a in let y = g.owns b in
       sym (g.named y.0).0 ∙ ap seat (y.1 ∙ sym x.1) ∙ (f.named x.0).0
 
-  pub puts : (port : ℕ) (v : Hand T) (xs : List T) → v.owns ≡ true → Pushes Kept port v xs (λ w. w ≡ record v { put = v.put ++ xs })
+  pub puts : (port : ℕ) (v : Hand T) (xs : List T) → v.owns ≡ true → Pushes DequeInvariant port v xs (λ w. w ≡ record v { put = v.put ++ xs })
   puts port v xs may items views h at =
       let w : Hand T = record v { put = v.put ++ xs } in
       let mine = h.each port v at in
@@ -80,8 +80,8 @@ module _ {T : Type 0} where
       )
 
   -- a ticket leaves at the front
-  removes_one : (port : ℕ) (v : Hand T) (x : T) (items : List T) (views : List (Hand T)) → v.named ≡ true → Kept (x ∷ items) views → get_elem? views port ≡ some v
-      → (w : Hand T) × Kept items (set views port w) × Removed v (x ∷ []) w
+  removes_one : (port : ℕ) (v : Hand T) (x : T) (items : List T) (views : List (Hand T)) → v.named ≡ true → DequeInvariant (x ∷ items) views → get_elem? views port ≡ some v
+      → (w : Hand T) × DequeInvariant items (set views port w) × Removed v (x ∷ []) w
   removes_one port v x items views may h at =
       let mine = h.each port v at in
       let n = mine.named may in
@@ -117,17 +117,17 @@ module _ {T : Type 0} where
         ),
       )
 
-  pub removes : (port : ℕ) (v : Hand T) → v.named ≡ true → Takes Kept port v 1 (Removed v)
+  pub removes : (port : ℕ) (v : Hand T) → v.named ≡ true → Takes DequeInvariant port v 1 (Removed v)
   removes port v may [] items views some_one one_most h at = absurd (omega arith)
   removes port v may (x ∷ []) items views some_one one_most h at = removes_one port v x items views may h at
   removes port v may (x ∷ y ∷ xs) items views some_one one_most h at = absurd (omega arith)
 
-  pub finds : (port : ℕ) (v : Hand T) → v.owns ≡ true → Finds Kept port v (AllGone v)
+  pub finds : (port : ℕ) (v : Hand T) → v.owns ≡ true → Finds DequeInvariant port v (AllGone v)
   finds port v may views h at =
       let mine = h.each port v at in let o = mine.owns may in
       (h.log, mine.seen, o.2 ∙ append_none (tickets_of h.log), (mine.named o.0).2, o.5)
 
-  pub finds_few : (port : ℕ) (v : Hand T) → v.named ≡ true → FindsFew Kept 0 port v (Bare v)
+  pub finds_few : (port : ℕ) (v : Hand T) → v.named ≡ true → FindsFew DequeInvariant 0 port v (Bare v)
   finds_few port v may [] views none h at =
       let mine = h.each port v at in (h.log, tickets_of h.log, mine.seen, refl, (mine.named may).2)
   finds_few port v may (x ∷ xs) views none h at = absurd (omega arith)
@@ -139,7 +139,7 @@ module _ {T : Type 0} where
   at_end (x ∷ xs) a b zero e = inl e
   at_end (x ∷ xs) a b (suc j) e = ⊎_elim (λ t. inl t) (λ (t : (j ≡ length xs) × (a ≡ b)). inr (ap suc t.0, t.1)) (at_end xs a b j e)
 
-  pub names : (port : ℕ) (v : Hand T) → v.owns ≡ true → v.back ≡ [] → Forks Kept port v (record v { given = v.given + 1 }) (thief v.given [] [])
+  pub names : (port : ℕ) (v : Hand T) → v.owns ≡ true → v.back ≡ [] → Forks DequeInvariant port v (record v { given = v.given + 1 }) (thief v.given [] [])
   names port v may none items views h at =
       let mine = h.each port v at in
       let o = mine.owns may in
@@ -179,7 +179,7 @@ module _ {T : Type 0} where
       }
 
   pub returns : (port : ℕ) (v : Hand T) (other : ℕ) (u : Hand T) → v.owns ≡ true → u.named ≡ true → (u.name + 1) + length v.back ≡ v.given
-      → Merges Kept port v other u (record v { back = (u.mine, u.seen) ∷ v.back }) nobody
+      → Merges DequeInvariant port v other u (record v { back = (u.mine, u.seen) ∷ v.back }) nobody
   returns port v other u may named last items views h at apart there =
       let both : Hand T = record v { back = (u.mine, u.seen) ∷ v.back } in
       let mine = h.each port v at in
@@ -214,7 +214,7 @@ module _ {T : Type 0} where
         each = each_set P (set views port both) other nobody (nobody_fits h.seat u.name put h.log other) (λ j x away e. now j x e away);
       }
 
-  pub accounts : (port : ℕ) (v : Hand T) → v.owns ≡ true → Learns Kept port v (Accounts v)
+  pub accounts : (port : ℕ) (v : Hand T) → v.owns ≡ true → Learns DequeInvariant port v (Accounts v)
   accounts port v may items views h at =
       let mine = h.each port v at in let o = mine.owns may in
       (h.log, o.2, (mine.named o.0).2 ∙ ap (λ k. got_by k h.log) o.1, mine.seen, h.opened, o.3, o.4, o.5)

@@ -2,7 +2,7 @@
 use Rattle.std.specs.Prelude.{◌≡◌, ◌≤◌, ◌^◌, length}
 use Rattle.crossbeam_deque.specs.Handles.{view, taken, IsPassOf, worker_deque, stealer_deque, worker_flavor, stealer_flavor, worker_view, worker_capacity, worker_index}
 use Rattle.eventpool.specs.Ends.{Owning, Stealing}
-use Rattle.eventpool.specs.Rules.{owner, thief}
+use Rattle.eventpool.specs.DequeRule.{owner, thief}
 use Rattle.eventpool.specs.declared.ends.Owner.TheInside as owner_inside
 use Rattle.eventpool.specs.declared.ends.Thief.TheInside as thief_inside
 

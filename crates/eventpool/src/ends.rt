@@ -1,9 +1,9 @@
-// The ends of a deque: its owner, and its thieves.
+//! The ends of a deque: its owner, and its thieves.
 ghost use Rattle.std.specs.Prelude.{◌≡◌, ℕ, ◌+◌, ◌<◌, ◌≤◌, ◌^◌, List, [], ◌∷◌, ◌++◌, ◌⊎◌, length, IfOk, IfErr, IfSome, IfNone, OnOk, sum_by};
 ghost use mathlib.Core.List.{IsPrefix};
-ghost use Rattle.eventpool.specs.Logs.{tickets_of, got_by, EndsWith, IsDealt};
+ghost use Rattle.eventpool.specs.DequeLog.{tickets_of, got_by, EndsWith, IsDealt};
 ghost use Rattle.eventpool.specs.Ends.{owner_card, thief_card};
-ghost use Rattle.eventpool.specs.Answers.{IfOne, IfEmpty, IfAgain, IsAllGone, IsBare};
+ghost use Rattle.eventpool.specs.DequeAnswers.{IfOne, IfEmpty, IfAgain, IsAllGone, IsBare};
 
 use crate::rule::{Counts, Names, OwnerEnd, Puts, Returns, Steals, Takes, ThiefEnd, ThiefPass};
 use crossbeam_deque::Steal;

@@ -1,4 +1,4 @@
-// The pool: one deque a worker, and for each worker the thieves of all others.
+//! The pool: one deque a worker, and for each worker the thieves of all others.
 ghost use Rattle.std.specs.Prelude.{◌≡◌, ℕ, ◌+◌, ◌-◌, ◌<◌, ◌≤◌, List, [], length, map, sum_by, IfOk, Some, slice_get};
 ghost use Rattle.eventpool.specs.Pools.{around, shares_back, IsPool, IsUnused, AllDealt};
 ghost use Rattle.eventpool.specs.Making.{IsBegun, IsArmed};

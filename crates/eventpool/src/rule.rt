@@ -1,4 +1,4 @@
-// The rule of one deque: what was put is what has left, in order, and then what is in it.
+//! The rule of one deque: what was put is what has left, in order, and then what is in it.
 use crossbeam_deque::protocol::{Join, Lesson, Outcome, Protocol, Split};
 use crossbeam_deque::{Pass, Stealer, Worker};
 use std::alloc::Global;
@@ -26,9 +26,9 @@ pub struct FirstInFirstOut;
 
 impl<T> Protocol<T, Hand<T>> for FirstInFirstOut {
     ghost use Rattle.std.specs.Prelude.{[]};
-    ghost use Rattle.eventpool.specs.Rules.{owner, nobody, Kept};
+    ghost use Rattle.eventpool.specs.DequeRule.{owner, nobody, DequeInvariant};
 
-    ghost holds = { Kept };
+    ghost holds = { DequeInvariant };
 
     ghost first = { owner 1 [] [] [] [] };
 
@@ -48,7 +48,7 @@ impl<T> Outcome<T, Hand<T>> for Puts {
 pub struct Takes;
 
 impl<T> Outcome<T, Hand<T>> for Takes {
-    ghost use Rattle.eventpool.specs.Rules.{Removed, AllGone};
+    ghost use Rattle.eventpool.specs.DequeRule.{Removed, AllGone};
 
     ghost then = { Removed };
 
@@ -59,7 +59,7 @@ impl<T> Outcome<T, Hand<T>> for Takes {
 pub struct Steals;
 
 impl<T> Outcome<T, Hand<T>> for Steals {
-    ghost use Rattle.eventpool.specs.Rules.{Removed, Bare};
+    ghost use Rattle.eventpool.specs.DequeRule.{Removed, Bare};
 
     ghost then = { Removed };
 
@@ -71,7 +71,7 @@ pub struct Names;
 
 impl<T> Split<Hand<T>> for Names {
     ghost use Rattle.std.specs.Prelude.{[], ◌+◌};
-    ghost use Rattle.eventpool.specs.Rules.{thief};
+    ghost use Rattle.eventpool.specs.DequeRule.{thief};
 
     ghost left = { λ v. record v { given = v.given + 1 } };
 
@@ -83,7 +83,7 @@ pub struct Returns;
 
 impl<T> Join<Hand<T>> for Returns {
     ghost use Rattle.std.specs.Prelude.{◌∷◌};
-    ghost use Rattle.eventpool.specs.Rules.{nobody};
+    ghost use Rattle.eventpool.specs.DequeRule.{nobody};
 
     ghost both = { λ v u. record v { back = (u.mine, u.seen) ∷ v.back } };
 
@@ -94,7 +94,7 @@ impl<T> Join<Hand<T>> for Returns {
 pub struct Counts;
 
 impl<T> Lesson<T, Hand<T>> for Counts {
-    ghost use Rattle.eventpool.specs.Rules.{Accounts};
+    ghost use Rattle.eventpool.specs.DequeRule.{Accounts};
 
     ghost fact = { Accounts };
 }

@@ -1,4 +1,4 @@
-// The numbers of a pool that is closed.
+//! The numbers of a pool that is closed.
 ghost use Rattle.std.specs.Prelude.{◌≡◌, ◌+◌};
 
 use std::marker::Model;

@@ -8,13 +8,13 @@ use Rattle.design.specs.Compiled.{Compiled, design_of}
 use Rattle.frontend.specs.declared.source.SourceFault.{SourceFault}
 use Rattle.journal.specs.declared.fault.ReadFault.{ReadFault}
 use Rattle.replay.specs.declared.fault.ReplayFault.{ReplayFault}
-use Rattle.replay.specs.Faults.{IsFaultOf}
-use Rattle.replay.specs.Bytes.{AreRead, IsReplayFault}
+use Rattle.replay.specs.JournalFaults.{IsFaultOf}
+use Rattle.replay.specs.ReplayBytes.{AreRead, IsReplayFault}
 use Rattle.explain.specs.declared.failure.ExplainFault.{ExplainFault}
 use Rattle.explain.specs.declared.failure.ExplainFault.TheVariants.{Source, Read, Replay, CannotWrite, Memory}
 use Rattle.explain.specs.declared.telling.Window.{Window}
 use Rattle.explain.specs.declared.telling.Telling.{Telling}
-use Rattle.explain.specs.Texts.{TellsAll, TellsFault, IsTelling, Explains, ExplainsFault, ExplainsText, ExplainsTextFault}
+use Rattle.explain.specs.ExplainedText.{TellsAll, TellsFault, IsTelling, Explains, ExplainsFault, ExplainsText, ExplainsTextFault}
 use Rattle.explain.specs.Explained.{IsLawfulText, IsOfEntries, IsNoFault, IfSource, IfRead, IfReplay, UnlessBegun}
 
 -- want of memory and a failed write are no fault of a journal

@@ -7,9 +7,9 @@ use Rattle.regions.specs.declared.machine.TakeFault.{TakeFault}
 use Rattle.regions.specs.declared.machine.TakeFault.TheVariants.{Refused, TooLong, TooMany, ApplyMemory, Memory}
 use Rattle.regions.specs.Machine.{Position, IsNotTaken}
 use Rattle.replay.specs.Replays as replays
-use Rattle.replay.specs.Faults.{IsCauseOf, cause_of}
+use Rattle.replay.specs.JournalFaults.{IsCauseOf, cause_of}
 use Rattle.replay.proofs.Runs.{next_fault}
-use Rattle.steps.specs.Standing.{Standing, IsBehind, IsExplained}
+use Rattle.steps.specs.ExplainerStanding.{Standing, IsBehind, IsExplained}
 
 -- one entry more
 pub next_behind : (journal : List Entry) (at : ℕ) (d : Entry) (old new : Standing) → at < length journal → IsBehind (take at journal) old

@@ -4,7 +4,7 @@ use Rattle.std.specs.Prelude.{slice_index_or}
 use Rattle.std.proofs.Math.Seq.{drop-cons}
 use Rattle.model.specs.States.{Event}
 use Rattle.explain.specs.declared.phrases.Names.{Names}
-use Rattle.explain.specs.Endings.{due_text, event_text, future_lines, region_lines}
+use Rattle.explain.specs.ExplainedEnd.{due_text, event_text, future_lines, region_lines}
 use Rattle.logic4.specs.Vector.{Vector}
 use Rattle.logic4.specs.Operators.{select_digit}
 use Rattle.logic4.specs.Display.{binary_text, digit_text}

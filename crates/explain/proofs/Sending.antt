@@ -11,14 +11,14 @@ use Rattle.model.specs.Runs.{Effect, is_quiet, run}
 use Rattle.design.specs.Compiled.{Compiled, design_of}
 use Rattle.regions.specs.Machine.{Position, state_at}
 use Rattle.replay.specs.declared.fault.ReplayFault.{ReplayFault}
-use Rattle.replay.specs.Faults.{IsFaultOf}
+use Rattle.replay.specs.JournalFaults.{IsFaultOf}
 use Rattle.explain.specs.declared.failure.ExplainFault.{ExplainFault}
 use Rattle.explain.specs.declared.failure.ExplainFault.TheVariants as failures
 use Rattle.explain.specs.declared.telling.Telling.{Telling}
-use Rattle.steps.specs.Told.{IsTold}
-use Rattle.steps.specs.Standing.{Standing, IsBehind, IsExplained}
-use Rattle.explain.specs.Endings.{AreNext, IsEndText, PutsEnd, end_text, refusal_text}
-use Rattle.explain.specs.Texts.{told_design, told_text, IsEntryText, AreEntryTexts, TellsAll, TellsFault}
+use Rattle.steps.specs.Accounts.{IsTold}
+use Rattle.steps.specs.ExplainerStanding.{Standing, IsBehind, IsExplained}
+use Rattle.explain.specs.ExplainedEnd.{AreNext, IsEndText, PutsEnd, end_text, refusal_text}
+use Rattle.explain.specs.ExplainedText.{told_design, told_text, IsEntryText, AreEntryTexts, TellsAll, TellsFault}
 use Rattle.explain.specs.Sent.{IsNextTold, IsToldTo, IsStoppedAt, SendsEnd}
 use Rattle.explain.specs.Explained.{IsFaultOfEntries, IfReplay}
 use Rattle.explain.proofs.Next.{next_behind}

@@ -6,8 +6,8 @@ use Rattle.design.specs.Compiled.{Compiled, design_of}
 use Rattle.frontend.specs.declared.source.SourceFault.{SourceFault}
 use Rattle.journal.specs.declared.fault.ReadFault.{ReadFault}
 use Rattle.replay.specs.declared.fault.ReplayFault.{ReplayFault}
-use Rattle.replay.specs.Bytes.{AreRead}
-use Rattle.replay.specs.Faults.{IsFaultOf}
+use Rattle.replay.specs.ReplayBytes.{AreRead}
+use Rattle.replay.specs.JournalFaults.{IsFaultOf}
 use Rattle.explain.specs.declared.failure.ExplainFault.{ExplainFault}
 use Rattle.explain.specs.declared.failure.ExplainFault.TheVariants.{Source, Read, Replay, CannotWrite, Memory}
 

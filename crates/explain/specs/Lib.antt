@@ -1,6 +1,6 @@
 pub mod Phrases
-pub mod Lines
-pub mod Endings
+pub mod EntryLines
+pub mod ExplainedEnd
 pub mod Explained
-pub mod Texts
+pub mod ExplainedText
 pub mod Sent

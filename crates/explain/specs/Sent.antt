@@ -6,11 +6,11 @@ use Rattle.model.specs.declared.entry.Entry.{Entry}
 use Rattle.model.specs.Runs.{Effect, run}
 use Rattle.regions.specs.Machine.{Position, state_at}
 use Rattle.replay.specs.declared.fault.ReplayFault.{ReplayFault}
-use Rattle.replay.specs.Faults.{IsFaultOf}
+use Rattle.replay.specs.JournalFaults.{IsFaultOf}
 use Rattle.explain.specs.declared.telling.Telling.{Telling}
-use Rattle.steps.specs.Standing.{Standing, IsBehind, IsExplained}
-use Rattle.explain.specs.Endings.{IsEndText}
-use Rattle.explain.specs.Texts.{told_design, AreEntryTexts}
+use Rattle.steps.specs.ExplainerStanding.{Standing, IsBehind, IsExplained}
+use Rattle.explain.specs.ExplainedEnd.{IsEndText}
+use Rattle.explain.specs.ExplainedText.{told_design, AreEntryTexts}
 
 -- the entry at a place was taken and told
 pub record IsNextTold (journal : List Entry) (at : ℕ) (old new : Standing) : Type 0 where

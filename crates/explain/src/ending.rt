@@ -2,18 +2,17 @@
 
 ghost use Rattle.std.specs.Prelude.{◌≡◌, ◌++◌, OnOk, codes, decimal, map};
 ghost use Rattle.model.specs.Runs.{is_quiet};
-ghost use Rattle.replay.specs.declared.fault.Cause.TheVariants.{Refused};
 ghost use Rattle.regions.specs.Future.{due_event};
 ghost use Rattle.regions.specs.Queue.{evaluation_event, update_event};
 ghost use Rattle.regions.specs.Machine.{state_at};
-ghost use Rattle.explain.specs.Endings.{cause_text, code_text, due_text, end_text, event_text, events_text, future_lines, next_text, quiet_text, refusal_text, region_lines, rule_text, said_text, standing_text, strobes_text, title_text};
-ghost use Rattle.explain.specs.Endings.{PutsEnd};
+ghost use Rattle.explain.specs.ExplainedEnd.{cause_text, due_text, end_text, event_text, events_text, future_lines, next_text, quiet_text, refusal_text, region_lines, standing_text, strobes_text, title_text};
+ghost use Rattle.explain.specs.ExplainedEnd.{PutsEnd};
 
+use crate::cause::{cause_code, cause_rule, said};
 use crate::lines::push_update;
 use crate::phrases::{Names, push_labelled, push_process};
-use model::entry::Refusal;
 use regions::{Due, Evaluation, Machine, Update};
-use replay::{Cause, ReplayFault};
+use replay::ReplayFault;
 use std::alloc::{AllocError, Global};
 use std::collections::VecDeque;
 
@@ -72,71 +71,6 @@ pub(crate) fn push_end(
 {
     let next = machine.next_entries(alloc)?;
     push_state(text, machine, next.len())
-}
-
-// What is said of an entry that isn't taken.
-fn said(cause: Cause) -> &'static str
-    ensures { result.now ≡ said_text cause }
-{
-    match cause {
-        Cause::Refused(_) => " isn't lawful: ",
-        Cause::TooLong => " isn't lawful: ",
-        Cause::TooMany => " isn't taken: ",
-        Cause::ApplyMemory => " isn't taken: ",
-        Cause::Memory => " isn't taken: ",
-    }
-}
-
-// The name of a cause.
-fn code(cause: Cause) -> &'static str
-    ensures { result.now ≡ code_text cause }
-{
-    match cause {
-        Cause::Refused(refusal) => refusal_code(refusal),
-        Cause::TooLong => "turn too long",
-        Cause::TooMany => "too many entries",
-        Cause::ApplyMemory => "memory",
-        Cause::Memory => "memory",
-    }
-}
-
-fn refusal_code(refusal: Refusal) -> &'static str
-    ensures { result.now ≡ code_text (Refused refusal) }
-{
-    match refusal {
-        Refusal::NotActive => "J1 event not active",
-        Refusal::EarlierUpdate => "J2 earlier update active",
-        Refusal::NotDue => "J3 region change not due",
-        Refusal::WrongTime => "J4 wrong time",
-        Refusal::PastLimit => "J5 time limit",
-        Refusal::Finished => "J6 finished",
-    }
-}
-
-// The rule that an entry breaks, in words.
-fn rule(cause: Cause) -> &'static str
-    ensures { result.now ≡ rule_text cause }
-{
-    match cause {
-        Cause::Refused(refusal) => refusal_rule(refusal),
-        Cause::TooLong => "a turn has at most 65536 counted steps",
-        Cause::TooMany => "a machine takes at most 4294967295 entries",
-        Cause::ApplyMemory => "memory was refused",
-        Cause::Memory => "memory was refused",
-    }
-}
-
-fn refusal_rule(refusal: Refusal) -> &'static str
-    ensures { result.now ≡ rule_text (Refused refusal) }
-{
-    match refusal {
-        Refusal::NotActive => "an entry takes an event that is active",
-        Refusal::EarlierUpdate => "active updates are taken in the order of their numbers",
-        Refusal::NotDue => "a region changes once each earlier one is empty and it has an event",
-        Refusal::WrongTime => "time advances to the least time of a future event",
-        Refusal::PastLimit => "no time goes past 281474976710656",
-        Refusal::Finished => "nothing follows $finish",
-    }
 }
 
 /// What a region has a queue of.
@@ -277,9 +211,9 @@ fn push_cause(text: &mut Vec<u8>, fault: ReplayFault) -> Result<(), AllocError>
 {
     push_labelled(text, b"entry ", fault.entry)?;
     text.extend_from_slice(said(fault.cause).as_bytes())?;
-    text.extend_from_slice(code(fault.cause).as_bytes())?;
+    text.extend_from_slice(cause_code(fault.cause).as_bytes())?;
     text.extend_from_slice(b": ")?;
-    text.extend_from_slice(rule(fault.cause).as_bytes())
+    text.extend_from_slice(cause_rule(fault.cause).as_bytes())
 }
 
 /// Puts behind a text which entry isn't lawful, the rule that it breaks, and the events of each region as they stand before it.

@@ -3,8 +3,8 @@
 ghost use Rattle.std.specs.Prelude.{◌≡◌, ◌++◌, OnOk, codes};
 ghost use Rattle.model.specs.Runs.{has_any};
 ghost use Rattle.explain.specs.Phrases.{quoted_text};
-ghost use Rattle.steps.specs.Told.{account_of};
-ghost use Rattle.explain.specs.Lines.{assignment_text, change_text, deed_text, entry_text, lead, list_text, mark, parts_text, printed_text, reading_text, region_text, update_text};
+ghost use Rattle.steps.specs.Accounts.{account_of};
+ghost use Rattle.explain.specs.EntryLines.{assignment_text, change_text, deed_text, entry_text, lead, list_text, mark, parts_text, printed_text, reading_text, region_text, update_text};
 
 use crate::phrases::{
     Names, push_labelled, push_number, push_process, push_quoted, push_register, push_value,
@@ -13,7 +13,7 @@ use design::RegId;
 use logic4::bits::Bits;
 use model::entry::Entry;
 use std::alloc::AllocError;
-use steps::{Changed, Deed, Reading, Told};
+use steps::{Changed, Deed, EntryAccount, Reading};
 use turn::Nba;
 
 // The mark before the first part of a kind.
@@ -179,16 +179,20 @@ fn has_any<T>(list: &[T]) -> bool
 }
 
 // Puts what is read, changed, assigned and printed behind a text.
-fn push_parts(text: &mut Vec<u8>, names: &Names<'_>, told: &Told) -> Result<(), AllocError>
-    ensures { OnOk result (text.new.items ≡ text.old.items ++ parts_text names.entry.now (account_of told.now)) }
+fn push_parts(
+    text: &mut Vec<u8>,
+    names: &Names<'_>,
+    account: &EntryAccount,
+) -> Result<(), AllocError>
+    ensures { OnOk result (text.new.items ≡ text.old.items ++ parts_text names.entry.now (account_of account.now)) }
 {
-    let reads = has_any(&told.reads);
-    let changes = reads | has_any(&told.changes);
-    let assigned = changes | has_any(&told.assigned);
-    push_list(text, names, &told.reads, false, "reads ")?;
-    push_list(text, names, &told.changes, reads, "writes ")?;
-    push_list(text, names, &told.assigned, changes, "assigns ")?;
-    push_printed(text, told.lines.as_bytes(), assigned)
+    let reads = has_any(&account.reads);
+    let changes = reads | has_any(&account.changes);
+    let assigned = changes | has_any(&account.assigned);
+    push_list(text, names, &account.reads, false, "reads ")?;
+    push_list(text, names, &account.changes, reads, "writes ")?;
+    push_list(text, names, &account.assigned, changes, "assigns ")?;
+    push_printed(text, account.lines.as_bytes(), assigned)
 }
 
 /// Puts the line of an entry behind a text: its number, counted from 1, the time, who does it, and what it reads, changes, assigns
@@ -198,14 +202,14 @@ pub(crate) fn push_entry(
     names: &Names<'_>,
     number: u64,
     entry: Entry,
-    told: &Told,
+    account: &EntryAccount,
 ) -> Result<(), AllocError>
-    ensures { OnOk result (text.new.items ≡ text.old.items ++ entry_text names.entry.now number entry (account_of told.now)) }
+    ensures { OnOk result (text.new.items ≡ text.old.items ++ entry_text names.entry.now number entry (account_of account.now)) }
 {
     push_number(text, number)?;
-    push_labelled(text, b"  time ", told.time)?;
+    push_labelled(text, b"  time ", account.time)?;
     text.extend_from_slice(b"  ")?;
-    push_deed(text, names, entry, told.deed)?;
-    push_parts(text, names, told)?;
+    push_deed(text, names, entry, account.deed)?;
+    push_parts(text, names, account)?;
     text.extend_from_slice(b"\n")
 }

@@ -4,8 +4,8 @@ use Rattle.std.proofs.lemmas.List.Elements.{Contains-append_left}
 use Rattle.std.proofs.lemmas.List.{get_or_default}
 use Rattle.std.specs.List.{All, Any}
 use Rattle.explore.specs.Grown.{Extends}
-use Rattle.explore.specs.Kept.{Leads}
-use Rattle.explore.specs.Runs.{Runs}
+use Rattle.explore.specs.SearchKept.{Leads}
+use Rattle.explore.specs.SearchedRuns.{Runs}
 use Rattle.explore.specs.Search.{IsShown, Serves, IsFollowed, IsCovered, AreAllShown}
 use Rattle.explore.specs.declared.Ended.{Ended}
 use Rattle.explore.specs.declared.Next.{Next}

@@ -10,15 +10,15 @@ use Rattle.std.proofs.lemmas.List.{get_or_default, get_or_append_left}
 use Rattle.std.proofs.Math.Seq.{get_or-append_seam}
 use Rattle.explore.specs.Grown.{Extends, grown}
 use Rattle.explore.specs.Pieces.{pieces, ArePieces}
-use Rattle.explore.specs.Kept.{IsText, IsVisited, IsPending, AreKept, Grows, Leads}
-use Rattle.explore.specs.Runs.{Runs}
+use Rattle.explore.specs.SearchKept.{IsText, IsVisited, IsPending, AreKept, Grows, Leads}
+use Rattle.explore.specs.SearchedRuns.{Runs}
 use Rattle.explore.specs.Search.{IsPrinted, Serves, IsShown, IsFollowed}
-use Rattle.explore.specs.Texts.{texts, IsTexts}
+use Rattle.explore.specs.NumberedTexts.{texts, IsTexts}
 use Rattle.explore.specs.Trail.{ways, IsTrail}
 use Rattle.explore.specs.Visited.{IsThere}
 use Rattle.explore.specs.declared.Next.{Next}
 use Rattle.explore.specs.declared.Shown.{Shown}
-use Rattle.explore.specs.declared.kept.Kept.{Kept}
+use Rattle.explore.specs.declared.kept.KeptNodes.{KeptNodes}
 use Rattle.explore.specs.declared.kept.Pending.{Pending}
 use Rattle.explore.specs.declared.kept.Place.{Place}
 use Rattle.explore.proofs.Growing.{Extends-itself, Extends-through, length-extends, get_or-extends, length-grown, get_or-grown, slice_get_push}
@@ -52,7 +52,7 @@ IsPending-more {M} runs old new told told' p more longer pending =
     }
 
 -- what is kept is good where texts are added
-pub AreKept-texts : {M N E : Type 0} (runs : Runs M N E) (HasKey : N → List ℕ → Type 0) (old new : Kept N M) → AreKept runs HasKey old → new.trail ≡ old.trail → IsTexts new.texts → Extends (texts old.texts) (texts new.texts) →
+pub AreKept-texts : {M N E : Type 0} (runs : Runs M N E) (HasKey : N → List ℕ → Type 0) (old new : KeptNodes N M) → AreKept runs HasKey old → new.trail ≡ old.trail → IsTexts new.texts → Extends (texts old.texts) (texts new.texts) →
     ArePieces new.visited.visits → pieces new.visited.visits ≡ pieces old.visited.visits → new.pending.items ≡ old.pending.items → AreKept runs HasKey new
 AreKept-texts {M} {N} runs HasKey old new kept trail ok longer whole keys pending =
     let more : Extends (ways old.trail) (ways new.trail) = subst (λ t. Extends (ways old.trail) (ways t)) (sym trail) (Extends-itself (ways old.trail)) in
@@ -68,7 +68,7 @@ AreKept-texts {M} {N} runs HasKey old new kept trail ok longer whole keys pendin
     }
 
 -- what is kept grows where texts are added
-pub Grows-texts : {M N : Type 0} (old new : Kept N M) → new.trail ≡ old.trail → Extends (texts old.texts) (texts new.texts) → new.pending.items ≡ old.pending.items → Grows old new
+pub Grows-texts : {M N : Type 0} (old new : KeptNodes N M) → new.trail ≡ old.trail → Extends (texts old.texts) (texts new.texts) → new.pending.items ≡ old.pending.items → Grows old new
 Grows-texts {M} {N} old new trail longer pending =
     let same : length (ways new.trail) ≡ length (ways old.trail) = ap (λ t. length (ways t)) trail in
     record {
@@ -103,7 +103,7 @@ visited_pushed runs HasKey old new told told' keys visit v k more longer count b
 ]
 
 -- what is kept is good where a run is added, with its text, its visit and its node
-pub AreKept-push : {M N E : Type 0} (runs : Runs M N E) (HasKey : N → List ℕ → Type 0) (old new : Kept N M) (from text : ℕ) (moves : List M) (visit : ℕ × List ℕ) (p : Pending N) → AreKept runs HasKey old →
+pub AreKept-push : {M N E : Type 0} (runs : Runs M N E) (HasKey : N → List ℕ → Type 0) (old new : KeptNodes N M) (from text : ℕ) (moves : List M) (visit : ℕ × List ℕ) (p : Pending N) → AreKept runs HasKey old →
     IsTrail new.trail → ways new.trail ≡ grown (ways old.trail) from moves → IsTexts new.texts → Extends (texts old.texts) (texts new.texts) →
     ArePieces new.visited.visits → pieces new.visited.visits ≡ pieces old.visited.visits ++ visit ∷ [] → new.pending.items ≡ old.pending.items ++ p ∷ [] →
     IsVisited runs HasKey (ways new.trail) (texts new.texts) (record { number = length (ways old.trail); text = visit.0 }) visit.1 → IsPending runs (ways new.trail) (texts new.texts) p → AreKept runs HasKey new
@@ -122,7 +122,7 @@ AreKept-push {M} {N} runs HasKey old new from text moves visit p kept trail adde
     }
 
 -- what is kept grows where a run is added, with its node
-pub Grows-push : {M N : Type 0} (old new : Kept N M) (from : ℕ) (moves : List M) (p : Pending N) → ways new.trail ≡ grown (ways old.trail) from moves → Extends (texts old.texts) (texts new.texts) →
+pub Grows-push : {M N : Type 0} (old new : KeptNodes N M) (from : ℕ) (moves : List M) (p : Pending N) → ways new.trail ≡ grown (ways old.trail) from moves → Extends (texts old.texts) (texts new.texts) →
     new.pending.items ≡ old.pending.items ++ p ∷ [] → p.place.number ≡ length (ways old.trail) → Grows old new
 Grows-push {M} {N} old new from moves p added longer pending number =
     let long : length (ways new.trail) ≡ suc (length (ways old.trail)) = ap length added ∙ length-grown (ways old.trail) from moves in
@@ -136,14 +136,14 @@ Grows-push {M} {N} old new from moves p added longer pending number =
           subst (λ (l : List (Pending N)). Any (λ x. x.place.number ≡ k) l) (sym pending) (Any-push (λ (x : Pending N). x.place.number ≡ k) old.pending.items p at);
     }
 
-waits_through : {M N : Type 0} (a b c : Kept N M) (k : ℕ) → Grows a b → Grows b c → length (ways a.trail) ≤ k → k < length (ways c.trail) → Any (λ x. x.place.number ≡ k) c.pending.items
+waits_through : {M N : Type 0} (a b c : KeptNodes N M) (k : ℕ) → Grows a b → Grows b c → length (ways a.trail) ≤ k → k < length (ways c.trail) → Any (λ x. x.place.number ≡ k) c.pending.items
 waits_through {M} {N} a b c k first second low high = elim (cases_lt k (length (ways b.trail))) [
   | inl less ↦ Any-extends (λ (x : Pending N). x.place.number ≡ k) b.pending.items c.pending.items second.pending (first.waits k low less)
   | inr far ↦ second.waits k far high
 ]
 
 -- growth goes on
-pub Grows-through : {M N : Type 0} (a b c : Kept N M) → Grows a b → Grows b c → Grows a c
+pub Grows-through : {M N : Type 0} (a b c : KeptNodes N M) → Grows a b → Grows b c → Grows a c
 Grows-through {M} {N} a b c first second =
     record {
       trail = Extends-through (ways a.trail) (ways b.trail) (ways c.trail) first.trail second.trail;
@@ -154,11 +154,11 @@ Grows-through {M} {N} a b c first second =
     }
 
 -- what is kept grows from itself
-pub Grows-itself : {M N : Type 0} (a : Kept N M) → Grows a a
+pub Grows-itself : {M N : Type 0} (a : KeptNodes N M) → Grows a a
 Grows-itself a = Grows-texts a a refl (Extends-itself (texts a.texts)) refl
 
 -- where a visit of the same key and the same text is there, a run that was reached serves the one that leads to the node
-pub there_leads : {M N E : Type 0} (runs : Runs M N E) (HasKey : N → List ℕ → Type 0) (old : Kept N M) (told : List (List ℕ)) (node : N) (run : List M) (visit : ℕ × List ℕ) →
+pub there_leads : {M N E : Type 0} (runs : Runs M N E) (HasKey : N → List ℕ → Type 0) (old : KeptNodes N M) (told : List (List ℕ)) (node : N) (run : List M) (visit : ℕ × List ℕ) →
     ((a b : N) (i j : List M) (key : List ℕ) → HasKey a key → HasKey b key → runs.Stands a i → runs.Stands b j → runs.text i ≡ runs.text j → Serves runs i j) →
     AreKept runs HasKey old → Extends (texts old.texts) told → runs.Stands node run → HasKey node visit.1 → get_or told visit.0 [] ≡ runs.text run → IsThere visit (pieces old.visited.visits) → Leads runs (ways old.trail) run
 there_leads {M} {N} runs HasKey old told node run visit law kept longer stands keyed text there =
@@ -196,7 +196,7 @@ IsPending-next {M} runs old new told p from moves more stands number at =
     }
 
 -- what is kept is good without the node that was added last, which is pending
-pub AreKept-pop : {M N E : Type 0} (runs : Runs M N E) (HasKey : N → List ℕ → Type 0) (old new : Kept N M) (p : Pending N) → AreKept runs HasKey old → new.trail ≡ old.trail → new.texts ≡ old.texts → new.visited ≡ old.visited → old.pending.items ≡ new.pending.items ++ p ∷ [] → AreKept runs HasKey new × IsPending runs (ways old.trail) (texts old.texts) p
+pub AreKept-pop : {M N E : Type 0} (runs : Runs M N E) (HasKey : N → List ℕ → Type 0) (old new : KeptNodes N M) (p : Pending N) → AreKept runs HasKey old → new.trail ≡ old.trail → new.texts ≡ old.texts → new.visited ≡ old.visited → old.pending.items ≡ new.pending.items ++ p ∷ [] → AreKept runs HasKey new × IsPending runs (ways old.trail) (texts old.texts) p
 AreKept-pop {M} {N} runs HasKey old new p kept trail told visited pending =
     let parts = All-pop (IsPending runs (ways old.trail) (texts old.texts)) old.pending.items new.pending.items (Some p) pending kept.pending in (
       record {
@@ -226,7 +226,7 @@ only_visit runs HasKey w t visit v k first e = elim (slice_get_push [] visit v k
 ]
 
 -- what is kept at first
-pub AreKept-first : {M N E : Type 0} (runs : Runs M N E) (HasKey : N → List ℕ → Type 0) (new : Kept N M) (p : Pending N) (visit : ℕ × List ℕ) → IsTrail new.trail → ways new.trail ≡ [] ∷ [] → IsTexts new.texts → texts new.texts ≡ [] ∷ [] → ArePieces new.visited.visits → pieces new.visited.visits ≡ visit ∷ [] → new.pending.items ≡ [] ++ p ∷ [] →
+pub AreKept-first : {M N E : Type 0} (runs : Runs M N E) (HasKey : N → List ℕ → Type 0) (new : KeptNodes N M) (p : Pending N) (visit : ℕ × List ℕ) → IsTrail new.trail → ways new.trail ≡ [] ∷ [] → IsTexts new.texts → texts new.texts ≡ [] ∷ [] → ArePieces new.visited.visits → pieces new.visited.visits ≡ visit ∷ [] → new.pending.items ≡ [] ++ p ∷ [] →
     visit.0 ≡ 0 → p.place ≡ record { number = 0; text = 0 } → runs.Stands p.node [] → HasKey p.node visit.1 → runs.text [] ≡ [] → AreKept runs HasKey new
 AreKept-first {M} {N} runs HasKey new p visit trail one told none whole keys pending zeroth place stands keyed silent =
     let first : get_or (ways new.trail) 0 [] ≡ [] = ap (λ (l : List (List M)). get_or l 0 []) one in
@@ -272,10 +272,10 @@ Any-split P xs x at = elim (cases_lt at.0 (length xs)) [
 ]
 
 -- what is known of the run with a number: its node is pending, or it is followed
-abbrev pub IsKnown : {M N E : Type 0} → Runs M N E → Kept N M → List (Shown M E) → ℕ → Type 0
+abbrev pub IsKnown : {M N E : Type 0} → Runs M N E → KeptNodes N M → List (Shown M E) → ℕ → Type 0
 IsKnown runs kept shown k = Any (λ p. p.place.number ≡ k) kept.pending.items ⊎ IsFollowed runs (IsShown shown) (Serves runs) (ways kept.trail) (get_or (ways kept.trail) k [])
 
-known_before : {M N E : Type 0} (runs : Runs M N E) (old mid new : Kept N M) (p : Pending N) (shown shown' : List (Shown M E)) (k : ℕ) → mid.trail ≡ old.trail → old.pending.items ≡ mid.pending.items ++ p ∷ [] → Grows mid new → Extends shown shown' →
+known_before : {M N E : Type 0} (runs : Runs M N E) (old mid new : KeptNodes N M) (p : Pending N) (shown shown' : List (Shown M E)) (k : ℕ) → mid.trail ≡ old.trail → old.pending.items ≡ mid.pending.items ++ p ∷ [] → Grows mid new → Extends shown shown' →
     k < length (ways old.trail) → IsFollowed runs (IsShown shown') (Serves runs) (ways new.trail) (get_or (ways old.trail) p.place.number []) → IsKnown runs old shown k → IsKnown runs new shown' k
 known_before {M} {N} {E} runs old mid new p shown shown' k trail popped grows told less now known =
     let more : Extends (ways old.trail) (ways new.trail) = subst (λ t. Extends (ways t) (ways new.trail)) trail grows.trail in
@@ -290,7 +290,7 @@ known_before {M} {N} {E} runs old mid new p shown shown' k trail popped grows to
     ]
 
 -- what is known of each run, after the node that was added last was expanded
-pub known_more : {M N E : Type 0} (runs : Runs M N E) (old mid new : Kept N M) (p : Pending N) (shown shown' : List (Shown M E)) (k : ℕ) → mid.trail ≡ old.trail → old.pending.items ≡ mid.pending.items ++ p ∷ [] → Grows mid new → Extends shown shown' →
+pub known_more : {M N E : Type 0} (runs : Runs M N E) (old mid new : KeptNodes N M) (p : Pending N) (shown shown' : List (Shown M E)) (k : ℕ) → mid.trail ≡ old.trail → old.pending.items ≡ mid.pending.items ++ p ∷ [] → Grows mid new → Extends shown shown' →
     IsFollowed runs (IsShown shown') (Serves runs) (ways new.trail) (get_or (ways old.trail) p.place.number []) → ((k : ℕ) → k < length (ways old.trail) → IsKnown runs old shown k) → k < length (ways new.trail) → IsKnown runs new shown' k
 known_more runs old mid new p shown shown' k trail popped grows told now before less = elim (cases_lt k (length (ways old.trail))) [
   | inl low ↦ known_before runs old mid new p shown shown' k trail popped grows told low now (before k low)
@@ -298,7 +298,7 @@ known_more runs old mid new p shown shown' k trail popped grows told now before 
 ]
 
 -- where no node is pending, each run is followed
-pub all_followed : {M N E : Type 0} (runs : Runs M N E) (kept : Kept N M) (shown : List (Shown M E)) → length kept.pending.items ≡ 0 → ((k : ℕ) → k < length (ways kept.trail) → IsKnown runs kept shown k) → AreFollowed runs shown (ways kept.trail)
+pub all_followed : {M N E : Type 0} (runs : Runs M N E) (kept : KeptNodes N M) (shown : List (Shown M E)) → length kept.pending.items ≡ 0 → ((k : ℕ) → k < length (ways kept.trail) → IsKnown runs kept shown k) → AreFollowed runs shown (ways kept.trail)
 all_followed runs kept shown none known k less = elim (known k less) [
   | inl at ↦ absurd (omega (arith, at.2, none))
   | inr followed ↦ followed

@@ -7,7 +7,7 @@ use Rattle.std.proofs.Math.Dec.{eqb}
 use Rattle.std.specs.Prelude.{slice_get}
 use Rattle.std.specs.Option.{option_map}
 use Rattle.explore.specs.Grown.{Extends, grown, grown_all}
-use Rattle.explore.specs.Texts.{piece}
+use Rattle.explore.specs.NumberedTexts.{piece}
 use Rattle.explore.specs.declared.texts.Letter.{Letter}
 use Rattle.explore.proofs.Growing.{Extends-itself, length-grown_all, get_or-grown_all, get_or-extends, grown_all-push, grown_all-extends, slice_get_push}
 

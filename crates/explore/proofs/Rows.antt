@@ -1,10 +1,8 @@
 -- Lists in an arena, each beside its number.
-use Rattle.std.proofs.Common.{◌≡◌, ℕ, zero, suc, ◌+◌, ◌-◌, ◌≤◌, List, [], ◌∷◌, ◌++◌, length, map, take, drop, refl, sym, ap, ◌∙◌, arith, length-append, length-drop, inl, inr, Some, Option}
+use Rattle.std.proofs.Common.{◌≡◌, ℕ, zero, suc, ◌+◌, ◌-◌, ◌≤◌, List, [], ◌∷◌, ◌++◌, length, map, take, drop, refl, sym, ap, ◌∙◌, arith, length-append, length-drop, inl, inr, Some}
 use Rattle.std.proofs.lemmas.List.{map-append, take-append-le, drop-append-le}
 use Rattle.std.proofs.Math.Seq.{drop-append_seam}
-use Rattle.std.proofs.lemmas.Option.{slice_get-map}
 use Rattle.std.specs.Prelude.{slice_get, slice_range}
-use Rattle.std.specs.Option.{option_map}
 use Rattle.explore.specs.Pieces.{piece}
 use Rattle.explore.specs.declared.pieces.Piece.{Piece}
 use Rattle.explore.proofs.Growing.{slice_get_push}
@@ -63,7 +61,3 @@ AreRows-push {T} arena more arena' rows rows' row known e f first last k r at =
       | inl h ↦ let old = known k r h.1 in omega (arith, old, long)
       | inr h ↦ omega (arith, ap (λ (x : Piece). x.begin) h.1, ap (λ (x : Piece). x.length) h.1, first, last, long)
     ]
-
--- the list of one row
-pub rows-get : {T : Type 0} (arena : List T) (rows : List Piece) (k : ℕ) (row : Piece) → slice_get rows k ≡ Some row → slice_get (rows_of arena rows) k ≡ Some (row.number, slice_range arena row.begin (row.begin + row.length))
-rows-get arena rows k row e = slice_get-map (piece arena) rows k ∙ ap (λ (o : Option Piece). option_map (piece arena) o) e

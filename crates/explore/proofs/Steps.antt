@@ -1,6 +1,5 @@
 -- The steps of a trail.
-use Rattle.std.proofs.Common.{◌≡◌, ℕ, suc, ◌+◌, ◌<◌, ◌≤◌, List, [], ◌∷◌, ◌++◌, length, get_or, sym, ap, ◌∙◌, append_assoc, arith, reverse, inl, inr, Some, None, Option}
-use Rattle.std.proofs.lemmas.List.{reverse-append, reverse-reverse}
+use Rattle.std.proofs.Common.{◌≡◌, ℕ, suc, ◌+◌, ◌<◌, ◌≤◌, List, [], ◌∷◌, ◌++◌, length, get_or, sym, ap, ◌∙◌, arith, inl, inr, Some, None, Option}
 use Rattle.std.specs.Prelude.{slice_get}
 use Rattle.explore.specs.Grown.{grown, grown_all}
 use Rattle.explore.proofs.Growing.{length-grown_all, get_or-grown_all, get_or-extends, grown_all-push, grown_all-extends, slice_get_push}
@@ -43,9 +42,3 @@ AreSteps-push {M} steps steps' step known e from k s at =
       | inl h ↦ known k s h.1
       | inr h ↦ omega (arith, h.0, ap (λ (x : ℕ × List M). x.0) h.1, from, length-gone steps)
     ]
-
--- one step back on a way, whose moves go to the front of those that were passed
-pub step_back : {M : Type 0} (way front front' back back' part : List M) → way ≡ front ++ reverse back → front ≡ front' ++ part → back' ≡ back ++ reverse part → way ≡ front' ++ reverse back'
-step_back {M} way front front' back back' part h one b =
-    let turned : reverse back' ≡ part ++ reverse back = ap reverse b ∙ (reverse-append back (reverse part) ∙ ap (λ (l : List M). l ++ reverse back) (reverse-reverse part)) in
-    h ∙ (ap (λ (l : List M). l ++ reverse back) one ∙ (append_assoc front' part (reverse back) ∙ ap (λ (l : List M). front' ++ l) (sym turned)))

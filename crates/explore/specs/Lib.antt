@@ -1,9 +1,9 @@
 pub mod Grown
-pub mod Kept
+pub mod SearchKept
 pub mod Pieces
-pub mod Runs
+pub mod SearchedRuns
 pub mod Search
-pub mod Steps
-pub mod Texts
+pub mod SearchSteps
+pub mod NumberedTexts
 pub mod Trail
 pub mod Visited

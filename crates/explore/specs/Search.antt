@@ -1,7 +1,7 @@
 -- What is shown of the runs, what covers a node, and what it means that all is shown.
 use Rattle.std.specs.Prelude.{◌≡◌, ℕ, ◌<◌, List, ◌++◌, length, ◌⊎◌}
 use Rattle.std.specs.List.{Any}
-use Rattle.explore.specs.Runs.{Runs}
+use Rattle.explore.specs.SearchedRuns.{Runs}
 use Rattle.explore.specs.declared.Ended.{Ended}
 use Rattle.explore.specs.declared.Next.{Next}
 use Rattle.explore.specs.declared.Shown.{Shown}

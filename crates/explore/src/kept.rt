@@ -1,9 +1,9 @@
 //! What a search keeps of the nodes that it reached.
 ghost use Rattle.std.specs.Prelude.{◌≡◌, ◌<◌, ◌≤◌, ◌++◌, [], ◌∷◌, length, get_or, IsTrue, IfOk, OnOk};
 ghost use Rattle.std.specs.List.{All, Any};
-ghost use Rattle.explore.specs.Kept.{AreKept, Grows, IsText, Leads};
+ghost use Rattle.explore.specs.SearchKept.{AreKept, Grows, IsText, Leads};
 ghost use Rattle.explore.specs.Search.{IsNext};
-ghost use Rattle.explore.specs.Texts.{texts};
+ghost use Rattle.explore.specs.NumberedTexts.{texts};
 ghost use Rattle.explore.specs.Trail.{ways};
 
 use crate::texts::Texts;
@@ -28,7 +28,7 @@ pub(crate) struct Pending<N> {
 
 /// The runs that were reached, what they printed, a visit for each of them, and the nodes that are still to be expanded.
 #[derive(Drop)]
-pub(crate) struct Kept<N, M> {
+pub(crate) struct KeptNodes<N, M> {
     pub(crate) trail: Trail<M>,
     pub(crate) texts: Texts,
     pub(crate) visited: Visited,
@@ -42,7 +42,7 @@ pub(crate) fn first<O: Orders>(
     alloc: Global,
     orders: &O,
     room: &mut O::Room,
-) -> Result<Kept<O::Node, O::Move>, AllocError>
+) -> Result<KeptNodes<O::Node, O::Move>, AllocError>
     ensures kept { IfOk result (λ kept. AreKept (O.runs orders.now) (O.has_key orders.now) kept) }
     ensures ways { IfOk result (λ kept. ways kept.trail ≡ [] ∷ []) }
     ensures one { IfOk result (λ kept. length kept.pending.items ≡ 1) }
@@ -58,7 +58,7 @@ pub(crate) fn first<O: Orders>(
         node,
         place: Place { number: 0, text: 0 },
     })?;
-    Ok(Kept {
+    Ok(KeptNodes {
         trail: Trail::new(alloc),
         texts: Texts::new(alloc),
         visited,
@@ -73,7 +73,7 @@ fn follow<O: Orders>(
     scope: Scope,
     orders: &O,
     room: &mut O::Room,
-    kept: &mut Kept<O::Node, O::Move>,
+    kept: &mut KeptNodes<O::Node, O::Move>,
     from: Place,
     next: Next<O::Node, O::Move>,
 ) -> Result<bool, AllocError>
@@ -116,7 +116,7 @@ pub(crate) fn follow_all<O: Orders>(
     scope: Scope,
     orders: &O,
     room: &mut O::Room,
-    kept: &mut Kept<O::Node, O::Move>,
+    kept: &mut KeptNodes<O::Node, O::Move>,
     from: Place,
     successors: Vec<Next<O::Node, O::Move>>,
 ) -> Result<bool, AllocError>

@@ -8,7 +8,7 @@ use std::alloc::{AllocError, Global};
 
 /// What may go on in several ways, and how its ways are followed.
 pub trait Orders {
-    ghost use Rattle.explore.specs.Runs.{Runs};
+    ghost use Rattle.explore.specs.SearchedRuns.{Runs};
 
     /// What a run is made of.
     type Move: Copy;

@@ -2,12 +2,12 @@
 ghost use Rattle.std.specs.Prelude.{◌≡◌, ◌<◌, ◌≤◌, [], length, get_or, IsTrue, IfOk, OnOk};
 ghost use Rattle.std.specs.List.{All, AllPairs};
 ghost use Rattle.explore.specs.Grown.{Extends};
-ghost use Rattle.explore.specs.Kept.{AreKept, Grows, IsPending};
+ghost use Rattle.explore.specs.SearchKept.{AreKept, Grows, IsPending};
 ghost use Rattle.explore.specs.Search.{AreAllShown, AreDistinct, IsFollowed, IsOfRun, IsShown, Serves};
-ghost use Rattle.explore.specs.Texts.{texts};
+ghost use Rattle.explore.specs.NumberedTexts.{texts};
 ghost use Rattle.explore.specs.Trail.{ways};
 
-use crate::kept::{Kept, Pending, first, follow_all};
+use crate::kept::{KeptNodes, Pending, first, follow_all};
 use crate::show::{Run, show_all};
 use crate::{Bounds, Expanded, Explored, Orders, Scope, Shown};
 use progress::{HowFar, Progress};
@@ -31,7 +31,7 @@ fn turn<O: Orders>(
     scope: Scope,
     orders: &O,
     room: &mut O::Room,
-    kept: &mut Kept<O::Node, O::Move>,
+    kept: &mut KeptNodes<O::Node, O::Move>,
     shown: &mut Vec<Shown<O::Move, O::End>>,
     at: Pending<O::Node>,
 ) -> Result<bool, Stop>

@@ -1,11 +1,10 @@
 //! What is shown.
-ghost use Rattle.std.specs.Prelude.{◌≡◌, ◌<◌, ◌++◌, ◌↔◌, [], false, length, get_or, IsTrue, IfOk, OnOk};
+ghost use Rattle.std.specs.Prelude.{◌≡◌, ◌<◌, ◌++◌, ◌↔◌, [], false, get_or, IsTrue, IfOk};
 ghost use Rattle.std.specs.List.{All, AllPairs};
 ghost use Rattle.explore.specs.Grown.{Extends};
-ghost use Rattle.explore.specs.Kept.{IsText};
+ghost use Rattle.explore.specs.SearchKept.{IsHeld};
 ghost use Rattle.explore.specs.Search.{AreDistinct, Differs, IsEnded, IsOfRun, IsShown};
-ghost use Rattle.explore.specs.Texts.{texts, IsTexts};
-ghost use Rattle.explore.specs.Trail.{ways, IsTrail};
+ghost use Rattle.explore.specs.Trail.{ways};
 
 use crate::kept::Place;
 use crate::texts::Texts;
@@ -64,9 +63,7 @@ fn show<O: Orders>(
     ended: Ended<O::Move, O::End>,
     most: usize,
 ) -> Result<bool, AllocError>
-    requires trail { IsTrail run.trail.now }
-    requires texts { IsTexts run.texts.now }
-    requires run { IsText (O.runs orders.now) (ways run.trail.now) (texts run.texts.now) run.place }
+    requires run { IsHeld (O.runs orders.now) run.trail.now run.texts.now run.place }
     requires sound { All (IsOfRun (O.runs orders.now)) shown.old.items }
     requires distinct { AllPairs AreDistinct shown.old.items }
     requires ended { IsEnded (O.runs orders.now) (get_or (ways run.trail.now) run.place.number []) ended }
@@ -102,9 +99,7 @@ pub(crate) fn show_all<O: Orders>(
     ended: Vec<Ended<O::Move, O::End>>,
     most: usize,
 ) -> Result<bool, AllocError>
-    requires trail { IsTrail run.trail.now }
-    requires texts { IsTexts run.texts.now }
-    requires run { IsText (O.runs orders.now) (ways run.trail.now) (texts run.texts.now) run.place }
+    requires run { IsHeld (O.runs orders.now) run.trail.now run.texts.now run.place }
     requires sound { All (IsOfRun (O.runs orders.now)) shown.old.items }
     requires distinct { AllPairs AreDistinct shown.old.items }
     requires ended { All (IsEnded (O.runs orders.now) (get_or (ways run.trail.now) run.place.number [])) ended.items }

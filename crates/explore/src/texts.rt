@@ -1,7 +1,7 @@
 //! The texts that runs printed, each told by the text that it is one byte longer than.
-ghost use Rattle.std.specs.Prelude.{◌≡◌, ◌<◌, ◌≤◌, ◌++◌, [], ◌∷◌, length, get_or, IfOk, OnOk};
+ghost use Rattle.std.specs.Prelude.{◌≡◌, ◌<◌, ◌++◌, [], ◌∷◌, length, get_or, IfOk, OnOk};
 ghost use Rattle.explore.specs.Grown.{Extends};
-ghost use Rattle.explore.specs.Texts.{texts, IsTexts};
+ghost use Rattle.explore.specs.NumberedTexts.{texts, IsTexts};
 
 use indexmap::IndexSet;
 use std::alloc::{AllocError, Global};

@@ -1,2 +1,2 @@
-pub mod Faults
+pub mod FileStatuses
 pub mod Saved

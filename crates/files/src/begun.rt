@@ -1,7 +1,7 @@
 //! Files that are begun, and put into their places when they are whole.
 
 ghost use Rattle.std.specs.Prelude.{◌≡◌, IfErr, IfOk, OnErr, OnOk, option_map};
-ghost use Rattle.files.specs.Faults.{IsFileStatus, file_status};
+ghost use Rattle.files.specs.FileStatuses.{IsFileStatus, file_status};
 ghost use Rattle.files.specs.Saved.{AreEmpty, ClosesFile, HoldsNothing, KeepsFiles, LeadsElsewhere, LeadsThere};
 
 use crate::fault::FileFault;

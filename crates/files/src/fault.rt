@@ -1,20 +1,15 @@
 //! Why a file wasn't read or written.
 
 ghost use Rattle.std.specs.Prelude.{◌≡◌};
-ghost use Rattle.files.specs.Faults.{file_status};
+ghost use Rattle.files.specs.FileStatuses.{file_status};
 
-use crate::message::escaped;
 use std::alloc::AllocError;
-use thiserror::Error;
 
 /// Why a file wasn't read, or a file or output wasn't written.
-#[derive(Debug, Drop, Error)]
+#[derive(Drop)]
 pub enum FileFault<'a> {
-    #[error("cannot read {}", escaped(.0))]
     CannotRead(&'a str),
-    #[error("cannot write")]
     CannotWrite,
-    #[error("memory")]
     Memory,
 }
 

@@ -5,17 +5,17 @@ use Rattle.std.specs.List.{All}
 use Rattle.std.proofs.lemmas.Bool.{eqb-true}
 use Rattle.std.proofs.lemmas.List.Elements.{All-head, All-tail}
 use Rattle.logic4.specs.Vector.{Vector}
-use Rattle.model.specs.Turns.{Later}
+use Rattle.model.specs.Turns.{NonblockingAssignment}
 use Rattle.model.specs.Runs.{has_any}
 use Rattle.orders.specs.Apart.{of_register, updates_for, NotBoth}
 use Rattle.turn.specs.declared.log.Nba.{Nba}
-use Rattle.turn.specs.Logs.{later_of}
+use Rattle.turn.specs.TurnLogs.{assignment_of}
 use Rattle.flat.specs.Tests.{AreNbasApart}
 use Rattle.flat.proofs.Sleeping.{and_false}
 
 -- the updates that assignments make for a time
 abbrev pub kept_for : ℕ → List Nba → List (ℕ × Vector)
-kept_for due ns = updates_for due (map later_of ns)
+kept_for due ns = updates_for due (map assignment_of ns)
 
 -- the updates for a time begin with that of the first assignment, where it is for that time
 first_for : (due : ℕ) (n : Nba) (ns : List Nba) (b : Bool) → (n.due == due) ≡ b → kept_for due (n ∷ ns) ≡ cond b ((n.reg, n.value) ∷ kept_for due ns) (kept_for due ns)

@@ -18,15 +18,15 @@ use Rattle.orders.proofs.EventLists.{updates-append}
 use Rattle.orders.specs.Apart.{WakesNone}
 use Rattle.design.specs.declared.code.ProcState.{ProcState}
 use Rattle.design.specs.Compiled.{Compiled, design_of}
-use Rattle.design.specs.Standing.{remainder_of, controls_of, IsStateOf}
-use Rattle.turn.specs.Logs.{LogView, IsLogOf}
-use Rattle.regions.specs.declared.queue.Progress.{Progress}
+use Rattle.design.specs.DesignInvariant.{remainder_of, controls_of, IsStateOf}
+use Rattle.turn.specs.TurnLogs.{LogView, IsLogOf}
+use Rattle.regions.specs.declared.queue.Continuation.{Continuation}
 use Rattle.regions.specs.declared.queue.Update.{Update}
 use Rattle.regions.specs.declared.queue.Evaluation.{Evaluation}
 use Rattle.regions.specs.Queue.{Core, state_of, standing, process_of, update_event, evaluation_event}
-use Rattle.regions.specs.Waking.{triggers_at}
+use Rattle.regions.specs.ProcessWaking.{triggers_at}
 use Rattle.regions.specs.Reader.{IsTurnOn}
-use Rattle.regions.specs.Passing.{HasOwnStates}
+use Rattle.regions.specs.StatePassing.{HasOwnStates}
 use Rattle.regions.proofs.Evaluated.{remainder_is}
 use Rattle.flat.specs.declared.turned.Turned.{Turned}
 use Rattle.flat.specs.Turned.{turn_in, event_of, IsPlaceOf}
@@ -35,7 +35,7 @@ use Rattle.flat.proofs.Sleeping.{nobody_waits, wakes_none_more}
 
 -- a log stands for one turn
 one_turn : (code : Compiled) (log : LogView) (turn : Turn) → IsLogOf (remainder_of code) (controls_of code) log turn → turn ≡ turn_in code log
-one_turn code log turn is = rw (is.uses, is.writes, is.laters, is.lines, is.strobes, is.rest, is.wait, is.finish, is.count) refl
+one_turn code log turn is = rw (is.uses, is.writes, is.nbas, is.lines, is.strobes, is.rest, is.wait, is.finish, is.count) refl
 
 some_turn : (code : Compiled) (log : LogView) (o : Option Turn) → IsSomeAnd o (IsLogOf (remainder_of code) (controls_of code) log) → o ≡ Some (turn_in code log)
 some_turn code log None h = absurd h
@@ -53,19 +53,19 @@ log_is_turn code core values p place log own widths within at is =
     ap (λ (r : Remainder). short_turn (design_of code) p r values core.time) (remainder_is (remainder_of code) core.processes p place at) ∙ found
 
 -- where a process of a machine goes on, by its number
-pub place_is : (controls : List (List Trigger)) (ps : List Progress) (p : ℕ) (x : Progress) → p < length ps → x ≡ get_or ps p x → (p < length (map (process_of controls) ps)) × ((d : ProcState × List Trigger) → (slice_index_or (map (process_of controls) ps) p d).0 ≡ x.state)
+pub place_is : (controls : List (List Trigger)) (ps : List Continuation) (p : ℕ) (x : Continuation) → p < length ps → x ≡ get_or ps p x → (p < length (map (process_of controls) ps)) × ((d : ProcState × List Trigger) → (slice_index_or (map (process_of controls) ps) p d).0 ≡ x.state)
 place_is controls [] p x within is = absurd (omega (arith, within))
-place_is controls (q ∷ ps) zero x within is = (omega arith, λ d. ap (λ (y : Progress). y.state) (sym is))
+place_is controls (q ∷ ps) zero x within is = (omega arith, λ d. ap (λ (y : Continuation). y.state) (sym is))
 place_is controls (q ∷ ps) (suc p) x within is =
     let (within', at) = place_is controls ps p x (omega (arith, within)) is in
     (omega (arith, within'), at)
 
-pub place_of : (core queue : Core) (ps : List Progress) (p : ℕ) (x : Progress) → map (process_of queue.controls) ps ≡ queue.processes → queue ≡ core → p < length ps → x ≡ get_or ps p x → IsPlaceOf core p x.state
+pub place_of : (core queue : Core) (ps : List Continuation) (p : ℕ) (x : Continuation) → map (process_of queue.controls) ps ≡ queue.processes → queue ≡ core → p < length ps → x ≡ get_or ps p x → IsPlaceOf core p x.state
 place_of core queue ps p x are same within is =
     subst (λ (qs : List (ProcState × List Trigger)). (p < length qs) × ((d : ProcState × List Trigger) → (slice_index_or qs p d).0 ≡ x.state)) (are ∙ ap (λ (k : Core). k.processes) same) (place_is queue.controls ps p x within is)
 
 -- where each process sleeps, all do
-pub all_sleep : (a : Store) (ws : List (ℕ × Vector)) (controls : List (List Trigger)) (rem : ProcState → Remainder) (ps : List Progress) → All (λ p. WakesNone a ws (waiting (triggers_at controls p.waits) ∷ [])) ps
+pub all_sleep : (a : Store) (ws : List (ℕ × Vector)) (controls : List (List Trigger)) (rem : ProcState → Remainder) (ps : List Continuation) → All (λ p. WakesNone a ws (waiting (triggers_at controls p.waits) ∷ [])) ps
     → WakesNone a ws (map (standing rem) (map (process_of controls) ps))
 all_sleep a ws controls rem [] each = nobody_waits a ws
 all_sleep a ws controls rem (p ∷ ps) each =
@@ -93,7 +93,7 @@ only_updates [] p = refl
 only_updates (u ∷ us) p = omega (arith, only_updates us p)
 
 -- updates that are next wake nobody where each process sleeps through them
-pub silent_from : (code : Compiled) (core one two : Core) (values store : List Vector) (us : List Update) (ps : List Progress) (controls : List (List Trigger)) (writes ws : List (ℕ × Vector)) → AreUpdatesNext (state_of (remainder_of code) values core) → map update_event us ≡ one.nonblocking → one ≡ core
+pub silent_from : (code : Compiled) (core one two : Core) (values store : List Vector) (us : List Update) (ps : List Continuation) (controls : List (List Trigger)) (writes ws : List (ℕ × Vector)) → AreUpdatesNext (state_of (remainder_of code) values core) → map update_event us ≡ one.nonblocking → one ≡ core
     → ws ≡ updates_in (map update_event us) → writes ≡ ws → map (process_of two.controls) ps ≡ two.processes → two ≡ core → controls ≡ core.controls → store ≡ values → WakesNone store writes (map (standing (remainder_of code)) (map (process_of controls) ps))
     → IsSilent (state_of (remainder_of code) values core)
 silent_from code core one two values store us ps controls writes ws next events same is same_ws processes same' controls_are still sleeps =

@@ -15,7 +15,7 @@ use Rattle.orders.specs.Apart.{AreApart, WakesNone, updates_for}
 use Rattle.orders.specs.Flat.{IsActive, FuturesApart, IsFlat, HasOneMaker}
 use Rattle.orders.proofs.FlatConditions.{apart-sym, futures-sym}
 use Rattle.design.specs.Compiled.{Compiled, design_of}
-use Rattle.turn.specs.Logs.{later_of}
+use Rattle.turn.specs.TurnLogs.{assignment_of}
 use Rattle.flat.specs.declared.turned.Turned.{Turned}
 use Rattle.flat.specs.Turned.{turn_in, event_of, IsTurned, AreTurned, no_turn, turns_in}
 use Rattle.flat.specs.Tests.{IsQuietTurn, ArePair, AreQuiet}
@@ -133,12 +133,12 @@ flat_from code s turns going active quiet are =
     }
 
 -- none but one makes updates for now
-pub one_maker_from : (code : Compiled) (s : State) (turns : List Turned) (maker : ℕ) → AreTurned code s turns → All (λ t. t.process ≢ maker → updates_for s.time (map later_of t.log.nbas) ≡ []) turns → HasOneMaker s (turns_in (design_of code) s) maker
+pub one_maker_from : (code : Compiled) (s : State) (turns : List Turned) (maker : ℕ) → AreTurned code s turns → All (λ t. t.process ≢ maker → updates_for s.time (map assignment_of t.log.nbas) ≡ []) turns → HasOneMaker s (turns_in (design_of code) s) maker
 one_maker_from code s turns maker are others p on differ =
     let of = turn_there code s turns p are on in
     let d = some_turned turns of.k of.within in
-    let none = All-get_or (λ t. t.process ≢ maker → updates_for s.time (map later_of t.log.nbas) ≡ []) turns of.k d of.within others in
-    ap (λ (t : Turn). updates_for s.time t.laters) (of.is d) ∙ none (λ same. differ (sym (of.process d) ∙ same))
+    let none = All-get_or (λ t. t.process ≢ maker → updates_for s.time (map assignment_of t.log.nbas) ≡ []) turns of.k d of.within others in
+    ap (λ (t : Turn). updates_for s.time t.nbas) (of.is d) ∙ none (λ same. differ (sym (of.process d) ∙ same))
 
 -- quiet turns are turns
 pub are_turned : (code : Compiled) (s : State) (turns : List Turned) → s.active ≡ map event_of turns → AreQuiet code s turns → AreTurned code s turns

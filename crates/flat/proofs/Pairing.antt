@@ -9,15 +9,15 @@ use Rattle.model.specs.Design.{Trigger}
 use Rattle.model.specs.Expressions.{Store}
 use Rattle.model.specs.States.{State, triggers_of}
 use Rattle.model.specs.Runs.{has_any}
-use Rattle.orders.specs.Apart.{KeepsOff, AreApart, WakesNone, progress_after}
+use Rattle.orders.specs.Apart.{KeepsOff, AreApart, WakesNone, continuation_after}
 use Rattle.orders.specs.Flat.{FuturesApart}
 use Rattle.design.specs.Compiled.{Compiled}
-use Rattle.design.specs.Standing.{controls_of}
+use Rattle.design.specs.DesignInvariant.{controls_of}
 use Rattle.turn.specs.declared.log.Nba.{Nba}
 use Rattle.turn.specs.declared.log.Suspend.{Suspend}
 use Rattle.turn.specs.declared.memory.Seen.{Seen}
-use Rattle.turn.specs.Logs.{LogView, wait_of}
-use Rattle.regions.specs.Waking.{triggers_at}
+use Rattle.turn.specs.TurnLogs.{LogView, wait_of}
+use Rattle.regions.specs.ProcessWaking.{triggers_at}
 use Rattle.flat.specs.declared.turned.Turned.{Turned}
 use Rattle.flat.specs.Turned.{turn_in}
 use Rattle.flat.specs.Tests.{waiting, AreNbasApart, IsQuietTurn, ArePair}
@@ -43,7 +43,7 @@ keeps_off code s one other controls waits same wait reads writes wakes sleeps =
       uses = avoided (λ r. r.0) one.writes other.reads reads;
       writes = avoided (λ v. v.0) one.writes other.writes writes;
       wakes = wakes;
-      waits = wakes_none_more s.store one.writes (progress_after (turn_in code other)) [] (subst (λ (ts : List Trigger). WakesNone s.store one.writes (waiting ts ∷ [])) awaited sleeps) (nobody_waits s.store one.writes);
+      waits = wakes_none_more s.store one.writes (continuation_after (turn_in code other)) [] (subst (λ (ts : List Trigger). WakesNone s.store one.writes (waiting ts ∷ [])) awaited sleeps) (nobody_waits s.store one.writes);
     }
 
 no_elements : {X : Type 0} (xs : List X) → length xs ≡ 0 → xs ≡ []
@@ -58,7 +58,7 @@ writes_nothing code s one other ws same empty =
       uses = λ r there. ap (λ (l : List (ℕ × Vector)). list_any (λ q. q == r) (map (λ w. w.0) l)) none;
       writes = λ r there. ap (λ (l : List (ℕ × Vector)). list_any (λ q. q == r) (map (λ w. w.0) l)) none;
       wakes = subst (λ (l : List (ℕ × Vector)). WakesNone s.store l s.processes) (sym none) tt;
-      waits = subst (λ (l : List (ℕ × Vector)). WakesNone s.store l (progress_after (turn_in code other) ∷ [])) (sym none) tt;
+      waits = subst (λ (l : List (ℕ × Vector)). WakesNone s.store l (continuation_after (turn_in code other) ∷ [])) (sym none) tt;
     }
 
 other_time : (due now : ℕ) → (due == now) ≡ false → due ≢ now
@@ -78,7 +78,7 @@ pair code s one other differ quiet quiet' off off' lines strobes nbas =
         other_keeps_off = off';
         lines = lines;
         strobes = strobes;
-        laters = assigned_apart s.time one.log.nbas other.log.nbas nbas;
+        nbas = assigned_apart s.time one.log.nbas other.log.nbas nbas;
       };
       futures = λ due later. futures_apart s.time one.log.nbas other.log.nbas nbas due (other_time due s.time later);
     }

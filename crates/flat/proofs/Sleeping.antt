@@ -10,9 +10,9 @@ use Rattle.model.specs.declared.tree.Change.{Change}
 use Rattle.model.specs.declared.tree.Change.TheVariants.{Any, Posedge, Negedge}
 use Rattle.model.specs.Design.{Trigger}
 use Rattle.model.specs.Expressions.{Store, value_of}
-use Rattle.model.specs.States.{Progress, edge_matches, wakes, is_woken}
+use Rattle.model.specs.States.{Continuation, edge_matches, wakes, is_woken}
 use Rattle.orders.specs.Apart.{given, all_given, wakes_any, WakesNone}
-use Rattle.design.specs.Waking.{wakes_by}
+use Rattle.design.specs.ControlWaking.{wakes_by}
 use Rattle.std.specs.List.{list_any}
 use Rattle.orders.proofs.Stores.{all_other}
 use Rattle.flat.specs.Tests.{waiting}
@@ -53,7 +53,7 @@ never_woken triggers r Neg pos neg = neg
 never_woken triggers r Other pos neg = woken_by_other triggers r pos
 
 -- one write more
-pub wakes_more : (a : Store) (ws : List (ℕ × Vector)) (w : ℕ × Vector) (ps : List Progress) → WakesNone a ws ps → wakes_any (all_given a ws) w ps ≡ false → WakesNone a (ws ++ w ∷ []) ps
+pub wakes_more : (a : Store) (ws : List (ℕ × Vector)) (w : ℕ × Vector) (ps : List Continuation) → WakesNone a ws ps → wakes_any (all_given a ws) w ps ≡ false → WakesNone a (ws ++ w ∷ []) ps
 wakes_more a [] w ps none last = (last, tt)
 wakes_more a (v ∷ ws) w ps (first, none) last = (first, wakes_more (given a v) ws w ps none last)
 
@@ -75,7 +75,7 @@ neither true c one none = one
 neither false c one none = none
 
 -- one process more, which sleeps as any does that waits for the same changes
-pub wakes_none_more : (a : Store) (ws : List (ℕ × Vector)) (p : Progress) (ps : List Progress) → WakesNone a ws (waiting p.triggers ∷ []) → WakesNone a ws ps → WakesNone a ws (p ∷ ps)
+pub wakes_none_more : (a : Store) (ws : List (ℕ × Vector)) (p : Continuation) (ps : List Continuation) → WakesNone a ws (waiting p.triggers ∷ []) → WakesNone a ws ps → WakesNone a ws (p ∷ ps)
 wakes_none_more a [] p ps one none = tt
 wakes_none_more a (w ∷ ws) p ps (first, one) (others, none) =
     (neither (is_woken w.0 (value_of a w.0) w.1 p) (wakes_any a w ps) first others, wakes_none_more (given a w) ws p ps one none)

@@ -1,3 +1,4 @@
 pub mod Turned
 pub mod Tests
+pub mod Sleeping
 pub mod Plain

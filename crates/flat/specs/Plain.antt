@@ -3,7 +3,7 @@ use Rattle.std.specs.Prelude.{◌≡◌, ℕ, Bool, true, false, List, [], slice
 use Rattle.std.specs.List.{All}
 use Rattle.model.specs.Runs.{has_any}
 use Rattle.turn.specs.declared.log.Nba.{Nba}
-use Rattle.turn.specs.Logs.{LogView}
+use Rattle.turn.specs.TurnLogs.{LogView}
 use Rattle.flat.specs.declared.turned.Turned.{Turned}
 
 -- a number is marked, or past the end of the marks

@@ -1,19 +1,43 @@
 -- What the tests of the turns of a flat state tell, one after another.
-use Rattle.std.specs.Prelude.{◌≡◌, ◌≢◌, ℕ, true, false, List, []}
-use Rattle.std.specs.List.{All, AllPairs}
+use Rattle.std.specs.Prelude.{◌≡◌, ◌≢◌, ℕ, ◌==◌, ◌&&◌, true, false, List, [], Option, map, slice_index_or}
+use Rattle.std.specs.List.{All, AllPairs, list_any}
+use Rattle.logic4.specs.Vector.{Vector}
 use Rattle.model.specs.Design.{Trigger}
-use Rattle.model.specs.States.{State, Progress}
-use Rattle.orders.specs.Apart.{AreApart, WakesNone}
-use Rattle.orders.specs.Flat.{FuturesApart}
-use Rattle.design.specs.Compiled.{Compiled}
-use Rattle.turn.specs.declared.log.Nba.{Nba}
-use Rattle.flat.specs.declared.turned.Turned.{Turned}
+use Rattle.model.specs.States.{State, Continuation, triggers_of}
 use Rattle.model.specs.Runs.{has_any}
-use Rattle.flat.specs.Turned.{turn_in, IsTurned}
+use Rattle.orders.specs.Apart.{AreApart, WakesNone, updates_for}
+use Rattle.orders.specs.Flat.{FuturesApart, HasOneMaker, IsFlat}
+use Rattle.design.specs.Compiled.{Compiled, design_of}
+use Rattle.turn.specs.declared.log.Nba.{Nba}
+use Rattle.turn.specs.declared.log.Suspend.{Suspend}
+use Rattle.turn.specs.TurnLogs.{assignment_of, wait_of}
+use Rattle.regions.specs.ProcessWaking.{triggers_at}
+use Rattle.flat.specs.declared.turned.Turned.{Turned}
+use Rattle.flat.specs.Turned.{turn_in, turns_in, IsTurned}
 
 -- a process that waits for these changes
-abbrev pub waiting : List Trigger → Progress
+abbrev pub waiting : List Trigger → Continuation
 waiting triggers = record { remainder = []; triggers = triggers }
+
+-- the number of the event control at which a process waits after a turn, if it waits at one
+abbrev pub IsControlOf : Suspend → Option ℕ → Type 0
+IsControlOf suspend number = (controls : List (List Trigger)) → triggers_at controls number ≡ triggers_of (wait_of controls suspend)
+
+-- none of these writes is of a register
+abbrev pub IsNotWritten : List (ℕ × Vector) → ℕ → Type 0
+IsNotWritten writes r = list_any (λ w. w.0 == r) writes ≡ false
+
+-- none of these writes is of the register at a place of a list of registers, each beside something
+abbrev pub IsNotWrittenAt : {X : Type 0} → List (ℕ × Vector) → List (ℕ × X) → ℕ → Type 0
+IsNotWrittenAt {X} writes list place = (d : ℕ × X) → IsNotWritten writes (slice_index_or list place d).0
+
+-- one of two lists at least is empty
+abbrev pub OneIsEmpty : {X : Type 0} → List X → List X → Type 0
+OneIsEmpty xs ys = (has_any xs && has_any ys) ≡ false
+
+-- none of these nonblocking assignments is for now
+abbrev pub MakesNone : ℕ → List Nba → Type 0
+MakesNone now nbas = updates_for now (map assignment_of nbas) ≡ []
 
 -- two nonblocking assignments of two turns are apart: for one time only where that is now, and there of two registers
 abbrev pub AreNbasApart : ℕ → Nba → Nba → Type 0
@@ -42,3 +66,11 @@ pub record AreUpdatesNext (s : State) : Type 0 where
   pub active : s.active ≡ []
   pub inactive : s.inactive ≡ []
   pub some : has_any s.nonblocking ≡ true
+
+-- a state is flat by the turns of its processes
+abbrev pub IsFlatState : Compiled → State → Type 0
+IsFlatState code s = IsFlat (design_of code) s (turns_in (design_of code) s)
+
+-- among the turns of a state that of one process alone may make updates for now
+abbrev pub IsOneMaker : Compiled → State → ℕ → Type 0
+IsOneMaker code s maker = HasOneMaker s (turns_in (design_of code) s) maker

@@ -8,9 +8,9 @@ use Rattle.model.specs.States.{Event, State, Evaluate}
 use Rattle.model.specs.Runs.{turn_of}
 use Rattle.design.specs.declared.code.ProcState.{ProcState}
 use Rattle.design.specs.Compiled.{Compiled, design_of}
-use Rattle.design.specs.Standing.{remainder_of, controls_of}
+use Rattle.design.specs.DesignInvariant.{remainder_of, controls_of}
 use Rattle.turn.specs.Reads.{registers}
-use Rattle.turn.specs.Logs.{LogView, later_of, wait_of}
+use Rattle.turn.specs.TurnLogs.{LogView, assignment_of, wait_of}
 use Rattle.regions.specs.Queue.{Core}
 use Rattle.flat.specs.declared.turned.Turned.{Turned}
 
@@ -20,7 +20,7 @@ turn_in code log =
     record {
       uses = registers log.reads;
       writes = log.writes;
-      laters = map later_of log.nbas;
+      nbas = map assignment_of log.nbas;
       lines = log.lines;
       strobes = log.strobes;
       rest = remainder_of code log.next;
@@ -44,7 +44,7 @@ pub record AreTurned (code : Compiled) (s : State) (turns : List Turned) : Type 
 
 -- a turn without a step
 abbrev pub no_turn : Turn
-no_turn = record { uses = []; writes = []; laters = []; lines = []; strobes = []; rest = []; wait = Ended; finish = false; count = 0 }
+no_turn = record { uses = []; writes = []; nbas = []; lines = []; strobes = []; rest = []; wait = Ended; finish = false; count = 0 }
 
 -- the short turn of each process in a state, and some turn where it has none
 abbrev pub turns_in : Design → State → ℕ → Turn

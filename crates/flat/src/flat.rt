@@ -1,15 +1,11 @@
 //! Whether the turns of all active evaluations keep off each other.
-ghost use Rattle.std.specs.Prelude.{◌≡◌, ◌≢◌, [], ◌∷◌, ◌++◌, true, false, map, IfOk, IfSome, OnOk, MatchOption};
+ghost use Rattle.std.specs.Prelude.{◌≡◌, [], ◌∷◌, ◌++◌, true, false, map, IfOk, IfSome, OnOk};
 ghost use Rattle.std.specs.List.{All};
-ghost use Rattle.orders.specs.Apart.{updates_for};
-ghost use Rattle.orders.specs.Flat.{IsFlat, HasOneMaker};
-ghost use Rattle.design.specs.Compiled.{design_of};
-ghost use Rattle.design.specs.Standing.{controls_of};
-ghost use Rattle.turn.specs.Logs.{later_of};
+ghost use Rattle.design.specs.DesignInvariant.{controls_of};
 ghost use Rattle.regions.specs.Machine.{state_at};
 ghost use Rattle.regions.specs.Queue.{evaluation_event};
-ghost use Rattle.flat.specs.Turned.{event_of, turns_in, AreTurned};
-ghost use Rattle.flat.specs.Tests.{IsQuietTurn, ArePair, AreQuiet};
+ghost use Rattle.flat.specs.Turned.{event_of, AreTurned};
+ghost use Rattle.flat.specs.Tests.{ArePair, AreQuiet, IsFlatState, IsOneMaker, IsQuietTurn, MakesNone};
 ghost use Rattle.flat.specs.Plain.{ArePlain};
 
 use crate::pairs::are_apart;
@@ -127,7 +123,7 @@ pub fn flat_turns(
     machine: &Machine<'_>,
 ) -> Result<Option<Vec<Turned>>, AllocError>
     requires code { machine.now.code ≡ design.now }
-    ensures flat { IfOk result (λ found. IfSome found (λ turns. IsFlat (design_of machine.now.code) (state_at machine.now) (turns_in (design_of machine.now.code) (state_at machine.now)))) }
+    ensures flat { IfOk result (λ found. IfSome found (λ turns. IsFlatState machine.now.code (state_at machine.now))) }
     ensures turns { IfOk result (λ found. IfSome found (λ turns. AreTurned machine.now.code (state_at machine.now) turns.items)) }
 {
     let (updates, evaluations) = machine.state().active();
@@ -157,7 +153,7 @@ pub fn flat_turns(
 
 // Whether a turn makes an update for now.
 fn makes_now(now: u64, nbas: &[Nba]) -> bool
-    ensures { result ≡ false → updates_for now (map later_of nbas.now) ≡ [] }
+    ensures { result ≡ false → MakesNone now nbas.now }
 {
     for nba in nbas {
         if nba.due == now {
@@ -180,7 +176,7 @@ fn first_maker(now: u64, turns: &[Turned]) -> u32 {
 /// The process whose turn alone may make updates for now, where at most one of these turns does.
 pub fn one_maker(machine: &Machine<'_>, turns: &[Turned]) -> Option<u32>
     requires turns { AreTurned machine.now.code (state_at machine.now) turns.now }
-    ensures { IfSome result (λ maker. HasOneMaker (state_at machine.now) (turns_in (design_of machine.now.code) (state_at machine.now)) maker) }
+    ensures { IfSome result (IsOneMaker machine.now.code (state_at machine.now)) }
 {
     let now = machine.time();
     let maker = first_maker(now, turns);

@@ -21,7 +21,7 @@ fn place_of(machine: &Machine<'_>, process: u32) -> Option<ProcState>
     ensures { IfSome result (IsPlaceOf machine.now.core process) }
 {
     match machine.state().processes().get(process as usize) {
-        Some(progress) => Some(progress.state),
+        Some(continuation) => Some(continuation.state),
         None => None,
     }
 }

@@ -1,22 +1,14 @@
 //! Whether processes that wait sleep through writes.
-ghost use Rattle.std.specs.Prelude.{◌≡◌, ◌≤◌, ℕ, true, false, ◌==◌, [], ◌∷◌, map, length, take, slice_index_or};
-ghost use Rattle.logic4.specs.declared.digit.Edge.{Edge};
-ghost use Rattle.logic4.specs.Vector.{Vector};
+ghost use Rattle.std.specs.Prelude.{◌≡◌, ◌≤◌, true, false, ◌==◌, length};
 ghost use Rattle.std.specs.List.{list_any};
-ghost use Rattle.model.specs.Expressions.{value_of};
-ghost use Rattle.model.specs.Turns.{Remainder};
 ghost use Rattle.model.specs.States.{wakes};
-ghost use Rattle.orders.specs.Apart.{WakesNone, wakes_any, all_given};
-ghost use Rattle.design.specs.Waking.{wakes_by};
-ghost use Rattle.design.specs.declared.code.ProcState.{ProcState};
-ghost use Rattle.regions.specs.Queue.{standing, process_of};
-ghost use Rattle.regions.specs.Waking.{triggers_at};
-ghost use Rattle.flat.specs.Tests.{waiting};
+ghost use Rattle.regions.specs.ProcessWaking.{triggers_at};
+ghost use Rattle.flat.specs.Sleeping.{AllSleep, IsNotAwaited, SleepsAt, SleepsBehind, SleepsThrough};
 
 use design::{Control, RegId};
 use logic4::bits::Bits;
 use logic4::digit::Edge;
-use regions::{PlainStore, Progress};
+use regions::{Continuation, PlainStore};
 
 /// Whether one of these writes is of a register.
 pub(crate) fn is_written(writes: &[(RegId, Bits)], register: RegId) -> bool
@@ -27,7 +19,7 @@ pub(crate) fn is_written(writes: &[(RegId, Bits)], register: RegId) -> bool
 
 // Whether an event control waits for changes of a register.
 fn awaits(control: &Control, register: RegId) -> bool
-    ensures { result ≡ false → (e : Edge) → wakes_by control.now register e ≡ false }
+    ensures { result ≡ false → IsNotAwaited control.now register }
 {
     if control.is_woken(register, Edge::Pos) {
         return true;
@@ -53,7 +45,7 @@ fn sleeps_at_write(
     earlier: &[(RegId, Bits)],
     write: &(RegId, Bits),
 ) -> bool
-    ensures { result ≡ true → wakes control.now write.now.0 (value_of (all_given store.now earlier.now) write.now.0) write.now.1 ≡ false }
+    ensures { result ≡ true → SleepsBehind control.now store.now earlier.now write.now }
 {
     if !awaits(control, write.0) {
         return true;
@@ -70,7 +62,7 @@ fn sleeps_at_write(
 // Whether whoever waits at an event control sleeps through the write at a place, behind those before it.
 fn sleeps_at(control: &Control, store: &PlainStore, writes: &[(RegId, Bits)], place: usize) -> bool
     requires { place ≤ length writes.now }
-    ensures { result ≡ true → (d : ℕ × Vector) → wakes_any (all_given store.now (take place writes.now)) (slice_index_or writes.now place d) (waiting control.now ∷ []) ≡ false }
+    ensures { result ≡ true → SleepsAt control.now store.now writes.now place }
 {
     match writes.get(place) {
         Some(write) => sleeps_at_write(control, store, writes.split_at(place).0, write),
@@ -80,7 +72,7 @@ fn sleeps_at(control: &Control, store: &PlainStore, writes: &[(RegId, Bits)], pl
 
 // Whether whoever waits at an event control sleeps through writes that are made in order.
 fn sleeps_through(control: &Control, store: &PlainStore, writes: &[(RegId, Bits)]) -> bool
-    ensures { result ≡ true → WakesNone store.now writes.now (waiting control.now ∷ []) }
+    ensures { result ≡ true → SleepsThrough control.now store.now writes.now }
 {
     for place in 0..writes.len() {
         if !sleeps_at(control, store, writes, place) {
@@ -97,7 +89,7 @@ pub(crate) fn sleeps(
     store: &PlainStore,
     writes: &[(RegId, Bits)],
 ) -> bool
-    ensures { result ≡ true → WakesNone store.now writes.now (waiting (triggers_at controls.now waits) ∷ []) }
+    ensures { result ≡ true → SleepsThrough (triggers_at controls.now waits) store.now writes.now }
 {
     match waits {
         Some(number) => match controls.get(number) {
@@ -111,11 +103,11 @@ pub(crate) fn sleeps(
 /// Whether each of these processes sleeps through writes that are made in order.
 pub(crate) fn all_sleep(
     controls: &[Control],
-    processes: &[Progress],
+    processes: &[Continuation],
     store: &PlainStore,
     writes: &[(RegId, Bits)],
 ) -> bool
-    ensures { result ≡ true → (rem : ProcState → Remainder) → WakesNone store.now writes.now (map (standing rem) (map (process_of controls.now) processes.now)) }
+    ensures { result ≡ true → AllSleep controls.now processes.now store.now writes.now }
 {
     if writes.is_empty() {
         return true;

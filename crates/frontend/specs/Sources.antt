@@ -8,7 +8,7 @@ use Rattle.vparse.specs.Spells.{Spells, IsUnspelledAt, IsDeepText, IsDeepTextAt}
 use Rattle.vparse.specs.declared.parser.ParseFault.{ParseFault}
 use Rattle.vparse.specs.declared.parser.ParseFault.TheVariants.{Byte, Syntax, Literal, Deep, Unsized, Memory}
 use Rattle.design.specs.Compiled.{Compiled, design_of}
-use Rattle.elaborate.specs.Faults.{IsFirstFault}
+use Rattle.elaborate.specs.ModuleFaults.{IsFirstFault}
 use Rattle.elaborate.specs.declared.fault.ElabFault.{ElabFault}
 use Rattle.frontend.specs.declared.source.SourceFault.{SourceFault}
 use Rattle.frontend.specs.declared.source.SourceFault.TheVariants.{Parse, Elaborate}

@@ -1,4 +1,4 @@
--- Each module that is spelled is read, where there is fuel for each token.
+-- Each module that is spelled is read, where the budget is the number of tokens.
 use Rattle.std.proofs.Common.{◌≡◌, ℕ, zero, suc, ◌-◌, Bool, true, Option, None, ◌<◌, ◌≤◌, List, [], ◌∷◌, ◌++◌, length, false, Some, refl, ap, ◌∙◌, append_assoc, append-nil, arith}
 use Rattle.tokens.specs.declared.token.Kind.{Kind}
 use Rattle.tokens.specs.declared.token.Kind.TheVariants as k
@@ -8,18 +8,18 @@ use Rattle.model.specs.declared.tree.Task.{Task}
 use Rattle.model.specs.declared.tree.Change.{Change}
 use Rattle.model.specs.declared.tree.Change.TheVariants.{Any}
 use Rattle.grammar.specs.Cursor.{kind, sees}
-use Rattle.model.specs.Syntax.{Text, Expression, Expressions, Statement, Statements, End, Declaration, Process, Module}
-use Rattle.model.specs.Trees.{expressions, statements}
+use Rattle.model.specs.Syntax.{Text, Expression, Expressions, Statement, Statements, Declaration, Process, Module}
+use Rattle.model.specs.SourceTrees.{expressions, statements}
 use Rattle.grammar.specs.Nodes.{Trigger}
 use Rattle.model.specs.Syntax as tree
-use Rattle.grammar.specs.Grammar.{IsExpression, IsDelay, no_delay, some_delay, change_of, IsTrigger, any, edge, separates, IsTriggers, last_trigger, next_trigger, IsArguments, no_argument, one_argument, IsStatement, emptied, grouped, assigned, assigned_later, delayed, awaited, branched, branched_else, looped, printed, task_kind, finished, IsBlock, begun, IsStatements, no_more, one_more, IsRange, no_range, some_range, IsNames, last_name, next_name, repeats_of, IsItems, no_items, regs, proc, IsModule, spelled, operator, prefix}
+use Rattle.grammar.specs.Grammar.{IsExpression, IsDelay, no_delay, some_delay, change_of, IsTrigger, any, edge, separates, IsTriggers, last_trigger, next_trigger, IsArguments, no_argument, one_argument, IsStatement, emptied, grouped, assigned, assigned_later, delayed, awaited, branched, branched_else, looped, printed, task_kind, finished, IsBlock, begun, IsStatements, no_more, one_more, IsRange, no_range, some_range, IsNames, last_name, next_name, repeats_of, IsItems, no_items, regs, proc, IsModule, spelled, prefix}
 use Rattle.grammar.specs.Grammar as gr
 use Rattle.grammar.specs.Grammar.{IsBinary, IsUnary, IsPrimary}
 use Rattle.grammar.specs.Reading as spec
-use Rattle.grammar.specs.Reading.{Parser, triggers_from, arguments_from, statements_from, form_by, statement, names_from, item_by, items_from, source}
+use Rattle.grammar.specs.Reading.{Parser, parse_events, parse_list, parse_statements, parse_statement, parse_names, parse_items, parse_source}
 use Rattle.grammar.proofs.Steps.{same_kind-is, same_kind-true, expect-is}
 use Rattle.grammar.proofs.Turns.{deeper}
-use Rattle.grammar.proofs.Complete.{Ends, ends-Close, ends-Comma, ends-Semicolon, list_of as expression_list, expressions_list, short-expression, complete-expression}
+use Rattle.grammar.proofs.Complete.{Ends, ends-Close, ends-Comma, ends-Semicolon, list_of as expression_list, expressions_list, short-expression, parenthesized-is, complete-expression}
 
 short-delay : {d : Option ℕ} {ts rest : PlainTokens} → IsDelay d ts rest → length rest ≤ length ts
 short-delay no_delay = omega arith
@@ -149,54 +149,49 @@ statements_list tree.End = refl
 statements_list (tree.Then s ss) = ap (tree.Then s) (statements_list ss)
 
 statements-end : (inner : Parser Statement) (m : ℕ) (found : List Statement) (t : PlainToken) (rest : PlainTokens) → 0 < m → t.kind ≡ k.EndBlock
-    → statements_from inner m found (t ∷ rest) ≡ Some (found, rest)
-unfolding statements_from
+    → parse_statements inner m found (t ∷ rest) ≡ Some (found, rest)
+unfolding parse_statements
 statements-end inner zero found t rest w q = absurd (omega arith)
 statements-end inner (suc m) found t rest w q = let x = same_kind-is t.kind k.EndBlock q in rw x
 
 statements-turn : (inner : Parser Statement) (m n : ℕ) (found : List Statement) (s : Statement) (ts us : PlainTokens) → m ≡ suc n → sees k.EndBlock ts ≡ false → inner ts ≡ Some (s, us)
-    → statements_from inner m found ts ≡ statements_from inner n (found ++ s ∷ []) us
-unfolding statements_from
+    → parse_statements inner m found ts ≡ parse_statements inner n (found ++ s ∷ []) us
+unfolding parse_statements
 statements-turn inner m n found s ts us e q read = rw (e, q, read)
 
-block-is : (inner : Parser Statement) (fuel : ℕ) (body : List Statement) (t : PlainToken) (ts rest : PlainTokens) → t.kind ≡ k.Begin → statements_from inner fuel [] ts ≡ Some (body, rest)
-    → spec.block inner fuel (t ∷ ts) ≡ Some (body, rest)
-unfolding spec.block
-block-is inner fuel body t ts rest q read = let x = expect-is k.Begin t ts q in rw (x, read)
+block-is : (inner : Parser Statement) (budget : ℕ) (body : List Statement) (t : PlainToken) (ts rest : PlainTokens) → t.kind ≡ k.Begin → parse_statements inner budget [] ts ≡ Some (body, rest)
+    → spec.parse_block inner budget (t ∷ ts) ≡ Some (body, rest)
+unfolding spec.parse_block
+block-is inner budget body t ts rest q read = let x = expect-is k.Begin t ts q in rw (x, read)
 
-condition-is : (fuel : ℕ) (e : Expression Text) (t u : PlainToken) (ts rest : PlainTokens) → t.kind ≡ k.Open → spec.expression fuel 0 ts ≡ Some (e, u ∷ rest) → u.kind ≡ k.Close
-    → spec.condition fuel (t ∷ ts) ≡ Some (e, rest)
-unfolding spec.condition
-condition-is fuel e t u ts rest q read end = let x = expect-is k.Open t ts q in let y = expect-is k.Close u rest end in rw (x, read, y)
+statement-empty : (inner : Parser Statement) (budget : ℕ) (t : PlainToken) (rest : PlainTokens) → t.kind ≡ k.Semicolon → spec.parse_form inner budget (t ∷ rest) ≡ Some (tree.Empty, rest)
+unfolding spec.parse_form
+statement-empty inner budget t rest q = rw q
 
-statement-empty : (inner : Parser Statement) (fuel : ℕ) (t : PlainToken) (rest : PlainTokens) → t.kind ≡ k.Semicolon → spec.statement_form inner fuel (t ∷ rest) ≡ Some (tree.Empty, rest)
-unfolding spec.statement_form
-statement-empty inner fuel t rest q = rw q
+statement-block : (inner : Parser Statement) (budget : ℕ) (body : List Statement) (ts rest : PlainTokens) → kind ts ≡ k.Begin → spec.parse_block inner budget ts ≡ Some (body, rest)
+    → spec.parse_form inner budget ts ≡ Some (tree.Block (statements body), rest)
+unfolding spec.parse_form
+statement-block inner budget body ts rest q read = rw (q, read)
 
-statement-block : (inner : Parser Statement) (fuel : ℕ) (body : List Statement) (ts rest : PlainTokens) → kind ts ≡ k.Begin → spec.block inner fuel ts ≡ Some (body, rest)
-    → spec.statement_form inner fuel ts ≡ Some (tree.Block (statements body), rest)
-unfolding spec.statement_form
-statement-block inner fuel body ts rest q read = rw (q, read)
-
-delay-none : (ts : PlainTokens) → sees k.Hash ts ≡ false → spec.delay ts ≡ Some (None, ts)
-unfolding spec.delay
+delay-none : (ts : PlainTokens) → sees k.Hash ts ≡ false → spec.parse_delay ts ≡ Some (None, ts)
+unfolding spec.parse_delay
 delay-none ts q = rw q
 
-delay-some : (t u : PlainToken) (rest : PlainTokens) → t.kind ≡ k.Hash → u.kind ≡ k.Decimal → spec.delay (t ∷ u ∷ rest) ≡ Some (Some u.value, rest)
-unfolding spec.delay
+delay-some : (t u : PlainToken) (rest : PlainTokens) → t.kind ≡ k.Hash → u.kind ≡ k.Decimal → spec.parse_delay (t ∷ u ∷ rest) ≡ Some (Some u.value, rest)
+unfolding spec.parse_delay
 delay-some t u rest q n = let x = same_kind-is t.kind k.Hash q in let y = expect-is k.Decimal u rest n in rw (x, y)
 
-complete-delay : {d : Option ℕ} {ts rest : PlainTokens} → IsDelay d ts rest → sees k.Hash rest ≡ false → spec.delay ts ≡ Some (d, rest)
+complete-delay : {d : Option ℕ} {ts rest : PlainTokens} → IsDelay d ts rest → sees k.Hash rest ≡ false → spec.parse_delay ts ≡ Some (d, rest)
 complete-delay (no_delay {ts = ts}) none = delay-none ts none
 complete-delay (some_delay {t = t} {u = u} {rest = rest} q n) none = delay-some t u rest q n
 
-value-is : (fuel : ℕ) (d : Option ℕ) (e : Expression Text) (v : PlainToken) (ts us rest : PlainTokens) → spec.delay ts ≡ Some (d, us) → spec.expression fuel 0 us ≡ Some (e, v ∷ rest) → v.kind ≡ k.Semicolon
-    → spec.value fuel ts ≡ Some ((d, e), rest)
-unfolding spec.value
-value-is fuel d e v ts us rest waits read end = let y = expect-is k.Semicolon v rest end in rw (waits, read, y)
+value-is : (budget : ℕ) (d : Option ℕ) (e : Expression Text) (v : PlainToken) (ts us rest : PlainTokens) → spec.parse_delay ts ≡ Some (d, us) → spec.parse_expression budget 0 us ≡ Some (e, v ∷ rest) → v.kind ≡ k.Semicolon
+    → spec.parse_value budget ts ≡ Some ((d, e), rest)
+unfolding spec.parse_value
+value-is budget d e v ts us rest waits read end = let y = expect-is k.Semicolon v rest end in rw (waits, read, y)
 
 complete-value : {d : Option ℕ} {e : Expression Text} {v : PlainToken} {ts us rest : PlainTokens} → IsDelay d ts us → IsExpression e us (v ∷ rest) → v.kind ≡ k.Semicolon → (n : ℕ) → length ts < n
-    → spec.value n ts ≡ Some ((d, e), rest)
+    → spec.parse_value n ts ≡ Some ((d, e), rest)
 complete-value {d} {e} {v} {ts} {us} {rest} waits x end n w =
     let s = short-delay waits in
     value-is n d e v ts us rest (complete-delay waits (hash-expression x)) (complete-expression x n (omega arith) (ends-Semicolon v rest end)) end
@@ -205,51 +200,51 @@ not_at_most : (u : PlainToken) (ts : PlainTokens) → u.kind ≡ k.Assign → se
 unfolding same_kind
 not_at_most u ts q = rw q
 
-statement-assign : (inner : Parser Statement) (fuel : ℕ) (d : Option ℕ) (e : Expression Text) (t u : PlainToken) (ts rest : PlainTokens) → t.kind ≡ k.Name → u.kind ≡ k.Assign
-    → spec.value fuel ts ≡ Some ((d, e), rest) → spec.statement_form inner fuel (t ∷ u ∷ ts) ≡ Some (tree.Assign t.text d e, rest)
-unfolding spec.statement_form spec.assign
-statement-assign inner fuel d e t u ts rest q sign read =
+statement-assign : (inner : Parser Statement) (budget : ℕ) (d : Option ℕ) (e : Expression Text) (t u : PlainToken) (ts rest : PlainTokens) → t.kind ≡ k.Name → u.kind ≡ k.Assign
+    → spec.parse_value budget ts ≡ Some ((d, e), rest) → spec.parse_form inner budget (t ∷ u ∷ ts) ≡ Some (tree.Assign t.text d e, rest)
+unfolding spec.parse_form spec.parse_assign
+statement-assign inner budget d e t u ts rest q sign read =
     let x = expect-is k.Assign u ts sign in let y = not_at_most u ts sign in rw (q, y, x, read)
 
-statement-assign_later : (inner : Parser Statement) (fuel : ℕ) (d : Option ℕ) (e : Expression Text) (t u : PlainToken) (ts rest : PlainTokens) → t.kind ≡ k.Name → u.kind ≡ k.AtMost
-    → spec.value fuel ts ≡ Some ((d, e), rest) → spec.statement_form inner fuel (t ∷ u ∷ ts) ≡ Some (tree.AssignLater t.text d e, rest)
-unfolding spec.statement_form spec.assign
-statement-assign_later inner fuel d e t u ts rest q sign read = let y = same_kind-is u.kind k.AtMost sign in rw (q, y, read)
+statement-assign_later : (inner : Parser Statement) (budget : ℕ) (d : Option ℕ) (e : Expression Text) (t u : PlainToken) (ts rest : PlainTokens) → t.kind ≡ k.Name → u.kind ≡ k.AtMost
+    → spec.parse_value budget ts ≡ Some ((d, e), rest) → spec.parse_form inner budget (t ∷ u ∷ ts) ≡ Some (tree.AssignLater t.text d e, rest)
+unfolding spec.parse_form spec.parse_assign
+statement-assign_later inner budget d e t u ts rest q sign read = let y = same_kind-is u.kind k.AtMost sign in rw (q, y, read)
 
-statement-delayed : (inner : Parser Statement) (fuel : ℕ) (s : Statement) (t u : PlainToken) (ts rest : PlainTokens) → t.kind ≡ k.Hash → u.kind ≡ k.Decimal
-    → inner ts ≡ Some (s, rest) → spec.statement_form inner fuel (t ∷ u ∷ ts) ≡ Some (tree.Delay u.value s, rest)
-unfolding spec.statement_form spec.delayed
-statement-delayed inner fuel s t u ts rest q n read = let x = expect-is k.Decimal u ts n in rw (q, x, read)
+statement-delayed : (inner : Parser Statement) (budget : ℕ) (s : Statement) (t u : PlainToken) (ts rest : PlainTokens) → t.kind ≡ k.Hash → u.kind ≡ k.Decimal
+    → inner ts ≡ Some (s, rest) → spec.parse_form inner budget (t ∷ u ∷ ts) ≡ Some (tree.Delay u.value s, rest)
+unfolding spec.parse_form spec.parse_delayed
+statement-delayed inner budget s t u ts rest q n read = let x = expect-is k.Decimal u ts n in rw (q, x, read)
 
-statement-awaited : (inner : Parser Statement) (fuel : ℕ) (es : List Trigger) (s : Statement) (t u : PlainToken) (ts us rest : PlainTokens) → t.kind ≡ k.At → u.kind ≡ k.Open
-    → triggers_from fuel [] ts ≡ Some (es, us) → inner us ≡ Some (s, rest) → spec.statement_form inner fuel (t ∷ u ∷ ts) ≡ Some (tree.Await es s, rest)
-unfolding spec.statement_form spec.awaited spec.events
-statement-awaited inner fuel es s t u ts us rest q start read body = let x = expect-is k.Open u ts start in rw (q, x, read, body)
+statement-awaited : (inner : Parser Statement) (budget : ℕ) (es : List Trigger) (s : Statement) (t u : PlainToken) (ts us rest : PlainTokens) → t.kind ≡ k.At → u.kind ≡ k.Open
+    → parse_events budget [] ts ≡ Some (es, us) → inner us ≡ Some (s, rest) → spec.parse_form inner budget (t ∷ u ∷ ts) ≡ Some (tree.Await es s, rest)
+unfolding spec.parse_form spec.parse_awaited spec.parse_event_control
+statement-awaited inner budget es s t u ts us rest q start read body = let x = expect-is k.Open u ts start in rw (q, x, read, body)
 
-trigger-any : (t : PlainToken) (rest : PlainTokens) → t.kind ≡ k.Name → spec.trigger (t ∷ rest) ≡ Some ((Any, t.text), rest)
-unfolding spec.trigger
+trigger-any : (t : PlainToken) (rest : PlainTokens) → t.kind ≡ k.Name → spec.parse_event (t ∷ rest) ≡ Some ((Any, t.text), rest)
+unfolding spec.parse_event
 trigger-any t rest q = let c : change_of t.kind ≡ None = rw q in let x = expect-is k.Name t rest q in rw (c, x)
 
-trigger-edge : (c : Change) (t u : PlainToken) (rest : PlainTokens) → change_of t.kind ≡ Some c → u.kind ≡ k.Name → spec.trigger (t ∷ u ∷ rest) ≡ Some ((c, u.text), rest)
-unfolding spec.trigger
+trigger-edge : (c : Change) (t u : PlainToken) (rest : PlainTokens) → change_of t.kind ≡ Some c → u.kind ≡ k.Name → spec.parse_event (t ∷ u ∷ rest) ≡ Some ((c, u.text), rest)
+unfolding spec.parse_event
 trigger-edge c t u rest q n = let x = expect-is k.Name u rest n in rw (q, x)
 
-complete-trigger : {e : Trigger} {ts rest : PlainTokens} → IsTrigger e ts rest → spec.trigger ts ≡ Some (e, rest)
+complete-trigger : {e : Trigger} {ts rest : PlainTokens} → IsTrigger e ts rest → spec.parse_event ts ≡ Some (e, rest)
 complete-trigger (any {t = t} {rest = rest} q) = trigger-any t rest q
 complete-trigger (edge {c = c} {t = t} {u = u} {rest = rest} q n) = trigger-edge c t u rest q n
 
-triggers-last : (m : ℕ) (found : List Trigger) (e : Trigger) (ts : PlainTokens) (u : PlainToken) (rest : PlainTokens) → 0 < m → spec.trigger ts ≡ Some (e, u ∷ rest) → u.kind ≡ k.Close
-    → triggers_from m found ts ≡ Some (found ++ e ∷ [], rest)
-unfolding triggers_from
+triggers-last : (m : ℕ) (found : List Trigger) (e : Trigger) (ts : PlainTokens) (u : PlainToken) (rest : PlainTokens) → 0 < m → spec.parse_event ts ≡ Some (e, u ∷ rest) → u.kind ≡ k.Close
+    → parse_events m found ts ≡ Some (found ++ e ∷ [], rest)
+unfolding parse_events
 triggers-last zero found e ts u rest w read end = absurd (omega arith)
 triggers-last (suc m) found e ts u rest w read end = let y : separates u.kind ≡ false = rw end in let z = expect-is k.Close u rest end in rw (read, y, z)
 
-triggers-next : (m n : ℕ) (found : List Trigger) (e : Trigger) (ts : PlainTokens) (u : PlainToken) (us : PlainTokens) → m ≡ suc n → spec.trigger ts ≡ Some (e, u ∷ us) → separates u.kind ≡ true
-    → triggers_from m found ts ≡ triggers_from n (found ++ e ∷ []) us
-unfolding triggers_from
+triggers-next : (m n : ℕ) (found : List Trigger) (e : Trigger) (ts : PlainTokens) (u : PlainToken) (us : PlainTokens) → m ≡ suc n → spec.parse_event ts ≡ Some (e, u ∷ us) → separates u.kind ≡ true
+    → parse_events m found ts ≡ parse_events n (found ++ e ∷ []) us
+unfolding parse_events
 triggers-next m n found e ts u us is read c = rw (is, read, c)
 
-complete-triggers : {es : List Trigger} {ts rest : PlainTokens} → IsTriggers es ts rest → (m : ℕ) (found : List Trigger) → length ts ≤ m → triggers_from m found ts ≡ Some (found ++ es, rest)
+complete-triggers : {es : List Trigger} {ts rest : PlainTokens} → IsTriggers es ts rest → (m : ℕ) (found : List Trigger) → length ts ≤ m → parse_events m found ts ≡ Some (found ++ es, rest)
 complete-triggers {ts = ts} {rest = rest} (last_trigger {e = e} {u = u} d end) m found w =
     let x = short-trigger d in triggers-last m found e ts u rest (omega arith) (complete-trigger d) end
 complete-triggers {ts = ts} {rest = rest} (next_trigger {e = e} {es = es} {u = u} {us = us} d c ds) m found w =
@@ -261,118 +256,118 @@ comma-Close : (t : PlainToken) (ts : PlainTokens) → t.kind ≡ k.Close → see
 unfolding same_kind
 comma-Close t ts q = rw q
 
-arguments-end : (fuel m : ℕ) (found : List (Expression Text)) (t : PlainToken) (rest : PlainTokens) → 0 < m → t.kind ≡ k.Close → arguments_from fuel m found (t ∷ rest) ≡ Some (found, rest)
-unfolding arguments_from
-arguments-end fuel zero found t rest w q = absurd (omega arith)
-arguments-end fuel (suc m) found t rest w q = let x = comma-Close t rest q in let y = expect-is k.Close t rest q in rw (x, y)
+arguments-end : (budget m : ℕ) (found : List (Expression Text)) (t : PlainToken) (rest : PlainTokens) → 0 < m → t.kind ≡ k.Close → parse_list (spec.parse_expression budget) k.Close m found (t ∷ rest) ≡ Some (found, rest)
+unfolding parse_list
+arguments-end budget zero found t rest w q = absurd (omega arith)
+arguments-end budget (suc m) found t rest w q = let x = comma-Close t rest q in let y = expect-is k.Close t rest q in rw (x, y)
 
-arguments-next : (fuel m n : ℕ) (found : List (Expression Text)) (e : Expression Text) (t : PlainToken) (ts us : PlainTokens) → m ≡ suc n → t.kind ≡ k.Comma → spec.expression fuel 0 ts ≡ Some (e, us)
-    → arguments_from fuel m found (t ∷ ts) ≡ arguments_from fuel n (found ++ e ∷ []) us
-unfolding arguments_from
-arguments-next fuel m n found e t ts us is q read = let x = same_kind-is t.kind k.Comma q in rw (is, x, read)
+arguments-next : (budget m n : ℕ) (found : List (Expression Text)) (e : Expression Text) (t : PlainToken) (ts us : PlainTokens) → m ≡ suc n → t.kind ≡ k.Comma → spec.parse_expression budget 0 ts ≡ Some (e, us)
+    → parse_list (spec.parse_expression budget) k.Close m found (t ∷ ts) ≡ parse_list (spec.parse_expression budget) k.Close n (found ++ e ∷ []) us
+unfolding parse_list
+arguments-next budget m n found e t ts us is q read = let x = same_kind-is t.kind k.Comma q in rw (is, x, read)
 
-complete-arguments : {es : Expressions Text} {ts rest : PlainTokens} → IsArguments es ts rest → (fuel m : ℕ) (found : List (Expression Text)) → length ts ≤ fuel → length ts ≤ m
-    → arguments_from fuel m found ts ≡ Some (found ++ expression_list es, rest)
-complete-arguments {rest = rest} (no_argument {t = t} q) fuel m found w turns = rw (append-nil found) (arguments-end fuel m found t rest (omega arith) q)
-complete-arguments {rest = rest} (one_argument {e = e} {es = es} {t = t} {ts = ts} {us = us} q d ds) fuel m found w turns =
+complete-arguments : {es : Expressions Text} {ts rest : PlainTokens} → IsArguments es ts rest → (budget m : ℕ) (found : List (Expression Text)) → length ts ≤ budget → length ts ≤ m
+    → parse_list (spec.parse_expression budget) k.Close m found ts ≡ Some (found ++ expression_list es, rest)
+complete-arguments {rest = rest} (no_argument {t = t} q) budget m found w turns = rw (append-nil found) (arguments-end budget m found t rest (omega arith) q)
+complete-arguments {rest = rest} (one_argument {e = e} {es = es} {t = t} {ts = ts} {us = us} q d ds) budget m found w turns =
     let x = short-expression d in
-    arguments-next fuel m (m - 1) found e t ts us (omega arith) q (complete-expression d fuel (omega arith) (ends-arguments ds))
-    ∙ complete-arguments ds fuel (m - 1) (found ++ e ∷ []) (omega arith) (omega arith)
+    arguments-next budget m (m - 1) found e t ts us (omega arith) q (complete-expression d budget (omega arith) (ends-arguments ds))
+    ∙ complete-arguments ds budget (m - 1) (found ++ e ∷ []) (omega arith) (omega arith)
     ∙ ap (λ x. Some (x, rest)) (append_assoc found (e ∷ []) (expression_list es))
 
-statement-print : (task : Task) (inner : Parser Statement) (fuel : ℕ) (es : List (Expression Text)) (t u v w : PlainToken) (ts rest : PlainTokens) → t.kind ≡ task_kind task → u.kind ≡ k.Open → v.kind ≡ k.Text
-    → arguments_from fuel fuel [] ts ≡ Some (es, w ∷ rest) → w.kind ≡ k.Semicolon
-    → spec.statement_form inner fuel (t ∷ u ∷ v ∷ ts) ≡ Some (tree.Print task (string_text v.text) (expressions es), rest)
-unfolding spec.statement_form spec.print
-statement-print Task.Display inner fuel es t u v w ts rest q start f read end =
+statement-print : (task : Task) (inner : Parser Statement) (budget : ℕ) (es : List (Expression Text)) (t u v w : PlainToken) (ts rest : PlainTokens) → t.kind ≡ task_kind task → u.kind ≡ k.Open → v.kind ≡ k.Text
+    → parse_list (spec.parse_expression budget) k.Close budget [] ts ≡ Some (es, w ∷ rest) → w.kind ≡ k.Semicolon
+    → spec.parse_form inner budget (t ∷ u ∷ v ∷ ts) ≡ Some (tree.Print task (string_text v.text) (expressions es), rest)
+unfolding spec.parse_form spec.parse_print
+statement-print Task.Display inner budget es t u v w ts rest q start f read end =
     let x = expect-is k.Open u (v ∷ ts) start in let y = expect-is k.Text v ts f in let z = expect-is k.Semicolon w rest end in rw (q, x, y, read, z)
-statement-print Task.Strobe inner fuel es t u v w ts rest q start f read end =
+statement-print Task.Strobe inner budget es t u v w ts rest q start f read end =
     let x = expect-is k.Open u (v ∷ ts) start in let y = expect-is k.Text v ts f in let z = expect-is k.Semicolon w rest end in rw (q, x, y, read, z)
 
-statement-finish : (inner : Parser Statement) (fuel : ℕ) (t u : PlainToken) (rest : PlainTokens) → t.kind ≡ k.Finish → u.kind ≡ k.Semicolon → spec.statement_form inner fuel (t ∷ u ∷ rest) ≡ Some (tree.Finish, rest)
-unfolding spec.statement_form spec.finish
-statement-finish inner fuel t u rest q end = let z = expect-is k.Semicolon u rest end in rw (q, z)
+statement-finish : (inner : Parser Statement) (budget : ℕ) (t u : PlainToken) (rest : PlainTokens) → t.kind ≡ k.Finish → u.kind ≡ k.Semicolon → spec.parse_form inner budget (t ∷ u ∷ rest) ≡ Some (tree.Finish, rest)
+unfolding spec.parse_form spec.parse_finish
+statement-finish inner budget t u rest q end = let z = expect-is k.Semicolon u rest end in rw (q, z)
 
-statement-loop : (inner : Parser Statement) (fuel : ℕ) (e : Expression Text) (body : List Statement) (t : PlainToken) (ts us rest : PlainTokens) → t.kind ≡ k.While
-    → spec.condition fuel ts ≡ Some (e, us) → spec.block inner fuel us ≡ Some (body, rest)
-    → spec.statement_form inner fuel (t ∷ ts) ≡ Some (tree.While e (statements body), rest)
-unfolding spec.statement_form spec.looped
-statement-loop inner fuel e body t ts us rest q test read = rw (q, test, read)
+statement-loop : (inner : Parser Statement) (budget : ℕ) (e : Expression Text) (body : List Statement) (t : PlainToken) (ts us rest : PlainTokens) → t.kind ≡ k.While
+    → spec.parse_parenthesized (spec.parse_expression budget) ts ≡ Some (e, us) → spec.parse_block inner budget us ≡ Some (body, rest)
+    → spec.parse_form inner budget (t ∷ ts) ≡ Some (tree.While e (statements body), rest)
+unfolding spec.parse_form spec.parse_while spec.parse_guarded
+statement-loop inner budget e body t ts us rest q test read = rw (q, test, read)
 
-statement-branch : (inner : Parser Statement) (fuel : ℕ) (e : Expression Text) (body : List Statement) (t : PlainToken) (ts us rest : PlainTokens) → t.kind ≡ k.If
-    → spec.condition fuel ts ≡ Some (e, us) → spec.block inner fuel us ≡ Some (body, rest)
-    → spec.statement_form inner fuel (t ∷ ts) ≡ spec.otherwise inner fuel e body rest
-unfolding spec.statement_form spec.branch
-statement-branch inner fuel e body t ts us rest q test read = rw (q, test, read)
+statement-branch : (inner : Parser Statement) (budget : ℕ) (e : Expression Text) (body : List Statement) (t : PlainToken) (ts us rest : PlainTokens) → t.kind ≡ k.If
+    → spec.parse_parenthesized (spec.parse_expression budget) ts ≡ Some (e, us) → spec.parse_block inner budget us ≡ Some (body, rest)
+    → spec.parse_form inner budget (t ∷ ts) ≡ spec.parse_else inner budget e body rest
+unfolding spec.parse_form spec.parse_if spec.parse_guarded
+statement-branch inner budget e body t ts us rest q test read = rw (q, test, read)
 
-otherwise-none : (inner : Parser Statement) (fuel : ℕ) (e : Expression Text) (body : List Statement) (rest : PlainTokens) → sees k.Else rest ≡ false
-    → spec.otherwise inner fuel e body rest ≡ Some (tree.If e (statements body), rest)
-unfolding spec.otherwise
-otherwise-none inner fuel e body rest q = rw q
+otherwise-none : (inner : Parser Statement) (budget : ℕ) (e : Expression Text) (body : List Statement) (rest : PlainTokens) → sees k.Else rest ≡ false
+    → spec.parse_else inner budget e body rest ≡ Some (tree.If e (statements body), rest)
+unfolding spec.parse_else
+otherwise-none inner budget e body rest q = rw q
 
-otherwise-some : (inner : Parser Statement) (fuel : ℕ) (e : Expression Text) (body other : List Statement) (t : PlainToken) (ts rest : PlainTokens) → t.kind ≡ k.Else
-    → spec.block inner fuel ts ≡ Some (other, rest)
-    → spec.otherwise inner fuel e body (t ∷ ts) ≡ Some (tree.IfElse e (statements body) (statements other), rest)
-unfolding spec.otherwise
-otherwise-some inner fuel e body other t ts rest q read = let x = same_kind-is t.kind k.Else q in rw (x, read)
+otherwise-some : (inner : Parser Statement) (budget : ℕ) (e : Expression Text) (body other : List Statement) (t : PlainToken) (ts rest : PlainTokens) → t.kind ≡ k.Else
+    → spec.parse_block inner budget ts ≡ Some (other, rest)
+    → spec.parse_else inner budget e body (t ∷ ts) ≡ Some (tree.IfElse e (statements body) (statements other), rest)
+unfolding spec.parse_else
+otherwise-some inner budget e body other t ts rest q read = let x = same_kind-is t.kind k.Else q in rw (x, read)
 
 -- ---- statements
 
 mutual
   complete-statement : {s : Statement} {ts rest : PlainTokens} → IsStatement s ts rest → (n : ℕ) → length ts ≤ n → sees k.Else rest ≡ false
-      → spec.statement_form (statement n) n ts ≡ Some (s, rest)
-  complete-statement (emptied {t = t} {rest = rest} q) n w follow = statement-empty (statement n) n t rest q
+      → spec.parse_form (parse_statement n) n ts ≡ Some (s, rest)
+  complete-statement (emptied {t = t} {rest = rest} q) n w follow = statement-empty (parse_statement n) n t rest q
   complete-statement {ts = ts} {rest = rest} (grouped {ss = ss} d) n w follow =
-      statement-block (statement n) n (list_of ss) ts rest (first-block d) (complete-block d n w) ∙ ap (λ x. Some (tree.Block x, rest)) (statements_list ss)
+      statement-block (parse_statement n) n (list_of ss) ts rest (first-block d) (complete-block d n w) ∙ ap (λ x. Some (tree.Block x, rest)) (statements_list ss)
   complete-statement (assigned {d = d} {e = e} {t = t} {u = u} {ts = ts} {rest = rest} q sign waits x end) n w follow =
-      statement-assign (statement n) n d e t u ts rest q sign (complete-value waits x end n (omega arith))
+      statement-assign (parse_statement n) n d e t u ts rest q sign (complete-value waits x end n (omega arith))
   complete-statement (assigned_later {d = d} {e = e} {t = t} {u = u} {ts = ts} {rest = rest} q sign waits x end) n w follow =
-      statement-assign_later (statement n) n d e t u ts rest q sign (complete-value waits x end n (omega arith))
+      statement-assign_later (parse_statement n) n d e t u ts rest q sign (complete-value waits x end n (omega arith))
   complete-statement {rest = rest} (delayed {s = s} {t = t} {u = u} {ts = ts} q num d) n w follow =
-      let read : statement n ts ≡ Some (s, rest) = deeper (λ x. statement x ts) n (omega arith) ∙ complete-statement d (n - 1) (omega arith) follow in
-      statement-delayed (statement n) n s t u ts rest q num read
+      let read : parse_statement n ts ≡ Some (s, rest) = deeper (λ x. parse_statement x ts) n (omega arith) ∙ complete-statement d (n - 1) (omega arith) follow in
+      statement-delayed (parse_statement n) n s t u ts rest q num read
   complete-statement {rest = rest} (awaited {es = es} {s = s} {t = t} {u = u} {ts = ts} {us = us} q start ds d) n w follow =
       let x = short-triggers ds in
-      let read : statement n us ≡ Some (s, rest) = deeper (λ x. statement x us) n (omega arith) ∙ complete-statement d (n - 1) (omega arith) follow in
-      statement-awaited (statement n) n es s t u ts us rest q start (complete-triggers ds n [] (omega arith)) read
+      let read : parse_statement n us ≡ Some (s, rest) = deeper (λ x. parse_statement x us) n (omega arith) ∙ complete-statement d (n - 1) (omega arith) follow in
+      statement-awaited (parse_statement n) n es s t u ts us rest q start (complete-triggers ds n [] (omega arith)) read
   complete-statement {rest = rest} (looped {e = e} {ss = ss} {t = t} {u = u} {v = v} {ts = ts} {us = us} q start d end b) n w follow =
       let x = short-expression d in
-      let test = condition-is n e u v ts us start (complete-expression d n (omega arith) (ends-Close v us end)) end in
-      statement-loop (statement n) n e (list_of ss) t (u ∷ ts) us rest q test (complete-block b n (omega arith)) ∙ ap (λ x. Some (tree.While e x, rest)) (statements_list ss)
+      let test = parenthesized-is (spec.parse_expression n) e u v ts us start (complete-expression d n (omega arith) (ends-Close v us end)) end in
+      statement-loop (parse_statement n) n e (list_of ss) t (u ∷ ts) us rest q test (complete-block b n (omega arith)) ∙ ap (λ x. Some (tree.While e x, rest)) (statements_list ss)
   complete-statement {rest = rest} (printed {task = task} {es = es} {t = t} {u = u} {v = v} {w = end_token} {ts = ts} q start f d end) n w follow =
-      statement-print task (statement n) n (expression_list es) t u v end_token ts rest q start f (complete-arguments d n n [] (omega arith) (omega arith)) end
+      statement-print task (parse_statement n) n (expression_list es) t u v end_token ts rest q start f (complete-arguments d n n [] (omega arith) (omega arith)) end
       ∙ ap (λ x. Some (tree.Print task (string_text v.text) x, rest)) (expressions_list es)
-  complete-statement (finished {t = t} {u = u} {rest = rest} q end) n w follow = statement-finish (statement n) n t u rest q end
+  complete-statement (finished {t = t} {u = u} {rest = rest} q end) n w follow = statement-finish (parse_statement n) n t u rest q end
   complete-statement {rest = rest} (branched {e = e} {ss = ss} {t = t} {u = u} {v = v} {ts = ts} {us = us} q start d end b) n w follow =
       let x = short-expression d in
-      let test = condition-is n e u v ts us start (complete-expression d n (omega arith) (ends-Close v us end)) end in
+      let test = parenthesized-is (spec.parse_expression n) e u v ts us start (complete-expression d n (omega arith) (ends-Close v us end)) end in
       let body = complete-block b n (omega arith) in
-      statement-branch (statement n) n e (list_of ss) t (u ∷ ts) us rest q test body
-      ∙ otherwise-none (statement n) n e (list_of ss) rest follow ∙ ap (λ x. Some (tree.If e x, rest)) (statements_list ss)
+      statement-branch (parse_statement n) n e (list_of ss) t (u ∷ ts) us rest q test body
+      ∙ otherwise-none (parse_statement n) n e (list_of ss) rest follow ∙ ap (λ x. Some (tree.If e x, rest)) (statements_list ss)
   complete-statement {rest = rest} (branched_else {e = e} {ss = ss} {rs = rs} {t = t} {u = u} {v = v} {w = w} {ts = ts} {us = us} {vs = vs} q start d end b other o) n within follow =
       let x = short-expression d in
       let y = short-block b in
-      let test = condition-is n e u v ts us start (complete-expression d n (omega arith) (ends-Close v us end)) end in
+      let test = parenthesized-is (spec.parse_expression n) e u v ts us start (complete-expression d n (omega arith) (ends-Close v us end)) end in
       let body = complete-block b n (omega arith) in
       let rest_body = complete-block o n (omega arith) in
-      statement-branch (statement n) n e (list_of ss) t (u ∷ ts) us (w ∷ vs) q test body
-      ∙ otherwise-some (statement n) n e (list_of ss) (list_of rs) w vs rest other rest_body
+      statement-branch (parse_statement n) n e (list_of ss) t (u ∷ ts) us (w ∷ vs) q test body
+      ∙ otherwise-some (parse_statement n) n e (list_of ss) (list_of rs) w vs rest other rest_body
       ∙ ap (λ x. Some (tree.IfElse e x (statements (list_of rs)), rest)) (statements_list ss) ∙ ap (λ x. Some (tree.IfElse e ss x, rest)) (statements_list rs)
 
-  complete-block : {ss : Statements} {ts rest : PlainTokens} → IsBlock ss ts rest → (n : ℕ) → length ts ≤ n → spec.block (statement n) n ts ≡ Some (list_of ss, rest)
+  complete-block : {ss : Statements} {ts rest : PlainTokens} → IsBlock ss ts rest → (n : ℕ) → length ts ≤ n → spec.parse_block (parse_statement n) n ts ≡ Some (list_of ss, rest)
   complete-block (begun {ss = ss} {t = t} {u = u} {ts = ts} {rest = rest} q d end) n w =
-      block-is (statement n) n (list_of ss) t ts rest q (complete-statements d n n [] u rest refl (omega arith) (omega arith) end)
+      block-is (parse_statement n) n (list_of ss) t ts rest q (complete-statements d n n [] u rest refl (omega arith) (omega arith) end)
 
   complete-statements : {ss : Statements} {ts all : PlainTokens} → IsStatements ss ts all → (n m : ℕ) (found : List Statement) (u : PlainToken) (rest : PlainTokens) → all ≡ u ∷ rest → length ts < n → length ts ≤ m
-      → u.kind ≡ k.EndBlock → statements_from (statement n) m found ts ≡ Some (found ++ list_of ss, rest)
+      → u.kind ≡ k.EndBlock → parse_statements (parse_statement n) m found ts ≡ Some (found ++ list_of ss, rest)
   complete-statements {ts = ts} no_more n m found u rest is w turns end =
       let long : 0 < m = omega (arith, ap length is) in
-      rw (is, append-nil found) (statements-end (statement n) m found u rest long end)
+      rw (is, append-nil found) (statements-end (parse_statement n) m found u rest long end)
   complete-statements {ts = ts} (one_more {s = s} {ss = ss} {us = us} d ds) n m found u rest is w turns end =
       let x = short-statement d in
       let follow = after_statements ds (rw is (no_else u rest end)) in
-      let read : statement n ts ≡ Some (s, us) = deeper (λ x. statement x ts) n (omega arith) ∙ complete-statement d (n - 1) (omega arith) follow in
-      statements-turn (statement n) m (m - 1) found s ts us (omega arith) (first-statement d).0 read
+      let read : parse_statement n ts ≡ Some (s, us) = deeper (λ x. parse_statement x ts) n (omega arith) ∙ complete-statement d (n - 1) (omega arith) follow in
+      statements-turn (parse_statement n) m (m - 1) found s ts us (omega arith) (first-statement d).0 read
       ∙ complete-statements ds n (m - 1) (found ++ s ∷ []) u rest is (omega arith) (omega arith) end
       ∙ ap (λ x. Some (x, rest)) (append_assoc found (s ∷ []) (list_of ss))
 
@@ -383,20 +378,20 @@ unfolding same_kind
 no_comma t ts q = rw q
 
 names-last : (m : ℕ) (found : List Text) (t u : PlainToken) (rest : PlainTokens) → 0 < m → t.kind ≡ k.Name → u.kind ≡ k.Semicolon
-    → names_from m found (t ∷ u ∷ rest) ≡ Some (found ++ t.text ∷ [], rest)
-unfolding names_from
+    → parse_names m found (t ∷ u ∷ rest) ≡ Some (found ++ t.text ∷ [], rest)
+unfolding parse_names
 names-last zero found t u rest w q end = absurd (omega arith)
 names-last (suc m) found t u rest w q end =
     let x = expect-is k.Name t (u ∷ rest) q in let y = no_comma u rest end in let z = expect-is k.Semicolon u rest end in rw (x, y, z)
 
 names-next : (m n : ℕ) (found : List Text) (t u : PlainToken) (rest : PlainTokens) → m ≡ suc n → t.kind ≡ k.Name → u.kind ≡ k.Comma
-    → names_from m found (t ∷ u ∷ rest) ≡ names_from n (found ++ t.text ∷ []) rest
-unfolding names_from
+    → parse_names m found (t ∷ u ∷ rest) ≡ parse_names n (found ++ t.text ∷ []) rest
+unfolding parse_names
 names-next m n found t u rest e q c =
     let x = expect-is k.Name t (u ∷ rest) q in let y = same_kind-is u.kind k.Comma c in rw (e, x, y)
 
 complete-names : {ns : List Text} {ts rest : PlainTokens} → IsNames ns ts rest → (m : ℕ) (found : List Text) → length ts ≤ m
-    → names_from m found ts ≡ Some (found ++ ns, rest)
+    → parse_names m found ts ≡ Some (found ++ ns, rest)
 complete-names (last_name {t = t} {u = u} {rest = rest} q end) m found w = names-last m found t u rest (omega arith) q end
 complete-names {rest = rest} (next_name {ns = ns} {t = t} {u = u} {ts = ts} q c d) m found w =
     names-next m (m - 1) found t u ts (omega arith) q c ∙ complete-names d (m - 1) (found ++ t.text ∷ []) (omega arith)
@@ -410,13 +405,13 @@ no_else_after : (t : PlainToken) (ts : PlainTokens) → t.kind ≡ k.EndModule �
 unfolding same_kind
 no_else_after t ts q = rw q
 
-range-none : (ts : PlainTokens) → sees k.OpenSquare ts ≡ false → spec.range ts ≡ Some (None, ts)
-unfolding spec.range
+range-none : (ts : PlainTokens) → sees k.OpenSquare ts ≡ false → spec.parse_range ts ≡ Some (None, ts)
+unfolding spec.parse_range
 range-none ts q = rw q
 
 range-some : (t u v w x : PlainToken) (rest : PlainTokens) → t.kind ≡ k.OpenSquare → u.kind ≡ k.Decimal → v.kind ≡ k.Colon → w.kind ≡ k.Decimal → x.kind ≡ k.CloseSquare
-    → spec.range (t ∷ u ∷ v ∷ w ∷ x ∷ rest) ≡ Some (Some (u.value, w.value), rest)
-unfolding spec.range spec.bounds
+    → spec.parse_range (t ∷ u ∷ v ∷ w ∷ x ∷ rest) ≡ Some (Some (u.value, w.value), rest)
+unfolding spec.parse_range spec.parse_bounds
 range-some t u v w x rest a b c d e =
     let p = same_kind-is t.kind k.OpenSquare a in
     let q = expect-is k.Decimal u (v ∷ w ∷ x ∷ rest) b in
@@ -434,7 +429,7 @@ unfolding same_kind
 square-names (last_name q end) = rw q
 square-names (next_name q c d) = rw q
 
-complete-range : {r : Option (ℕ × ℕ)} {ts rest : PlainTokens} → IsRange r ts rest → sees k.OpenSquare rest ≡ false → spec.range ts ≡ Some (r, rest)
+complete-range : {r : Option (ℕ × ℕ)} {ts rest : PlainTokens} → IsRange r ts rest → sees k.OpenSquare rest ≡ false → spec.parse_range ts ≡ Some (r, rest)
 complete-range (no_range {ts = ts}) none = range-none ts none
 complete-range (some_range {t = t} {u = u} {v = v} {w = w} {x = x} {rest = rest} a b c d e) none = range-some t u v w x rest a b c d e
 
@@ -444,26 +439,26 @@ first-items no_items h = h
 first-items (regs q r d ds) h = rw q
 first-items (proc {b = b} {t = t} q d ds) h = apart repeats_of b t.kind k.Else q refl
 
-item-regs : (fuel : ℕ) (m : Module) (r : Option (ℕ × ℕ)) (ns : List Text) (t : PlainToken) (ts us rest : PlainTokens) → t.kind ≡ k.Reg → spec.range ts ≡ Some (r, us)
-    → names_from fuel [] us ≡ Some (ns, rest) → spec.item fuel m (t ∷ ts) ≡ Some (record m { declarations = m.declarations ++ record { range = r; names = ns } ∷ [] }, rest)
-unfolding spec.item spec.declaration
-item-regs fuel m r ns t ts us rest q range read =
+item-regs : (budget : ℕ) (m : Module) (r : Option (ℕ × ℕ)) (ns : List Text) (t : PlainToken) (ts us rest : PlainTokens) → t.kind ≡ k.Reg → spec.parse_range ts ≡ Some (r, us)
+    → parse_names budget [] us ≡ Some (ns, rest) → spec.parse_item budget m (t ∷ ts) ≡ Some (record m { declarations = m.declarations ++ record { range = r; names = ns } ∷ [] }, rest)
+unfolding spec.parse_item spec.parse_declaration
+item-regs budget m r ns t ts us rest q range read =
     let none : repeats_of t.kind ≡ None = rw q in let x = same_kind-is t.kind k.Reg q in rw (none, x, range, read)
 
-item-proc : (fuel : ℕ) (m : Module) (b : Bool) (s : Statement) (t : PlainToken) (ts rest : PlainTokens) → repeats_of t.kind ≡ Some b → statement fuel ts ≡ Some (s, rest)
-    → spec.item fuel m (t ∷ ts) ≡ Some (record m { processes = m.processes ++ record { repeats = b; body = s } ∷ [] }, rest)
-unfolding spec.item spec.process
-item-proc fuel m b s t ts rest q read = rw (q, read)
+item-proc : (budget : ℕ) (m : Module) (b : Bool) (s : Statement) (t : PlainToken) (ts rest : PlainTokens) → repeats_of t.kind ≡ Some b → parse_statement budget ts ≡ Some (s, rest)
+    → spec.parse_item budget m (t ∷ ts) ≡ Some (record m { processes = m.processes ++ record { repeats = b; body = s } ∷ [] }, rest)
+unfolding spec.parse_item spec.parse_process
+item-proc budget m b s t ts rest q read = rw (q, read)
 
-items-end : (fuel n : ℕ) (m : Module) (t : PlainToken) (rest : PlainTokens) → 0 < n → t.kind ≡ k.EndModule → items_from fuel n m (t ∷ rest) ≡ Some (m, rest)
-unfolding items_from
-items-end fuel zero m t rest w q = absurd (omega arith)
-items-end fuel (suc n) m t rest w q = let x = same_kind-is t.kind k.EndModule q in rw x
+items-end : (budget n : ℕ) (m : Module) (t : PlainToken) (rest : PlainTokens) → 0 < n → t.kind ≡ k.EndModule → parse_items budget n m (t ∷ rest) ≡ Some (m, rest)
+unfolding parse_items
+items-end budget zero m t rest w q = absurd (omega arith)
+items-end budget (suc n) m t rest w q = let x = same_kind-is t.kind k.EndModule q in rw x
 
-items-turn : (fuel n less : ℕ) (m found : Module) (ts us : PlainTokens) → n ≡ suc less → sees k.EndModule ts ≡ false → spec.item fuel m ts ≡ Some (found, us)
-    → items_from fuel n m ts ≡ items_from fuel less found us
-unfolding items_from
-items-turn fuel n less m found ts us e q read = rw (e, q, read)
+items-turn : (budget n less : ℕ) (m found : Module) (ts us : PlainTokens) → n ≡ suc less → sees k.EndModule ts ≡ false → spec.parse_item budget m ts ≡ Some (found, us)
+    → parse_items budget n m ts ≡ parse_items budget less found us
+unfolding parse_items
+items-turn budget n less m found ts us e q read = rw (e, q, read)
 
 not_end-Reg : (t : PlainToken) (ts : PlainTokens) → t.kind ≡ k.Reg → sees k.EndModule (t ∷ ts) ≡ false
 unfolding same_kind
@@ -481,36 +476,36 @@ with_reg m d ds ps = rw (append_assoc m.declarations (d ∷ []) ds)
 with_proc : (m : Module) (p : Process) (ds : List Declaration) (ps : List Process) → with_items (record m { processes = m.processes ++ p ∷ [] }) ds ps ≡ with_items m ds (p ∷ ps)
 with_proc m p ds ps = rw (append_assoc m.processes (p ∷ []) ps)
 
-complete-items : {ds : List Declaration} {ps : List Process} {ts all : PlainTokens} → IsItems ds ps ts all → (fuel n : ℕ) (m : Module) (u : PlainToken) (rest : PlainTokens) → all ≡ u ∷ rest
-    → length ts < fuel → length ts ≤ n → u.kind ≡ k.EndModule → items_from fuel n m ts ≡ Some (with_items m ds ps, rest)
-complete-items no_items fuel n m u rest is w turns end =
+complete-items : {ds : List Declaration} {ps : List Process} {ts all : PlainTokens} → IsItems ds ps ts all → (budget n : ℕ) (m : Module) (u : PlainToken) (rest : PlainTokens) → all ≡ u ∷ rest
+    → length ts < budget → length ts ≤ n → u.kind ≡ k.EndModule → parse_items budget n m ts ≡ Some (with_items m ds ps, rest)
+complete-items no_items budget n m u rest is w turns end =
     let some : 0 < n = omega (arith, ap length is) in
-    rw (is, with_none m) (items-end fuel n m u rest some end)
-complete-items (regs {r = r} {ns = ns} {ds = ds} {ps = ps} {t = t} {ts = ts} {us = us} {vs = vs} q dr d more) fuel n m u rest is w turns end =
+    rw (is, with_none m) (items-end budget n m u rest some end)
+complete-items (regs {r = r} {ns = ns} {ds = ds} {ps = ps} {t = t} {ts = ts} {us = us} {vs = vs} q dr d more) budget n m u rest is w turns end =
     let x = short-range dr in
     let y = short-names d in
     let one : Declaration = record { range = r; names = ns } in
-    let read = item-regs fuel m r ns t ts us vs q (complete-range dr (square-names d)) (complete-names d fuel [] (omega arith)) in
-    items-turn fuel n (n - 1) m (record m { declarations = m.declarations ++ one ∷ [] }) (t ∷ ts) vs (omega arith) (not_end-Reg t ts q) read
-    ∙ complete-items more fuel (n - 1) (record m { declarations = m.declarations ++ one ∷ [] }) u rest is (omega arith) (omega arith) end
+    let read = item-regs budget m r ns t ts us vs q (complete-range dr (square-names d)) (complete-names d budget [] (omega arith)) in
+    items-turn budget n (n - 1) m (record m { declarations = m.declarations ++ one ∷ [] }) (t ∷ ts) vs (omega arith) (not_end-Reg t ts q) read
+    ∙ complete-items more budget (n - 1) (record m { declarations = m.declarations ++ one ∷ [] }) u rest is (omega arith) (omega arith) end
     ∙ ap (λ x. Some (x, rest)) (with_reg m one ds ps)
-complete-items (proc {b = b} {s = s} {ds = ds} {ps = ps} {t = t} {ts = ts} {us = us} q d more) fuel n m u rest is w turns end =
+complete-items (proc {b = b} {s = s} {ds = ds} {ps = ps} {t = t} {ts = ts} {us = us} q d more) budget n m u rest is w turns end =
     let x = short-statement d in
     let follow = first-items more (rw is (no_else_after u rest end)) in
     let made : Process = record { repeats = b; body = s } in
-    let one : statement fuel ts ≡ Some (s, us) = deeper (λ x. statement x ts) fuel (omega arith) ∙ complete-statement d (fuel - 1) (omega arith) follow in
-    let read = item-proc fuel m b s t ts us q one in
-    items-turn fuel n (n - 1) m (record m { processes = m.processes ++ made ∷ [] }) (t ∷ ts) us (omega arith) (apart repeats_of b t.kind k.EndModule q refl) read
-    ∙ complete-items more fuel (n - 1) (record m { processes = m.processes ++ made ∷ [] }) u rest is (omega arith) (omega arith) end
+    let one : parse_statement budget ts ≡ Some (s, us) = deeper (λ x. parse_statement x ts) budget (omega arith) ∙ complete-statement d (budget - 1) (omega arith) follow in
+    let read = item-proc budget m b s t ts us q one in
+    items-turn budget n (n - 1) m (record m { processes = m.processes ++ made ∷ [] }) (t ∷ ts) us (omega arith) (apart repeats_of b t.kind k.EndModule q refl) read
+    ∙ complete-items more budget (n - 1) (record m { processes = m.processes ++ made ∷ [] }) u rest is (omega arith) (omega arith) end
     ∙ ap (λ x. Some (x, rest)) (with_proc m made ds ps)
 
-source-is : (fuel : ℕ) (m : Module) (t u v : PlainToken) (ts : PlainTokens) → t.kind ≡ k.Module → u.kind ≡ k.Name → v.kind ≡ k.Semicolon
-    → items_from fuel fuel (record { name = u.text; declarations = []; processes = [] }) ts ≡ Some (m, []) → source fuel (t ∷ u ∷ v ∷ ts) ≡ Some (m, [])
-unfolding source
-source-is fuel m t u v ts a b c read =
+source-is : (budget : ℕ) (m : Module) (t u v : PlainToken) (ts : PlainTokens) → t.kind ≡ k.Module → u.kind ≡ k.Name → v.kind ≡ k.Semicolon
+    → parse_items budget budget (record { name = u.text; declarations = []; processes = [] }) ts ≡ Some (m, []) → parse_source budget (t ∷ u ∷ v ∷ ts) ≡ Some (m, [])
+unfolding parse_source
+source-is budget m t u v ts a b c read =
     let x = expect-is k.Module t (u ∷ v ∷ ts) a in let y = expect-is k.Name u (v ∷ ts) b in let z = expect-is k.Semicolon v ts c in rw (x, y, z, read)
 
-pub complete-source : {m : Module} {ts : PlainTokens} → IsModule m ts → (fuel : ℕ) → length ts ≤ fuel → source fuel ts ≡ Some (m, [])
-complete-source (spelled {ds = ds} {ps = ps} {t = t} {u = u} {v = v} {w = w} {ts = ts} a b c d end) fuel fits =
-    source-is fuel (record { name = u.text; declarations = ds; processes = ps }) t u v ts a b c
-    (complete-items d fuel fuel (record { name = u.text; declarations = []; processes = [] }) w [] refl (omega arith) (omega arith) end)
+pub complete-source : {m : Module} {ts : PlainTokens} → IsModule m ts → (budget : ℕ) → length ts ≤ budget → parse_source budget ts ≡ Some (m, [])
+complete-source (spelled {ds = ds} {ps = ps} {t = t} {u = u} {v = v} {w = w} {ts = ts} a b c d end) budget fits =
+    source-is budget (record { name = u.text; declarations = ds; processes = ps }) t u v ts a b c
+    (complete-items d budget budget (record { name = u.text; declarations = []; processes = [] }) w [] refl (omega arith) (omega arith) end)

@@ -9,11 +9,11 @@ use Rattle.grammar.specs.Cursor.{kind, sees, and_then, take, expect}
 use Rattle.tokens.specs.Tokens.{PlainToken, PlainTokens}
 use Rattle.logic4.specs.Vector.{Vector}
 use Rattle.model.specs.Syntax.{Text, Expression}
-use Rattle.model.specs.Trees.{expressions}
+use Rattle.model.specs.SourceTrees.{expressions}
 use Rattle.model.specs.Syntax as tree
 use Rattle.grammar.specs.Grammar.{operator, prefix, IsExpression, plain, chosen, IsBinary, operand, tighter, joined, IsUnary, bare, prefixed, IsPrimary, named, selected, sized, concatenated, nested, IsParts, last_part, next_part}
 use Rattle.grammar.specs.Reading as spec
-use Rattle.grammar.specs.Reading.{Parser, if_level, literal_by, parts_from, primary_by, unary_by, climb_by, continues, climb, whole, primary, choice_at, expression}
+use Rattle.grammar.specs.Reading.{Parser, if_level, literal_by, parse_list, primary_by, unary_by, operators_by, continues, parse_operators, parse_level, parse_primary, conditional_at, parse_expression}
 use Rattle.grammar.proofs.Steps.{and_then-cases, some-pair, take-some, expect-some, if-is, same_kind-true}
 
 -- an expression of that level, a whole one at level 0
@@ -94,8 +94,8 @@ whole_binary level e ts rest z (joined {op = op} {t = t} dl o dr) = absurd (let 
 next_level : (level : ℕ) (e : Expression Text) (ts rest : PlainTokens) → IsAt (level + 1) e ts rest → IsBinary (suc level) e ts rest
 next_level level e ts rest d = let q : level + 1 ≡ suc level = add-one level in subst (λ x. IsAt x e ts rest) q d
 
-sound-select : (t : PlainToken) (e : Expression Text) (us rest : PlainTokens) → t.kind ≡ k.Name → sees k.OpenSquare us ≡ true → spec.selected t.text us ≡ Some (e, rest) → IsPrimary e (t ∷ us) rest
-unfolding spec.selected
+sound-select : (t : PlainToken) (e : Expression Text) (us rest : PlainTokens) → t.kind ≡ k.Name → sees k.OpenSquare us ≡ true → spec.parse_select t.text us ≡ Some (e, rest) → IsPrimary e (t ∷ us) rest
+unfolding spec.parse_select
 sound-select t e us rest p o h =
     and_then-cases (take us) _ _ h (λ u vs took h1.
     and_then-cases (expect k.Decimal vs) _ _ h1 (λ v ws is_index h2.
@@ -107,8 +107,8 @@ sound-select t e us rest p o h =
     let end = expect-some k.CloseSquare ws w xs closed in
     rw (is, i.0, end.0, sym same.0, sym same.1) (selected p q i.1 end.1))))
 
-sound-named : (e : Expression Text) (ts rest : PlainTokens) → kind ts ≡ k.Name → spec.named ts ≡ Some (e, rest) → IsPrimary e ts rest
-unfolding spec.named
+sound-named : (e : Expression Text) (ts rest : PlainTokens) → kind ts ≡ k.Name → spec.parse_name ts ≡ Some (e, rest) → IsPrimary e ts rest
+unfolding spec.parse_name
 sound-named e ts rest p h =
     and_then-cases (take ts) _ _ h (λ t us took h1.
     let is = take-some ts t us took in
@@ -122,8 +122,8 @@ sound-literal : (o : Option Vector) (t : PlainToken) (e : Expression Text) (us r
 sound-literal None t e us rest is q h = absurd (cc)
 sound-literal (Some d) t e us rest is q h = let same = some-pair (tree.Literal d) e us rest h in rw (sym same.0, sym same.1) (sized q is)
 
-sound-sized : (e : Expression Text) (ts rest : PlainTokens) → kind ts ≡ k.Sized → spec.sized ts ≡ Some (e, rest) → IsPrimary e ts rest
-unfolding spec.sized
+sound-sized : (e : Expression Text) (ts rest : PlainTokens) → kind ts ≡ k.Sized → spec.parse_literal ts ≡ Some (e, rest) → IsPrimary e ts rest
+unfolding spec.parse_literal
 sound-sized e ts rest p h =
     and_then-cases (take ts) _ _ h (λ t us took h1.
     let is = take-some ts t us took in
@@ -138,22 +138,21 @@ pub record IsPartsRest (first : Expression Text) (found all : List (Expression T
 
 module _ (inner : ℕ → Parser (Expression Text))
     (sound : (level : ℕ) (e : Expression Text) (ts rest : PlainTokens) → level ≤ 10 → inner level ts ≡ Some (e, rest) → IsAt level e ts rest × (continues level (kind rest) ≡ None)) where
-  sound-nested : (e : Expression Text) (ts rest : PlainTokens) → kind ts ≡ k.Open → spec.nested inner ts ≡ Some (e, rest) → IsPrimary e ts rest
-  unfolding spec.nested
-  sound-nested e ts rest o h =
-      and_then-cases (take ts) _ _ h (λ t us took h1.
+  sound-nested : (e : Expression Text) (ts rest : PlainTokens) → spec.parse_parenthesized inner ts ≡ Some (e, rest) → IsPrimary e ts rest
+  unfolding spec.parse_parenthesized
+  sound-nested e ts rest h =
+      and_then-cases (expect k.Open ts) _ _ h (λ t us opened h1.
       and_then-cases (inner 0 us) _ _ h1 (λ a vs read h2.
       and_then-cases (expect k.Close vs) _ _ h2 (λ u ws closed h3.
       let same = some-pair a e ws rest h3 in
-      let is = take-some ts t us took in
+      let start = expect-some k.Open ts t us opened in
       let end = expect-some k.Close vs u ws closed in
-      let q : t.kind ≡ k.Open = sym (ap kind is) ∙ o in
       let d : IsExpression a us vs = (sound 0 a us vs (omega arith) read).0 in
-      rw (is, sym same.0, sym same.1) (nested q (rw end.0 at d) end.1))))
+      rw (start.0, sym same.0, sym same.1) (nested start.1 (rw end.0 at d) end.1))))
 
-  sound-parts : (m : ℕ) (first : Expression Text) (found all : List (Expression Text)) (ts us rest : PlainTokens) → IsExpression first ts us → parts_from inner m found us ≡ Some (all, rest)
+  sound-parts : (m : ℕ) (first : Expression Text) (found all : List (Expression Text)) (ts us rest : PlainTokens) → IsExpression first ts us → parse_list inner k.CloseCurly m found us ≡ Some (all, rest)
       → IsPartsRest first found all ts rest
-  unfolding parts_from
+  unfolding parse_list
   sound-parts zero first found all ts us rest d h = absurd (cc)
   sound-parts (suc m) first found all ts us rest d h = elim (if-is (sees k.Comma us) _ _ (Some (all, rest)) h) [
     | inl p ↦ and_then-cases (take us) _ _ p.1 (λ u vs took h1.
@@ -169,47 +168,47 @@ module _ (inner : ℕ → Parser (Expression Text))
         rw (sym same.0, sym same.1) (record { more = []; is_all = sym (append-nil found); spells = last_part (rw end.0 at d) end.1 }))
   ]
 
-  sound-concat : (fuel : ℕ) (e : Expression Text) (ts rest : PlainTokens) → kind ts ≡ k.OpenCurly → spec.concatenated inner fuel ts ≡ Some (e, rest) → IsPrimary e ts rest
-  unfolding spec.concatenated
-  sound-concat fuel e ts rest o h =
+  sound-concat : (budget : ℕ) (e : Expression Text) (ts rest : PlainTokens) → kind ts ≡ k.OpenCurly → spec.parse_concat inner budget ts ≡ Some (e, rest) → IsPrimary e ts rest
+  unfolding spec.parse_concat
+  sound-concat budget e ts rest o h =
       and_then-cases (take ts) _ _ h (λ t us took h1.
       and_then-cases (inner 0 us) _ _ h1 (λ a vs read h2.
-      and_then-cases (parts_from inner fuel [] vs) _ _ h2 (λ es ws others h3.
+      and_then-cases (parse_list inner k.CloseCurly budget [] vs) _ _ h2 (λ es ws others h3.
       let same = some-pair (tree.Concat (tree.Also a (expressions es))) e ws rest h3 in
       let is = take-some ts t us took in
       let q : t.kind ≡ k.OpenCurly = sym (ap kind is) ∙ o in
-      let r = sound-parts fuel a [] es us vs ws (sound 0 a us vs (omega arith) read).0 others in
+      let r = sound-parts budget a [] es us vs ws (sound 0 a us vs (omega arith) read).0 others in
       let d : IsParts (tree.Also a (expressions es)) us ws = rw r.is_all r.spells in
       rw (is, sym same.0, sym same.1) (concatenated q d))))
 
-  sound-primary : (fuel : ℕ) (e : Expression Text) (ts rest : PlainTokens) → primary inner fuel ts ≡ Some (e, rest) → IsPrimary e ts rest
-  unfolding primary
-  sound-primary fuel e ts rest h = by (kind ts) refl h where
-    by : (at : Kind) → kind ts ≡ at → primary_by inner fuel at ts ≡ Some (e, rest) → IsPrimary e ts rest
+  sound-primary : (budget : ℕ) (e : Expression Text) (ts rest : PlainTokens) → parse_primary inner budget ts ≡ Some (e, rest) → IsPrimary e ts rest
+  unfolding parse_primary
+  sound-primary budget e ts rest h = by (kind ts) refl h where
+    by : (at : Kind) → kind ts ≡ at → primary_by inner budget at ts ≡ Some (e, rest) → IsPrimary e ts rest
     by k.Name q h = sound-named e ts rest q h
     by k.Sized q h = sound-sized e ts rest q h
-    by k.OpenCurly q h = sound-concat fuel e ts rest q h
-    by k.Open q h = sound-nested e ts rest q h
+    by k.OpenCurly q h = sound-concat budget e ts rest q h
+    by k.Open q h = sound-nested e ts rest h
     by _ q h = absurd (cc)
 
-  sound-operand : (fuel : ℕ) (e : Expression Text) (ts rest : PlainTokens) → spec.operand inner fuel ts ≡ Some (e, rest) → IsUnary e ts rest
-  unfolding spec.operand
-  sound-operand fuel e ts rest h = by (prefix (kind ts)) refl h where
-    by : (o : Option UnaryOperator) → prefix (kind ts) ≡ o → unary_by inner fuel o ts ≡ Some (e, rest) → IsUnary e ts rest
-    by None is h = bare (sound-primary fuel e ts rest h)
+  sound-operand : (budget : ℕ) (e : Expression Text) (ts rest : PlainTokens) → spec.parse_operand inner budget ts ≡ Some (e, rest) → IsUnary e ts rest
+  unfolding spec.parse_operand
+  sound-operand budget e ts rest h = by (prefix (kind ts)) refl h where
+    by : (o : Option UnaryOperator) → prefix (kind ts) ≡ o → unary_by inner budget o ts ≡ Some (e, rest) → IsUnary e ts rest
+    by None is h = bare (sound-primary budget e ts rest h)
     by (Some op) found h =
         and_then-cases (take ts) _ _ h (λ t us took h1.
-        and_then-cases (primary inner fuel us) _ _ h1 (λ a vs read h2.
+        and_then-cases (parse_primary inner budget us) _ _ h1 (λ a vs read h2.
         let same = some-pair (tree.Unary op a) e vs rest h2 in
         let is = take-some ts t us took in
         let q : prefix t.kind ≡ Some op = sym (ap (λ x. prefix (kind x)) is) ∙ found in
-        rw (is, sym same.0, sym same.1) (prefixed q (sound-primary fuel a us vs read))))
+        rw (is, sym same.0, sym same.1) (prefixed q (sound-primary budget a us vs read))))
 
   -- One turn of the loop: what stands left is of level j, and no tighter operator comes next.
   sound-turn : (m level j : ℕ) (left e : Expression Text) (ts us rest : PlainTokens) → level ≤ j → IsBinary j left ts us → continues (j + 1) (kind us) ≡ None
       → ((s : ℕ) (more : Expression Text) (vs : PlainTokens) → level ≤ s → IsBinary s more ts vs → continues (s + 1) (kind vs) ≡ None
-      → climb inner m level more vs ≡ Some (e, rest) → IsBinary level e ts rest × (continues level (kind rest) ≡ None))
-      → (o : Option (ℕ × BinaryOperator)) → continues level (kind us) ≡ o → climb_by inner (climb inner m level) left o us ≡ Some (e, rest)
+      → parse_operators inner m level more vs ≡ Some (e, rest) → IsBinary level e ts rest × (continues level (kind rest) ≡ None))
+      → (o : Option (ℕ × BinaryOperator)) → continues level (kind us) ≡ o → operators_by inner (parse_operators inner m level) left o us ≡ Some (e, rest)
       → IsBinary level e ts rest × (continues level (kind rest) ≡ None)
   sound-turn m level j left e ts us rest w d stop again None none h =
       let same = some-pair left e us rest h in
@@ -228,15 +227,15 @@ module _ (inner : ℕ → Parser (Expression Text))
       again p.0 (tree.Binary p.1 left r) ws c.1 (joined (rw is at dl) q (next_level p.0 r vs ws s.0)) s.1 h2))
 
   sound-climb : (m level j : ℕ) (left e : Expression Text) (ts us rest : PlainTokens) → level ≤ j → IsBinary j left ts us → continues (j + 1) (kind us) ≡ None
-      → climb inner m level left us ≡ Some (e, rest) → IsBinary level e ts rest × (continues level (kind rest) ≡ None)
-  unfolding climb
+      → parse_operators inner m level left us ≡ Some (e, rest) → IsBinary level e ts rest × (continues level (kind rest) ≡ None)
+  unfolding parse_operators
   sound-climb zero level j left e ts us rest w d stop h = absurd (cc)
   sound-climb (suc m) level j left e ts us rest w d stop h =
       sound-turn m level j left e ts us rest w d stop (λ s more vs. sound-climb m level s more e ts vs rest) (continues level (kind us)) refl h
 
-  sound-chosen : (c e : Expression Text) (ts us rest : PlainTokens) → IsBinary 1 c ts us → sees k.Question us ≡ true → spec.chosen inner c us ≡ Some (e, rest)
+  sound-chosen : (c e : Expression Text) (ts us rest : PlainTokens) → IsBinary 1 c ts us → sees k.Question us ≡ true → spec.parse_conditional inner c us ≡ Some (e, rest)
       → IsExpression e ts rest × (continues 0 (kind rest) ≡ None)
-  unfolding spec.chosen
+  unfolding spec.parse_conditional
   sound-chosen c e ts us rest d o h =
       and_then-cases (take us) _ _ h (λ t vs took h1.
       and_then-cases (inner 0 vs) _ _ h1 (λ a ws read h2.
@@ -250,15 +249,15 @@ module _ (inner : ℕ → Parser (Expression Text))
       let db = sound 0 b xs ys (omega arith) read2 in
       (rw (sym same.0, sym same.1) (chosen (rw is at d) q (rw colon.0 at da.0) colon.1 db.0), rw (sym same.1) db.1)))))
 
-  sound-whole : (fuel level : ℕ) (e : Expression Text) (ts rest : PlainTokens) → level ≤ 10 → whole inner fuel level ts ≡ Some (e, rest)
+  sound-whole : (budget level : ℕ) (e : Expression Text) (ts rest : PlainTokens) → level ≤ 10 → parse_level inner budget level ts ≡ Some (e, rest)
       → IsAt level e ts rest × (continues level (kind rest) ≡ None)
-  unfolding whole
-  sound-whole fuel level e ts rest w h =
-      and_then-cases (and_then (spec.operand inner fuel ts) (climb inner fuel level)) _ _ h (λ left vs h1 h2.
-      and_then-cases (spec.operand inner fuel ts) _ _ h1 (λ first us h3 h4.
-      let d = sound-climb fuel level 10 first left ts us vs w (operand (sound-operand fuel first ts us h3)) (continues-none 11 (kind us) (omega arith)) h4 in
+  unfolding parse_level
+  sound-whole budget level e ts rest w h =
+      and_then-cases (and_then (spec.parse_operand inner budget ts) (parse_operators inner budget level)) _ _ h (λ left vs h1 h2.
+      and_then-cases (spec.parse_operand inner budget ts) _ _ h1 (λ first us h3 h4.
+      let d = sound-climb budget level 10 first left ts us vs w (operand (sound-operand budget first ts us h3)) (continues-none 11 (kind us) (omega arith)) h4 in
       at_level level left vs d h2)) where
-        at_level : (level : ℕ) (left : Expression Text) (vs : PlainTokens) → IsBinary level left ts vs × (continues level (kind vs) ≡ None) → choice_at inner level left vs ≡ Some (e, rest)
+        at_level : (level : ℕ) (left : Expression Text) (vs : PlainTokens) → IsBinary level left ts vs × (continues level (kind vs) ≡ None) → conditional_at inner level left vs ≡ Some (e, rest)
             → IsAt level e ts rest × (continues level (kind rest) ≡ None)
         at_level zero left vs d h2 =
             let dw : IsBinary 1 left ts vs = whole_binary 0 left ts vs refl d.0 in
@@ -268,7 +267,7 @@ module _ (inner : ℕ → Parser (Expression Text))
             ]
         at_level (suc level) left vs d h2 = let same = some-pair left e vs rest h2 in (rw (sym same.0, sym same.1) d.0, rw (sym same.1) d.1)
 
-pub sound-expression : (fuel level : ℕ) (e : Expression Text) (ts rest : PlainTokens) → level ≤ 10 → expression fuel level ts ≡ Some (e, rest)
+pub sound-expression : (budget level : ℕ) (e : Expression Text) (ts rest : PlainTokens) → level ≤ 10 → parse_expression budget level ts ≡ Some (e, rest)
     → IsAt level e ts rest × (continues level (kind rest) ≡ None)
 sound-expression zero level e ts rest w h = absurd (cc)
-sound-expression (suc fuel) level e ts rest w h = sound-whole (expression fuel) (sound-expression fuel) fuel level e ts rest w h
+sound-expression (suc budget) level e ts rest w h = sound-whole (parse_expression budget) (sound-expression budget) budget level e ts rest w h

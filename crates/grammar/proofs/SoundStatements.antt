@@ -1,5 +1,5 @@
 -- What the parsers of statements and modules read is spelled.
-use Rattle.std.proofs.Common.{◌≡◌, ℕ, zero, suc, List, [], ◌∷◌, ◌++◌, Bool, true, inl, inr, Option, Some, None, refl, sym, ap, ◌∙◌, append_assoc, append-nil, arith}
+use Rattle.std.proofs.Common.{◌≡◌, ℕ, zero, suc, List, [], ◌∷◌, ◌++◌, Bool, true, inl, inr, Option, Some, None, refl, sym, ap, subst, ◌∙◌, append_assoc, append-nil, arith}
 use Rattle.tokens.specs.declared.token.Kind.{Kind}
 use Rattle.tokens.specs.declared.token.Kind.TheVariants as k
 use Rattle.tokens.specs.Tokens.{PlainToken, PlainTokens}
@@ -8,18 +8,18 @@ use Rattle.model.specs.declared.tree.Task.{Task}
 use Rattle.model.specs.declared.tree.Change.{Change}
 use Rattle.model.specs.declared.tree.Change.TheVariants.{Any}
 use Rattle.grammar.specs.Cursor.{kind, sees, done, take, expect}
-use Rattle.model.specs.Syntax.{Text, Expression, Statement, Statements, Declaration, Process, Module}
-use Rattle.model.specs.Trees.{expressions, statements}
+use Rattle.model.specs.Syntax.{Text, Expression, Statement, Declaration, Process, Module}
+use Rattle.model.specs.SourceTrees.{expressions, statements}
 use Rattle.grammar.specs.Nodes.{Trigger}
 use Rattle.model.specs.Syntax as tree
 use Rattle.grammar.specs.Grammar.{IsExpression, IsDelay, no_delay, some_delay, change_of, IsTrigger, any, edge, separates, IsTriggers, last_trigger, next_trigger, IsArguments, no_argument, one_argument, IsStatement, emptied, grouped, assigned, assigned_later, delayed, awaited, branched, branched_else, looped, printed, task_kind, finished, IsBlock, begun, IsStatements, no_more, one_more, IsRange, no_range, some_range, IsNames, last_name, next_name, repeats_of, IsItems, no_items, regs, proc, IsModule, spelled}
 use Rattle.grammar.specs.Reading as spec
-use Rattle.grammar.specs.Reading.{Parser, trigger_by, triggers_from, arguments_from, statements_from, form_by, statement, names_from, item_by, items_from, source}
+use Rattle.grammar.specs.Reading.{Parser, event_by, parse_events, parse_list, parse_statements, form_by, parse_statement, parse_names, item_by, parse_items, parse_source}
 use Rattle.grammar.proofs.Steps.{and_then-cases, some-pair, take-some, expect-some, if-is, same_kind-true}
 use Rattle.grammar.proofs.Sound.{sound-expression}
 
-sound-delay : (d : Option ℕ) (ts rest : PlainTokens) → spec.delay ts ≡ Some (d, rest) → IsDelay d ts rest
-unfolding spec.delay
+sound-delay : (d : Option ℕ) (ts rest : PlainTokens) → spec.parse_delay ts ≡ Some (d, rest) → IsDelay d ts rest
+unfolding spec.parse_delay
 sound-delay d ts rest h = elim (if-is (sees k.Hash ts) _ _ (Some (d, rest)) h) [
   | inl p ↦ and_then-cases (take ts) _ _ p.1 (λ t us took h1.
       and_then-cases (expect k.Decimal us) _ _ h1 (λ u vs number h2.
@@ -39,44 +39,44 @@ pub record IsValue (p : Option ℕ × Expression Text) (ts rest : PlainTokens) :
   pub spells : IsExpression p.1 between (end ∷ rest)
   pub ends : end.kind ≡ k.Semicolon
 
-sound-value : (fuel : ℕ) (p : Option ℕ × Expression Text) (ts rest : PlainTokens) → spec.value fuel ts ≡ Some (p, rest) → IsValue p ts rest
-unfolding spec.value
-sound-value fuel p ts rest h =
-    and_then-cases (spec.delay ts) _ _ h (λ d us waits h1.
-    and_then-cases (spec.expression fuel 0 us) _ _ h1 (λ e vs read h2.
+sound-value : (budget : ℕ) (p : Option ℕ × Expression Text) (ts rest : PlainTokens) → spec.parse_value budget ts ≡ Some (p, rest) → IsValue p ts rest
+unfolding spec.parse_value
+sound-value budget p ts rest h =
+    and_then-cases (spec.parse_delay ts) _ _ h (λ d us waits h1.
+    and_then-cases (spec.parse_expression budget 0 us) _ _ h1 (λ e vs read h2.
     and_then-cases (expect k.Semicolon vs) _ _ h2 (λ v ws ended h3.
     let made : Option ℕ × Expression Text = (d, e) in
     let same = some-pair made p ws rest h3 in
     let end = expect-some k.Semicolon vs v ws ended in
-    let x : IsExpression e us vs = (sound-expression fuel 0 e us vs (omega arith) read).0 in
+    let x : IsExpression e us vs = (sound-expression budget 0 e us vs (omega arith) read).0 in
     rw (sym same.0, sym same.1) (record { between = us; end = v; waits = sound-delay d ts us waits; spells = rw end.0 at x; ends = end.1 }))))
 
-sound-assign : (fuel : ℕ) (s : Statement) (ts rest : PlainTokens) → kind ts ≡ k.Name → spec.assign fuel ts ≡ Some (s, rest) → IsStatement s ts rest
-unfolding spec.assign
-sound-assign fuel s ts rest q h =
+sound-assign : (budget : ℕ) (s : Statement) (ts rest : PlainTokens) → kind ts ≡ k.Name → spec.parse_assign budget ts ≡ Some (s, rest) → IsStatement s ts rest
+unfolding spec.parse_assign
+sound-assign budget s ts rest q h =
     and_then-cases (take ts) _ _ h (λ t us took h1.
     let is = take-some ts t us took in
     let p : t.kind ≡ k.Name = sym (ap kind is) ∙ q in
     elim (if-is (sees k.AtMost us) _ _ (Some (s, rest)) h1) [
       | inl c ↦ and_then-cases (take us) _ _ c.1 (λ u vs took2 h2.
-          and_then-cases (spec.value fuel vs) _ _ h2 (λ x ws read h3.
+          and_then-cases (spec.parse_value budget vs) _ _ h2 (λ x ws read h3.
           let same = some-pair (tree.AssignLater t.text x.0 x.1) s ws rest h3 in
           let at = take-some us u vs took2 in
           let sign : u.kind ≡ k.AtMost = sym (ap kind at) ∙ same_kind-true _ _ c.0 in
-          let d = sound-value fuel x vs ws read in
+          let d = sound-value budget x vs ws read in
           rw (is, at, sym same.0, sym same.1) (assigned_later p sign d.waits d.spells d.ends)))
       | inr c ↦ and_then-cases (expect k.Assign us) _ _ c.1 (λ u vs signed h2.
-          and_then-cases (spec.value fuel vs) _ _ h2 (λ x ws read h3.
+          and_then-cases (spec.parse_value budget vs) _ _ h2 (λ x ws read h3.
           let same = some-pair (tree.Assign t.text x.0 x.1) s ws rest h3 in
           let sign = expect-some k.Assign us u vs signed in
-          let d = sound-value fuel x vs ws read in
+          let d = sound-value budget x vs ws read in
           rw (is, sign.0, sym same.0, sym same.1) (assigned p sign.1 d.waits d.spells d.ends)))
     ])
 
-sound-trigger : (e : Trigger) (ts rest : PlainTokens) → spec.trigger ts ≡ Some (e, rest) → IsTrigger e ts rest
-unfolding spec.trigger
+sound-trigger : (e : Trigger) (ts rest : PlainTokens) → spec.parse_event ts ≡ Some (e, rest) → IsTrigger e ts rest
+unfolding spec.parse_event
 sound-trigger e ts rest h = by (change_of (kind ts)) refl h where
-  by : (o : Option Change) → change_of (kind ts) ≡ o → trigger_by o ts ≡ Some (e, rest) → IsTrigger e ts rest
+  by : (o : Option Change) → change_of (kind ts) ≡ o → event_by o ts ≡ Some (e, rest) → IsTrigger e ts rest
   by None q h =
       and_then-cases (expect k.Name ts) _ _ h (λ t us named h1.
       let made : Trigger = (Any, t.text) in
@@ -98,11 +98,11 @@ pub record IsTriggersRest (found all : List Trigger) (ts rest : PlainTokens) : T
   pub is_all : all ≡ found ++ more
   pub spells : IsTriggers more ts rest
 
-sound-triggers : (m : ℕ) (found all : List Trigger) (ts rest : PlainTokens) → triggers_from m found ts ≡ Some (all, rest) → IsTriggersRest found all ts rest
-unfolding triggers_from
+sound-triggers : (m : ℕ) (found all : List Trigger) (ts rest : PlainTokens) → parse_events m found ts ≡ Some (all, rest) → IsTriggersRest found all ts rest
+unfolding parse_events
 sound-triggers zero found all ts rest h = absurd (cc)
 sound-triggers (suc m) found all ts rest h =
-    and_then-cases (spec.trigger ts) _ _ h (λ e us read h1.
+    and_then-cases (spec.parse_event ts) _ _ h (λ e us read h1.
     let d = sound-trigger e ts us read in
     elim (if-is (separates (kind us)) _ _ (Some (all, rest)) h1) [
       | inl p ↦ and_then-cases (take us) _ _ p.1 (λ u vs took h2.
@@ -121,16 +121,16 @@ pub record IsArgumentsRest (found all : List (Expression Text)) (ts rest : Plain
   pub is_all : all ≡ found ++ more
   pub spells : IsArguments (expressions more) ts rest
 
-sound-arguments : (fuel m : ℕ) (found all : List (Expression Text)) (ts rest : PlainTokens) → arguments_from fuel m found ts ≡ Some (all, rest) → IsArgumentsRest found all ts rest
-unfolding arguments_from
-sound-arguments fuel zero found all ts rest h = absurd (cc)
-sound-arguments fuel (suc m) found all ts rest h = elim (if-is (sees k.Comma ts) _ _ (Some (all, rest)) h) [
+sound-arguments : (budget m : ℕ) (found all : List (Expression Text)) (ts rest : PlainTokens) → parse_list (spec.parse_expression budget) k.Close m found ts ≡ Some (all, rest) → IsArgumentsRest found all ts rest
+unfolding parse_list
+sound-arguments budget zero found all ts rest h = absurd (cc)
+sound-arguments budget (suc m) found all ts rest h = elim (if-is (sees k.Comma ts) _ _ (Some (all, rest)) h) [
   | inl p ↦ and_then-cases (take ts) _ _ p.1 (λ t us took h1.
-      and_then-cases (spec.expression fuel 0 us) _ _ h1 (λ e vs read h2.
+      and_then-cases (spec.parse_expression budget 0 us) _ _ h1 (λ e vs read h2.
       let is = take-some ts t us took in
       let q : t.kind ≡ k.Comma = sym (ap kind is) ∙ same_kind-true _ _ p.0 in
-      let d : IsExpression e us vs = (sound-expression fuel 0 e us vs (omega arith) read).0 in
-      let r = sound-arguments fuel m (found ++ e ∷ []) all vs rest h2 in
+      let d : IsExpression e us vs = (sound-expression budget 0 e us vs (omega arith) read).0 in
+      let r = sound-arguments budget m (found ++ e ∷ []) all vs rest h2 in
       rw is (record { more = e ∷ r.more; is_all = r.is_all ∙ append_assoc found (e ∷ []) r.more; spells = one_argument q d r.spells })))
   | inr p ↦ and_then-cases (expect k.Close ts) _ _ p.1 (λ t us ended h1.
       let end = expect-some k.Close ts t us ended in
@@ -138,13 +138,13 @@ sound-arguments fuel (suc m) found all ts rest h = elim (if-is (sees k.Comma ts)
       rw (end.0, sym same.0, sym same.1) (record { more = []; is_all = sym (append-nil found); spells = no_argument end.1 }))
 ]
 
-sound-print : (task : Task) (fuel : ℕ) (s : Statement) (ts rest : PlainTokens) → kind ts ≡ task_kind task → spec.print task fuel ts ≡ Some (s, rest) → IsStatement s ts rest
-unfolding spec.print
-sound-print task fuel s ts rest q h =
+sound-print : (task : Task) (budget : ℕ) (s : Statement) (ts rest : PlainTokens) → kind ts ≡ task_kind task → spec.parse_print task budget ts ≡ Some (s, rest) → IsStatement s ts rest
+unfolding spec.parse_print
+sound-print task budget s ts rest q h =
     and_then-cases (take ts) _ _ h (λ t us took h1.
     and_then-cases (expect k.Open us) _ _ h1 (λ u vs opened h2.
     and_then-cases (expect k.Text vs) _ _ h2 (λ v ws format h3.
-    and_then-cases (arguments_from fuel fuel [] ws) _ _ h3 (λ es xs read h4.
+    and_then-cases (parse_list (spec.parse_expression budget) k.Close budget [] ws) _ _ h3 (λ es xs read h4.
     and_then-cases (expect k.Semicolon xs) _ _ h4 (λ x ys ended h5.
     let same = some-pair (tree.Print task (string_text v.text) (expressions es)) s ys rest h5 in
     let is = take-some ts t us took in
@@ -152,12 +152,12 @@ sound-print task fuel s ts rest q h =
     let start = expect-some k.Open us u vs opened in
     let f = expect-some k.Text vs v ws format in
     let end = expect-some k.Semicolon xs x ys ended in
-    let r = sound-arguments fuel fuel [] es ws xs read in
+    let r = sound-arguments budget budget [] es ws xs read in
     let d : IsArguments (expressions es) ws xs = rw r.is_all r.spells in
     rw (is, start.0, f.0, sym same.0, sym same.1) (printed p start.1 f.1 (rw end.0 at d) end.1))))))
 
-sound-finish : (s : Statement) (ts rest : PlainTokens) → kind ts ≡ k.Finish → spec.finish ts ≡ Some (s, rest) → IsStatement s ts rest
-unfolding spec.finish
+sound-finish : (s : Statement) (ts rest : PlainTokens) → kind ts ≡ k.Finish → spec.parse_finish ts ≡ Some (s, rest) → IsStatement s ts rest
+unfolding spec.parse_finish
 sound-finish s ts rest q h =
     and_then-cases (take ts) _ _ h (λ t us took h1.
     and_then-cases (expect k.Semicolon us) _ _ h1 (λ u vs ended h2.
@@ -177,17 +177,26 @@ pub record IsCondition (e : Expression Text) (ts rest : PlainTokens) : Type 0 wh
   pub spells : IsExpression e inside (close ∷ rest)
   pub closes : close.kind ≡ k.Close
 
-sound-condition : (fuel : ℕ) (e : Expression Text) (ts rest : PlainTokens) → spec.condition fuel ts ≡ Some (e, rest) → IsCondition e ts rest
-unfolding spec.condition
-sound-condition fuel e ts rest h =
+sound-condition : (budget : ℕ) (e : Expression Text) (ts rest : PlainTokens) → spec.parse_parenthesized (spec.parse_expression budget) ts ≡ Some (e, rest) → IsCondition e ts rest
+unfolding spec.parse_parenthesized
+sound-condition budget e ts rest h =
     and_then-cases (expect k.Open ts) _ _ h (λ t us opened h1.
-    and_then-cases (spec.expression fuel 0 us) _ _ h1 (λ a vs read h2.
+    and_then-cases (spec.parse_expression budget 0 us) _ _ h1 (λ a vs read h2.
     and_then-cases (expect k.Close vs) _ _ h2 (λ u ws closed h3.
     let same = some-pair a e ws rest h3 in
     let start = expect-some k.Open ts t us opened in
     let end = expect-some k.Close vs u ws closed in
-    let d : IsExpression a us vs = (sound-expression fuel 0 a us vs (omega arith) read).0 in
+    let d : IsExpression a us vs = (sound-expression budget 0 a us vs (omega arith) read).0 in
     rw (sym same.0, sym same.1) (record { start = t; close = u; inside = us; is_start = start.0; opens = start.1; spells = rw end.0 at d; closes = end.1 }))))
+
+-- an expression in parentheses and a block, behind a word
+pub record IsGuarded (p : Expression Text × List Statement) (ts rest : PlainTokens) : Type 0 where
+  pub word : PlainToken
+  pub inside : PlainTokens
+  pub between : PlainTokens
+  pub is_word : ts ≡ word ∷ inside
+  pub test : IsCondition p.0 inside between
+  pub block : IsBlock (statements p.1) between rest
 
 -- statements, and the end of the block
 pub record IsRest (found all : List Statement) (ts rest : PlainTokens) : Type 0 where
@@ -198,8 +207,8 @@ pub record IsRest (found all : List Statement) (ts rest : PlainTokens) : Type 0 
   pub ends : end.kind ≡ k.EndBlock
 
 module _ (inner : Parser Statement) (sound : (s : Statement) (ts rest : PlainTokens) → inner ts ≡ Some (s, rest) → IsStatement s ts rest) where
-  sound-statements : (m : ℕ) (found all : List Statement) (ts rest : PlainTokens) → statements_from inner m found ts ≡ Some (all, rest) → IsRest found all ts rest
-  unfolding statements_from
+  sound-statements : (m : ℕ) (found all : List Statement) (ts rest : PlainTokens) → parse_statements inner m found ts ≡ Some (all, rest) → IsRest found all ts rest
+  unfolding parse_statements
   sound-statements zero found all ts rest h = absurd (cc)
   sound-statements (suc m) found all ts rest h = elim (if-is (sees k.EndBlock ts) _ _ (Some (all, rest)) h) [
     | inl p ↦ and_then-cases (take ts) _ _ p.1 (λ t us took h1.
@@ -213,52 +222,59 @@ module _ (inner : Parser Statement) (sound : (s : Statement) (ts rest : PlainTok
         record { more = s ∷ r.more; is_all = r.is_all ∙ append_assoc found (s ∷ []) r.more; end = r.end; spells = one_more d r.spells; ends = r.ends })
   ]
 
-  sound-block : (fuel : ℕ) (body : List Statement) (ts rest : PlainTokens) → spec.block inner fuel ts ≡ Some (body, rest) → IsBlock (statements body) ts rest
-  unfolding spec.block
-  sound-block fuel body ts rest h =
+  sound-block : (budget : ℕ) (body : List Statement) (ts rest : PlainTokens) → spec.parse_block inner budget ts ≡ Some (body, rest) → IsBlock (statements body) ts rest
+  unfolding spec.parse_block
+  sound-block budget body ts rest h =
       and_then-cases (expect k.Begin ts) _ _ h (λ t us begun_by h1.
       let start = expect-some k.Begin ts t us begun_by in
-      let r = sound-statements fuel [] body us rest h1 in
+      let r = sound-statements budget [] body us rest h1 in
       rw (start.0, r.is_all) (begun start.1 r.spells r.ends))
 
-  sound-branch : (fuel : ℕ) (s : Statement) (ts rest : PlainTokens) → kind ts ≡ k.If → spec.branch inner fuel ts ≡ Some (s, rest) → IsStatement s ts rest
-  unfolding spec.branch spec.otherwise
-  sound-branch fuel s ts rest q h =
+  sound-guarded : (budget : ℕ) (p : Expression Text × List Statement) (ts rest : PlainTokens) → spec.parse_guarded inner budget ts ≡ Some (p, rest) → IsGuarded p ts rest
+  unfolding spec.parse_guarded
+  sound-guarded budget p ts rest h =
       and_then-cases (take ts) _ _ h (λ t us took h1.
-      and_then-cases (spec.condition fuel us) _ _ h1 (λ e vs read h2.
-      and_then-cases (spec.block inner fuel vs) _ _ h2 (λ body ws read_body h3.
+      and_then-cases (spec.parse_parenthesized (spec.parse_expression budget) us) _ _ h1 (λ e vs read h2.
+      and_then-cases (spec.parse_block inner budget vs) _ _ h2 (λ body ws read_body h3.
+      let made : Expression Text × List Statement = (e, body) in
+      let same = some-pair made p ws rest h3 in
       let is = take-some ts t us took in
-      let p : t.kind ≡ k.If = sym (ap kind is) ∙ q in
-      let c = sound-condition fuel e us vs read in
-      let b = sound-block fuel body vs ws read_body in
-      elim (if-is (sees k.Else ws) _ _ (Some (s, rest)) h3) [
-        | inl e1 ↦ and_then-cases (take ws) _ _ e1.1 (λ w xs took_else h4.
-            and_then-cases (spec.block inner fuel xs) _ _ h4 (λ other ys read_other h5.
-            let same = some-pair (tree.IfElse e (statements body) (statements other)) s ys rest h5 in
+      let c = sound-condition budget e us vs read in
+      let b = sound-block budget body vs ws read_body in
+      rw (sym same.0, sym same.1) (record { word = t; inside = us; between = vs; is_word = is; test = c; block = b }))))
+
+  sound-branch : (budget : ℕ) (s : Statement) (ts rest : PlainTokens) → kind ts ≡ k.If → spec.parse_if inner budget ts ≡ Some (s, rest) → IsStatement s ts rest
+  unfolding spec.parse_if spec.parse_else
+  sound-branch budget s ts rest q h =
+      and_then-cases (spec.parse_guarded inner budget ts) _ _ h (λ p ws read h1.
+      let g = sound-guarded budget p ts ws read in
+      let c = g.test in
+      let word : g.word.kind ≡ k.If = sym (ap kind g.is_word) ∙ q in
+      elim (if-is (sees k.Else ws) _ _ (Some (s, rest)) h1) [
+        | inl e1 ↦ and_then-cases (take ws) _ _ e1.1 (λ w xs took_else h2.
+            and_then-cases (spec.parse_block inner budget xs) _ _ h2 (λ other ys read_other h3.
+            let same = some-pair (tree.IfElse p.0 (statements p.1) (statements other)) s ys rest h3 in
             let at = take-some ws w xs took_else in
-            let o = sound-block fuel other xs ys read_other in
+            let o = sound-block budget other xs ys read_other in
             let q_else : w.kind ≡ k.Else = sym (ap kind at) ∙ same_kind-true _ _ e1.0 in
-            rw (is, c.is_start, sym same.0, sym same.1) (branched_else p c.opens c.spells c.closes (rw at at b) q_else o)))
+            rw (g.is_word, c.is_start, sym same.0, sym same.1) (branched_else word c.opens c.spells c.closes (subst (λ x. IsBlock (statements p.1) g.between x) at g.block) q_else o)))
         | inr e1 ↦ (
-            let same = some-pair (tree.If e (statements body)) s ws rest e1.1 in
-            rw (is, c.is_start, sym same.0, sym same.1) (branched p c.opens c.spells c.closes b))
-      ])))
+            let same = some-pair (tree.If p.0 (statements p.1)) s ws rest e1.1 in
+            rw (g.is_word, c.is_start, sym same.0, sym same.1) (branched word c.opens c.spells c.closes g.block))
+      ])
 
-  sound-loop : (fuel : ℕ) (s : Statement) (ts rest : PlainTokens) → kind ts ≡ k.While → spec.looped inner fuel ts ≡ Some (s, rest) → IsStatement s ts rest
-  unfolding spec.looped
-  sound-loop fuel s ts rest q h =
-      and_then-cases (take ts) _ _ h (λ t us took h1.
-      and_then-cases (spec.condition fuel us) _ _ h1 (λ e vs read h2.
-      and_then-cases (spec.block inner fuel vs) _ _ h2 (λ body ws read_body h3.
-      let same = some-pair (tree.While e (statements body)) s ws rest h3 in
-      let is = take-some ts t us took in
-      let p : t.kind ≡ k.While = sym (ap kind is) ∙ q in
-      let c = sound-condition fuel e us vs read in
-      let b = sound-block fuel body vs ws read_body in
-      rw (is, c.is_start, sym same.0, sym same.1) (looped p c.opens c.spells c.closes b))))
+  sound-loop : (budget : ℕ) (s : Statement) (ts rest : PlainTokens) → kind ts ≡ k.While → spec.parse_while inner budget ts ≡ Some (s, rest) → IsStatement s ts rest
+  unfolding spec.parse_while
+  sound-loop budget s ts rest q h =
+      and_then-cases (spec.parse_guarded inner budget ts) _ _ h (λ p ws read h1.
+      let g = sound-guarded budget p ts ws read in
+      let c = g.test in
+      let word : g.word.kind ≡ k.While = sym (ap kind g.is_word) ∙ q in
+      let same = some-pair (tree.While p.0 (statements p.1)) s ws rest h1 in
+      rw (g.is_word, c.is_start, sym same.0, sym same.1) (looped word c.opens c.spells c.closes g.block))
 
-  sound-delayed : (s : Statement) (ts rest : PlainTokens) → kind ts ≡ k.Hash → spec.delayed inner ts ≡ Some (s, rest) → IsStatement s ts rest
-  unfolding spec.delayed
+  sound-delayed : (s : Statement) (ts rest : PlainTokens) → kind ts ≡ k.Hash → spec.parse_delayed inner ts ≡ Some (s, rest) → IsStatement s ts rest
+  unfolding spec.parse_delayed
   sound-delayed s ts rest q h =
       and_then-cases (take ts) _ _ h (λ t us took h1.
       and_then-cases (expect k.Decimal us) _ _ h1 (λ u vs number h2.
@@ -270,10 +286,10 @@ module _ (inner : Parser Statement) (sound : (s : Statement) (ts rest : PlainTok
       let d = sound x vs ws read in
       rw (is, n.0, sym same.0, sym same.1) (delayed p n.1 d))))
 
-  sound-awaited : (fuel : ℕ) (s : Statement) (ts rest : PlainTokens) → kind ts ≡ k.At → spec.awaited inner fuel ts ≡ Some (s, rest) → IsStatement s ts rest
-  unfolding spec.awaited spec.events
-  sound-awaited fuel s ts rest q h =
-      and_then-cases (spec.events fuel ts) _ _ h (λ es vs read h1.
+  sound-awaited : (budget : ℕ) (s : Statement) (ts rest : PlainTokens) → kind ts ≡ k.At → spec.parse_awaited inner budget ts ≡ Some (s, rest) → IsStatement s ts rest
+  unfolding spec.parse_awaited spec.parse_event_control
+  sound-awaited budget s ts rest q h =
+      and_then-cases (spec.parse_event_control budget ts) _ _ h (λ es vs read h1.
       and_then-cases (inner vs) _ _ h1 (λ x ws read_body h2.
       and_then-cases (take ts) _ _ read (λ t us took h3.
       and_then-cases (expect k.Open us) _ _ h3 (λ u xs opened h4.
@@ -281,15 +297,15 @@ module _ (inner : Parser Statement) (sound : (s : Statement) (ts rest : PlainTok
       let is = take-some ts t us took in
       let p : t.kind ≡ k.At = sym (ap kind is) ∙ q in
       let start = expect-some k.Open us u xs opened in
-      let r = sound-triggers fuel [] es xs vs h4 in
+      let r = sound-triggers budget [] es xs vs h4 in
       let d : IsTriggers es xs vs = rw r.is_all r.spells in
       let b = sound x vs ws read_body in
       rw (is, start.0, sym same.0, sym same.1) (awaited p start.1 d b)))))
 
-  sound-form : (fuel : ℕ) (s : Statement) (ts rest : PlainTokens) → spec.statement_form inner fuel ts ≡ Some (s, rest) → IsStatement s ts rest
-  unfolding spec.statement_form
-  sound-form fuel s ts rest h = by (kind ts) refl h where
-    by : (at : Kind) → kind ts ≡ at → form_by inner fuel at ts ≡ Some (s, rest) → IsStatement s ts rest
+  sound-form : (budget : ℕ) (s : Statement) (ts rest : PlainTokens) → spec.parse_form inner budget ts ≡ Some (s, rest) → IsStatement s ts rest
+  unfolding spec.parse_form
+  sound-form budget s ts rest h = by (kind ts) refl h where
+    by : (at : Kind) → kind ts ≡ at → form_by inner budget at ts ≡ Some (s, rest) → IsStatement s ts rest
     by k.Semicolon q h =
         and_then-cases (take ts) _ _ h (λ t us took h1.
         let same = some-pair tree.Empty s us rest h1 in
@@ -297,23 +313,23 @@ module _ (inner : Parser Statement) (sound : (s : Statement) (ts rest : PlainTok
         let p : t.kind ≡ k.Semicolon = sym (ap kind is) ∙ q in
         rw (is, sym same.0, sym same.1) (emptied p))
     by k.Begin q h =
-        and_then-cases (spec.block inner fuel ts) _ _ h (λ body us read h1.
+        and_then-cases (spec.parse_block inner budget ts) _ _ h (λ body us read h1.
         let same = some-pair (tree.Block (statements body)) s us rest h1 in
-        let b = sound-block fuel body ts us read in
+        let b = sound-block budget body ts us read in
         rw (sym same.0, sym same.1) (grouped b))
-    by k.Name q h = sound-assign fuel s ts rest q h
-    by k.If q h = sound-branch fuel s ts rest q h
-    by k.While q h = sound-loop fuel s ts rest q h
+    by k.Name q h = sound-assign budget s ts rest q h
+    by k.If q h = sound-branch budget s ts rest q h
+    by k.While q h = sound-loop budget s ts rest q h
     by k.Hash q h = sound-delayed s ts rest q h
-    by k.At q h = sound-awaited fuel s ts rest q h
-    by k.Display q h = sound-print Task.Display fuel s ts rest q h
-    by k.Strobe q h = sound-print Task.Strobe fuel s ts rest q h
+    by k.At q h = sound-awaited budget s ts rest q h
+    by k.Display q h = sound-print Task.Display budget s ts rest q h
+    by k.Strobe q h = sound-print Task.Strobe budget s ts rest q h
     by k.Finish q h = sound-finish s ts rest q h
     by _ q h = absurd (cc)
 
-pub sound-statement : (fuel : ℕ) (s : Statement) (ts rest : PlainTokens) → statement fuel ts ≡ Some (s, rest) → IsStatement s ts rest
+pub sound-statement : (budget : ℕ) (s : Statement) (ts rest : PlainTokens) → parse_statement budget ts ≡ Some (s, rest) → IsStatement s ts rest
 sound-statement zero s ts rest h = absurd (cc)
-sound-statement (suc fuel) s ts rest h = sound-form (statement fuel) (sound-statement fuel) fuel s ts rest h
+sound-statement (suc budget) s ts rest h = sound-form (parse_statement budget) (sound-statement budget) budget s ts rest h
 
 -- ---- modules
 
@@ -322,8 +338,8 @@ pub record IsNamed (found all : List Text) (ts rest : PlainTokens) : Type 0 wher
   pub is_all : all ≡ found ++ more
   pub spells : IsNames more ts rest
 
-sound-names : (m : ℕ) (found all : List Text) (ts rest : PlainTokens) → names_from m found ts ≡ Some (all, rest) → IsNamed found all ts rest
-unfolding names_from
+sound-names : (m : ℕ) (found all : List Text) (ts rest : PlainTokens) → parse_names m found ts ≡ Some (all, rest) → IsNamed found all ts rest
+unfolding parse_names
 sound-names zero found all ts rest h = absurd (cc)
 sound-names (suc m) found all ts rest h =
     and_then-cases (expect k.Name ts) _ _ h (λ t us named h1.
@@ -340,10 +356,10 @@ sound-names (suc m) found all ts rest h =
           rw (start.0, end.0, sym same.1) (record { more = t.text ∷ []; is_all = sym same.0; spells = last_name start.1 end.1 }))
     ])
 
-sound-range : (r : Option (ℕ × ℕ)) (ts rest : PlainTokens) → spec.range ts ≡ Some (r, rest) → IsRange r ts rest
-unfolding spec.range spec.bounds
+sound-range : (r : Option (ℕ × ℕ)) (ts rest : PlainTokens) → spec.parse_range ts ≡ Some (r, rest) → IsRange r ts rest
+unfolding spec.parse_range spec.parse_bounds
 sound-range r ts rest h = elim (if-is (sees k.OpenSquare ts) _ _ (Some (r, rest)) h) [
-  | inl p ↦ and_then-cases (spec.bounds ts) _ _ p.1 (λ b ys read h1.
+  | inl p ↦ and_then-cases (spec.parse_bounds ts) _ _ p.1 (λ b ys read h1.
       and_then-cases (take ts) _ _ read (λ t us took h2.
       and_then-cases (expect k.Decimal us) _ _ h2 (λ u vs first h3.
       and_then-cases (expect k.Colon vs) _ _ h3 (λ v ws colon h4.
@@ -363,32 +379,32 @@ sound-range r ts rest h = elim (if-is (sees k.OpenSquare ts) _ _ (Some (r, rest)
 ]
 
 -- a declaration, before further items
-sound-declaration : (fuel : ℕ) (d : Declaration) (ds : List Declaration) (ps : List Process) (ts us rest : PlainTokens) → sees k.Reg ts ≡ true → spec.declaration fuel ts ≡ Some (d, us) → IsItems ds ps us rest
+sound-declaration : (budget : ℕ) (d : Declaration) (ds : List Declaration) (ps : List Process) (ts us rest : PlainTokens) → sees k.Reg ts ≡ true → spec.parse_declaration budget ts ≡ Some (d, us) → IsItems ds ps us rest
     → IsItems (d ∷ ds) ps ts rest
-unfolding spec.declaration
-sound-declaration fuel d ds ps ts us rest o h more =
+unfolding spec.parse_declaration
+sound-declaration budget d ds ps ts us rest o h more =
     and_then-cases (take ts) _ _ h (λ t vs took h1.
-    and_then-cases (spec.range vs) _ _ h1 (λ r ws read h2.
-    and_then-cases (names_from fuel [] ws) _ _ h2 (λ ns xs read_names h3.
+    and_then-cases (spec.parse_range vs) _ _ h1 (λ r ws read h2.
+    and_then-cases (parse_names budget [] ws) _ _ h2 (λ ns xs read_names h3.
     let made : Declaration = record { range = r; names = ns } in
     let same = some-pair made d xs us h3 in
     let is = take-some ts t vs took in
     let q : t.kind ≡ k.Reg = sym (ap kind is) ∙ same_kind-true _ _ o in
-    let n = sound-names fuel [] ns ws xs read_names in
+    let n = sound-names budget [] ns ws xs read_names in
     let names : IsNames ns ws us = rw (sym same.1, n.is_all) n.spells in
     rw (is, sym same.0) (regs q (sound-range r vs ws read) names more))))
 
-sound-process : (fuel : ℕ) (b : Bool) (p : Process) (ds : List Declaration) (ps : List Process) (ts us rest : PlainTokens) → repeats_of (kind ts) ≡ Some b → spec.process fuel b ts ≡ Some (p, us)
+sound-process : (budget : ℕ) (b : Bool) (p : Process) (ds : List Declaration) (ps : List Process) (ts us rest : PlainTokens) → repeats_of (kind ts) ≡ Some b → spec.parse_process budget b ts ≡ Some (p, us)
     → IsItems ds ps us rest → IsItems ds (p ∷ ps) ts rest
-unfolding spec.process
-sound-process fuel b p ds ps ts us rest o h more =
+unfolding spec.parse_process
+sound-process budget b p ds ps ts us rest o h more =
     and_then-cases (take ts) _ _ h (λ t vs took h1.
-    and_then-cases (statement fuel vs) _ _ h1 (λ s ws read h2.
+    and_then-cases (parse_statement budget vs) _ _ h1 (λ s ws read h2.
     let made : Process = record { repeats = b; body = s } in
     let same = some-pair made p ws us h2 in
     let is = take-some ts t vs took in
     let q : repeats_of t.kind ≡ Some b = sym (ap (λ x. repeats_of (kind x)) is) ∙ o in
-    let d : IsStatement s vs us = rw (sym same.1) (sound-statement fuel s vs ws read) in
+    let d : IsStatement s vs us = rw (sym same.1) (sound-statement budget s vs ws read) in
     rw (is, sym same.0) (proc q d more)))
 
 same_module : (a b : Text) (c d : List Declaration) (e f : List Process) → a ≡ b → c ≡ d → e ≡ f
@@ -405,12 +421,12 @@ pub record IsModuleRest (m all : Module) (ts rest : PlainTokens) : Type 0 where
   pub ends : end.kind ≡ k.EndModule
 
 -- an item, before further items
-sound-item : (fuel : ℕ) (m n all : Module) (ts us rest : PlainTokens) → spec.item fuel m ts ≡ Some (n, us) → IsModuleRest n all us rest → IsModuleRest m all ts rest
-unfolding spec.item
-sound-item fuel m n all ts us rest h r = by (repeats_of (kind ts)) refl h where
-  by : (o : Option Bool) → repeats_of (kind ts) ≡ o → item_by fuel m o ts ≡ Some (n, us) → IsModuleRest m all ts rest
+sound-item : (budget : ℕ) (m n all : Module) (ts us rest : PlainTokens) → spec.parse_item budget m ts ≡ Some (n, us) → IsModuleRest n all us rest → IsModuleRest m all ts rest
+unfolding spec.parse_item
+sound-item budget m n all ts us rest h r = by (repeats_of (kind ts)) refl h where
+  by : (o : Option Bool) → repeats_of (kind ts) ≡ o → item_by budget m o ts ≡ Some (n, us) → IsModuleRest m all ts rest
   by None q h = elim (if-is (sees k.Reg ts) _ _ (Some (n, us)) h) [
-    | inl p ↦ and_then-cases (spec.declaration fuel ts) _ _ p.1 (λ d ws read h2.
+    | inl p ↦ and_then-cases (spec.parse_declaration budget ts) _ _ p.1 (λ d ws read h2.
         let same = some-pair (record m { declarations = m.declarations ++ d ∷ [] }) n ws us h2 in
         let name_is : n.name ≡ m.name = sym (ap (λ x. x.name) same.0) in
         let regs_is : n.declarations ++ r.declarations ≡ m.declarations ++ (d ∷ r.declarations) = ap (λ x. x ++ r.declarations) (sym (ap (λ x. x.declarations) same.0)) ∙ append_assoc m.declarations (d ∷ []) r.declarations in
@@ -420,13 +436,13 @@ sound-item fuel m n all ts us rest h r = by (repeats_of (kind ts)) refl h where
           processes = r.processes;
           is_all = r.is_all ∙ same_module _ _ _ _ _ _ name_is regs_is procs_is;
           end = r.end;
-          spells = sound-declaration fuel d r.declarations r.processes ts us (r.end ∷ rest) p.0 (rw same.1 at read) r.spells;
+          spells = sound-declaration budget d r.declarations r.processes ts us (r.end ∷ rest) p.0 (rw same.1 at read) r.spells;
           ends = r.ends;
         })
     | inr p ↦ absurd (let e = p.1 in cc)
   ]
   by (Some b) q h =
-      and_then-cases (spec.process fuel b ts) _ _ h (λ p ws read h2.
+      and_then-cases (spec.parse_process budget b ts) _ _ h (λ p ws read h2.
       let same = some-pair (record m { processes = m.processes ++ p ∷ [] }) n ws us h2 in
       let name_is : n.name ≡ m.name = sym (ap (λ x. x.name) same.0) in
       let regs_is : n.declarations ++ r.declarations ≡ m.declarations ++ r.declarations = ap (λ x. x.declarations ++ r.declarations) (sym same.0) in
@@ -436,35 +452,35 @@ sound-item fuel m n all ts us rest h r = by (repeats_of (kind ts)) refl h where
         processes = p ∷ r.processes;
         is_all = r.is_all ∙ same_module _ _ _ _ _ _ name_is regs_is procs_is;
         end = r.end;
-        spells = sound-process fuel b p r.declarations r.processes ts us (r.end ∷ rest) q (rw same.1 at read) r.spells;
+        spells = sound-process budget b p r.declarations r.processes ts us (r.end ∷ rest) q (rw same.1 at read) r.spells;
         ends = r.ends;
       })
 
-sound-items : (fuel n : ℕ) (m all : Module) (ts rest : PlainTokens) → items_from fuel n m ts ≡ Some (all, rest) → IsModuleRest m all ts rest
-unfolding items_from
-sound-items fuel zero m all ts rest h = absurd (cc)
-sound-items fuel (suc n) m all ts rest h = elim (if-is (sees k.EndModule ts) _ _ (Some (all, rest)) h) [
+sound-items : (budget n : ℕ) (m all : Module) (ts rest : PlainTokens) → parse_items budget n m ts ≡ Some (all, rest) → IsModuleRest m all ts rest
+unfolding parse_items
+sound-items budget zero m all ts rest h = absurd (cc)
+sound-items budget (suc n) m all ts rest h = elim (if-is (sees k.EndModule ts) _ _ (Some (all, rest)) h) [
   | inl p ↦ and_then-cases (take ts) _ _ p.1 (λ t us took h1.
       let same = some-pair m all us rest h1 in
       let is = take-some ts t us took in
       let q : t.kind ≡ k.EndModule = sym (ap kind is) ∙ same_kind-true _ _ p.0 in
       let one : all ≡ record { name = m.name; declarations = m.declarations ++ []; processes = m.processes ++ [] } = sym same.0 ∙ rw (append-nil m.declarations, append-nil m.processes) in
       rw (is, sym same.1) (record { declarations = []; processes = []; is_all = one; end = t; spells = no_items; ends = q }))
-  | inr p ↦ and_then-cases (spec.item fuel m ts) _ _ p.1 (λ found us read h1. sound-item fuel m found all ts us rest read (sound-items fuel n found all us rest h1))
+  | inr p ↦ and_then-cases (spec.parse_item budget m ts) _ _ p.1 (λ found us read h1. sound-item budget m found all ts us rest read (sound-items budget n found all us rest h1))
 ]
 
 no_tokens : (ts : PlainTokens) → done ts ≡ true → ts ≡ []
 no_tokens [] h = refl
 no_tokens (t ∷ ts) h = absurd (cc)
 
-pub sound-source : (fuel : ℕ) (m : Module) (ts rest : PlainTokens) → source fuel ts ≡ Some (m, rest) → IsModule m ts
-unfolding source
-sound-source fuel m ts rest h =
+pub sound-source : (budget : ℕ) (m : Module) (ts rest : PlainTokens) → parse_source budget ts ≡ Some (m, rest) → IsModule m ts
+unfolding parse_source
+sound-source budget m ts rest h =
     and_then-cases (expect k.Module ts) _ _ h (λ t us h_module h1.
     and_then-cases (expect k.Name us) _ _ h1 (λ u vs h_name h2.
     and_then-cases (expect k.Semicolon vs) _ _ h2 (λ v ws h_semicolon h3.
     let begun : Module = record { name = u.text; declarations = []; processes = [] } in
-    and_then-cases (items_from fuel fuel begun ws) _ _ h3 (λ all xs read h4.
+    and_then-cases (parse_items budget budget begun ws) _ _ h3 (λ all xs read h4.
     elim (if-is (done xs) _ _ (Some (m, rest)) h4) [
       | inl p ↦ (
           let same = some-pair all m xs rest p.1 in
@@ -472,7 +488,7 @@ sound-source fuel m ts rest h =
           let b = expect-some k.Name us u vs h_name in
           let c = expect-some k.Semicolon vs v ws h_semicolon in
           let end : xs ≡ [] = no_tokens xs p.0 in
-          let r = sound-items fuel fuel begun all ws [] (rw end at read) in
+          let r = sound-items budget budget begun all ws [] (rw end at read) in
           let whole : m ≡ record { name = u.text; declarations = r.declarations; processes = r.processes } = sym same.0 ∙ r.is_all in
           rw (a.0, b.0, c.0, whole) (spelled a.1 b.1 c.1 r.spells r.ends))
       | inr p ↦ absurd (let q = p.1 in cc)

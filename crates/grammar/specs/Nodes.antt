@@ -8,7 +8,7 @@ use Rattle.model.specs.declared.tree.Event as program_event
 use Rattle.model.specs.declared.tree.Expression as program_expression
 use Rattle.model.specs.declared.tree.Statement as program_statement
 use Rattle.model.specs.Syntax.{Text, Expression, Statement}
-use Rattle.model.specs.Trees.{expression_of, trigger_of, statement_of}
+use Rattle.model.specs.SourceTrees.{expression_of, trigger_of, statement_of}
 
 -- An event: which change, and of which name.
 abbrev pub Trigger : Type 0

@@ -1,8 +1,8 @@
 //! The nodes of a tree, with what each stands for.
 
 ghost use Rattle.std.specs.Prelude.{◌≡◌, IfOk};
-ghost use Rattle.model.specs.Trees.{expression_of, statement_of};
-ghost use Rattle.model.specs.Trees.{expressions, statements};
+ghost use Rattle.model.specs.SourceTrees.{expression_of, statement_of};
+ghost use Rattle.model.specs.SourceTrees.{expressions, statements};
 ghost use Rattle.grammar.specs.Nodes.{expressions_view, statements_view, triggers_view};
 ghost use Rattle.model.specs.Syntax as tree;
 
@@ -10,13 +10,13 @@ use logic4::bits::Bits;
 use model::tree::{BinaryOperator, Event, Expression, Statement, Task, UnaryOperator};
 use std::alloc::{AllocError, Global};
 
-pub fn named(alloc: Global, name: &str) -> Result<Expression, AllocError>
+pub fn name_of(alloc: Global, name: &str) -> Result<Expression, AllocError>
     ensures { IfOk result (λ made. expression_of made ≡ tree.Register name.now) }
 {
     Ok(Expression::Name(String::from_str(alloc, name)?))
 }
 
-pub fn selected(alloc: Global, name: &str, index: u64) -> Result<Expression, AllocError>
+pub fn select_of(alloc: Global, name: &str, index: u64) -> Result<Expression, AllocError>
     ensures { IfOk result (λ made. expression_of made ≡ tree.Select name.now index) }
 {
     Ok(Expression::Select(String::from_str(alloc, name)?, index))
@@ -57,7 +57,7 @@ pub fn binary_of(
     Ok(Expression::Binary(op, Box::new(alloc, left)?, Box::new(alloc, right)?))
 }
 
-pub fn choice_of(
+pub fn conditional_of(
     alloc: Global,
     test: Expression,
     yes: Expression,
@@ -113,19 +113,19 @@ pub fn await_of(alloc: Global, events: Vec<Event>, body: Statement) -> Result<St
     Ok(Statement::Await(events, Box::new(alloc, body)?))
 }
 
-pub fn branch_of(test: Expression, body: Vec<Statement>) -> Statement
+pub fn if_of(test: Expression, body: Vec<Statement>) -> Statement
     ensures { statement_of result ≡ tree.If (expression_of test) (statements (statements_view body)) }
 {
     Statement::If(test, body)
 }
 
-pub fn branches_of(test: Expression, body: Vec<Statement>, other: Vec<Statement>) -> Statement
+pub fn if_else_of(test: Expression, body: Vec<Statement>, other: Vec<Statement>) -> Statement
     ensures { statement_of result ≡ tree.IfElse (expression_of test) (statements (statements_view body)) (statements (statements_view other)) }
 {
     Statement::IfElse(test, body, other)
 }
 
-pub fn loop_of(test: Expression, body: Vec<Statement>) -> Statement
+pub fn while_of(test: Expression, body: Vec<Statement>) -> Statement
     ensures { statement_of result ≡ tree.While (expression_of test) (statements (statements_view body)) }
 {
     Statement::While(test, body)

@@ -2,19 +2,22 @@
 
 ghost use Rattle.std.specs.Prelude.{◌≡◌, ◌≤◌, IfOk, IfSome};
 ghost use Rattle.grammar.specs.Cursor.{left_of, Reads};
-ghost use Rattle.model.specs.Trees.{expression_of};
+ghost use Rattle.model.specs.SourceTrees.{expression_of};
 ghost use Rattle.grammar.specs.Nodes.{expressions_view};
 ghost use Rattle.grammar.specs.Grammar as grammar;
 ghost use Rattle.grammar.specs.Reading as spec;
 
-use crate::build::{binary_of, choice_of, concat_of, literal_of, named, selected, unary_of};
+use crate::build::{
+    binary_of, concat_of, conditional_of, literal_of, name_of, select_of, unary_of,
+};
 use crate::cursor::Cursor;
 use crate::fault::Fault;
 use model::tree::{BinaryOperator, Expression, UnaryOperator};
 use std::alloc::Global;
 use tokens::token::Kind;
 
-/// What stays the same while a text is read.
+/// What stays the same while a text is read. What doesn't is a call's budget: how deep expressions and statements may still
+/// nest, and how many turns each of its loops may take. The number of tokens suffices.
 #[derive(Clone, Copy)]
 pub struct Rules {
     pub alloc: Global,
@@ -75,31 +78,31 @@ fn continues(level: u8, kind: Kind) -> Option<(u8, BinaryOperator)>
 }
 
 /// Reads `[ decimal ]` after a name.
-#[tactic(auto, unfolding(crate::specs::Reading::selected))]
-fn select(rules: Rules, tokens: &mut Cursor<'_, '_>, name: &str) -> Result<Expression, Fault>
-    ensures { Reads expression_of rules.stop (spec.selected name.now (left_of tokens.old)) result (left_of tokens.new) }
+#[tactic(auto, unfolding(crate::specs::Reading::parse_select))]
+fn parse_select(rules: Rules, tokens: &mut Cursor<'_, '_>, name: &str) -> Result<Expression, Fault>
+    ensures { Reads expression_of rules.stop (spec.parse_select name.now (left_of tokens.old)) result (left_of tokens.new) }
 {
     tokens.take(rules.stop)?;
     let index = tokens.expect(rules.stop, Kind::Decimal)?;
     tokens.expect(rules.stop, Kind::CloseSquare)?;
-    Ok(selected(rules.alloc, name, index.value())?)
+    Ok(select_of(rules.alloc, name, index.value())?)
 }
 
 /// Reads a name, and `[ decimal ]` where it follows.
-#[tactic(auto, unfolding(crate::specs::Reading::named))]
-fn name(rules: Rules, tokens: &mut Cursor<'_, '_>) -> Result<Expression, Fault>
-    ensures { Reads expression_of rules.stop (spec.named (left_of tokens.old)) result (left_of tokens.new) }
+#[tactic(auto, unfolding(crate::specs::Reading::parse_name))]
+fn parse_name(rules: Rules, tokens: &mut Cursor<'_, '_>) -> Result<Expression, Fault>
+    ensures { Reads expression_of rules.stop (spec.parse_name (left_of tokens.old)) result (left_of tokens.new) }
 {
     let token = tokens.take(rules.stop)?;
     if tokens.sees(Kind::OpenSquare) {
-        return select(rules, tokens, token.text);
+        return parse_select(rules, tokens, token.text);
     }
-    Ok(named(rules.alloc, token.text)?)
+    Ok(name_of(rules.alloc, token.text)?)
 }
 
-#[tactic(auto, unfolding(crate::specs::Reading::sized))]
-fn sized(rules: Rules, tokens: &mut Cursor<'_, '_>) -> Result<Expression, Fault>
-    ensures { Reads expression_of rules.stop (spec.sized (left_of tokens.old)) result (left_of tokens.new) }
+#[tactic(auto, unfolding(crate::specs::Reading::parse_literal))]
+fn parse_literal(rules: Rules, tokens: &mut Cursor<'_, '_>) -> Result<Expression, Fault>
+    ensures { Reads expression_of rules.stop (spec.parse_literal (left_of tokens.old)) result (left_of tokens.new) }
 {
     let token = tokens.take(rules.stop)?;
     match token.bits(rules.alloc)? {
@@ -110,34 +113,39 @@ fn sized(rules: Rules, tokens: &mut Cursor<'_, '_>) -> Result<Expression, Fault>
 
 /// Reads `( expression )`.
 #[cycle(expression)]
-#[tactic(auto, unfolding(crate::specs::Reading::nested))]
-fn nested(rules: Rules, tokens: &mut Cursor<'_, '_>, fuel: usize) -> Result<Expression, Fault>
-    ensures { Reads expression_of rules.stop (spec.nested (spec.expression fuel) (left_of tokens.old)) result (left_of tokens.new) }
+#[tactic(auto, unfolding(crate::specs::Reading::parse_parenthesized))]
+pub fn parse_parenthesized(
+    rules: Rules,
+    tokens: &mut Cursor<'_, '_>,
+    budget: usize,
+) -> Result<Expression, Fault>
+    ensures { Reads expression_of rules.stop (spec.parse_parenthesized (spec.parse_expression budget) (left_of tokens.old)) result (left_of tokens.new) }
 {
-    tokens.take(rules.stop)?;
-    let inner = expression(rules, tokens, fuel, 0)?;
+    tokens.expect(rules.stop, Kind::Open)?;
+    let inner = parse_expression(rules, tokens, budget, 0)?;
     tokens.expect(rules.stop, Kind::Close)?;
     Ok(inner)
 }
 
-/// Reads expressions with a comma before each, and `}`.
+/// Reads expressions with a comma before each, and the bracket that closes them.
 #[cycle(expression)]
-#[tactic(auto, unfolding(crate::specs::Reading::parts_from))]
-fn parts(
+#[tactic(auto, unfolding(crate::specs::Reading::parse_list))]
+pub fn parse_list(
     rules: Rules,
     tokens: &mut Cursor<'_, '_>,
-    fuel: usize,
+    budget: usize,
+    bracket: Kind,
     mut found: Vec<Expression>,
 ) -> Result<Vec<Expression>, Fault>
-    ensures { Reads expressions_view rules.stop (spec.parts_from (spec.expression fuel) fuel (expressions_view found) (left_of tokens.old)) result (left_of tokens.new) }
+    ensures { Reads expressions_view rules.stop (spec.parse_list (spec.parse_expression budget) bracket budget (expressions_view found) (left_of tokens.old)) result (left_of tokens.new) }
 {
-    for _turn in 0..fuel {
+    for _turn in 0..budget {
         if !tokens.sees(Kind::Comma) {
-            tokens.expect(rules.stop, Kind::CloseCurly)?;
+            tokens.expect(rules.stop, bracket)?;
             return Ok(found);
         }
         tokens.take(rules.stop)?;
-        let part = expression(rules, tokens, fuel, 0)?;
+        let part = parse_expression(rules, tokens, budget, 0)?;
         found.push(part)?;
     }
     Err(Fault::Syntax)
@@ -145,41 +153,54 @@ fn parts(
 
 /// Reads `{`, an expression, and those that follow it.
 #[cycle(expression)]
-#[tactic(auto, unfolding(crate::specs::Reading::concatenated))]
-fn concatenated(rules: Rules, tokens: &mut Cursor<'_, '_>, fuel: usize) -> Result<Expression, Fault>
-    ensures { Reads expression_of rules.stop (spec.concatenated (spec.expression fuel) fuel (left_of tokens.old)) result (left_of tokens.new) }
+#[tactic(auto, unfolding(crate::specs::Reading::parse_concat))]
+fn parse_concat(
+    rules: Rules,
+    tokens: &mut Cursor<'_, '_>,
+    budget: usize,
+) -> Result<Expression, Fault>
+    ensures { Reads expression_of rules.stop (spec.parse_concat (spec.parse_expression budget) budget (left_of tokens.old)) result (left_of tokens.new) }
 {
     tokens.take(rules.stop)?;
-    let first = expression(rules, tokens, fuel, 0)?;
-    let others = parts(rules, tokens, fuel, Vec::new(rules.alloc))?;
+    let first = parse_expression(rules, tokens, budget, 0)?;
+    let found = Vec::new(rules.alloc);
+    let others = parse_list(rules, tokens, budget, Kind::CloseCurly, found)?;
     Ok(concat_of(rules.alloc, first, others)?)
 }
 
 #[cycle(expression)]
-#[tactic(auto, unfolding(crate::specs::Reading::primary))]
-fn primary(rules: Rules, tokens: &mut Cursor<'_, '_>, fuel: usize) -> Result<Expression, Fault>
-    ensures { Reads expression_of rules.stop (spec.primary (spec.expression fuel) fuel (left_of tokens.old)) result (left_of tokens.new) }
+#[tactic(auto, unfolding(crate::specs::Reading::parse_primary))]
+fn parse_primary(
+    rules: Rules,
+    tokens: &mut Cursor<'_, '_>,
+    budget: usize,
+) -> Result<Expression, Fault>
+    ensures { Reads expression_of rules.stop (spec.parse_primary (spec.parse_expression budget) budget (left_of tokens.old)) result (left_of tokens.new) }
 {
     match tokens.kind() {
-        Kind::Name => name(rules, tokens),
-        Kind::Sized => sized(rules, tokens),
-        Kind::OpenCurly => concatenated(rules, tokens, fuel),
-        Kind::Open => nested(rules, tokens, fuel),
+        Kind::Name => parse_name(rules, tokens),
+        Kind::Sized => parse_literal(rules, tokens),
+        Kind::OpenCurly => parse_concat(rules, tokens, budget),
+        Kind::Open => parse_parenthesized(rules, tokens, budget),
         Kind::Decimal => Err(Fault::Unsized),
         _ => Err(Fault::Syntax),
     }
 }
 
 #[cycle(expression)]
-#[tactic(auto, unfolding(crate::specs::Reading::operand))]
-fn operand(rules: Rules, tokens: &mut Cursor<'_, '_>, fuel: usize) -> Result<Expression, Fault>
-    ensures { Reads expression_of rules.stop (spec.operand (spec.expression fuel) fuel (left_of tokens.old)) result (left_of tokens.new) }
+#[tactic(auto, unfolding(crate::specs::Reading::parse_operand))]
+fn parse_operand(
+    rules: Rules,
+    tokens: &mut Cursor<'_, '_>,
+    budget: usize,
+) -> Result<Expression, Fault>
+    ensures { Reads expression_of rules.stop (spec.parse_operand (spec.parse_expression budget) budget (left_of tokens.old)) result (left_of tokens.new) }
 {
     match prefix(tokens.kind()) {
-        None => primary(rules, tokens, fuel),
+        None => parse_primary(rules, tokens, budget),
         Some(op) => {
             tokens.take(rules.stop)?;
-            let inner = primary(rules, tokens, fuel)?;
+            let inner = parse_primary(rules, tokens, budget)?;
             Ok(unary_of(rules.alloc, op, inner)?)
         }
     }
@@ -187,22 +208,22 @@ fn operand(rules: Rules, tokens: &mut Cursor<'_, '_>, fuel: usize) -> Result<Exp
 
 /// Reads the operators and operands that follow `left`.
 #[cycle(expression)]
-#[tactic(auto, unfolding(crate::specs::Reading::climb))]
-fn climb(
+#[tactic(auto, unfolding(crate::specs::Reading::parse_operators))]
+fn parse_operators(
     rules: Rules,
     tokens: &mut Cursor<'_, '_>,
-    fuel: usize,
+    budget: usize,
     level: u8,
     mut left: Expression,
 ) -> Result<Expression, Fault>
-    ensures { Reads expression_of rules.stop (spec.climb (spec.expression fuel) fuel level (expression_of left) (left_of tokens.old)) result (left_of tokens.new) }
+    ensures { Reads expression_of rules.stop (spec.parse_operators (spec.parse_expression budget) budget level (expression_of left) (left_of tokens.old)) result (left_of tokens.new) }
 {
-    for _turn in 0..fuel {
+    for _turn in 0..budget {
         let Some((strength, op)) = continues(level, tokens.kind()) else {
             return Ok(left);
         };
         tokens.take(rules.stop)?;
-        let right = expression(rules, tokens, fuel, strength + 1)?;
+        let right = parse_expression(rules, tokens, budget, strength + 1)?;
         left = binary_of(rules.alloc, op, left, right)?;
     }
     Err(Fault::Syntax)
@@ -210,40 +231,40 @@ fn climb(
 
 /// Reads what follows the test of a choice.
 #[cycle(expression)]
-#[tactic(auto, unfolding(crate::specs::Reading::chosen))]
-fn chosen(
+#[tactic(auto, unfolding(crate::specs::Reading::parse_conditional))]
+fn parse_conditional(
     rules: Rules,
     tokens: &mut Cursor<'_, '_>,
-    fuel: usize,
+    budget: usize,
     test: Expression,
 ) -> Result<Expression, Fault>
-    ensures { Reads expression_of rules.stop (spec.chosen (spec.expression fuel) (expression_of test) (left_of tokens.old)) result (left_of tokens.new) }
+    ensures { Reads expression_of rules.stop (spec.parse_conditional (spec.parse_expression budget) (expression_of test) (left_of tokens.old)) result (left_of tokens.new) }
 {
     tokens.take(rules.stop)?;
-    let yes = expression(rules, tokens, fuel, 0)?;
+    let yes = parse_expression(rules, tokens, budget, 0)?;
     tokens.expect(rules.stop, Kind::Colon)?;
-    let no = expression(rules, tokens, fuel, 0)?;
-    Ok(choice_of(rules.alloc, test, yes, no)?)
+    let no = parse_expression(rules, tokens, budget, 0)?;
+    Ok(conditional_of(rules.alloc, test, yes, no)?)
 }
 
 /// An expression whose binary operators are of this level and tighter; at level 0 a choice too.
 #[cycle(expression)]
-#[tactic(auto, unfolding(crate::specs::Reading::whole))]
-pub fn expression(
+#[tactic(auto, unfolding(crate::specs::Reading::parse_level))]
+pub fn parse_expression(
     rules: Rules,
     tokens: &mut Cursor<'_, '_>,
-    fuel: usize,
+    budget: usize,
     level: u8,
 ) -> Result<Expression, Fault>
-    ensures { Reads expression_of rules.stop (spec.expression fuel level (left_of tokens.old)) result (left_of tokens.new) }
+    ensures { Reads expression_of rules.stop (spec.parse_expression budget level (left_of tokens.old)) result (left_of tokens.new) }
 {
-    if fuel == 0 {
+    if budget == 0 {
         return Err(Fault::Syntax);
     }
-    let first = operand(rules, tokens, fuel - 1)?;
-    let left = climb(rules, tokens, fuel - 1, level, first)?;
+    let first = parse_operand(rules, tokens, budget - 1)?;
+    let left = parse_operators(rules, tokens, budget - 1, level, first)?;
     if level == 0 && tokens.sees(Kind::Question) {
-        return chosen(rules, tokens, fuel - 1, left);
+        return parse_conditional(rules, tokens, budget - 1, left);
     }
     Ok(left)
 }

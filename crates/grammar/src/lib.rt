@@ -4,7 +4,7 @@
 //!    another and refuses that one. No token is looked at twice, and none is copied.
 //! 2. `build` makes the nodes of the tree, and `strings` the text of a string: here alone bytes of the text are copied.
 //!
-//! The layer above uses `source`: it answers what the reading of the tokens gives (specs/Reading.antt). What is read so is what
+//! The layer above uses `parse_source`: it answers what the reading of the tokens gives (specs/Reading.antt). What is read so is what
 //! the grammar spells (specs/Grammar.antt), and all that it spells is read: that is shown in proofs/, of the definitions alone.
 #![tactic(auto)]
 
@@ -19,4 +19,4 @@ mod strings;
 pub use cursor::Cursor;
 pub use expression::Rules;
 pub use fault::Fault;
-pub use module::source;
+pub use module::parse_source;

@@ -2,7 +2,7 @@
 
 ghost use Rattle.std.specs.Prelude.{◌≡◌, ◌∷◌, ◌++◌, [], map};
 ghost use Rattle.grammar.specs.Cursor.{left_of, Reads};
-ghost use Rattle.model.specs.Trees.{declaration_of, process_of, module_of};
+ghost use Rattle.model.specs.SourceTrees.{declaration_of, process_of, module_of};
 ghost use Rattle.grammar.specs.Nodes.{names_view};
 ghost use Rattle.grammar.specs.Grammar as grammar;
 ghost use Rattle.grammar.specs.Reading as spec;
@@ -10,14 +10,14 @@ ghost use Rattle.grammar.specs.Reading as spec;
 use crate::cursor::Cursor;
 use crate::expression::Rules;
 use crate::fault::Fault;
-use crate::statement::statement;
+use crate::statement::parse_statement;
 use model::tree::{Declaration, Module, Process};
 use tokens::token::Kind;
 
 /// Reads `[ decimal : decimal ]`.
-#[tactic(auto, unfolding(crate::specs::Reading::bounds))]
-fn bounds(rules: Rules, tokens: &mut Cursor<'_, '_>) -> Result<(u64, u64), Fault>
-    ensures { Reads (λ r. r) rules.stop (spec.bounds (left_of tokens.old)) result (left_of tokens.new) }
+#[tactic(auto, unfolding(crate::specs::Reading::parse_bounds))]
+fn parse_bounds(rules: Rules, tokens: &mut Cursor<'_, '_>) -> Result<(u64, u64), Fault>
+    ensures { Reads (λ r. r) rules.stop (spec.parse_bounds (left_of tokens.old)) result (left_of tokens.new) }
 {
     tokens.take(rules.stop)?;
     let first = tokens.expect(rules.stop, Kind::Decimal)?;
@@ -28,27 +28,27 @@ fn bounds(rules: Rules, tokens: &mut Cursor<'_, '_>) -> Result<(u64, u64), Fault
 }
 
 /// Reads a range where it comes next.
-#[tactic(auto, unfolding(crate::specs::Reading::range))]
-fn range(rules: Rules, tokens: &mut Cursor<'_, '_>) -> Result<Option<(u64, u64)>, Fault>
-    ensures { Reads (λ r. r) rules.stop (spec.range (left_of tokens.old)) result (left_of tokens.new) }
+#[tactic(auto, unfolding(crate::specs::Reading::parse_range))]
+fn parse_range(rules: Rules, tokens: &mut Cursor<'_, '_>) -> Result<Option<(u64, u64)>, Fault>
+    ensures { Reads (λ r. r) rules.stop (spec.parse_range (left_of tokens.old)) result (left_of tokens.new) }
 {
     if !tokens.sees(Kind::OpenSquare) {
         return Ok(None);
     }
-    Ok(Some(bounds(rules, tokens)?))
+    Ok(Some(parse_bounds(rules, tokens)?))
 }
 
 /// Reads names with commas between and `;` at the end, and adds them to those found.
-#[tactic(auto, unfolding(crate::specs::Reading::names_from))]
-fn names(
+#[tactic(auto, unfolding(crate::specs::Reading::parse_names))]
+fn parse_names(
     rules: Rules,
     tokens: &mut Cursor<'_, '_>,
-    fuel: usize,
+    budget: usize,
     mut found: Vec<String>,
 ) -> Result<Vec<String>, Fault>
-    ensures { Reads names_view rules.stop (spec.names_from fuel (names_view found) (left_of tokens.old)) result (left_of tokens.new) }
+    ensures { Reads names_view rules.stop (spec.parse_names budget (names_view found) (left_of tokens.old)) result (left_of tokens.new) }
 {
-    for _turn in 0..fuel {
+    for _turn in 0..budget {
         let name = tokens.expect(rules.stop, Kind::Name)?;
         found.push(String::from_str(rules.alloc, name.text)?)?;
         if !tokens.sees(Kind::Comma) {
@@ -61,13 +61,17 @@ fn names(
 }
 
 /// Reads a `reg` item.
-#[tactic(auto, unfolding(crate::specs::Reading::declaration))]
-fn declaration(rules: Rules, tokens: &mut Cursor<'_, '_>, fuel: usize) -> Result<Declaration, Fault>
-    ensures { Reads declaration_of rules.stop (spec.declaration fuel (left_of tokens.old)) result (left_of tokens.new) }
+#[tactic(auto, unfolding(crate::specs::Reading::parse_declaration))]
+fn parse_declaration(
+    rules: Rules,
+    tokens: &mut Cursor<'_, '_>,
+    budget: usize,
+) -> Result<Declaration, Fault>
+    ensures { Reads declaration_of rules.stop (spec.parse_declaration budget (left_of tokens.old)) result (left_of tokens.new) }
 {
     tokens.take(rules.stop)?;
-    let found = range(rules, tokens)?;
-    let names = names(rules, tokens, fuel, Vec::new(rules.alloc))?;
+    let found = parse_range(rules, tokens)?;
+    let names = parse_names(rules, tokens, budget, Vec::new(rules.alloc))?;
     Ok(Declaration {
         range: found,
         names,
@@ -75,17 +79,17 @@ fn declaration(rules: Rules, tokens: &mut Cursor<'_, '_>, fuel: usize) -> Result
 }
 
 /// Reads an `initial` or an `always` construct.
-#[tactic(auto, unfolding(crate::specs::Reading::process))]
-fn process(
+#[tactic(auto, unfolding(crate::specs::Reading::parse_process))]
+fn parse_process(
     rules: Rules,
     tokens: &mut Cursor<'_, '_>,
-    fuel: usize,
+    budget: usize,
     repeats: bool,
 ) -> Result<Process, Fault>
-    ensures { Reads process_of rules.stop (spec.process fuel repeats (left_of tokens.old)) result (left_of tokens.new) }
+    ensures { Reads process_of rules.stop (spec.parse_process budget repeats (left_of tokens.old)) result (left_of tokens.new) }
 {
     tokens.take(rules.stop)?;
-    let body = statement(rules, tokens, fuel)?;
+    let body = parse_statement(rules, tokens, budget)?;
     Ok(Process { repeats, body })
 }
 
@@ -100,18 +104,18 @@ fn repeats_of(kind: Kind) -> Option<bool>
 }
 
 /// Reads an item, and adds it to those found.
-#[tactic(auto, unfolding(crate::specs::Reading::item))]
-fn item(
+#[tactic(auto, unfolding(crate::specs::Reading::parse_item))]
+fn parse_item(
     rules: Rules,
     tokens: &mut Cursor<'_, '_>,
-    fuel: usize,
+    budget: usize,
     mut found: Module,
 ) -> Result<Module, Fault>
-    ensures { Reads module_of rules.stop (spec.item fuel (module_of found) (left_of tokens.old)) result (left_of tokens.new) }
+    ensures { Reads module_of rules.stop (spec.parse_item budget (module_of found) (left_of tokens.old)) result (left_of tokens.new) }
 {
     match repeats_of(tokens.kind()) {
         Some(repeats) => {
-            let one = process(rules, tokens, fuel, repeats)?;
+            let one = parse_process(rules, tokens, budget, repeats)?;
             found.procs.push(one)?;
             Ok(found)
         }
@@ -119,7 +123,7 @@ fn item(
             if !tokens.sees(Kind::Reg) {
                 return Err(Fault::Syntax);
             }
-            let one = declaration(rules, tokens, fuel)?;
+            let one = parse_declaration(rules, tokens, budget)?;
             found.regs.push(one)?;
             Ok(found)
         }
@@ -127,29 +131,33 @@ fn item(
 }
 
 /// Reads items up to the end of the module, and adds them to those found.
-#[tactic(auto, unfolding(crate::specs::Reading::items_from))]
-fn items(
+#[tactic(auto, unfolding(crate::specs::Reading::parse_items))]
+fn parse_items(
     rules: Rules,
     tokens: &mut Cursor<'_, '_>,
-    fuel: usize,
+    budget: usize,
     mut found: Module,
 ) -> Result<Module, Fault>
-    ensures { Reads module_of rules.stop (spec.items_from fuel fuel (module_of found) (left_of tokens.old)) result (left_of tokens.new) }
+    ensures { Reads module_of rules.stop (spec.parse_items budget budget (module_of found) (left_of tokens.old)) result (left_of tokens.new) }
 {
-    for _turn in 0..fuel {
+    for _turn in 0..budget {
         if tokens.sees(Kind::EndModule) {
             tokens.take(rules.stop)?;
             return Ok(found);
         }
-        found = item(rules, tokens, fuel, found)?;
+        found = parse_item(rules, tokens, budget, found)?;
     }
     Err(Fault::Syntax)
 }
 
 /// Reads a module that is all there is.
-#[tactic(auto, unfolding(crate::specs::Reading::source))]
-pub fn source(rules: Rules, tokens: &mut Cursor<'_, '_>, fuel: usize) -> Result<Module, Fault>
-    ensures { Reads module_of rules.stop (spec.source fuel (left_of tokens.old)) result (left_of tokens.new) }
+#[tactic(auto, unfolding(crate::specs::Reading::parse_source))]
+pub fn parse_source(
+    rules: Rules,
+    tokens: &mut Cursor<'_, '_>,
+    budget: usize,
+) -> Result<Module, Fault>
+    ensures { Reads module_of rules.stop (spec.parse_source budget (left_of tokens.old)) result (left_of tokens.new) }
 {
     tokens.expect(rules.stop, Kind::Module)?;
     let name = tokens.expect(rules.stop, Kind::Name)?;
@@ -159,7 +167,7 @@ pub fn source(rules: Rules, tokens: &mut Cursor<'_, '_>, fuel: usize) -> Result<
         regs: Vec::new(rules.alloc),
         procs: Vec::new(rules.alloc),
     };
-    let found = items(rules, tokens, fuel, start)?;
+    let found = parse_items(rules, tokens, budget, start)?;
     if tokens.is_done() {
         Ok(found)
     } else {

@@ -2,17 +2,16 @@
 
 ghost use Rattle.std.specs.Prelude.{◌≡◌, ◌∷◌, ◌++◌, [], map, IfOk};
 ghost use Rattle.grammar.specs.Cursor.{left_of, Reads};
-ghost use Rattle.model.specs.Trees.{expression_of, trigger_of, statement_of};
-ghost use Rattle.grammar.specs.Nodes.{expressions_view, triggers_view, statements_view};
+ghost use Rattle.model.specs.SourceTrees.{expression_of, trigger_of, statement_of};
+ghost use Rattle.grammar.specs.Nodes.{triggers_view, statements_view};
 ghost use Rattle.grammar.specs.Grammar as grammar;
 ghost use Rattle.grammar.specs.Reading as spec;
 
 use crate::build::{
-    assign_later_of, assign_of, await_of, block_of, branch_of, branches_of, delay_of, loop_of,
-    print_of,
+    assign_later_of, assign_of, await_of, block_of, delay_of, if_else_of, if_of, print_of, while_of,
 };
 use crate::cursor::Cursor;
-use crate::expression::{Rules, expression};
+use crate::expression::{Rules, parse_expression, parse_list, parse_parenthesized};
 use crate::fault::Fault;
 use crate::strings::string_text;
 use model::tree::{Change, Event, Expression, Statement, Task};
@@ -20,9 +19,9 @@ use std::alloc::{AllocError, Global};
 use tokens::token::Kind;
 
 /// Reads `# decimal` where it comes next.
-#[tactic(auto, unfolding(crate::specs::Reading::delay))]
-fn delay(rules: Rules, tokens: &mut Cursor<'_, '_>) -> Result<Option<u64>, Fault>
-    ensures { Reads (λ d. d) rules.stop (spec.delay (left_of tokens.old)) result (left_of tokens.new) }
+#[tactic(auto, unfolding(crate::specs::Reading::parse_delay))]
+fn parse_delay(rules: Rules, tokens: &mut Cursor<'_, '_>) -> Result<Option<u64>, Fault>
+    ensures { Reads (λ d. d) rules.stop (spec.parse_delay (left_of tokens.old)) result (left_of tokens.new) }
 {
     if !tokens.sees(Kind::Hash) {
         return Ok(None);
@@ -33,33 +32,37 @@ fn delay(rules: Rules, tokens: &mut Cursor<'_, '_>) -> Result<Option<u64>, Fault
 }
 
 /// Reads what stands right of the sign of an assignment, and `;`.
-#[tactic(auto, unfolding(crate::specs::Reading::value))]
-fn value(
+#[tactic(auto, unfolding(crate::specs::Reading::parse_value))]
+fn parse_value(
     rules: Rules,
     tokens: &mut Cursor<'_, '_>,
-    fuel: usize,
+    budget: usize,
 ) -> Result<(Option<u64>, Expression), Fault>
-    ensures { Reads (λ p. (p.0, expression_of p.1)) rules.stop (spec.value fuel (left_of tokens.old)) result (left_of tokens.new) }
+    ensures { Reads (λ p. (p.0, expression_of p.1)) rules.stop (spec.parse_value budget (left_of tokens.old)) result (left_of tokens.new) }
 {
-    let found = delay(rules, tokens)?;
-    let e = expression(rules, tokens, fuel, 0)?;
+    let found = parse_delay(rules, tokens)?;
+    let e = parse_expression(rules, tokens, budget, 0)?;
     tokens.expect(rules.stop, Kind::Semicolon)?;
     Ok((found, e))
 }
 
 /// Reads an assignment.
-#[tactic(auto, unfolding(crate::specs::Reading::assign))]
-fn assign(rules: Rules, tokens: &mut Cursor<'_, '_>, fuel: usize) -> Result<Statement, Fault>
-    ensures { Reads statement_of rules.stop (spec.assign fuel (left_of tokens.old)) result (left_of tokens.new) }
+#[tactic(auto, unfolding(crate::specs::Reading::parse_assign))]
+fn parse_assign(
+    rules: Rules,
+    tokens: &mut Cursor<'_, '_>,
+    budget: usize,
+) -> Result<Statement, Fault>
+    ensures { Reads statement_of rules.stop (spec.parse_assign budget (left_of tokens.old)) result (left_of tokens.new) }
 {
     let name = tokens.take(rules.stop)?;
     if tokens.sees(Kind::AtMost) {
         tokens.take(rules.stop)?;
-        let found = value(rules, tokens, fuel)?;
+        let found = parse_value(rules, tokens, budget)?;
         return Ok(assign_later_of(rules.alloc, name.text, found.0, found.1)?);
     }
     tokens.expect(rules.stop, Kind::Assign)?;
-    let found = value(rules, tokens, fuel)?;
+    let found = parse_value(rules, tokens, budget)?;
     Ok(assign_of(rules.alloc, name.text, found.0, found.1)?)
 }
 
@@ -92,9 +95,9 @@ fn event_of(alloc: Global, change: Change, name: &str) -> Result<Event, AllocErr
 }
 
 /// Reads an event.
-#[tactic(auto, unfolding(crate::specs::Reading::trigger))]
-fn event(rules: Rules, tokens: &mut Cursor<'_, '_>) -> Result<Event, Fault>
-    ensures { Reads trigger_of rules.stop (spec.trigger (left_of tokens.old)) result (left_of tokens.new) }
+#[tactic(auto, unfolding(crate::specs::Reading::parse_event))]
+fn parse_event(rules: Rules, tokens: &mut Cursor<'_, '_>) -> Result<Event, Fault>
+    ensures { Reads trigger_of rules.stop (spec.parse_event (left_of tokens.old)) result (left_of tokens.new) }
 {
     match change_of(tokens.kind()) {
         None => {
@@ -110,17 +113,17 @@ fn event(rules: Rules, tokens: &mut Cursor<'_, '_>) -> Result<Event, Fault>
 }
 
 /// Reads events with `or` or commas between, and `)`.
-#[tactic(auto, unfolding(crate::specs::Reading::triggers_from))]
-fn events_from(
+#[tactic(auto, unfolding(crate::specs::Reading::parse_events))]
+fn parse_events(
     rules: Rules,
     tokens: &mut Cursor<'_, '_>,
-    fuel: usize,
+    budget: usize,
     mut found: Vec<Event>,
 ) -> Result<Vec<Event>, Fault>
-    ensures { Reads triggers_view rules.stop (spec.triggers_from fuel (triggers_view found) (left_of tokens.old)) result (left_of tokens.new) }
+    ensures { Reads triggers_view rules.stop (spec.parse_events budget (triggers_view found) (left_of tokens.old)) result (left_of tokens.new) }
 {
-    for _turn in 0..fuel {
-        let one = event(rules, tokens)?;
+    for _turn in 0..budget {
+        let one = parse_event(rules, tokens)?;
         found.push(one)?;
         if !separates(tokens.kind()) {
             tokens.expect(rules.stop, Kind::Close)?;
@@ -132,51 +135,33 @@ fn events_from(
 }
 
 /// Reads `@ ( events )`.
-#[tactic(auto, unfolding(crate::specs::Reading::events))]
-fn events(rules: Rules, tokens: &mut Cursor<'_, '_>, fuel: usize) -> Result<Vec<Event>, Fault>
-    ensures { Reads triggers_view rules.stop (spec.events fuel (left_of tokens.old)) result (left_of tokens.new) }
+#[tactic(auto, unfolding(crate::specs::Reading::parse_event_control))]
+fn parse_event_control(
+    rules: Rules,
+    tokens: &mut Cursor<'_, '_>,
+    budget: usize,
+) -> Result<Vec<Event>, Fault>
+    ensures { Reads triggers_view rules.stop (spec.parse_event_control budget (left_of tokens.old)) result (left_of tokens.new) }
 {
     tokens.take(rules.stop)?;
     tokens.expect(rules.stop, Kind::Open)?;
-    events_from(rules, tokens, fuel, Vec::new(rules.alloc))
-}
-
-/// Reads expressions with a comma before each, and `)`.
-#[tactic(auto, unfolding(crate::specs::Reading::arguments_from))]
-fn arguments(
-    rules: Rules,
-    tokens: &mut Cursor<'_, '_>,
-    fuel: usize,
-    mut found: Vec<Expression>,
-) -> Result<Vec<Expression>, Fault>
-    ensures { Reads expressions_view rules.stop (spec.arguments_from fuel fuel (expressions_view found) (left_of tokens.old)) result (left_of tokens.new) }
-{
-    for _turn in 0..fuel {
-        if !tokens.sees(Kind::Comma) {
-            tokens.expect(rules.stop, Kind::Close)?;
-            return Ok(found);
-        }
-        tokens.take(rules.stop)?;
-        let argument = expression(rules, tokens, fuel, 0)?;
-        found.push(argument)?;
-    }
-    Err(Fault::Syntax)
+    parse_events(rules, tokens, budget, Vec::new(rules.alloc))
 }
 
 /// Reads a `$display` or a `$strobe`.
-#[tactic(auto, unfolding(crate::specs::Reading::print))]
-fn print(
+#[tactic(auto, unfolding(crate::specs::Reading::parse_print))]
+fn parse_print(
     rules: Rules,
     tokens: &mut Cursor<'_, '_>,
     task: Task,
-    fuel: usize,
+    budget: usize,
 ) -> Result<Statement, Fault>
-    ensures { Reads statement_of rules.stop (spec.print task fuel (left_of tokens.old)) result (left_of tokens.new) }
+    ensures { Reads statement_of rules.stop (spec.parse_print task budget (left_of tokens.old)) result (left_of tokens.new) }
 {
     tokens.take(rules.stop)?;
     tokens.expect(rules.stop, Kind::Open)?;
     let format = tokens.expect(rules.stop, Kind::Text)?;
-    let found = arguments(rules, tokens, fuel, Vec::new(rules.alloc))?;
+    let found = parse_list(rules, tokens, budget, Kind::Close, Vec::new(rules.alloc))?;
     tokens.expect(rules.stop, Kind::Semicolon)?;
     Ok(print_of(
         task,
@@ -186,119 +171,128 @@ fn print(
 }
 
 /// Reads `$finish ;`.
-#[tactic(auto, unfolding(crate::specs::Reading::finish))]
-fn finish(rules: Rules, tokens: &mut Cursor<'_, '_>) -> Result<Statement, Fault>
-    ensures { Reads statement_of rules.stop (spec.finish (left_of tokens.old)) result (left_of tokens.new) }
+#[tactic(auto, unfolding(crate::specs::Reading::parse_finish))]
+fn parse_finish(rules: Rules, tokens: &mut Cursor<'_, '_>) -> Result<Statement, Fault>
+    ensures { Reads statement_of rules.stop (spec.parse_finish (left_of tokens.old)) result (left_of tokens.new) }
 {
     tokens.take(rules.stop)?;
     tokens.expect(rules.stop, Kind::Semicolon)?;
     Ok(Statement::Finish)
 }
 
-/// Reads `( expression )`.
-#[tactic(auto, unfolding(crate::specs::Reading::condition))]
-fn condition(rules: Rules, tokens: &mut Cursor<'_, '_>, fuel: usize) -> Result<Expression, Fault>
-    ensures { Reads expression_of rules.stop (spec.condition fuel (left_of tokens.old)) result (left_of tokens.new) }
-{
-    tokens.expect(rules.stop, Kind::Open)?;
-    let test = expression(rules, tokens, fuel, 0)?;
-    tokens.expect(rules.stop, Kind::Close)?;
-    Ok(test)
-}
-
 /// Reads `# decimal` and a statement.
 #[cycle(statement)]
-#[tactic(auto, unfolding(crate::specs::Reading::delayed))]
-fn delayed(rules: Rules, tokens: &mut Cursor<'_, '_>, fuel: usize) -> Result<Statement, Fault>
-    ensures { Reads statement_of rules.stop (spec.delayed (spec.statement fuel) (left_of tokens.old)) result (left_of tokens.new) }
+#[tactic(auto, unfolding(crate::specs::Reading::parse_delayed))]
+fn parse_delayed(
+    rules: Rules,
+    tokens: &mut Cursor<'_, '_>,
+    budget: usize,
+) -> Result<Statement, Fault>
+    ensures { Reads statement_of rules.stop (spec.parse_delayed (spec.parse_statement budget) (left_of tokens.old)) result (left_of tokens.new) }
 {
     tokens.take(rules.stop)?;
     let found = tokens.expect(rules.stop, Kind::Decimal)?;
-    let body = statement(rules, tokens, fuel)?;
+    let body = parse_statement(rules, tokens, budget)?;
     Ok(delay_of(rules.alloc, found.value(), body)?)
 }
 
 /// Reads `@ ( events )` and a statement.
 #[cycle(statement)]
-#[tactic(auto, unfolding(crate::specs::Reading::awaited))]
-fn awaited(rules: Rules, tokens: &mut Cursor<'_, '_>, fuel: usize) -> Result<Statement, Fault>
-    ensures { Reads statement_of rules.stop (spec.awaited (spec.statement fuel) fuel (left_of tokens.old)) result (left_of tokens.new) }
+#[tactic(auto, unfolding(crate::specs::Reading::parse_awaited))]
+fn parse_awaited(
+    rules: Rules,
+    tokens: &mut Cursor<'_, '_>,
+    budget: usize,
+) -> Result<Statement, Fault>
+    ensures { Reads statement_of rules.stop (spec.parse_awaited (spec.parse_statement budget) budget (left_of tokens.old)) result (left_of tokens.new) }
 {
-    let found = events(rules, tokens, fuel)?;
-    let body = statement(rules, tokens, fuel)?;
+    let found = parse_event_control(rules, tokens, budget)?;
+    let body = parse_statement(rules, tokens, budget)?;
     Ok(await_of(rules.alloc, found, body)?)
 }
 
 /// Reads a block, and answers its statements.
 #[cycle(statement)]
-#[tactic(auto, unfolding(crate::specs::Reading::block, crate::specs::Reading::statements_from))]
-fn block(rules: Rules, tokens: &mut Cursor<'_, '_>, fuel: usize) -> Result<Vec<Statement>, Fault>
-    ensures { Reads statements_view rules.stop (spec.block (spec.statement fuel) fuel (left_of tokens.old)) result (left_of tokens.new) }
+#[tactic(auto, unfolding(crate::specs::Reading::parse_block, crate::specs::Reading::parse_statements))]
+fn parse_block(
+    rules: Rules,
+    tokens: &mut Cursor<'_, '_>,
+    budget: usize,
+) -> Result<Vec<Statement>, Fault>
+    ensures { Reads statements_view rules.stop (spec.parse_block (spec.parse_statement budget) budget (left_of tokens.old)) result (left_of tokens.new) }
 {
     tokens.expect(rules.stop, Kind::Begin)?;
     let mut found = Vec::new(rules.alloc);
-    for _turn in 0..fuel {
+    for _turn in 0..budget {
         if tokens.sees(Kind::EndBlock) {
             tokens.take(rules.stop)?;
             return Ok(found);
         }
-        found.push(statement(rules, tokens, fuel)?)?;
+        found.push(parse_statement(rules, tokens, budget)?)?;
     }
     Err(Fault::Syntax)
 }
 
 /// Reads `else block` where it comes next.
 #[cycle(statement)]
-#[tactic(auto, unfolding(crate::specs::Reading::otherwise))]
-fn otherwise(
+#[tactic(auto, unfolding(crate::specs::Reading::parse_else))]
+fn parse_else(
     rules: Rules,
     tokens: &mut Cursor<'_, '_>,
-    fuel: usize,
+    budget: usize,
     test: Expression,
     body: Vec<Statement>,
 ) -> Result<Statement, Fault>
-    ensures { Reads statement_of rules.stop (spec.otherwise (spec.statement fuel) fuel (expression_of test) (statements_view body) (left_of tokens.old)) result (left_of tokens.new) }
+    ensures { Reads statement_of rules.stop (spec.parse_else (spec.parse_statement budget) budget (expression_of test) (statements_view body) (left_of tokens.old)) result (left_of tokens.new) }
 {
     if !tokens.sees(Kind::Else) {
-        return Ok(branch_of(test, body));
+        return Ok(if_of(test, body));
     }
     tokens.take(rules.stop)?;
-    let other = block(rules, tokens, fuel)?;
-    Ok(branches_of(test, body, other))
+    let other = parse_block(rules, tokens, budget)?;
+    Ok(if_else_of(test, body, other))
+}
+
+/// Reads a word, `( expression )` and a block.
+#[cycle(statement)]
+#[tactic(auto, unfolding(crate::specs::Reading::parse_guarded))]
+fn parse_guarded(
+    rules: Rules,
+    tokens: &mut Cursor<'_, '_>,
+    budget: usize,
+) -> Result<(Expression, Vec<Statement>), Fault>
+    ensures { Reads (λ p. (expression_of p.0, statements_view p.1)) rules.stop (spec.parse_guarded (spec.parse_statement budget) budget (left_of tokens.old)) result (left_of tokens.new) }
+{
+    tokens.take(rules.stop)?;
+    let test = parse_parenthesized(rules, tokens, budget)?;
+    let body = parse_block(rules, tokens, budget)?;
+    Ok((test, body))
 }
 
 /// Reads `if ( expression ) block`, and `else block` where it follows.
 #[cycle(statement)]
-#[tactic(auto, unfolding(crate::specs::Reading::branch))]
-fn branch(rules: Rules, tokens: &mut Cursor<'_, '_>, fuel: usize) -> Result<Statement, Fault>
-    ensures { Reads statement_of rules.stop (spec.branch (spec.statement fuel) fuel (left_of tokens.old)) result (left_of tokens.new) }
+#[tactic(auto, unfolding(crate::specs::Reading::parse_if))]
+fn parse_if(rules: Rules, tokens: &mut Cursor<'_, '_>, budget: usize) -> Result<Statement, Fault>
+    ensures { Reads statement_of rules.stop (spec.parse_if (spec.parse_statement budget) budget (left_of tokens.old)) result (left_of tokens.new) }
 {
-    tokens.take(rules.stop)?;
-    let test = condition(rules, tokens, fuel)?;
-    let body = block(rules, tokens, fuel)?;
-    otherwise(rules, tokens, fuel, test, body)
+    let found = parse_guarded(rules, tokens, budget)?;
+    parse_else(rules, tokens, budget, found.0, found.1)
 }
 
 /// Reads `while ( expression ) block`.
 #[cycle(statement)]
-#[tactic(auto, unfolding(crate::specs::Reading::looped))]
-fn looped(rules: Rules, tokens: &mut Cursor<'_, '_>, fuel: usize) -> Result<Statement, Fault>
-    ensures { Reads statement_of rules.stop (spec.looped (spec.statement fuel) fuel (left_of tokens.old)) result (left_of tokens.new) }
+#[tactic(auto, unfolding(crate::specs::Reading::parse_while))]
+fn parse_while(rules: Rules, tokens: &mut Cursor<'_, '_>, budget: usize) -> Result<Statement, Fault>
+    ensures { Reads statement_of rules.stop (spec.parse_while (spec.parse_statement budget) budget (left_of tokens.old)) result (left_of tokens.new) }
 {
-    tokens.take(rules.stop)?;
-    let test = condition(rules, tokens, fuel)?;
-    let body = block(rules, tokens, fuel)?;
-    Ok(loop_of(test, body))
+    let found = parse_guarded(rules, tokens, budget)?;
+    Ok(while_of(found.0, found.1))
 }
 
 #[cycle(statement)]
-#[tactic(auto, unfolding(crate::specs::Reading::statement_form))]
-fn statement_form(
-    rules: Rules,
-    tokens: &mut Cursor<'_, '_>,
-    fuel: usize,
-) -> Result<Statement, Fault>
-    ensures { Reads statement_of rules.stop (spec.statement_form (spec.statement fuel) fuel (left_of tokens.old)) result (left_of tokens.new) }
+#[tactic(auto, unfolding(crate::specs::Reading::parse_form))]
+fn parse_form(rules: Rules, tokens: &mut Cursor<'_, '_>, budget: usize) -> Result<Statement, Fault>
+    ensures { Reads statement_of rules.stop (spec.parse_form (spec.parse_statement budget) budget (left_of tokens.old)) result (left_of tokens.new) }
 {
     match tokens.kind() {
         Kind::Semicolon => {
@@ -306,27 +300,31 @@ fn statement_form(
             Ok(Statement::Empty)
         }
         Kind::Begin => {
-            let found = block(rules, tokens, fuel)?;
+            let found = parse_block(rules, tokens, budget)?;
             Ok(block_of(found))
         }
-        Kind::Name => assign(rules, tokens, fuel),
-        Kind::If => branch(rules, tokens, fuel),
-        Kind::While => looped(rules, tokens, fuel),
-        Kind::Hash => delayed(rules, tokens, fuel),
-        Kind::At => awaited(rules, tokens, fuel),
-        Kind::Display => print(rules, tokens, Task::Display, fuel),
-        Kind::Strobe => print(rules, tokens, Task::Strobe, fuel),
-        Kind::Finish => finish(rules, tokens),
+        Kind::Name => parse_assign(rules, tokens, budget),
+        Kind::If => parse_if(rules, tokens, budget),
+        Kind::While => parse_while(rules, tokens, budget),
+        Kind::Hash => parse_delayed(rules, tokens, budget),
+        Kind::At => parse_awaited(rules, tokens, budget),
+        Kind::Display => parse_print(rules, tokens, Task::Display, budget),
+        Kind::Strobe => parse_print(rules, tokens, Task::Strobe, budget),
+        Kind::Finish => parse_finish(rules, tokens),
         _ => Err(Fault::Syntax),
     }
 }
 
 #[cycle(statement)]
-pub fn statement(rules: Rules, tokens: &mut Cursor<'_, '_>, fuel: usize) -> Result<Statement, Fault>
-    ensures { Reads statement_of rules.stop (spec.statement fuel (left_of tokens.old)) result (left_of tokens.new) }
+pub fn parse_statement(
+    rules: Rules,
+    tokens: &mut Cursor<'_, '_>,
+    budget: usize,
+) -> Result<Statement, Fault>
+    ensures { Reads statement_of rules.stop (spec.parse_statement budget (left_of tokens.old)) result (left_of tokens.new) }
 {
-    if fuel == 0 {
+    if budget == 0 {
         return Err(Fault::Syntax);
     }
-    statement_form(rules, tokens, fuel - 1)
+    parse_form(rules, tokens, budget - 1)
 }

@@ -8,7 +8,7 @@ use Rattle.logic4.specs.declared.digit.Digit.{Digit}
 use Rattle.logic4.specs.declared.digit.Digit.TheVariants.{X}
 use Rattle.logic4.specs.Vector.{Vector, is_known, number, unknown, vector}
 use Rattle.logic4.specs.Operators.{each_digit, each_pair, not_digit, not_vector, where_known, add_vector, sub_vector, digit_where_known, lt_vector, le_vector, bool_digit}
-use Rattle.logic4.specs.Words.{AreWords, of_words, length-of_words}
+use Rattle.logic4.specs.VectorWords.{AreWords, of_words, length-of_words}
 use Rattle.logic4.proofs.Formulas.{Rule, word, word-lt, ruled}
 use Rattle.logic4.proofs.Tables.{not_rule}
 use Rattle.logic4.proofs.Words.{is_known-of_words, is_unknown-of_words, number-of_words, masked_number, vector-wrap, vector-block}

@@ -10,7 +10,7 @@ use Rattle.logic4.specs.declared.digit.Digit.TheVariants.{Zero, One, X, Z}
 use Rattle.logic4.specs.Vector.{Vector, number, unknown, resize, greatest_width}
 use Rattle.logic4.specs.Operators.{left_by, right_by, shl_vector, shr_vector, concat_vector, select_digit, same_vector}
 use Rattle.logic4.specs.Sameness.{same_vector-Decides}
-use Rattle.logic4.specs.Words.{AreWords, pair_digit, of_words, first_word, second_word, first_word-of_words, second_word-of_words}
+use Rattle.logic4.specs.VectorWords.{AreWords, pair_digit, of_words, first_word, second_word, first_word-of_words, second_word-of_words}
 use Rattle.logic4.proofs.Words.{of_words-wrap, of_words-zeros, masked, index-of_words, append-of_words, take-of_words, drop-of_words, resize-of_words, shifted-of_words}
 use Rattle.logic4.proofs.Pairs.{width_is, is_known_at, is_unknown_at, number_at}
 

@@ -12,7 +12,7 @@ use Rattle.logic4.specs.declared.digit.Truth.{Truth}
 use Rattle.logic4.specs.declared.digit.Truth.TheVariants.{False, True, Unknown}
 use Rattle.logic4.specs.Vector.{Vector, bit_digit}
 use Rattle.logic4.specs.Operators.{and_digit, or_digit, xor_digit, reduce_and, reduce_or, reduce_xor, truth, truth_after, truth_digit}
-use Rattle.logic4.specs.Words.{pair_digit, of_words}
+use Rattle.logic4.specs.VectorWords.{pair_digit, of_words}
 
 -- ---- one digit and what is known of the others
 

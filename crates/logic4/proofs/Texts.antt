@@ -12,7 +12,7 @@ use Rattle.logic4.specs.declared.digit.Digit.TheVariants.{X}
 use Rattle.logic4.specs.Vector.{Vector, is_known, number}
 use Rattle.logic4.specs.Operators.{select_digit}
 use Rattle.logic4.specs.Display.{is_x, is_z, digit_text, binary_text, unknown_text, hex_digit_text, hex_group_text, hex_text, decimal_text}
-use Rattle.logic4.specs.Words.{AreWords, pair_digit, of_words}
+use Rattle.logic4.specs.VectorWords.{AreWords, pair_digit, of_words}
 use Rattle.logic4.proofs.Pairs.{width_is, is_known_at, is_unknown_at, number_at}
 use Rattle.logic4.proofs.Marks.{Marks, all_marked, not_all_marked, none_marked, one_marked}
 

@@ -4,7 +4,7 @@
 ghost use Rattle.std.specs.Prelude.{◌≡◌, ◌+◌, ◌-◌, ◌^◌, ◌<◌, ◌≤◌, [], ◌∷◌, length};
 ghost use Rattle.logic4.specs.Vector.{Vector, unknown as unknown_of, vector, resize as resized, greatest_width};
 ghost use Rattle.logic4.specs.Operators.{bool_digit, concat_vector, select_digit};
-ghost use Rattle.logic4.specs.Words.{AreWords, of_words, first_word, second_word};
+ghost use Rattle.logic4.specs.VectorWords.{AreWords, of_words, first_word, second_word};
 
 mod arithmetic;
 mod bitwise;
@@ -31,7 +31,7 @@ pub struct Bits {
 impl Model for Bits {
     ghost use Rattle.std.specs.Prelude.{length};
     ghost use Rattle.logic4.specs.Vector.{Vector};
-    ghost use Rattle.logic4.specs.Words.{AreWords, of_words, first_word, second_word, length-of_words, first_word-of_words, second_word-of_words};
+    ghost use Rattle.logic4.specs.VectorWords.{AreWords, of_words, first_word, second_word, length-of_words, first_word-of_words, second_word-of_words};
 
     ghost Value = { Vector };
 

@@ -14,8 +14,8 @@ use Rattle.model.specs.declared.entry.Entry.{Entry}
 use Rattle.model.specs.declared.entry.Entry.TheVariants.{Update, ActivateInactive, ActivateNba, ActivateMonitor, Advance}
 use Rattle.model.specs.Design.{Design, Process, Trigger}
 use Rattle.model.specs.Expressions.{value_of}
-use Rattle.model.specs.Turns.{Remainder, Wait, Ended, Inactive, Until, OnChange, Later, Turn}
-use Rattle.model.specs.States.{State, Event, Action, Evaluate, Progress, start, unbegun, numbered, without, wakes, is_woken, woken, after_wake, with_nonblocking, with_due, with_future_nonblocking, with_value, with_progress, triggers_of, change, change_all, schedule, schedule_all, schedule_wait, taking, turned, inactive_activated, nonblocking_activated, monitored, advanced}
+use Rattle.model.specs.Turns.{Remainder, Wait, Ended, Inactive, Until, OnChange, NonblockingAssignment, Turn}
+use Rattle.model.specs.States.{State, Event, Action, Evaluate, Continuation, start, unbegun, numbered, without, wakes, is_woken, woken, after_wake, with_nonblocking, with_due, with_future_nonblocking, with_value, with_continuation, triggers_of, change, change_all, schedule, schedule_all, schedule_wait, taking, turned, inactive_activated, nonblocking_activated, monitored, advanced}
 use Rattle.model.specs.Runs.{Effect, strobe_lines, silent, joined, step, run_from, run, action_in, has_any, refusal, entry_refusal, time_refusal, least_time, turn_of, turn_effect, update_effect, action_effect, effect, remainder_of, taken}
 use Rattle.model.specs.Laws.{times_in, evaluates, evaluations_in, evaluations_of, EachProcessHasOneEvent, ActiveEvaluationsStay, ActiveEventsStay}
 use Rattle.model.proofs.RunLaws.{unless_some, where_none, either_false}
@@ -113,22 +113,22 @@ count-first p k [] = omega arith
 count-first p k (q ∷ ps) =
     first_more p k (count p (map (λ e. (e.0, Evaluate e.0)) (enumerate_from (k + 1) ps))) ps (k == p) refl (count-first p (k + 1) ps) (count-before p (k + 1) ps)
 
--- no progress
-abbrev nothing : Progress
+-- no continuation
+abbrev nothing : Continuation
 nothing = record { remainder = []; triggers = [] }
 
-abbrev progress : List Progress → ℕ → Progress
-progress ps p = get_or ps p nothing
+abbrev continuation : List Continuation → ℕ → Continuation
+continuation ps p = get_or ps p nothing
 
-unbegun_waits : (design : Design) (p k : ℕ) (ps : List Process) → has_any (progress (map (λ e. unbegun design e.0) (enumerate_from k ps)) p).triggers ≡ false
+unbegun_waits : (design : Design) (p k : ℕ) (ps : List Process) → has_any (continuation (map (λ e. unbegun design e.0) (enumerate_from k ps)) p).triggers ≡ false
 unbegun_waits design zero k [] = refl
 unbegun_waits design (suc p) k [] = refl
 unbegun_waits design zero k (q ∷ ps) = refl
 unbegun_waits design (suc p) k (q ∷ ps) = unbegun_waits design p (k + 1) ps
 
 -- the evaluations of a process among all events, and 1 more where it waits for triggers
-abbrev waits : ℕ → List Progress → ℕ
-waits p ps = one_if (has_any (progress ps p).triggers)
+abbrev waits : ℕ → List Continuation → ℕ
+waits p ps = one_if (has_any (continuation ps p).triggers)
 
 abbrev total : ℕ → State → ℕ
 total p s = count p s.active + count p s.inactive + count p s.nonblocking + future_count p s.future_inactive + future_count p s.future_nonblocking + waits p s.processes
@@ -143,26 +143,26 @@ at_start p design =
     omega (arith, none, count-first p 0 design.processes)
 
 -- a change wakes the processes that wait for it, and those wait no more
-abbrev evaluate_each : List (ℕ × Progress) → List Action
+abbrev evaluate_each : List (ℕ × Continuation) → List Action
 evaluate_each es = map (λ e. Evaluate e.0) es
 
-woken_other : (p k : ℕ) (q : Progress) (es : List (ℕ × Progress)) (b : Bool) → (k == p) ≡ false → action_count p (evaluate_each (cond b ((k, q) ∷ es) es)) ≡ action_count p (evaluate_each es)
+woken_other : (p k : ℕ) (q : Continuation) (es : List (ℕ × Continuation)) (b : Bool) → (k == p) ≡ false → action_count p (evaluate_each (cond b ((k, q) ∷ es) es)) ≡ action_count p (evaluate_each es)
 woken_other p k q es true other =
     let none : one_if (k == p) ≡ 0 = ap one_if other ∙ false_is_none in
     omega (arith, none)
 woken_other p k q es false other = refl
 
-woken_same : (p k : ℕ) (q : Progress) (es : List (ℕ × Progress)) (b : Bool) → (k == p) ≡ true → action_count p (evaluate_each (cond b ((k, q) ∷ es) es)) ≡ one_if b + action_count p (evaluate_each es)
+woken_same : (p k : ℕ) (q : Continuation) (es : List (ℕ × Continuation)) (b : Bool) → (k == p) ≡ true → action_count p (evaluate_each (cond b ((k, q) ∷ es) es)) ≡ one_if b + action_count p (evaluate_each es)
 woken_same p k q es true is = ap (λ b. one_if b + action_count p (evaluate_each es)) is
 woken_same p k q es false is = omega (arith, false_is_none)
 
-count-woken_before : (p k r : ℕ) (old new : Vector) (ps : List Progress) → p < k → action_count p (evaluate_each (filter (λ e. is_woken r old new e.1) (enumerate_from k ps))) ≡ 0
+count-woken_before : (p k r : ℕ) (old new : Vector) (ps : List Continuation) → p < k → action_count p (evaluate_each (filter (λ e. is_woken r old new e.1) (enumerate_from k ps))) ≡ 0
 count-woken_before p k r old new [] h = refl
 count-woken_before p k r old new (q ∷ ps) h =
     let other : (k == p) ≡ false = grind (arith, eqb_tells k p, h) in
     woken_other p k q (filter (λ e. is_woken r old new e.1) (enumerate_from (k + 1) ps)) (is_woken r old new q) other ∙ count-woken_before p (k + 1) r old new ps (omega (arith, h))
 
-count-woken : (p k j r : ℕ) (old new : Vector) (ps : List Progress) → k + j ≡ p → action_count p (evaluate_each (filter (λ e. is_woken r old new e.1) (enumerate_from k ps))) ≡ one_if (is_woken r old new (progress ps j))
+count-woken : (p k j r : ℕ) (old new : Vector) (ps : List Continuation) → k + j ≡ p → action_count p (evaluate_each (filter (λ e. is_woken r old new e.1) (enumerate_from k ps))) ≡ one_if (is_woken r old new (continuation ps j))
 count-woken p k j r old new [] at = sym false_is_none
 count-woken p k zero r old new (q ∷ ps) at =
     let same : k ≡ p = omega (arith, at) in
@@ -175,7 +175,7 @@ count-woken p k (suc j) r old new (q ∷ ps) at =
     let other : (k == p) ≡ false = grind (arith, eqb_tells k p, at) in
     woken_other p k q (filter (λ e. is_woken r old new e.1) (enumerate_from (k + 1) ps)) (is_woken r old new q) other ∙ count-woken p (k + 1) j r old new ps (omega (arith, at))
 
-settled_by : (w : Progress) (b : Bool) → has_any w.triggers ≡ true → one_if b + one_if (has_any (if b then record w { triggers = [] } else w).triggers) ≡ one_if (has_any w.triggers)
+settled_by : (w : Continuation) (b : Bool) → has_any w.triggers ≡ true → one_if b + one_if (has_any (if b then record w { triggers = [] } else w).triggers) ≡ one_if (has_any w.triggers)
 settled_by w true h =
     let one : one_if (has_any w.triggers) ≡ 1 = ap one_if h ∙ true_is_one in
     omega (arith, one, true_is_one, false_is_none)
@@ -185,17 +185,17 @@ settled : (r : ℕ) (old new : Vector) (rest : Remainder) (triggers : List Trigg
 settled r old new rest [] = omega (arith, false_is_none)
 settled r old new rest (t ∷ ts) = settled_by (record { remainder = rest; triggers = t ∷ ts }) (wakes (t ∷ ts) r old new) refl
 
-progress-map : (r : ℕ) (old new : Vector) (ps : List Progress) (p : ℕ) → progress (map (after_wake r old new) ps) p ≡ after_wake r old new (progress ps p)
-progress-map r old new [] p = refl
-progress-map r old new (q ∷ ps) zero = refl
-progress-map r old new (q ∷ ps) (suc p) = progress-map r old new ps p
+continuation-map : (r : ℕ) (old new : Vector) (ps : List Continuation) (p : ℕ) → continuation (map (after_wake r old new) ps) p ≡ after_wake r old new (continuation ps p)
+continuation-map r old new [] p = refl
+continuation-map r old new (q ∷ ps) zero = refl
+continuation-map r old new (q ∷ ps) (suc p) = continuation-map r old new ps p
 
 at_most-with_value : (p n r : ℕ) (v : Vector) (s : State) → AtMost p n s → AtMost p n (with_value r v s)
 at_most-with_value p n r v s h =
     let old : Vector = value_of s.store r in
-    let w : Progress = progress s.processes p in
+    let w : Continuation = continuation s.processes p in
     let waits_after : waits p (map (after_wake r old v) s.processes) ≡ one_if (has_any (after_wake r old v w).triggers) =
-    ap (λ q. one_if (has_any q.triggers)) (progress-map r old v s.processes p) in
+    ap (λ q. one_if (has_any q.triggers)) (continuation-map r old v s.processes p) in
     omega (
       arith,
       h,
@@ -217,14 +217,14 @@ at_most-change_all : (p n : ℕ) (s : State) (ws : List (ℕ × Vector)) → AtM
 at_most-change_all p n s [] h = h
 at_most-change_all p n s (w ∷ ws) h = at_most-change_all p n (change s w.0 w.1) ws (at_most-change p n s w.0 w.1 h)
 
-at_most-schedule : (p n : ℕ) (s : State) (later : Later) → AtMost p n s → AtMost p n (schedule s later)
+at_most-schedule : (p n : ℕ) (s : State) (later : NonblockingAssignment) → AtMost p n s → AtMost p n (schedule s later)
 at_most-schedule p n s later h =
     let action : Action = Action.Update later.register later.value in
     at_most_if p n (with_nonblocking (action ∷ []) s) (with_future_nonblocking later.due action s) (later.due == s.time)
     (omega (arith, h, false_is_none, count-append p s.nonblocking (numbered s (Action.Update later.register later.value ∷ []))))
     (omega (arith, h, false_is_none, future_count-with_due p (later.due, (s.next_event, Action.Update later.register later.value)) s.future_nonblocking))
 
-at_most-schedule_all : (p n : ℕ) (s : State) (laters : List Later) → AtMost p n s → AtMost p n (schedule_all s laters)
+at_most-schedule_all : (p n : ℕ) (s : State) (nbas : List NonblockingAssignment) → AtMost p n s → AtMost p n (schedule_all s nbas)
 at_most-schedule_all p n s [] h = h
 at_most-schedule_all p n s (l ∷ ls) h = at_most-schedule_all p n (schedule s l) ls (at_most-schedule p n s l h)
 
@@ -239,14 +239,14 @@ at_most-schedule_wait p q n (Until time) s other h =
     omega (arith, h, none, future_count-with_due p (time, (s.next_event, Evaluate q)) s.future_inactive)
 at_most-schedule_wait p q n (OnChange triggers) s other h = h
 
-at_most-with_progress : (p q n : ℕ) (turn : Turn) (s : State) → (q == p) ≡ false → AtMost p n s → AtMost p n (with_progress q turn s)
-at_most-with_progress p q n turn s other h =
+at_most-with_continuation : (p q n : ℕ) (turn : Turn) (s : State) → (q == p) ≡ false → AtMost p n s → AtMost p n (with_continuation q turn s)
+at_most-with_continuation p q n turn s other h =
     let same : waits p (slice_set s.processes q (record { remainder = turn.rest; triggers = triggers_of turn.wait })) ≡ waits p s.processes =
     ap (λ w. one_if (has_any w.triggers)) (get_or-set_other s.processes q p (record { remainder = turn.rest; triggers = triggers_of turn.wait }) nothing (differs q p other)) in
     omega (arith, h, same)
 
 -- the wait of the process itself, which had no event
-waits_here : (ps : List Progress) (p : ℕ) (w : Progress) → waits p (slice_set ps p w) ≤ one_if (has_any w.triggers)
+waits_here : (ps : List Continuation) (p : ℕ) (w : Continuation) → waits p (slice_set ps p w) ≤ one_if (has_any w.triggers)
 waits_here [] p w = omega (arith, false_is_none)
 waits_here (q ∷ ps) zero w = omega arith
 waits_here (q ∷ ps) (suc p) w = waits_here ps p w
@@ -315,15 +315,15 @@ at_most-turned p q m turn s true same is h =
     let is' : action_in s.active m ≡ Some (Evaluate p) = is ∙ ap (λ k. Some (Evaluate k)) one in
     let t : State = taking m s in
     rw one
-    (one_after p turn.wait turn.rest turn.finish (schedule_all (change_all t turn.writes) turn.laters)
-    (at_most-schedule_all p 0 (change_all t turn.writes) turn.laters
+    (one_after p turn.wait turn.rest turn.finish (schedule_all (change_all t turn.writes) turn.nbas)
+    (at_most-schedule_all p 0 (change_all t turn.writes) turn.nbas
     (at_most-change_all p 0 t turn.writes (none_left p m s is' h))))
 at_most-turned p q m turn s false other is h =
     let t : State = taking m s in
-    let u : State = schedule_all (change_all t turn.writes) turn.laters in
-    at_most-with_progress p q 1 turn (schedule_wait q turn.wait u) other
+    let u : State = schedule_all (change_all t turn.writes) turn.nbas in
+    at_most-with_continuation p q 1 turn (schedule_wait q turn.wait u) other
     (at_most-schedule_wait p q 1 turn.wait u other
-    (at_most-schedule_all p 1 (change_all t turn.writes) turn.laters
+    (at_most-schedule_all p 1 (change_all t turn.writes) turn.nbas
     (at_most-change_all p 1 t turn.writes (at_most-taking p 1 m s h))))
 
 at_most-inactive_activated : (p n : ℕ) (s : State) → AtMost p n s → AtMost p n (inactive_activated s)
@@ -449,16 +449,16 @@ action_in-without : (n m : ℕ) (es : List Event) → (m == n) ≡ false → act
 action_in-without n m [] other = refl
 action_in-without n m (e ∷ es) other = without_first n m e es (e.0 == m) refl other (action_in-without n m es other)
 
-remainder_if : (b : Bool) (w : Progress) → (if b then record w { triggers = [] } else w).remainder ≡ w.remainder
+remainder_if : (b : Bool) (w : Continuation) → (if b then record w { triggers = [] } else w).remainder ≡ w.remainder
 remainder_if true w = refl
 remainder_if false w = refl
 
 stays-with_value : (n p : ℕ) (a : Action) (rest : Remainder) (time r : ℕ) (v : Vector) (s : State) → Stays n a p rest time s → Stays n a p rest time (with_value r v s)
 stays-with_value n p a rest time r v s h =
     let old : Vector = value_of s.store r in
-    let w : Progress = progress s.processes p in
-    let same : (progress (map (after_wake r old v) s.processes) p).remainder ≡ w.remainder =
-    ap (λ q. q.remainder) (progress-map r old v s.processes p) ∙ remainder_if (is_woken r old v w) w in
+    let w : Continuation = continuation s.processes p in
+    let same : (continuation (map (after_wake r old v) s.processes) p).remainder ≡ w.remainder =
+    ap (λ q. q.remainder) (continuation-map r old v s.processes p) ∙ remainder_if (is_woken r old v w) w in
     (action_in-append n a s.active (enumerate_from s.next_event (woken r old v s.processes)) h.0, same ∙ h.1, h.2)
 
 stays_if : (n p : ℕ) (a : Action) (rest : Remainder) (time : ℕ) (s t : State) (b : Bool) → Stays n a p rest time s → Stays n a p rest time t → Stays n a p rest time (if b then s else t)
@@ -473,11 +473,11 @@ stays-change_all : (n p : ℕ) (a : Action) (rest : Remainder) (time : ℕ) (s :
 stays-change_all n p a rest time s [] h = h
 stays-change_all n p a rest time s (w ∷ ws) h = stays-change_all n p a rest time (change s w.0 w.1) ws (stays-change n p a rest time s w.0 w.1 h)
 
-stays-schedule : (n p : ℕ) (a : Action) (rest : Remainder) (time : ℕ) (s : State) (later : Later) → Stays n a p rest time s → Stays n a p rest time (schedule s later)
+stays-schedule : (n p : ℕ) (a : Action) (rest : Remainder) (time : ℕ) (s : State) (later : NonblockingAssignment) → Stays n a p rest time s → Stays n a p rest time (schedule s later)
 stays-schedule n p a rest time s later h =
     stays_if n p a rest time (with_nonblocking (Action.Update later.register later.value ∷ []) s) (with_future_nonblocking later.due (Action.Update later.register later.value) s) (later.due == s.time) h h
 
-stays-schedule_all : (n p : ℕ) (a : Action) (rest : Remainder) (time : ℕ) (s : State) (laters : List Later) → Stays n a p rest time s → Stays n a p rest time (schedule_all s laters)
+stays-schedule_all : (n p : ℕ) (a : Action) (rest : Remainder) (time : ℕ) (s : State) (nbas : List NonblockingAssignment) → Stays n a p rest time s → Stays n a p rest time (schedule_all s nbas)
 stays-schedule_all n p a rest time s [] h = h
 stays-schedule_all n p a rest time s (l ∷ ls) h = stays-schedule_all n p a rest time (schedule s l) ls (stays-schedule n p a rest time s l h)
 
@@ -487,9 +487,9 @@ stays-schedule_wait n p a rest time q Inactive s h = h
 stays-schedule_wait n p a rest time q (Until due) s h = h
 stays-schedule_wait n p a rest time q (OnChange triggers) s h = h
 
-stays-with_progress : (n p : ℕ) (a : Action) (rest : Remainder) (time q : ℕ) (turn : Turn) (s : State) → (q == p) ≡ false → Stays n a p rest time s → Stays n a p rest time (with_progress q turn s)
-stays-with_progress n p a rest time q turn s other h =
-    let same : progress (slice_set s.processes q (record { remainder = turn.rest; triggers = triggers_of turn.wait })) p ≡ progress s.processes p =
+stays-with_continuation : (n p : ℕ) (a : Action) (rest : Remainder) (time q : ℕ) (turn : Turn) (s : State) → (q == p) ≡ false → Stays n a p rest time s → Stays n a p rest time (with_continuation q turn s)
+stays-with_continuation n p a rest time q turn s other h =
+    let same : continuation (slice_set s.processes q (record { remainder = turn.rest; triggers = triggers_of turn.wait })) p ≡ continuation s.processes p =
     get_or-set_other s.processes q p (record { remainder = turn.rest; triggers = triggers_of turn.wait }) nothing (differs q p other) in
     (h.0, ap (λ w. w.remainder) same ∙ h.1, h.2)
 
@@ -525,10 +525,10 @@ stays-turned n p m q turn s other here there h =
     let a : Action = Evaluate p in
     let rest : Remainder = remainder_of s p in
     let t : State = taking m s in
-    let u : State = schedule_all (change_all t turn.writes) turn.laters in
-    stays-with_progress n p a rest s.time q turn (schedule_wait q turn.wait u) (other_process n m p q s other here there h)
+    let u : State = schedule_all (change_all t turn.writes) turn.nbas in
+    stays-with_continuation n p a rest s.time q turn (schedule_wait q turn.wait u) (other_process n m p q s other here there h)
     (stays-schedule_wait n p a rest s.time q turn.wait u
-    (stays-schedule_all n p a rest s.time (change_all t turn.writes) turn.laters
+    (stays-schedule_all n p a rest s.time (change_all t turn.writes) turn.nbas
     (stays-change_all n p a rest s.time t turn.writes (stays-taking n p m a s other here))))
 
 turn_stays : (n p m q : ℕ) (s : State) (f : Effect) (o : Option Turn) → (m == n) ≡ false → action_in s.active n ≡ Some (Evaluate p) → action_in s.active m ≡ Some (Evaluate q) → option_map (turn_effect s m q) o ≡ Some f → AtMost p 1 s
@@ -601,10 +601,10 @@ event_stays-turned n m q a turn s other here =
     let next : (q == p) ≡ false = grind (arith, eqb_tells q (q + 1)) in
     let rest : Remainder = remainder_of s p in
     let t : State = taking m s in
-    let u : State = schedule_all (change_all t turn.writes) turn.laters in
-    (stays-with_progress n p a rest s.time q turn (schedule_wait q turn.wait u) next
+    let u : State = schedule_all (change_all t turn.writes) turn.nbas in
+    (stays-with_continuation n p a rest s.time q turn (schedule_wait q turn.wait u) next
     (stays-schedule_wait n p a rest s.time q turn.wait u
-    (stays-schedule_all n p a rest s.time (change_all t turn.writes) turn.laters
+    (stays-schedule_all n p a rest s.time (change_all t turn.writes) turn.nbas
     (stays-change_all n p a rest s.time t turn.writes (stays-taking n p m a s other here))))).0
 
 event_turn_stays : (n m q : ℕ) (a : Action) (s : State) (f : Effect) (o : Option Turn) → (m == n) ≡ false → action_in s.active n ≡ Some a → option_map (turn_effect s m q) o ≡ Some f

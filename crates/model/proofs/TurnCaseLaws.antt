@@ -12,7 +12,7 @@ use Rattle.model.specs.declared.tree.Task.TheVariants.{Display, Strobe}
 use Rattle.model.specs.Syntax.{Expression, registers_of, all_registers_of}
 use Rattle.model.specs.Design.{Design, Statement, Empty, Assign, AssignAfter, AssignLater, Delay, Await, If, While, Print, Finish, Statements, size, statement_at, process_at}
 use Rattle.model.specs.Expressions.{Store, own_value, assigned_value}
-use Rattle.model.specs.Turns.{At, Set, Remainder, Wait, Ended, OnChange, Later, Turn, Going, Over, begun, contains, with_uses, counted, goes_on, stops, delayed, parts, whole, own_values, line_text, where_true, condition_truth, after_statement, next, and_then, turn_within, IsTurn}
+use Rattle.model.specs.Turns.{At, Set, Remainder, Wait, Ended, OnChange, NonblockingAssignment, Turn, Going, Over, begun, contains, with_uses, counted, goes_on, stops, delayed, parts, whole, own_values, line_text, where_true, condition_truth, after_statement, next, and_then, turn_within, IsTurn}
 use Rattle.model.specs.TurnCases.{all_but, first_uses, over, with_step, with_write, with_later, with_line, with_strobe, HasTurn, nothing, assigned, left_over, assigned_after, assigned_later, delay, event, chosen, other, again, past, displayed, strobed, finished, ended, restarted, TurnByCasesIsExact, ShortTurnByCasesIsExact, TurnByCasesIsUnique, UsedUpIsWholeAgain}
 use Rattle.model.proofs.TurnLaws.{turn_unique, short_turn_found, short_turn_is}
 
@@ -106,7 +106,7 @@ continued g turn =
     record {
       uses = g.uses ++ unmet (map (λ w. w.0) g.writes) g.uses turn.uses;
       writes = g.writes ++ turn.writes;
-      laters = g.laters ++ turn.laters;
+      nbas = g.nbas ++ turn.nbas;
       lines = g.lines ++ turn.lines;
       strobes = g.strobes ++ turn.strobes;
       rest = turn.rest;
@@ -130,9 +130,9 @@ continued_write g left store r v turn =
     let names : map (λ (w : ℕ × Vector). w.0) (g.writes ++ (r, v) ∷ []) ≡ map (λ w. w.0) g.writes ++ r ∷ [] = map-append (λ w. w.0) g.writes ((r, v) ∷ []) in
     rw (names, unmet_written (map (λ w. w.0) g.writes) g.uses turn.uses r, append_assoc g.writes ((r, v) ∷ []) turn.writes) refl
 
-continued_later : (g : Going) (left : Remainder) (later : Later) (turn : Turn) → continued (record g { left = left; laters = g.laters ++ later ∷ [] }) turn ≡ continued g (with_later later turn)
+continued_later : (g : Going) (left : Remainder) (later : NonblockingAssignment) (turn : Turn) → continued (record g { left = left; nbas = g.nbas ++ later ∷ [] }) turn ≡ continued g (with_later later turn)
 unfolding continued
-continued_later g left later turn = rw (append_assoc g.laters (later ∷ []) turn.laters) refl
+continued_later g left later turn = rw (append_assoc g.nbas (later ∷ []) turn.nbas) refl
 
 continued_line : (g : Going) (left : Remainder) (line : List ℕ) (turn : Turn) → continued (record g { left = left; lines = g.lines ++ line }) turn ≡ continued g (with_line line turn)
 unfolding continued
@@ -147,7 +147,7 @@ stopped : (g : Going) (left : Remainder) (wait : Wait) (finish : Bool) → stops
 unfolding continued unmet
 stopped g left wait finish =
     let count : g.count + 0 ≡ g.count = omega arith in
-    rw (append-nil g.uses, append-nil g.writes, append-nil g.laters, append-nil g.lines, append-nil g.strobes, count) refl
+    rw (append-nil g.uses, append-nil g.writes, append-nil g.nbas, append-nil g.lines, append-nil g.strobes, count) refl
 
 -- a turn that begins
 unmet_none : (later : List ℕ) → unmet [] [] later ≡ later
@@ -223,9 +223,9 @@ statement_found k design p now g place (AssignAfter r d x) rest turn at later e 
   ends_with g (registers_of x) (Set r (assigned_value design.widths g.values r x) ∷ rest) (delayed now d) false (turn_within k design p now) turn e,
 )
 statement_found k design p now g place (AssignLater r d x) rest turn at later e =
-    let l : Later = record { register = r; value = assigned_value design.widths g.values r x; due = now + d } in
+    let l : NonblockingAssignment = record { register = r; value = assigned_value design.widths g.values r x; due = now + d } in
     let h : Going = counted (registers_of x) g in
-    let (t, has, same) = later (record h { left = rest; laters = g.laters ++ l ∷ [] }) e in (
+    let (t, has, same) = later (record h { left = rest; nbas = g.nbas ++ l ∷ [] }) e in (
       with_step (registers_of x) (with_later l t),
       assigned_later place r d x rest g.values t at has,
       same ∙ continued_later h rest l t ∙ continued_step g (registers_of x) (with_later l t),
@@ -342,10 +342,10 @@ leads design p now _ _ _ (left_over r v rest store turn d) g =
 leads design p now _ _ _ (assigned_after place r d x rest store at) g =
     (0, rw at (leads_off (record g { values = store }) (registers_of x) (Set r (assigned_value design.widths store r x) ∷ rest) (delayed now d) false (turn_within 0 design p now)))
 leads design p now _ _ _ (assigned_later place r d x rest store turn at has) g =
-    let l : Later = record { register = r; value = assigned_value design.widths store r x; due = now + d } in
+    let l : NonblockingAssignment = record { register = r; value = assigned_value design.widths store r x; due = now + d } in
     let begin : Going = record g { values = store } in
     let step : Going = counted (registers_of x) begin in
-    let h : Going = record step { left = rest; laters = g.laters ++ l ∷ [] } in
+    let h : Going = record step { left = rest; nbas = g.nbas ++ l ∷ [] } in
     let on : (k : ℕ) × (turn_within k design p now h ≡ Some (continued begin (with_step (registers_of x) (with_later l turn)))) =
     leads_on design p now h begin turn (with_step (registers_of x) (with_later l turn)) (leads design p now rest store turn has h)
     (continued_later step rest l turn ∙ continued_step begin (registers_of x) (with_later l turn)) in

@@ -1,5 +1,5 @@
 pub mod Syntax
-pub mod Trees
+pub mod SourceTrees
 pub mod Design
 pub mod Elaboration
 pub mod Expressions

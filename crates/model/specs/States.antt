@@ -10,7 +10,7 @@ use Rattle.model.specs.declared.tree.Change.{Change}
 use Rattle.model.specs.declared.tree.Change.TheVariants.{Any, Posedge, Negedge}
 use Rattle.model.specs.Design.{Design, Trigger}
 use Rattle.model.specs.Expressions.{Store, value_of}
-use Rattle.model.specs.Turns.{Remainder, Wait, Ended, Inactive, Until, OnChange, Later, Turn, whole}
+use Rattle.model.specs.Turns.{Remainder, Wait, Ended, Inactive, Until, OnChange, NonblockingAssignment, Turn, whole}
 
 -- whether a change of this kind is what an event control waits for (9.7.2)
 abbrev pub edge_matches : Change → Edge → Bool
@@ -34,7 +34,7 @@ abbrev pub Event : Type 0
 Event = ℕ × Action
 
 -- a process between two turns: its remainder, and the triggers that it waits for, if it waits for any
-pub record Progress : Type 0 where
+pub record Continuation : Type 0 where
   pub remainder : Remainder
   pub triggers : List Trigger
 
@@ -44,7 +44,7 @@ pub record Progress : Type 0 where
 pub record State : Type 0 where
   pub time : ℕ
   pub store : Store
-  pub processes : List Progress
+  pub processes : List Continuation
   pub active : List Event
   pub inactive : List Event
   pub nonblocking : List Event
@@ -55,7 +55,7 @@ pub record State : Type 0 where
   pub finished : Bool
 
 -- a process that hasn't begun
-abbrev pub unbegun : Design → ℕ → Progress
+abbrev pub unbegun : Design → ℕ → Continuation
 unbegun design p = record { remainder = whole design p; triggers = [] }
 
 -- at the start every register is all x, and each process has the active event of its own number
@@ -110,16 +110,16 @@ with_future_nonblocking due action s =
     record s { future_nonblocking = with_due (due, (s.next_event, action)) s.future_nonblocking; next_event = s.next_event + 1 }
 
 -- whether a process waits for the change of a register from one value to another
-abbrev pub is_woken : ℕ → Vector → Vector → Progress → Bool
+abbrev pub is_woken : ℕ → Vector → Vector → Continuation → Bool
 is_woken r old new p = wakes p.triggers r old new
 
 -- the evaluations of the processes that wait for a change, in the order of the processes
-abbrev pub woken : ℕ → Vector → Vector → List Progress → List Action
+abbrev pub woken : ℕ → Vector → Vector → List Continuation → List Action
 woken r old new processes =
     map (λ e. Evaluate e.0) (filter (λ e. is_woken r old new e.1) (enumerate_from 0 processes))
 
 -- a process that a change wakes waits no more
-abbrev pub after_wake : ℕ → Vector → Vector → Progress → Progress
+abbrev pub after_wake : ℕ → Vector → Vector → Continuation → Continuation
 after_wake r old new p = if is_woken r old new p then record p { triggers = [] } else p
 
 -- the register gets the value, which is another one than its own
@@ -139,15 +139,15 @@ change_all s [] = s
 change_all s (w ∷ ws) = change_all (change s w.0 w.1) ws
 
 -- a nonblocking assignment makes an update in the nonblocking region, or in the future where it is due later (9.2.2)
-abbrev pub schedule : State → Later → State
+abbrev pub schedule : State → NonblockingAssignment → State
 schedule s later =
     if later.due == s.time then with_nonblocking (Update later.register later.value ∷ []) s
     else with_future_nonblocking later.due (Update later.register later.value) s
 
 -- the updates of nonblocking assignments, in order
-abbrev pub schedule_all : State → List Later → State
+abbrev pub schedule_all : State → List NonblockingAssignment → State
 schedule_all s [] = s
-schedule_all s (later ∷ laters) = schedule_all (schedule s later) laters
+schedule_all s (later ∷ nbas) = schedule_all (schedule s later) nbas
 
 -- the event of a process's own wait, if that makes one
 abbrev pub schedule_wait : ℕ → Wait → State → State
@@ -171,8 +171,8 @@ taking number s = record s { active = without number s.active }
 
 -- the process with this number goes on with this remainder once its triggers, if it has any, wake it, and its strobes
 -- stand behind those of earlier turns
-abbrev pub with_progress : ℕ → Turn → State → State
-with_progress p turn s =
+abbrev pub with_continuation : ℕ → Turn → State → State
+with_continuation p turn s =
     record s {
       processes = slice_set s.processes p (record { remainder = turn.rest; triggers = triggers_of turn.wait });
       monitor = s.monitor ++ turn.strobes;
@@ -183,8 +183,8 @@ with_progress p turn s =
 -- nonblocking assignments in order, then the event of its own wait.
 abbrev pub turned : State → ℕ → ℕ → Turn → State
 turned s number p turn =
-    with_progress p turn
-    (schedule_wait p turn.wait (schedule_all (change_all (taking number s) turn.writes) turn.laters))
+    with_continuation p turn
+    (schedule_wait p turn.wait (schedule_all (change_all (taking number s) turn.writes) turn.nbas))
 
 -- an update, taken by the event with this number
 abbrev pub updated : State → ℕ → ℕ → Vector → State

@@ -9,7 +9,7 @@ use Rattle.model.specs.declared.tree.Task.TheVariants.{Display, Strobe}
 use Rattle.model.specs.Syntax.{Expression, Expressions, registers_of, all_registers_of}
 use Rattle.model.specs.Design.{Design, Empty, Assign, AssignAfter, AssignLater, Delay, Await, If, While, Print, Finish, Statements, Trigger, Piece, size, statement_at, process_at}
 use Rattle.model.specs.Expressions.{Store, own_value, assigned_value}
-use Rattle.model.specs.Turns.{At, Set, Remainder, Wait, Ended, OnChange, Later, Turn, parts, whole, own_values, line_text, delayed, IsTurn, IsShort, short_turn}
+use Rattle.model.specs.Turns.{At, Set, Remainder, Wait, Ended, OnChange, NonblockingAssignment, Turn, parts, whole, own_values, line_text, delayed, IsTurn, IsShort, short_turn}
 
 -- the registers without one of them
 abbrev pub all_but : ℕ → List ℕ → List ℕ
@@ -23,7 +23,7 @@ first_uses (r ∷ rs) later = r ∷ all_but r (first_uses rs later)
 -- the turn that is over at once, with this left, in this wait
 abbrev pub over : Remainder → Wait → Bool → Turn
 over left wait finish =
-    record { uses = []; writes = []; laters = []; lines = []; strobes = []; rest = left; wait = wait; finish = finish; count = 0 }
+    record { uses = []; writes = []; nbas = []; lines = []; strobes = []; rest = left; wait = wait; finish = finish; count = 0 }
 
 -- the turn with one more counted step before it, in which these registers are read
 abbrev pub with_step : List ℕ → Turn → Turn
@@ -34,8 +34,8 @@ abbrev pub with_write : ℕ → Vector → Turn → Turn
 with_write r v turn = record turn { uses = all_but r turn.uses; writes = (r, v) ∷ turn.writes }
 
 -- the turn with a nonblocking assignment before it
-abbrev pub with_later : Later → Turn → Turn
-with_later later turn = record turn { laters = later ∷ turn.laters }
+abbrev pub with_later : NonblockingAssignment → Turn → Turn
+with_later later turn = record turn { nbas = later ∷ turn.nbas }
 
 -- the turn with a line before it
 abbrev pub with_line : List ℕ → Turn → Turn

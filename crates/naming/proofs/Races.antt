@@ -2,7 +2,7 @@
 use Rattle.std.proofs.Common.{◌≡◌, ◌∙◌, ap, sym, subst, ℕ, zero, suc, ◌+◌, ◌<◌, List, [], ◌∷◌, ◌++◌, length, take, get_or, append_assoc, Option, Result, Ok, Err, OnOk, refl, arith, add-one}
 use Rattle.std.specs.List.{All}
 use Rattle.model.specs.declared.end.Limits.{Limits}
-use Rattle.seeded.specs.Runs.{IsRun}
+use Rattle.seeded.specs.SeededRun.{IsRun}
 use Rattle.conflicts.specs.Races.{IsShown}
 use Rattle.model.specs.declared.entry.Entry.{Entry}
 use Rattle.model.specs.declared.end.End.{End}
@@ -11,7 +11,7 @@ use Rattle.explore.specs.declared.Shown.{Shown}
 use Rattle.seeded.specs.declared.run.SeededRun.{SeededRun}
 use Rattle.conflicts.specs.declared.told.Race as found
 use Rattle.verdict.specs.declared.race.Race.{Race}
-use Rattle.verdict.specs.Races.{race_text}
+use Rattle.verdict.specs.RaceLines.{race_text}
 use Rattle.places.specs.declared.place.Process.{Process}
 use Rattle.naming.specs.Begins.{AreProcessesOf}
 use Rattle.naming.specs.Naming.{AreRacesTold, IsRaceTold, TellsBehind, TellsEach, races_text, tell}

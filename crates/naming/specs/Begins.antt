@@ -3,7 +3,7 @@ use Rattle.std.specs.Prelude.{◌≡◌, ◌⊎◌, ℕ, List, [], Option, optio
 use Rattle.tokens.specs.declared.cut.CutFault.{CutFault}
 use Rattle.tokens.specs.declared.cut.CutFault.TheVariants.{Memory}
 use Rattle.places.specs.declared.place.Process as found
-use Rattle.places.specs.Places.{AreProcesses}
+use Rattle.places.specs.SourcePlaces.{AreProcesses}
 use Rattle.places.specs.Spots.{IsUncut}
 use Rattle.verdict.specs.declared.race.Process.{Process}
 

@@ -1,3 +1,3 @@
 pub mod Begins
 pub mod Naming
-pub mod Words
+pub mod RaceWords

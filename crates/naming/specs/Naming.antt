@@ -7,18 +7,18 @@ use Rattle.model.specs.declared.end.Limits.{Limits}
 use Rattle.design.specs.Compiled.{Compiled}
 use Rattle.explore.specs.declared.Shown.{Shown}
 use Rattle.seeded.specs.declared.run.SeededRun.{SeededRun}
-use Rattle.seeded.specs.Runs.{IsRun}
+use Rattle.seeded.specs.SeededRun.{IsRun}
 use Rattle.conflicts.specs.declared.told.Race as found
 use Rattle.deeds.specs.declared.role.Role as found_role
 use Rattle.conflicts.specs.Races.{IsShown}
-use Rattle.verdict.specs.Lines.{IsFirstDifference, HaveSameLines}
+use Rattle.verdict.specs.VerdictLines.{IsFirstDifference, HaveSameLines}
 use Rattle.verdict.specs.declared.race.Race.{Race}
 use Rattle.verdict.specs.declared.race.Role.{Role}
 use Rattle.verdict.specs.declared.race.Run.{Run}
-use Rattle.verdict.specs.Races.{prefix_of, race_text}
+use Rattle.verdict.specs.RaceLines.{prefix_of, race_text}
 use Rattle.places.specs.declared.place.Process.{Process}
 use Rattle.naming.specs.Begins.{AreProcessesOf, begin_of}
-use Rattle.naming.specs.Words.{word_of, IsSiteTold}
+use Rattle.naming.specs.RaceWords.{word_of, IsSiteTold}
 
 -- a process is told by its number, where it begins among these, and what it does in words
 pub record IsRoleTold (begins : List Process) (role : found_role.Role) (told : Role) : Type 0 where

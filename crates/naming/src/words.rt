@@ -1,7 +1,7 @@
 //! The words in which a race is told.
 ghost use Rattle.std.specs.Prelude.{◌≡◌};
 ghost use Rattle.deeds.specs.declared.role.Site.TheVariants as sites;
-ghost use Rattle.naming.specs.Words.{word_of, IsSiteTold};
+ghost use Rattle.naming.specs.RaceWords.{word_of, IsSiteTold};
 
 use deeds::Does;
 use design::{Design, RegId};

@@ -9,7 +9,7 @@ use Rattle.model.specs.Turns as turns
 use Rattle.model.specs.Turns.{Inactive, Ended, At, turn_within}
 use Rattle.model.specs.States.{start, turned}
 use Rattle.model.specs.Runs.{Effect, run, action_in}
-use Rattle.orders.specs.Search.{IsOneNode}
+use Rattle.orders.specs.SearchLaws.{IsOneNode}
 use Rattle.orders.proofs.EventLists.{alike-same}
 use Rattle.orders.proofs.FutureLists.{alike_future-same}
 
@@ -30,7 +30,7 @@ abbrev pub apart : Design
 apart = record { widths = 1 ∷ 1 ∷ []; processes = initial (Delay 0 (Then (sets 0 high) End)) ∷ initial (Delay 0 (Then (sets 1 high) End)) ∷ [] }
 
 abbrev waits_at : ℕ → turns.Turn
-waits_at place = record { uses = []; writes = []; laters = []; lines = []; strobes = []; rest = At place ∷ []; wait = Inactive; finish = false; count = 1 }
+waits_at place = record { uses = []; writes = []; nbas = []; lines = []; strobes = []; rest = At place ∷ []; wait = Inactive; finish = false; count = 1 }
 
 abbrev apart_one_way : Effect
 apart_one_way = record { state = turned (turned (start apart) 0 0 (waits_at 1)) 1 1 (waits_at 3); lines = []; changes = [] }
@@ -54,7 +54,7 @@ abbrev pub race : Design
 race = record { widths = 1 ∷ []; processes = initial (sets 0 low) ∷ initial (sets 0 high) ∷ [] }
 
 abbrev writes : Vector → turns.Turn
-writes v = record { uses = []; writes = (0, v) ∷ []; laters = []; lines = []; strobes = []; rest = []; wait = Ended; finish = false; count = 1 }
+writes v = record { uses = []; writes = (0, v) ∷ []; nbas = []; lines = []; strobes = []; rest = []; wait = Ended; finish = false; count = 1 }
 
 abbrev race_one_way : Effect
 race_one_way = record { state = turned (turned (start race) 0 0 (writes low)) 1 1 (writes high); lines = []; changes = (0, low) ∷ (0, high) ∷ [] }

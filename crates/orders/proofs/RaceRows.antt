@@ -20,7 +20,7 @@ use Rattle.model.specs.States.{Action, Evaluate, Event, State, start, turned}
 use Rattle.model.specs.Runs.{Effect, silent, joined, step, action_in, turn_of, HasLongTurn}
 use Rattle.model.proofs.StepLaws.{step_is_exact}
 use Rattle.orders.specs.Alike.{move_of}
-use Rattle.orders.specs.Search.{EndsHere, IsReached, Visited, FollowsEachMove, Shows, IsComplete}
+use Rattle.orders.specs.SearchLaws.{EndsHere, IsReached, Visited, FollowsEachMove, Shows, IsComplete}
 use Rattle.orders.proofs.AlikeStates.{alike_states-same}
 use Rattle.orders.proofs.SilentUpdates.{goes_on}
 use Rattle.orders.proofs.SearchLaws.{each_move_covers}
@@ -39,10 +39,10 @@ abbrev pub limits : Limits
 limits = record { until = None; max_entries = 5 }
 
 abbrev writes : Turn
-writes = record { uses = []; writes = (0, high) ∷ []; laters = []; lines = []; strobes = []; rest = []; wait = Ended; finish = false; count = 1 }
+writes = record { uses = []; writes = (0, high) ∷ []; nbas = []; lines = []; strobes = []; rest = []; wait = Ended; finish = false; count = 1 }
 
 abbrev prints : ℕ → Turn
-prints byte = record { uses = 0 ∷ []; writes = []; laters = []; lines = byte ∷ 10 ∷ []; strobes = []; rest = []; wait = Ended; finish = false; count = 1 }
+prints byte = record { uses = 0 ∷ []; writes = []; nbas = []; lines = byte ∷ 10 ∷ []; strobes = []; rest = []; wait = Ended; finish = false; count = 1 }
 
 -- the nodes: at the start, after one of the turns, and after both
 abbrev pub begin : Effect

@@ -12,7 +12,7 @@ use Rattle.model.specs.States.{start}
 use Rattle.model.specs.Runs.{Effect, silent, joined, step, run_from, IsTimely, AreTimely}
 use Rattle.model.proofs.RunLaws.{run_from-append}
 use Rattle.orders.specs.Alike.{Alike, IsInOrder}
-use Rattle.orders.specs.Search.{IsOneNode, OneNodeGoesOn, EndsHere, IsReached, Visited, EachMoveCovers, Shows, IsComplete, CompleteShowsAll}
+use Rattle.orders.specs.SearchLaws.{IsOneNode, OneNodeGoesOn, EndsHere, IsReached, Visited, EachMoveCovers, Shows, IsComplete, CompleteShowsAll}
 use Rattle.orders.proofs.StatesInOrder.{step_keeps_order, run_from_in_order, start_is_in_order, run_is_in_order}
 use Rattle.orders.proofs.AlikeStates.{alike_states-same, alike_states-trans}
 use Rattle.orders.proofs.AlikeSteps.{alike_states_step_alike, move_has_one_outcome}

@@ -10,7 +10,7 @@ use Rattle.model.specs.States.{State, Action, Evaluate, start}
 use Rattle.model.specs.Runs.{action_in, Effect, silent, joined, step, run_from, most_time, IsTimely, AreTimely}
 use Rattle.model.proofs.StepLaws.{step_is_exact}
 use Rattle.orders.specs.Alike.{Change, move_of_action, move_of}
-use Rattle.orders.specs.Search.{UnlimitedRunIsTimely}
+use Rattle.orders.specs.SearchLaws.{UnlimitedRunIsTimely}
 
 -- an entry of the same move is in time too
 no_change : (o : Option Action) (limits : Limits) (d : Entry) → Some (Change d) ≡ move_of_action o → IsTimely limits d

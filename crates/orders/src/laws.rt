@@ -5,7 +5,7 @@ ghost use Rattle.orders.specs.Canon.{CanonTellsAlike};
 ghost use Rattle.orders.specs.Apart.{TurnHasFrame, TurnsCommute};
 ghost use Rattle.orders.specs.Silent.{SilentUpdatesAreTaken, SilentOrderIsForgotten};
 ghost use Rattle.orders.specs.Flat.{FlatTurnsAreOneNode, FlatCovers, FlatTurnsCover};
-ghost use Rattle.orders.specs.Search.{UnlimitedRunIsTimely, OneNodeGoesOn, EachMoveCovers, CompleteShowsAll};
+ghost use Rattle.orders.specs.SearchLaws.{UnlimitedRunIsTimely, OneNodeGoesOn, EachMoveCovers, CompleteShowsAll};
 
 /// States that are alike are so in either direction, and through a third. They are those that have the same form.
 pub fn alike_is_equivalence()

@@ -121,7 +121,7 @@ Has rest wait rs ws sure most turn =
       reads : (r : ℕ) → contains turn.uses r ≡ true → contains rs r ≡ true;
       writes : (r : ℕ) → contains (written_by turn) r ≡ true → contains ws r ≡ true;
       all : (r : ℕ) → contains sure r ≡ true → contains (written_by turn) r ≡ true;
-      laters : turn.laters ≡ [];
+      nbas : turn.nbas ≡ [];
       lines : turn.lines ≡ [];
       strobes : turn.strobes ≡ [];
       finish : turn.finish ≡ false;
@@ -142,7 +142,7 @@ assign_has rest wait rs ws sure uses most r v turn h =
       reads = λ q used. read q (uses_tell uses (all_but r turn.uses) q used);
       writes = λ q wrote. same_or (r == q) (contains (written_by turn) q) (contains ws q) wrote (h.writes q);
       all = λ q there. same_or (r == q) (contains sure q) (contains (written_by turn) q) there (h.all q);
-      laters = h.laters;
+      nbas = h.nbas;
       lines = h.lines;
       strobes = h.strobes;
       finish = h.finish;
@@ -169,7 +169,7 @@ choose_has rest wait rs ws sure uses most turn h =
       reads = λ q used. read q (uses_tell uses turn.uses q used);
       writes = h.writes;
       all = h.all;
-      laters = h.laters;
+      nbas = h.nbas;
       lines = h.lines;
       strobes = h.strobes;
       finish = h.finish;
@@ -191,7 +191,7 @@ less_has rest wait rs qs ws vs sure less most more turn h reads writes all count
       reads = λ r used. reads r (h.reads r used);
       writes = λ r wrote. writes r (h.writes r wrote);
       all = λ r there. h.all r (all r there);
-      laters = h.laters;
+      nbas = h.nbas;
       lines = h.lines;
       strobes = h.strobes;
       finish = h.finish;
@@ -367,7 +367,7 @@ waits_again design p now inputs body h stands store =
     let repeats : (process_at design p).repeats ≡ true = ap (λ (x : Process). x.repeats) h.process in (
       with_step [] t,
       restarted store t repeats (subst (λ left. HasTurn design p now left store t) (sym body_is) waits),
-      record { reads = λ r used. used; writes = λ r wrote. wrote; all = λ r there. there; laters = refl; lines = refl; strobes = refl; finish = refl; rest = no_more (parts (at + 1) body); wait = refl; count = omega arith },
+      record { reads = λ r used. used; writes = λ r wrote. wrote; all = λ r there. there; nbas = refl; lines = refl; strobes = refl; finish = refl; rest = no_more (parts (at + 1) body); wait = refl; count = omega arith },
     )
 
 pub combinational_is_block : CombinationalIsBlock
@@ -389,7 +389,7 @@ combinational_is_block design p inputs body h =
               reads = λ r used. h.within r (has.reads r used);
               writes = λ r wrote. ap (λ xs. contains xs r) (sym (no_more (written body))) ∙ has.writes r wrote;
               all = λ r out. has.all r (ap (λ xs. contains xs r) (no_more (settled body)) ∙ h.all r out);
-              laters = has.laters;
+              nbas = has.nbas;
               lines = has.lines;
               strobes = has.strobes;
               finish = has.finish;

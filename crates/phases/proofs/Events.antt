@@ -10,7 +10,7 @@ use Rattle.model.specs.Laws.{evaluates, evaluations_in}
 use Rattle.orders.specs.Alike.{IsInOrder, updates_in}
 use Rattle.orders.specs.Apart.{all_given}
 use Rattle.orders.proofs.EventLists.{evaluations-taken, own_evaluation}
-use Rattle.phases.specs.Phase.{Block, IsBlock, progress_of, waits_for}
+use Rattle.phases.specs.Phase.{Block, IsBlock, continuation_of, waits_for}
 use Rattle.phases.proofs.Changes.{woke, awake, one_where, Changed, changed}
 use Rattle.phases.proofs.Members.{Standing, stands_changed, unmoved}
 
@@ -73,23 +73,23 @@ stands_after design s (w ∷ ws) p b block apart h =
 -- a process that waits for none of the registers is as it was
 
 abbrev pub Unmoved : State → ℕ → State → Type 0
-Unmoved s q f = (progress_of f q ≡ progress_of s q) × (evaluations_in q f.active ≡ evaluations_in q s.active)
+Unmoved s q f = (continuation_of f q ≡ continuation_of s q) × (evaluations_in q f.active ≡ evaluations_in q s.active)
 
 pub one_unmoved : (s f : State) (r : ℕ) (v : Vector) (q : ℕ) → Changed s r v f → woke s r v q ≡ false → Unmoved s q f
 one_unmoved s f r v q c is =
-    (c.processes q ∙ ap (λ x. awake x (progress_of s q)) is, c.evaluations q ∙ ap (λ x. evaluations_in q s.active + one_where x) is ∙ none (evaluations_in q s.active))
+    (c.processes q ∙ ap (λ x. awake x (continuation_of s q)) is, c.evaluations q ∙ ap (λ x. evaluations_in q s.active + one_where x) is ∙ none (evaluations_in q s.active))
   where
     none : (n : ℕ) → n + one_where false ≡ n
     none n = omega arith
 
-pub all_unmoved : (s : State) (ws : List (ℕ × Vector)) (q : ℕ) → ((r : ℕ) → contains (map (λ (w : ℕ × Vector). w.0) ws) r ≡ true → waits_for (progress_of s q) r ≡ false) → Unmoved s q (change_all s ws)
+pub all_unmoved : (s : State) (ws : List (ℕ × Vector)) (q : ℕ) → ((r : ℕ) → contains (map (λ (w : ℕ × Vector). w.0) ws) r ≡ true → waits_for (continuation_of s q) r ≡ false) → Unmoved s q (change_all s ws)
 all_unmoved s [] q h = (refl, refl)
 all_unmoved s (w ∷ ws) q h =
     let f : State = change s w.0 w.1 in
-    let first : waits_for (progress_of s q) w.0 ≡ false = h w.0 (or_left (w.0 == w.0) (contains (map (λ (w : ℕ × Vector). w.0) ws) w.0) (eq-eqb w.0 w.0 refl)) in
-    let (progress, evaluations) = one_unmoved s f w.0 w.1 q (changed s w.0 w.1) (unmoved s w.0 w.1 q first) in
-    let (progress', evaluations') = all_unmoved f ws q (λ r is. ap (λ x. waits_for x r) progress ∙ h r (or_right (w.0 == r) (contains (map (λ (w : ℕ × Vector). w.0) ws) r) is)) in
-    (progress' ∙ progress, evaluations' ∙ evaluations)
+    let first : waits_for (continuation_of s q) w.0 ≡ false = h w.0 (or_left (w.0 == w.0) (contains (map (λ (w : ℕ × Vector). w.0) ws) w.0) (eq-eqb w.0 w.0 refl)) in
+    let (continuation, evaluations) = one_unmoved s f w.0 w.1 q (changed s w.0 w.1) (unmoved s w.0 w.1 q first) in
+    let (continuation', evaluations') = all_unmoved f ws q (λ r is. ap (λ x. waits_for x r) continuation ∙ h r (or_right (w.0 == r) (contains (map (λ (w : ℕ × Vector). w.0) ws) r) is)) in
+    (continuation' ∙ continuation, evaluations' ∙ evaluations)
 
 -- taking an event
 
@@ -110,5 +110,5 @@ taken_update s n r q v order at =
     omega (arith, whole)
 
 pub stands_taken : (design : Design) (s : State) (n p : ℕ) (b : Block) → evaluations_in p (without n s.active) ≡ evaluations_in p s.active → Standing design s p b → Standing design (taking n s) p b
-stands_taken design s n p b same (inl (evaluations, progress)) = inl (same ∙ evaluations, progress)
-stands_taken design s n p b same (inr (evaluations, progress, consistent)) = inr (same ∙ evaluations, progress, consistent)
+stands_taken design s n p b same (inl (evaluations, continuation)) = inl (same ∙ evaluations, continuation)
+stands_taken design s n p b same (inr (evaluations, continuation, consistent)) = inr (same ∙ evaluations, continuation, consistent)

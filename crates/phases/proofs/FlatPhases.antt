@@ -18,7 +18,7 @@ use Rattle.model.proofs.RunLaws.{run_from-append}
 use Rattle.orders.specs.Alike.{AreAlike, IsInOrder, updates_in}
 use Rattle.orders.specs.Apart.{AreAlikeButOrder, of_register}
 use Rattle.orders.specs.Flat.{AlikeButNow, IsOneNodeButNow}
-use Rattle.orders.specs.Search.{IsOneNode, EndsHere}
+use Rattle.orders.specs.SearchLaws.{IsOneNode, EndsHere}
 use Rattle.orders.proofs.EventLists.{alike-same, alike-sym, alike-has_any, own_evaluation}
 use Rattle.orders.proofs.StatesInOrder.{run_from_in_order, step_keeps_order}
 use Rattle.orders.proofs.SearchLaws.{then_some, visited_too, reached_in_order, rest_of}
@@ -89,12 +89,12 @@ same_updated s t r h =
 -- the order of active updates of different registers makes no difference to a phase
 
 stands_alike : (design : Design) (s t : State) (p : ℕ) (b : Block) → AlikeButActive s t → Standing design s p b → Standing design t p b
-stands_alike design s t p b h (inl (evaluations, progress)) =
-    inl (sym (h.active.evaluations p) ∙ evaluations, ap (λ xs. slice_index_or xs p (record { remainder = []; triggers = [] })) (sym h.processes) ∙ progress)
-stands_alike design s t p b h (inr (evaluations, progress, consistent)) =
+stands_alike design s t p b h (inl (evaluations, continuation)) =
+    inl (sym (h.active.evaluations p) ∙ evaluations, ap (λ xs. slice_index_or xs p (record { remainder = []; triggers = [] })) (sym h.processes) ∙ continuation)
+stands_alike design s t p b h (inr (evaluations, continuation, consistent)) =
     inr (
       sym (h.active.evaluations p) ∙ evaluations,
-      ap (λ xs. slice_index_or xs p (record { remainder = []; triggers = [] })) (sym h.processes) ∙ progress,
+      ap (λ xs. slice_index_or xs p (record { remainder = []; triggers = [] })) (sym h.processes) ∙ continuation,
       still,
     )
   where

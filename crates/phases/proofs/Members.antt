@@ -18,7 +18,7 @@ use Rattle.model.specs.States.{State, edge_matches, wakes, is_woken}
 use Rattle.orders.specs.Apart.{AgreeOn, given, all_given}
 use Rattle.orders.proofs.TurnFrame.{turn_has_frame}
 use Rattle.orders.proofs.Stores.{same_store, length_given, given_other, length_all, all_other}
-use Rattle.phases.specs.Phase.{Block, triggers, IsBlock, progress_of, IsConsistent, IsPending, HasSettled, waits_for}
+use Rattle.phases.specs.Phase.{Block, triggers, IsBlock, continuation_of, IsConsistent, IsPending, HasSettled, waits_for}
 use Rattle.phases.proofs.Values.{written_same}
 use Rattle.phases.proofs.Changes.{woke, awake, one_where, Changed}
 
@@ -108,36 +108,36 @@ and_none : (b : Bool) → (b && false) ≡ false
 and_none true = refl
 and_none false = refl
 
-pub asleep : (s : State) (r : ℕ) (v : Vector) (p : ℕ) (rest : Remainder) → progress_of s p ≡ record { remainder = rest; triggers = [] } → woke s r v p ≡ false
+pub asleep : (s : State) (r : ℕ) (v : Vector) (p : ℕ) (rest : Remainder) → continuation_of s p ≡ record { remainder = rest; triggers = [] } → woke s r v p ≡ false
 asleep s r v p rest is =
     ap (λ x. not (same_vector (value_of s.store r) v) && is_woken r (value_of s.store r) v x) is ∙ and_none (not (same_vector (value_of s.store r) v))
 
 settled_if : (design : Design) (s f : State) (r : ℕ) (v : Vector) (p : ℕ) (b : Block) (is : Bool) → woke s r v p ≡ is → IsBlock design p b → contains b.outputs r ≡ false → Changed s r v f
     → HasSettled design s p b → Standing design f p b
-settled_if design s f r v p b true is block none c (evaluations, progress, consistent) =
+settled_if design s f r v p b true is block none c (evaluations, continuation, consistent) =
     inl (
       c.evaluations p ∙ ap (λ n. n + one_where (woke s r v p)) evaluations ∙ ap (λ x. 0 + one_where x) is,
-      c.processes p ∙ ap (λ x. awake x (progress_of s p)) is ∙ ap (λ x. awake true x) progress,
+      c.processes p ∙ ap (λ x. awake x (continuation_of s p)) is ∙ ap (λ x. awake true x) continuation,
     )
-settled_if design s f r v p b false is block none c (evaluations, progress, consistent) =
+settled_if design s f r v p b false is block none c (evaluations, continuation, consistent) =
     let still : (not (same_vector (value_of s.store r) v) && wakes (triggers b) r (value_of s.store r) v) ≡ false =
-    ap (λ x. not (same_vector (value_of s.store r) v) && is_woken r (value_of s.store r) v x) (sym progress) ∙ is in
+    ap (λ x. not (same_vector (value_of s.store r) v) && is_woken r (value_of s.store r) v x) (sym continuation) ∙ is in
     let len : length s.store ≡ length f.store = sym (ap length c.store ∙ length_given s.store (r, v)) in
     let inputs : AgreeOn b.inputs s.store f.store = rw c.store (asleep_if b.inputs s.store r v (same_vector (value_of s.store r) v) refl still) in
     let outputs : AgreeOn b.outputs s.store f.store = rw c.store (agree_if b.outputs s.store r v none) in
     inr (
       c.evaluations p ∙ ap (λ n. n + one_where (woke s r v p)) evaluations ∙ ap (λ x. 0 + one_where x) is,
-      c.processes p ∙ ap (λ x. awake x (progress_of s p)) is ∙ progress,
+      c.processes p ∙ ap (λ x. awake x (continuation_of s p)) is ∙ continuation,
       still_consistent design s f p b block c.time len inputs outputs consistent,
     )
 
 pub stands_changed : (design : Design) (s f : State) (r : ℕ) (v : Vector) (p : ℕ) (b : Block) → IsBlock design p b → contains b.outputs r ≡ false → Changed s r v f
     → Standing design s p b → Standing design f p b
-stands_changed design s f r v p b block none c (inl (evaluations, progress)) =
-    let is : woke s r v p ≡ false = asleep s r v p b.rest progress in
+stands_changed design s f r v p b block none c (inl (evaluations, continuation)) =
+    let is : woke s r v p ≡ false = asleep s r v p b.rest continuation in
     inl (
       c.evaluations p ∙ ap (λ n. n + one_where (woke s r v p)) evaluations ∙ ap (λ x. 1 + one_where x) is,
-      c.processes p ∙ ap (λ x. awake x (progress_of s p)) is ∙ progress,
+      c.processes p ∙ ap (λ x. awake x (continuation_of s p)) is ∙ continuation,
     )
 stands_changed design s f r v p b block none c (inr h) = settled_if design s f r v p b (woke s r v p) refl block none c h
 
@@ -149,6 +149,6 @@ no_wake (t ∷ ts) r old new h =
     let (first, others) = neither (t.1 == r) (list_any (λ (t : Trigger). t.1 == r) ts) h in
     rw first (no_wake ts r old new others)
 
-pub unmoved : (s : State) (r : ℕ) (v : Vector) (q : ℕ) → waits_for (progress_of s q) r ≡ false → woke s r v q ≡ false
+pub unmoved : (s : State) (r : ℕ) (v : Vector) (q : ℕ) → waits_for (continuation_of s q) r ≡ false → woke s r v q ≡ false
 unmoved s r v q h =
-    ap (λ x. not (same_vector (value_of s.store r) v) && x) (no_wake (progress_of s q).triggers r (value_of s.store r) v h) ∙ and_none (not (same_vector (value_of s.store r) v))
+    ap (λ x. not (same_vector (value_of s.store r) v) && x) (no_wake (continuation_of s q).triggers r (value_of s.store r) v h) ∙ and_none (not (same_vector (value_of s.store r) v))

@@ -12,14 +12,14 @@ use Rattle.model.specs.declared.end.End.{End}
 use Rattle.model.specs.Design.{Design}
 use Rattle.model.specs.Expressions.{value_of}
 use Rattle.model.specs.Turns.{contains, short_turn}
-use Rattle.model.specs.States.{Action, Evaluate, Event, Progress, State}
+use Rattle.model.specs.States.{Action, Evaluate, Event, Continuation, State}
 use Rattle.model.specs.Runs.{Effect, action_in, has_any, HasLongTurn, joined, step, run_from, turn_of}
 use Rattle.model.specs.Steps.{IsPermitted}
 use Rattle.model.specs.Laws.{evaluations_in}
 use Rattle.model.proofs.StepLaws.{step_is_exact}
 use Rattle.orders.specs.Alike.{Alike, AreAlike, IsAlikeFuture, IsInOrder, updates_in}
 use Rattle.orders.specs.Apart.{AgreeOn, AreAlikeButOrder, all_given}
-use Rattle.orders.specs.Search.{EndsHere}
+use Rattle.orders.specs.SearchLaws.{EndsHere}
 use Rattle.orders.proofs.EventLists.{alike-same}
 use Rattle.orders.proofs.FlatRuns.{active_at}
 use Rattle.orders.proofs.StatesInOrder.{step_keeps_order}
@@ -27,7 +27,7 @@ use Rattle.orders.proofs.TurnFrame.{turn_has_frame}
 use Rattle.orders.proofs.Stores.{append-none, same_store, stores_same}
 use Rattle.orders.proofs.SearchLaws.{then_some, visited_too, reached_in_order}
 use Rattle.orders.proofs.SilentUpdates.{goes_on}
-use Rattle.phases.specs.Phase.{Block, progress_of, IsPending, HasSettled, IsOutput, IsPhase, TakesEvent, EndsPhase, PhaseEndsInOneNode, PhaseCovers}
+use Rattle.phases.specs.Phase.{Block, continuation_of, IsPending, HasSettled, IsOutput, IsPhase, TakesEvent, EndsPhase, PhaseEndsInOneNode, PhaseCovers}
 use Rattle.phases.proofs.Values.{written_same}
 use Rattle.phases.proofs.Members.{Standing}
 use Rattle.phases.proofs.PhaseSteps.{Stays, phase_steps}
@@ -76,7 +76,7 @@ phase_runs design members block rank (entry ∷ entries) e f order phase takes i
 -- at the end all are settled
 
 settled_at : (design : Design) (s : State) (p : ℕ) (b : Block) → s.active ≡ [] → Standing design s p b → HasSettled design s p b
-settled_at design s p b none (inl (one, progress)) =
+settled_at design s p b none (inl (one, continuation)) =
     let zero : evaluations_in p s.active ≡ 0 = ap (evaluations_in p) none in
     absurd (omega (arith, one, zero))
 settled_at design s p b none (inr h) = h
@@ -129,8 +129,8 @@ output_same : (design : Design) (members : List ℕ) (block : ℕ → Block) (ra
     → contains (block p).outputs r ≡ true → AgreeOn (block p).inputs f.store g.store → value_of f.store r ≡ value_of g.store r
 output_same design members block rank f g p r two member out agree =
     let b : Block = block p in
-    let (none, progress, consistent) = settled_at design f p b two.here_over (two.here.stands p member) in
-    let (none', progress', consistent') = settled_at design g p b two.there_over (two.there.stands p member) in
+    let (none, continuation, consistent) = settled_at design f p b two.here_over (two.here.stands p member) in
+    let (none', continuation', consistent') = settled_at design g p b two.there_over (two.there.stands p member) in
     let (t, at, c) = (two.here.blocks p member).turns f.store f.time in
     let frame : short_turn design p b.rest g.store f.time ≡ Some t = turn_has_frame design p b.rest f.store g.store f.time t two.registers at (λ q used. agree q (c.reads q used)) in
     let at' : short_turn design p b.rest g.store g.time ≡ Some t = ap (λ now. short_turn design p b.rest g.store now) (sym two.time) ∙ frame in
@@ -170,14 +170,14 @@ ends_store design members block rank f g two =
 
 -- and one state of each process
 
-same_progress : (xs ys : List Progress) → length xs ≡ length ys
+same_continuation : (xs ys : List Continuation) → length xs ≡ length ys
     → ((p : ℕ) → slice_index_or xs p (record { remainder = []; triggers = [] }) ≡ slice_index_or ys p (record { remainder = []; triggers = [] })) → xs ≡ ys
-same_progress [] [] len h = refl
-same_progress [] (y ∷ ys) len h = cc
-same_progress (x ∷ xs) [] len h = cc
-same_progress (x ∷ xs) (y ∷ ys) len h =
+same_continuation [] [] len h = refl
+same_continuation [] (y ∷ ys) len h = cc
+same_continuation (x ∷ xs) [] len h = cc
+same_continuation (x ∷ xs) (y ∷ ys) len h =
     let first : x ≡ y = h 0 in
-    let others : xs ≡ ys = same_progress xs ys (omega (arith, len)) (λ p. h (suc p)) in
+    let others : xs ≡ ys = same_continuation xs ys (omega (arith, len)) (λ p. h (suc p)) in
     rw (first, others) refl
 
 -- states that are alike but for the order of the active updates of different registers
@@ -201,11 +201,11 @@ same_but_active s =
     record { time = refl; store = refl; processes = refl; active = record { updates = λ r. refl; evaluations = λ p. refl }; inactive = alike-same s.inactive; nonblocking = alike-same s.nonblocking; monitor = refl; future_inactive = record { times = refl; due = λ time. alike-same _ }; future_nonblocking = record { times = refl; due = λ time. alike-same _ }; finished = refl }
 
 process_same : (design : Design) (members : List ℕ) (block : ℕ → Block) (rank : ℕ → ℕ) (s t f g : State) (p : ℕ) (is : Bool) → contains members p ≡ is → TwoEnds design members block rank f g
-    → s.processes ≡ t.processes → Stays members block s f → Stays members block t g → progress_of f p ≡ progress_of g p
+    → s.processes ≡ t.processes → Stays members block s f → Stays members block t g → continuation_of f p ≡ continuation_of g p
 process_same design members block rank s t f g p true is two same h i =
-    let (none, progress, consistent) = settled_at design f p (block p) two.here_over (two.here.stands p is) in
-    let (none', progress', consistent') = settled_at design g p (block p) two.there_over (two.there.stands p is) in
-    progress ∙ sym progress'
+    let (none, continuation, consistent) = settled_at design f p (block p) two.here_over (two.here.stands p is) in
+    let (none', continuation', consistent') = settled_at design g p (block p) two.there_over (two.there.stands p is) in
+    continuation ∙ sym continuation'
 process_same design members block rank s t f g p false is two same h i =
     (h.others p is).0 ∙ ap (λ xs. slice_index_or xs p (record { remainder = []; triggers = [] })) same ∙ sym (i.others p is).0
 
@@ -237,7 +237,7 @@ ends_alike design members block rank s t f g alike here there h i over over' =
     record {
       time = two.time;
       store = ends_store design members block rank f g two;
-      processes = same_progress f.processes g.processes (h.count ∙ ap length alike.processes ∙ sym i.count) (λ p. process_same design members block rank s t f g p (contains members p) refl two alike.processes h i);
+      processes = same_continuation f.processes g.processes (h.count ∙ ap length alike.processes ∙ sym i.count) (λ p. process_same design members block rank s t f g p (contains members p) refl two alike.processes h i);
       active = alike_events f.active g.active [] [] over over' (alike-same []);
       inactive = alike_events f.inactive g.inactive s.inactive t.inactive h.inactive i.inactive alike.inactive;
       nonblocking = alike_events f.nonblocking g.nonblocking s.nonblocking t.nonblocking h.nonblocking i.nonblocking alike.nonblocking;
@@ -262,14 +262,14 @@ no_long design members block rank s p order phase (n, at, long) =
     short p member (phase.stands p member) active long
   where
     found : (p : ℕ) → contains members p ≡ true → IsPending s p (block p) → turn_of design s p ≡ None → ⊥
-    found p member (one, progress) long =
+    found p member (one, continuation) long =
         let (t, at_t, c) = (phase.blocks p member).turns s.store s.time in
-        let is : turn_of design s p ≡ Some t = ap (λ (x : Progress). short_turn design p x.remainder s.store s.time) progress ∙ at_t in
+        let is : turn_of design s p ≡ Some t = ap (λ (x : Continuation). short_turn design p x.remainder s.store s.time) continuation ∙ at_t in
         cc
 
     short : (p : ℕ) → contains members p ≡ true → Standing design s p (block p) → 1 ≤ evaluations_in p s.active → turn_of design s p ≡ None → ⊥
     short p member (inl h) active long = found p member h long
-    short p member (inr (none, progress, consistent)) active long = omega (arith, active, none)
+    short p member (inr (none, continuation, consistent)) active long = omega (arith, active, none)
 
 takes_event : (design : Design) (s : State) (x : Event) (xs : List Event) (entry : Entry) (f : Effect) → s.active ≡ x ∷ xs → IsPermitted design s entry f → TakesEvent entry
 takes_event design s x xs (Entry.Turn n) f is h = tt

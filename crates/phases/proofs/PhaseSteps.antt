@@ -10,7 +10,7 @@ use Rattle.model.specs.Design.{Design}
 use Rattle.model.specs.Expressions.{value_of}
 use Rattle.model.specs.Turns.{Remainder, OnChange, contains, short_turn}
 use Rattle.model.specs.Turns as turns
-use Rattle.model.specs.States.{Action, Evaluate, Progress, State, change_all, schedule_all, schedule_wait, taking, without, turned, updated, with_progress, triggers_of}
+use Rattle.model.specs.States.{Action, Evaluate, Continuation, State, change_all, schedule_all, schedule_wait, taking, without, turned, updated, with_continuation, triggers_of}
 use Rattle.model.specs.Runs.{Effect, action_in, has_earlier_update, remainder_of, turn_of, turn_effect, update_effect, step}
 use Rattle.model.specs.Steps.{IsPermitted}
 use Rattle.model.specs.Laws.{evaluations_in}
@@ -76,10 +76,10 @@ phase_after design members block rank s f phase stays fewer stands =
 
 -- a member's turn
 
-turn_leaves : (s : State) (n p : ℕ) (t : turns.Turn) (b : Block) → Computes b t → turned s n p t ≡ with_progress p t (change_all (taking n s) t.writes)
+turn_leaves : (s : State) (n p : ℕ) (t : turns.Turn) (b : Block) → Computes b t → turned s n p t ≡ with_continuation p t (change_all (taking n s) t.writes)
 turn_leaves s n p t b c =
-    ap (λ w. with_progress p t (schedule_wait p w (schedule_all (change_all (taking n s) t.writes) t.laters))) c.wait
-    ∙ ap (λ ls. with_progress p t (schedule_all (change_all (taking n s) t.writes) ls)) c.laters
+    ap (λ w. with_continuation p t (schedule_wait p w (schedule_all (change_all (taking n s) t.writes) t.nbas))) c.wait
+    ∙ ap (λ ls. with_continuation p t (schedule_all (change_all (taking n s) t.writes) ls)) c.nbas
 
 not_written : (b : Block) (t : turns.Turn) (r : ℕ) (is : Bool) → contains (written_by t) r ≡ is → Computes b t → contains b.outputs r ≡ false → contains (written_by t) r ≡ false
 not_written b t r true is c none =
@@ -109,25 +109,25 @@ own_consistent design s f p b t block at c time store turn is =
     subst (λ (x : turns.Turn). all_given f.store x.writes ≡ f.store) same again
 
 settled_after : (design : Design) (s : State) (n p : ℕ) (b : Block) (t : turns.Turn) → IsInOrder s → action_in s.active n ≡ Some (Evaluate p) → p < length s.processes → IsBlock design p b
-    → IsPending s p b → short_turn design p b.rest s.store s.time ≡ Some t → Computes b t → HasSettled design (with_progress p t (change_all (taking n s) t.writes)) p b
-settled_after design s n p b t order at exists block (one, progress) is c =
+    → IsPending s p b → short_turn design p b.rest s.store s.time ≡ Some t → Computes b t → HasSettled design (with_continuation p t (change_all (taking n s) t.writes)) p b
+settled_after design s n p b t order at exists block (one, continuation) is c =
     let x : State = change_all (taking n s) t.writes in
     let all : AllChanged (taking n s) t.writes x = all_changed (taking n s) t.writes in
-    let still : Unmoved (taking n s) p x = all_unmoved (taking n s) t.writes p (λ r wrote. ap (λ y. waits_for y r) progress) in
+    let still : Unmoved (taking n s) p x = all_unmoved (taking n s) t.writes p (λ r wrote. ap (λ y. waits_for y r) continuation) in
     let own : evaluations_in p s.active ≡ 1 + evaluations_in p (without n s.active) = taken_own s n p order at in
     let inside : p < length x.processes = rw all.count exists in
-    let new : Progress = record { remainder = t.rest; triggers = triggers_of t.wait } in
+    let new : Continuation = record { remainder = t.rest; triggers = triggers_of t.wait } in
     let new_is : new ≡ record { remainder = b.rest; triggers = triggers b } = rw (c.rest, c.wait) refl in (
       omega (arith, one, own, still.1),
       get_or-set_same x.processes p new (record { remainder = []; triggers = [] }) inside ∙ new_is,
-      own_consistent design s (with_progress p t x) p b t block is c all.time all.store,
+      own_consistent design s (with_continuation p t x) p b t block is c all.time all.store,
     )
 
-with_other : (design : Design) (x : State) (p q : ℕ) (t : turns.Turn) (b : Block) → q ≢ p → Standing design x q b → Standing design (with_progress p t x) q b
-with_other design x p q t b other (inl (evaluations, progress)) =
-    inl (evaluations, get_or-set_other x.processes p q (record { remainder = t.rest; triggers = triggers_of t.wait }) (record { remainder = []; triggers = [] }) other ∙ progress)
-with_other design x p q t b other (inr (evaluations, progress, consistent)) =
-    inr (evaluations, get_or-set_other x.processes p q (record { remainder = t.rest; triggers = triggers_of t.wait }) (record { remainder = []; triggers = [] }) other ∙ progress, consistent)
+with_other : (design : Design) (x : State) (p q : ℕ) (t : turns.Turn) (b : Block) → q ≢ p → Standing design x q b → Standing design (with_continuation p t x) q b
+with_other design x p q t b other (inl (evaluations, continuation)) =
+    inl (evaluations, get_or-set_other x.processes p q (record { remainder = t.rest; triggers = triggers_of t.wait }) (record { remainder = []; triggers = [] }) other ∙ continuation)
+with_other design x p q t b other (inr (evaluations, continuation, consistent)) =
+    inr (evaluations, get_or-set_other x.processes p q (record { remainder = t.rest; triggers = triggers_of t.wait }) (record { remainder = []; triggers = [] }) other ∙ continuation, consistent)
 
 no_value : (members : List ℕ) (block : ℕ → Block) (p r : ℕ) (t : turns.Turn) (is : Bool) → contains (written_by t) r ≡ is → contains members p ≡ true → Computes (block p) t
     → (IsOutput members block r → ⊥) → contains (written_by t) r ≡ false
@@ -147,7 +147,7 @@ unequal p q is same =
     cc
 
 turn_stays : (design : Design) (members : List ℕ) (block : ℕ → Block) (rank : ℕ → ℕ) (s : State) (n p : ℕ) (t : turns.Turn) → IsInOrder s → IsPhase design s members block rank
-    → action_in s.active n ≡ Some (Evaluate p) → contains members p ≡ true → Computes (block p) t → Stays members block s (with_progress p t (change_all (taking n s) t.writes))
+    → action_in s.active n ≡ Some (Evaluate p) → contains members p ≡ true → Computes (block p) t → Stays members block s (with_continuation p t (change_all (taking n s) t.writes))
 turn_stays design members block rank s n p t order phase at member c =
     let x : State = change_all (taking n s) t.writes in
     let all : AllChanged (taking n s) t.writes x = all_changed (taking n s) t.writes in
@@ -155,11 +155,11 @@ turn_stays design members block rank s n p t order phase at member c =
     record {
       time = all.time;
       registers = ap length all.store ∙ length_all s.store t.writes;
-      count = length_progress x.processes p (record { remainder = t.rest; triggers = triggers_of t.wait }) ∙ all.count;
+      count = length_continuation x.processes p (record { remainder = t.rest; triggers = triggers_of t.wait }) ∙ all.count;
       others = λ q is.
           let other : (p == q) ≡ false = apart_from members p q (p == q) refl member is in
-          let (progress, evaluations) = all_unmoved (taking n s) t.writes q (λ r wrote. phase.others q r is (inr (p, member, c.writes r wrote))) in (
-            get_or-set_other x.processes p q (record { remainder = t.rest; triggers = triggers_of t.wait }) (record { remainder = []; triggers = [] }) (unequal p q other) ∙ progress,
+          let (continuation, evaluations) = all_unmoved (taking n s) t.writes q (λ r wrote. phase.others q r is (inr (p, member, c.writes r wrote))) in (
+            get_or-set_other x.processes p q (record { remainder = t.rest; triggers = triggers_of t.wait }) (record { remainder = []; triggers = [] }) (unequal p q other) ∙ continuation,
             evaluations ∙ taken_other s n p q s.next_event order at other,
           );
       inactive = all.inactive;
@@ -178,17 +178,17 @@ turn_stays design members block rank s n p t order phase at member c =
     no_more [] = refl
     no_more (x ∷ xs) = ap (λ ys. x ∷ ys) (no_more xs)
 
-    length_progress : (ps : List Progress) (p : ℕ) (y : Progress) → length (slice_set ps p y) ≡ length ps
-    length_progress [] p y = refl
-    length_progress (x ∷ ps) zero y = refl
-    length_progress (x ∷ ps) (suc p) y = ap suc (length_progress ps p y)
+    length_continuation : (ps : List Continuation) (p : ℕ) (y : Continuation) → length (slice_set ps p y) ≡ length ps
+    length_continuation [] p y = refl
+    length_continuation (x ∷ ps) zero y = refl
+    length_continuation (x ∷ ps) (suc p) y = ap suc (length_continuation ps p y)
 
 stands_turned : (design : Design) (members : List ℕ) (block : ℕ → Block) (rank : ℕ → ℕ) (s : State) (n p q : ℕ) (t : turns.Turn) (is : Bool) → (p == q) ≡ is → IsInOrder s
     → IsPhase design s members block rank → action_in s.active n ≡ Some (Evaluate p) → contains members p ≡ true → contains members q ≡ true → IsPending s p (block p)
-    → short_turn design p (block p).rest s.store s.time ≡ Some t → Computes (block p) t → Standing design (with_progress p t (change_all (taking n s) t.writes)) q (block q)
+    → short_turn design p (block p).rest s.store s.time ≡ Some t → Computes (block p) t → Standing design (with_continuation p t (change_all (taking n s) t.writes)) q (block q)
 stands_turned design members block rank s n p q t true is order phase at member member' pending at_t c =
     let same : p ≡ q = eqb-true p q is in
-    subst (λ k. Standing design (with_progress p t (change_all (taking n s) t.writes)) k (block k)) same
+    subst (λ k. Standing design (with_continuation p t (change_all (taking n s) t.writes)) k (block k)) same
     (inr (settled_after design s n p (block p) t order at (phase.exist p member) (phase.blocks p member) pending at_t c))
 stands_turned design members block rank s n p q t false is order phase at member member' pending at_t c =
     let differ : q ≢ p = unequal p q is in
@@ -204,7 +204,7 @@ Steps design members block rank s f = (f.lines ≡ []) × IsPhase design f.state
 
 pending_one : (design : Design) (s : State) (p : ℕ) (b : Block) → 1 ≤ evaluations_in p s.active → Standing design s p b → IsPending s p b
 pending_one design s p b active (inl h) = h
-pending_one design s p b active (inr (none, progress, consistent)) = absurd (omega (arith, active, none))
+pending_one design s p b active (inr (none, continuation, consistent)) = absurd (omega (arith, active, none))
 
 turn_steps : (design : Design) (members : List ℕ) (block : ℕ → Block) (rank : ℕ → ℕ) (s : State) (n p : ℕ) (turn : turns.Turn) → IsInOrder s → IsPhase design s members block rank
     → action_in s.active n ≡ Some (Evaluate p) → turn_of design s p ≡ Some turn → Steps design members block rank s (turn_effect s n p turn)
@@ -214,10 +214,10 @@ turn_steps design members block rank s n p turn order phase at is =
     let member : contains members p ≡ true = phase.inside p active in
     let pending : IsPending s p (block p) = pending_one design s p (block p) active (phase.stands p member) in
     let (t, at_t, c) = (phase.blocks p member).turns s.store s.time in
-    let found : turn_of design s p ≡ Some t = ap (λ (x : Progress). short_turn design p x.remainder s.store s.time) pending.1 ∙ at_t in
+    let found : turn_of design s p ≡ Some t = ap (λ (x : Continuation). short_turn design p x.remainder s.store s.time) pending.1 ∙ at_t in
     let both : Some t ≡ Some turn = sym found ∙ is in
     let same : t ≡ turn = cc in
-    let f : State = with_progress p t (change_all (taking n s) t.writes) in
+    let f : State = with_continuation p t (change_all (taking n s) t.writes) in
     let here : turned s n p t ≡ f = turn_leaves s n p t (block p) c in
     let stays : Stays members block s f = turn_stays design members block rank s n p t order phase at member c in
     let updates : updates_in f.active ≡ updates_in s.active = (all_changed (taking n s) t.writes).updates ∙ sym (updates_left n p 0 s.next_event s.active order.active at) in
@@ -240,8 +240,8 @@ update_stays design members block rank s n r v order phase at first =
       count = c.count;
       others = λ q is.
           let touched : contains (updated_in s) r ≡ true = rw first (first_there r (updates_in (without n s.active))) in
-          let (progress, evaluations) = one_unmoved (taking n s) x r v q c (unmoved (taking n s) r v q (phase.others q r is (inl touched))) in
-          (progress, evaluations ∙ taken_update s n r q v order at);
+          let (continuation, evaluations) = one_unmoved (taking n s) x r v q c (unmoved (taking n s) r v q (phase.others q r is (inl touched))) in
+          (continuation, evaluations ∙ taken_update s n r q v order at);
       inactive = c.inactive;
       nonblocking = c.nonblocking;
       monitor = c.monitor;

@@ -9,13 +9,13 @@ use Rattle.model.specs.Design.{Design, Trigger}
 use Rattle.model.specs.Expressions.{Store}
 use Rattle.model.specs.Turns.{Remainder, OnChange, contains, short_turn}
 use Rattle.model.specs.Turns as turns
-use Rattle.model.specs.States.{Progress, State}
+use Rattle.model.specs.States.{Continuation, State}
 use Rattle.model.specs.Runs.{Effect, run_from}
 use Rattle.model.specs.Laws.{evaluations_in}
 use Rattle.orders.specs.Alike.{IsInOrder, updates_in}
 use Rattle.orders.specs.Apart.{all_given, written_by}
 use Rattle.orders.specs.Flat.{IsActive, IsFlat}
-use Rattle.orders.specs.Search.{IsOneNode, IsReached, Visited, Covers}
+use Rattle.orders.specs.SearchLaws.{IsOneNode, IsReached, Visited, Covers}
 
 -- A block of combinational logic, as in `always @(a or b) y = a & b;`: what its process has left to run while it waits, the
 -- registers that it waits for, and the registers that it gives values.
@@ -36,7 +36,7 @@ Computes block turn =
       reads : (r : ℕ) → contains turn.uses r ≡ true → contains block.inputs r ≡ true;
       writes : (r : ℕ) → contains (written_by turn) r ≡ true → contains block.outputs r ≡ true;
       all : (r : ℕ) → contains block.outputs r ≡ true → contains (written_by turn) r ≡ true;
-      laters : turn.laters ≡ [];
+      nbas : turn.nbas ≡ [];
       lines : turn.lines ≡ [];
       strobes : turn.strobes ≡ [];
       finish : turn.finish ≡ false;
@@ -54,8 +54,8 @@ IsBlock design p block =
     }
 
 -- a process in a state
-abbrev pub progress_of : State → ℕ → Progress
-progress_of s p = slice_index_or s.processes p (record { remainder = []; triggers = [] })
+abbrev pub continuation_of : State → ℕ → Continuation
+continuation_of s p = slice_index_or s.processes p (record { remainder = []; triggers = [] })
 
 -- the turn of a block would leave every value as it is
 abbrev pub IsConsistent : Design → State → ℕ → Block → Type 0
@@ -64,16 +64,16 @@ IsConsistent design s p block =
 
 -- the turn of a block is still to come
 abbrev pub IsPending : State → ℕ → Block → Type 0
-IsPending s p block = (evaluations_in p s.active ≡ 1) × (progress_of s p ≡ record { remainder = block.rest; triggers = [] })
+IsPending s p block = (evaluations_in p s.active ≡ 1) × (continuation_of s p ≡ record { remainder = block.rest; triggers = [] })
 
 -- a block waits, and its turn would leave every value as it is
 abbrev pub HasSettled : Design → State → ℕ → Block → Type 0
 HasSettled design s p block =
-    (evaluations_in p s.active ≡ 0) × (progress_of s p ≡ record { remainder = block.rest; triggers = triggers block })
+    (evaluations_in p s.active ≡ 0) × (continuation_of s p ≡ record { remainder = block.rest; triggers = triggers block })
     × IsConsistent design s p block
 
 -- whether a process waits for a change of a register, of whatever kind
-abbrev pub waits_for : Progress → ℕ → Bool
+abbrev pub waits_for : Continuation → ℕ → Bool
 waits_for x r = list_any (λ (t : Trigger). t.1 == r) x.triggers
 
 -- the registers of the active updates
@@ -101,7 +101,7 @@ IsPhase design s members block rank =
       order : (p q r : ℕ) → contains members p ≡ true → contains members q ≡ true → contains (block p).outputs r ≡ true
           → contains (block q).inputs r ≡ true → rank p < rank q;
       others : (q r : ℕ) → contains members q ≡ false → contains (updated_in s) r ≡ true ⊎ IsOutput members block r
-          → waits_for (progress_of s q) r ≡ false;
+          → waits_for (continuation_of s q) r ≡ false;
     }
 
 -- an entry takes an event, and changes no region

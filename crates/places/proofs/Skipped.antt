@@ -2,7 +2,7 @@
 use Rattle.std.proofs.Common.{◌≡◌, ◌==◌, ℕ, zero, suc, ◌+◌, ◌-◌, ◌<◌, ◌≤◌, List, [], ◌∷◌, ◌++◌, length, take, drop, Bool, true, false, ◌||◌, if◌then◌else◌, Option, Some, None, inl, inr, refl, sym, ap, subst, ◌∙◌, length-append, take-append-drop, arith}
 use Rattle.std.proofs.Math.Seq.{take-append_seam, drop-append_seam}
 use Rattle.tokens.specs.Tokens.{PlainToken, PlainTokens}
-use Rattle.tokens.specs.Bytes.{is_space}
+use Rattle.tokens.specs.ByteClasses.{is_space}
 use Rattle.tokens.specs.Literals.{Worth, worth_of}
 use Rattle.tokens.specs.Lexing.{IsNext, is_skipped, kind_of, reading, Cut, ended, next}
 use Rattle.tokens.specs.Lengths.{comment_len, piece_len}

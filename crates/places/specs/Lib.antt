@@ -1,4 +1,4 @@
-pub mod Lines
+pub mod TextLines
 pub mod Spots
 pub mod PlainSpots
-pub mod Places
+pub mod SourcePlaces

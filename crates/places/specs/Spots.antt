@@ -1,7 +1,7 @@
 -- Tokens with the bytes at which they begin, by the cut of a text into its longest pieces.
 use Rattle.std.specs.Prelude.{◌≡◌, ℕ, ◌+◌, List, [], ◌∷◌, ◌++◌, length, ◌==◌, if◌then◌else◌, Some}
 use Rattle.tokens.specs.Tokens.{PlainToken}
-use Rattle.tokens.specs.Bytes.{is_space}
+use Rattle.tokens.specs.ByteClasses.{is_space}
 use Rattle.tokens.specs.Lexing.{IsNext, reading, Stops, stray, bad_number}
 use Rattle.tokens.specs.declared.cut.CutFault.{CutFault}
 use Rattle.tokens.specs.declared.cut.CutFault.TheVariants as fault

@@ -4,7 +4,7 @@
 //! 2. `spot` passes white space and comments, and has each token with its byte.
 //! 3. `place` answers where a byte, a token or a process stands.
 //!
-//! What the layer above uses: `place_of_byte` and `processes`, whose answers `specs/Places` pins.
+//! What the layer above uses: `place_of_byte` and `processes`, whose answers `specs/SourcePlaces` pins.
 #![tactic(auto)]
 
 mod lines;
@@ -13,4 +13,4 @@ mod spot;
 
 pub use lines::last_line;
 pub use place::{Place, Process, before, is_process, place_of_byte, place_of_token, processes};
-pub use spot::{Spot, behind_skipped, line_span, spots};
+pub use spot::{Spot, behind_skipped, spots};

@@ -1,7 +1,7 @@
 //! Lines, and the columns that a text takes in a terminal.
 
 ghost use Rattle.std.specs.Prelude.{◌≡◌, ◌≤◌, length, fold, chars};
-ghost use Rattle.places.specs.Lines as spec;
+ghost use Rattle.places.specs.TextLines as spec;
 
 use std::str;
 use unicode_width::UnicodeWidthChar;

@@ -2,7 +2,7 @@
 
 ghost use Rattle.std.specs.Prelude.{◌≡◌, ◌++◌, take, map, length, IfOk, IfErr, OnOk};
 ghost use Rattle.places.specs.PlainSpots.{plain_spot};
-ghost use Rattle.places.specs.Places.{place_of, byte_of, is_always, is_process, process_in, AreProcesses, IsTokenPlace};
+ghost use Rattle.places.specs.SourcePlaces.{place_of, byte_of, is_always, is_process, process_in, AreProcesses, IsTokenPlace};
 ghost use Rattle.places.specs.Spots.{IsUncut};
 
 use crate::lines::{columns, last_line, newlines};

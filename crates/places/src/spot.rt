@@ -1,57 +1,15 @@
 //! Tokens with the bytes at which they begin, behind white space and comments (IEEE 1364-2005, 3.2, 3.3).
 
-ghost use Rattle.std.specs.Prelude.{◌≡◌, ◌≤◌, ◌++◌, [], ◌∷◌, length, map, false, IfOk, IfErr, OnOk};
-ghost use Rattle.tokens.specs.Bytes.{is_space, span, in_line};
-ghost use Rattle.tokens.specs.Lengths.{block_len};
+ghost use Rattle.std.specs.Prelude.{◌≡◌, ◌≤◌, ◌++◌, [], ◌∷◌, length, map, IfOk, IfErr, OnOk};
 ghost use Rattle.tokens.specs.Tokens.{plain_token};
 ghost use Rattle.places.specs.Spots.{skip_len, Skips, AreSpots, IsUncut};
 ghost use Rattle.places.specs.PlainSpots.{plain_spot};
 
 use std::alloc::{AllocError, Global};
 use tokens::cut::{CutFault, cut};
+use tokens::pieces::comment_len;
+use tokens::spans::is_space;
 use tokens::token::Token;
-
-/// How many bytes stand before the next newline.
-pub fn line_span(text: &[u8]) -> usize
-    ensures value { result ≡ span in_line text.now }
-    ensures within { result ≤ length text.now }
-{
-    let mut left = text;
-    let mut n = 0;
-    while let [b, rest @ ..] = left {
-        if *b == b'\n' {
-            break;
-        }
-        n += 1;
-        left = rest;
-    }
-    n
-}
-
-/// The length of a comment after its `/*`, 0 where it isn't finished.
-fn block_len(text: &[u8]) -> usize
-    ensures value { result ≡ block_len 0 false text.now }
-    ensures within { result ≤ length text.now }
-{
-    let mut left = text;
-    let mut n = 0;
-    let mut star = false;
-    while let [b, rest @ ..] = left {
-        if star && *b == b'/' {
-            return n + 1;
-        }
-        star = *b == b'*';
-        n += 1;
-        left = rest;
-    }
-    0
-}
-
-fn is_space(b: u8) -> bool
-    ensures { result ≡ is_space b }
-{
-    b == b' ' || b == b'\t' || b == b'\n' || b == b'\r'
-}
 
 /// The length of the space or the comment at the front, 0 where none is.
 fn skip_len(text: &[u8]) -> usize
@@ -60,11 +18,7 @@ fn skip_len(text: &[u8]) -> usize
 {
     match text {
         [b, ..] if is_space(*b) => 1,
-        [b'/', b'/', rest @ ..] => line_span(rest) + 2,
-        [b'/', b'*', rest @ ..] => match block_len(rest) {
-            0 => 0,
-            len => len + 2,
-        },
+        [b'/', rest @ ..] => comment_len(rest),
         _ => 0,
     }
 }

@@ -24,11 +24,11 @@ use Rattle.program.specs.declared.ending.Ending.TheVariants as ending
 use Rattle.program.specs.declared.finding.Finding.TheVariants as finding
 use Rattle.program.specs.Program.{IsRefusalStatus, ended_status, ending_of, finding_status, help_text, right_text, status_of, stop_status, version_text}
 use Rattle.program.specs.Printed.{HasBegun, HasEnded, HasLeft, HasPrintedBy, HasRefused, HasRun, HasSearched, HasChecked, HasDumped, HasExplainedSome, HasShown, HasWaves, IsDone, IsLeft, IsRight, IsUnprinted, IsWrong, begun, checked, helped, interrupted, ran, searched, untouched, versioned}
-use Rattle.program.specs.Told.{HasExplainedTold, IsEndTold, IsTold, IsUnfinished, IsWanting, nothing, of_fault, of_source, of_stop}
+use Rattle.program.specs.StandardError.{HasExplainedTold, IsEndTold, IsTold, IsUnfinished, IsWanting, nothing, of_fault, of_source, of_stop}
 use Rattle.program.proofs.Statuses.{not_of_fault, not_of_stop}
 use Rattle.journal.specs.declared.counted.Counted.{Counted}
 use Rattle.files.specs.Saved.{AddsFile, SavesAllWhereAsked, KeepsFiles, Made, SavesSomeWhereAsked, SavesWhereAsked}
-use Rattle.arguments.specs.Words.{AreWrong, Asks, Begins, AsksCheck, AsksRaces, AsksRun, AsksWaves, IsRefusal, extent_of, options_of, races_rows, run_rows}
+use Rattle.arguments.specs.CommandWords.{AreWrong, Asks, Begins, AsksCheck, AsksRaces, AsksRun, AsksWaves, IsRefusal, extent_of, options_of, races_rows, run_rows}
 
 -- files
 

@@ -3,12 +3,12 @@ use Rattle.std.proofs.Common.{◌≡◌, ◌∙◌, ap, refl, subst, inl, inr, �
 use Rattle.std.specs.Io.KnownBytes.{Appends, Keeps}
 use Rattle.clap.specs.Words.{Text}
 use Rattle.arguments.specs.declared.request.ExplainRequest.{ExplainRequest}
-use Rattle.arguments.specs.Words.{AsksExplain, explain_rows, number_given}
+use Rattle.arguments.specs.CommandWords.{AsksExplain, explain_rows, number_given}
 use Rattle.explain.specs.declared.failure.ExplainFault.{ExplainFault}
 use Rattle.explain.specs.declared.failure.ExplainFault.TheVariants as explaining
 use Rattle.explain.specs.declared.telling.Window.{Window}
 use Rattle.explain.specs.Explained.{IfReplay, IsLawfulText, UnlessBegun}
-use Rattle.explain.specs.Texts.{ExplainsText, ExplainsTextFault}
+use Rattle.explain.specs.ExplainedText.{ExplainsText, ExplainsTextFault}
 use Rattle.program.specs.declared.fault.Fault.{Fault}
 use Rattle.program.specs.Printed.{HasExplained, HasExplainedSome, HasTold, window_in, window_of}
 use Rattle.program.specs.Program.{explain_fault, status_of}

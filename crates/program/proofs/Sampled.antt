@@ -8,7 +8,7 @@ use Rattle.model.specs.declared.end.Limits.{Limits}
 use Rattle.design.specs.Compiled.{Compiled}
 use Rattle.explore.specs.declared.Shown.{Shown}
 use Rattle.explore.specs.Search.{AreDistinct}
-use Rattle.seeded.specs.Runs.{IsRun}
+use Rattle.seeded.specs.SeededRun.{IsRun}
 use Rattle.seeded.specs.Samples as seeded
 use Rattle.seeded.specs.declared.run.SeededRun.{SeededRun}
 use Rattle.verdict.specs.declared.claim.Claim.TheVariants.{Sampled}

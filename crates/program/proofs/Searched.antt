@@ -6,7 +6,7 @@ use Rattle.model.specs.declared.end.End.{End}
 use Rattle.design.specs.Compiled.{Compiled, design_of}
 use Rattle.explore.specs.declared.Shown.{Shown}
 use Rattle.explore.specs.Search.{AreDistinct, IsShown}
-use Rattle.walks.specs.Journals.{AreAllTexts, IsLawfulText}
+use Rattle.walks.specs.JournalsInTime.{AreAllTexts, IsLawfulText}
 use Rattle.verdict.specs.declared.claim.Claim.{Claim}
 use Rattle.model.specs.declared.end.Limits.{Limits}
 use Rattle.verdict.specs.Verdicts.{verdict_text}

@@ -7,7 +7,7 @@ use Rattle.program.specs.declared.fault.Fault.{Fault}
 use Rattle.program.specs.declared.fault.Fault.TheVariants as fault
 use Rattle.files.specs.declared.fault.FileFault.{FileFault}
 use Rattle.files.specs.declared.fault.FileFault.TheVariants as file
-use Rattle.files.specs.Faults.{file_status}
+use Rattle.files.specs.FileStatuses.{file_status}
 use Rattle.program.specs.declared.fault.Stop.{Stop}
 use Rattle.program.specs.declared.fault.Stop.TheVariants as stop
 use Rattle.frontend.specs.declared.source.SourceFault.{SourceFault}

@@ -7,9 +7,9 @@ use Rattle.model.specs.declared.end.Limits.{Limits}
 use Rattle.design.specs.Compiled.{Compiled, design_of}
 use Rattle.explore.specs.declared.Shown.{Shown}
 use Rattle.explore.specs.Search.{AreDistinct, IsShown}
-use Rattle.seeded.specs.Runs as seeded
+use Rattle.seeded.specs.SeededRun as seeded
 use Rattle.seeded.specs.declared.run.SeededRun.{SeededRun}
-use Rattle.walks.specs.Journals.{AreAllTexts, IsLawfulText}
+use Rattle.walks.specs.JournalsInTime.{AreAllTexts, IsLawfulText}
 use Rattle.verdict.specs.declared.claim.Claim.{Claim}
 use Rattle.verdict.specs.declared.claim.Claim.TheVariants.{Every, SoFar, Sampled}
 use Rattle.verdict.specs.declared.claim.Met.TheVariants.{States, Texts, Entries}

@@ -1,5 +1,5 @@
 pub mod Findings
-pub mod Lines
+pub mod ProgramLines
 pub mod Printed
 pub mod Program
-pub mod Told
+pub mod StandardError

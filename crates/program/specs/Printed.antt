@@ -4,7 +4,7 @@ use Rattle.std.specs.Io.KnownBytes.{Appends, Keeps}
 use Rattle.design.specs.Compiled.{Compiled, design_of}
 use Rattle.model.specs.Syntax.{Module}
 use Rattle.explain.specs.Explained.{IsLawfulText}
-use Rattle.explain.specs.Texts.{ExplainsText, ExplainsTextFault}
+use Rattle.explain.specs.ExplainedText.{ExplainsText, ExplainsTextFault}
 use Rattle.explain.specs.declared.failure.ExplainFault.TheVariants as explaining
 use Rattle.explain.specs.declared.telling.Window.{Window}
 use Rattle.replay.specs.declared.fault.ReplayFault.{ReplayFault}
@@ -19,8 +19,8 @@ use Rattle.eventpool.specs.Pools.{Counts}
 use Rattle.simulate.specs.Outcomes.{IsOutcome}
 use Rattle.model.specs.declared.end.Limits.{Limits}
 use Rattle.arguments.specs.declared.options.Options.{Options}
-use Rattle.replay.specs.Bytes.{AreRead, Prints}
-use Rattle.seeded.specs.Runs as seeded
+use Rattle.replay.specs.ReplayBytes.{AreRead, Prints}
+use Rattle.seeded.specs.SeededRun as seeded
 use Rattle.seeded.specs.declared.run.SeededRun.{SeededRun}
 use Rattle.model.specs.declared.entry.Entry.{Entry}
 use Rattle.model.specs.declared.end.End.{End}
@@ -41,7 +41,7 @@ use Rattle.program.specs.declared.ending.Ending.{Ending}
 use Rattle.program.specs.declared.ending.Ending.TheVariants as ending
 use Rattle.program.specs.Program.{explain_fault, right_text, source_status_of, stop_of, version_text}
 use Rattle.files.specs.Saved.{AddsFile, Made, KeepsFiles, SavesAllWhereAsked, SavesSomeWhereAsked, SavesWhereAsked}
-use Rattle.arguments.specs.Words.{AsksHelp, Begins, check_rows, explain_rows, extent_of, number_given, options_of, races_rows, run_rows, waves_rows}
+use Rattle.arguments.specs.CommandWords.{AsksHelp, Begins, check_rows, explain_rows, extent_of, number_given, options_of, races_rows, run_rows, waves_rows}
 
 -- the limits of a run
 abbrev pub limits_of : Options → Limits

@@ -14,10 +14,10 @@ use Rattle.program.specs.declared.finding.Finding.{Finding}
 use Rattle.program.specs.declared.finding.Finding.TheVariants as finding
 use Rattle.program.specs.declared.fault.Stop.{Stop}
 use Rattle.program.specs.declared.fault.Stop.TheVariants as stop
-use Rattle.files.specs.Faults.{file_status}
+use Rattle.files.specs.FileStatuses.{file_status}
 use Rattle.explain.specs.declared.failure.ExplainFault.{ExplainFault}
 use Rattle.explain.specs.declared.failure.ExplainFault.TheVariants as explaining
-use Rattle.telling.specs.Told.{shown_path}
+use Rattle.telling.specs.FaultLines.{shown_path}
 use Rattle.workers.specs.declared.fault.SimFault.{SimFault}
 use Rattle.vparse.specs.declared.parser.ParseFault.TheVariants as parsing
 use Rattle.elaborate.specs.declared.fault.ElabFault.TheVariants as elaboration

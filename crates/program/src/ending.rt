@@ -1,10 +1,10 @@
 //! How a command ended.
 
 ghost use Rattle.std.specs.Prelude.{◌≡◌};
-ghost use Rattle.telling.specs.Told.{Tells};
-ghost use Rattle.program.specs.Lines.{fault_line};
+ghost use Rattle.telling.specs.FaultLines.{Tells};
+ghost use Rattle.program.specs.ProgramLines.{fault_line};
 ghost use Rattle.program.specs.Program.{ending_status, ended_status, ending_of, status_of};
-ghost use Rattle.program.specs.Told.{IsEndTold, IsEndingTold};
+ghost use Rattle.program.specs.StandardError.{IsEndTold, IsEndingTold};
 
 use crate::fault::{Fault, Stop};
 use crate::finding::Finding;

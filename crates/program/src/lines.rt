@@ -1,8 +1,8 @@
 //! The line on standard error of each fault and of each stop.
 
 ghost use Rattle.std.specs.Prelude.{◌≡◌, [], decimal};
-ghost use Rattle.telling.specs.Told.{line, line_of};
-ghost use Rattle.program.specs.Lines.{fault_line, file_line, stop_line, source_line, parse_line, module_line, simulate_line, replay_line, read_line, refusal_text, cause_text};
+ghost use Rattle.telling.specs.FaultLines.{line, line_of};
+ghost use Rattle.program.specs.ProgramLines.{fault_line, file_line, stop_line, source_line, parse_line, module_line, simulate_line, replay_line, read_line, refusal_text, cause_text};
 
 use crate::fault::{Fault, Stop};
 use elaborate::ElabFault;

@@ -9,12 +9,12 @@ ghost use Rattle.std.specs.Prelude.{◌≡◌, ◌≢◌, ◌⊎◌, ◌≤◌, 
 ghost use Rattle.clap.specs.Words.{Text};
 ghost use Rattle.std.specs.Io.KnownBytes.{Appends, Keeps};
 ghost use Rattle.journal.specs.Counted.{held};
-ghost use Rattle.arguments.specs.Words.{AreWrong, Asks, AsksCheck, AsksExplain, AsksRaces, AsksReplay, AsksRun, AsksWaves, Begins, IsRefusal, texts_of};
+ghost use Rattle.arguments.specs.CommandWords.{AreWrong, Asks, AsksCheck, AsksExplain, AsksRaces, AsksReplay, AsksRun, AsksWaves, Begins, IsRefusal, texts_of};
 ghost use Rattle.program.specs.declared.finding.Finding.TheVariants as finding;
 ghost use Rattle.program.specs.Printed.{HasEnded, HasExplainedSome, HasRefused, HasSearched, IsDone, IsLeft, IsUnprinted, window_in};
 ghost use Rattle.program.specs.Program.{IsRefusalStatus, ended_status, help_text, right_text, status_of, version_text};
 ghost use Rattle.files.specs.Saved.{KeepsFiles};
-ghost use Rattle.program.specs.Told.{HasExplainedTold, IsTold, IsUnfinished, IsWanting};
+ghost use Rattle.program.specs.StandardError.{HasExplainedTold, IsTold, IsUnfinished, IsWanting};
 ghost use Rattle.program.specs.declared.ending.Ending.TheVariants as Ending;
 
 use crate::checking::check;

@@ -9,7 +9,7 @@ use Rattle.model.specs.declared.end.Limits.{Limits}
 use Rattle.model.specs.declared.end.End.{End}
 use Rattle.model.specs.States.{State}
 use Rattle.model.specs.Runs.{silent, run_from, IsTimely}
-use Rattle.orders.specs.Search.{EndsHere}
+use Rattle.orders.specs.SearchLaws.{EndsHere}
 use Rattle.design.specs.Compiled.{Compiled, design_of}
 use Rattle.seeded.specs.Resting.{RestsAt}
 use Rattle.explore.specs.declared.Next.{Next}
@@ -18,7 +18,7 @@ use Rattle.walks.specs.Cover.{CoverRuns}
 use Rattle.walks.specs.Going.{GoesOnTo}
 use Rattle.walks.specs.Sole.{StandsForAll}
 use Rattle.regions.specs.Machine.{Position, state_at}
-use Rattle.races.specs.Places.{IsReady, IsWayOn, IsWayToEnd, AreAllWays}
+use Rattle.races.specs.SearchPlaces.{IsReady, IsWayOn, IsWayToEnd, AreAllWays}
 use Rattle.races.specs.Following.{IsArrived}
 use Rattle.walks.specs.Walking.{HasWalked}
 use Rattle.races.specs.declared.place.Place.{Place}

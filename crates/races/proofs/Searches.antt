@@ -10,15 +10,15 @@ use Rattle.model.specs.declared.end.End.{End}
 use Rattle.model.specs.Design.{Design}
 use Rattle.model.specs.Runs.{Effect, silent, joined, step, run_from, IsTimely}
 use Rattle.model.proofs.RunLaws.{run_from-append}
-use Rattle.orders.specs.Search.{IsOneNode, EndsHere}
+use Rattle.orders.specs.SearchLaws.{IsOneNode, EndsHere}
 use Rattle.orders.proofs.SearchLaws.{then_some}
 use Rattle.explore.specs.declared.Next.{Next}
 use Rattle.explore.specs.declared.Ended.{Ended}
 use Rattle.explore.specs.declared.Shown.{Shown}
 use Rattle.explore.specs.Search.{IsShown, IsOfRun, IsNext, IsEnded, IsCovered, AreAllShown}
-use Rattle.walks.specs.Journals.{ComesOf, text_of, MayEnd, ComeToOneNode, IsLawfulText, AreAllTexts}
+use Rattle.walks.specs.JournalsInTime.{ComesOf, text_of, MayEnd, ComeToOneNode, IsLawfulText, AreAllTexts}
 use Rattle.walks.specs.Cover.{LeadOn, CoverRuns, FollowMoves}
-use Rattle.races.specs.Runs.{runs_of, AlikeRunsServe, KeyedRunsAreAlike, RunsBeginSilent, ShownIsLawful, AllShownAreAll}
+use Rattle.races.specs.DesignRuns.{runs_of, AlikeRunsServe, KeyedRunsAreAlike, RunsBeginSilent, ShownIsLawful, AllShownAreAll}
 use Rattle.walks.specs.Going.{GoesOnTo}
 use Rattle.races.specs.Expanding.{EntriesLeadToNext, EntriesLeadToEnd, ways_to, TellsEnds, CoveringIsCovered, FollowingIsCovered}
 use Rattle.walks.proofs.Lists.{all_map, any_of_map}

@@ -15,11 +15,11 @@ use Rattle.model.specs.declared.end.End.TheVariants.{Stopped}
 use Rattle.model.specs.Design.{Design}
 use Rattle.model.specs.States.{State, Action, Evaluate, start}
 use Rattle.model.specs.Runs.{Effect, silent, joined, action_in, turn_of, turn_effect, action_effect, effect, unless_refused, entry_refusal, refusal, step, run_from, IsTimely}
-use Rattle.orders.specs.Search.{EndsHere}
+use Rattle.orders.specs.SearchLaws.{EndsHere}
 use Rattle.orders.proofs.SearchLaws.{then_some}
 use Rattle.design.specs.Compiled.{Compiled, design_of}
-use Rattle.design.specs.Standing.{controls_of}
-use Rattle.regions.specs.Logs.{IsTaken}
+use Rattle.design.specs.DesignInvariant.{controls_of}
+use Rattle.regions.specs.StepLogs.{IsTaken}
 use Rattle.regions.specs.Machine.{Position, state_at, IsStop, IsNotTaken}
 use Rattle.regions.specs.declared.machine.TakeFault.{TakeFault}
 use Rattle.regions.specs.declared.machine.TakeFault.TheVariants as fault
@@ -28,12 +28,12 @@ use Rattle.explore.specs.declared.Ended.{Ended}
 use Rattle.explore.specs.Grown.{Extends}
 use Rattle.explore.specs.Search.{IsNext, IsEnded, IsCovered}
 use Rattle.explore.proofs.Complete.{Any-extends}
-use Rattle.walks.specs.Journals.{ComesOf}
+use Rattle.walks.specs.JournalsInTime.{ComesOf}
 use Rattle.walks.specs.Cover.{FollowMoves}
 use Rattle.walks.specs.Going.{GoesOnTo}
 use Rattle.races.specs.Expanding.{ways_to}
-use Rattle.races.specs.Runs.{StandsAt}
-use Rattle.races.specs.Places.{IsReady, Holds, lawful_runs, IsWayOn, IsWayToEnd, IsToldHere, IsFollowedIn, AreWaysFor, AreAllWays}
+use Rattle.races.specs.DesignRuns.{StandsAt}
+use Rattle.races.specs.SearchPlaces.{IsReady, Holds, lawful_runs, IsWayOn, IsWayToEnd, IsToldHere, IsFollowedIn, AreWaysFor, AreAllWays}
 use Rattle.races.specs.Following.{IsTurnOf, IsLongTurnOf, TellsLong, IsWayBy, IsAdded}
 use Rattle.races.specs.declared.place.Place.{Place}
 use Rattle.races.specs.declared.expand.Way.{Way}

@@ -6,14 +6,14 @@ use Rattle.model.specs.declared.end.Limits.{Limits}
 use Rattle.model.specs.declared.end.End.{End}
 use Rattle.model.specs.Design.{Design}
 use Rattle.model.specs.Runs.{Effect, joined}
-use Rattle.orders.specs.Search.{IsOneNode, EndsHere}
+use Rattle.orders.specs.SearchLaws.{IsOneNode, EndsHere}
 use Rattle.explore.specs.declared.Next.{Next}
 use Rattle.explore.specs.declared.Ended.{Ended}
 use Rattle.explore.specs.Search.{IsNext, IsEnded, IsCovered}
-use Rattle.walks.specs.Journals.{ComesOf}
+use Rattle.walks.specs.JournalsInTime.{ComesOf}
 use Rattle.walks.specs.Going.{GoesOnTo}
 use Rattle.walks.specs.Cover.{CoverRuns, FollowMoves}
-use Rattle.races.specs.Runs.{plain_runs}
+use Rattle.races.specs.DesignRuns.{plain_runs}
 
 -- a successor whose node holds what its entries lead to, with the lines that these print, is a next one
 abbrev pub EntriesLeadToNext : Type 0

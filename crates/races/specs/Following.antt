@@ -12,7 +12,7 @@ use Rattle.design.specs.Compiled.{Compiled, design_of}
 use Rattle.explore.specs.declared.Next.{Next}
 use Rattle.explore.specs.declared.Ended.{Ended}
 use Rattle.regions.specs.Machine.{Position, state_at}
-use Rattle.races.specs.Places.{IsReady, IsWayOn, IsWayToEnd}
+use Rattle.races.specs.SearchPlaces.{IsReady, IsWayOn, IsWayToEnd}
 use Rattle.races.specs.declared.place.Place.{Place}
 use Rattle.races.specs.declared.expand.Way.{Way}
 use Rattle.races.specs.declared.expand.Way.TheVariants.{On, Long, Past}

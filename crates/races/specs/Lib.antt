@@ -1,5 +1,5 @@
-pub mod Runs
+pub mod DesignRuns
 pub mod Expanding
-pub mod Places
+pub mod SearchPlaces
 pub mod Following
 pub mod Serving

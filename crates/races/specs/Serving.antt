@@ -8,15 +8,15 @@ use Rattle.model.specs.States.{State}
 use Rattle.model.specs.Runs.{Effect}
 use Rattle.orders.specs.Alike.{Alike}
 use Rattle.design.specs.Compiled.{Compiled, design_of}
-use Rattle.design.specs.Standing.{remainder_of}
+use Rattle.design.specs.DesignInvariant.{remainder_of}
 use Rattle.regions.specs.Queue.{state_of}
 use Rattle.statekeys.specs.Keys.{IsKey}
 use Rattle.statekeys.proofs.Alikeness.{keys_tell_states}
 use Rattle.explore.specs.Search.{Serves}
-use Rattle.walks.specs.Journals.{text_of, ComeToOneNode}
+use Rattle.walks.specs.JournalsInTime.{text_of, ComeToOneNode}
 use Rattle.walks.proofs.Serving.{text_is, alike_journals_serve}
-use Rattle.races.specs.Runs.{StandsAt, runs_of, TellAlike}
-use Rattle.races.specs.Places.{Holds, lawful_runs}
+use Rattle.races.specs.DesignRuns.{StandsAt, runs_of, TellAlike}
+use Rattle.races.specs.SearchPlaces.{Holds, lawful_runs}
 use Rattle.races.specs.declared.place.Place.{Place}
 
 pub alike_serve : {Node : Type 0} (Holds : Node → Effect → Type 0) (design : Design) (limits : Limits) (i j : List Entry) → ComeToOneNode design limits i j → Serves (runs_of Holds design limits) i j

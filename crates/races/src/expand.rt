@@ -10,10 +10,10 @@ ghost use Rattle.races.specs.declared.place.Place.{Place};
 ghost use Rattle.seeded.specs.Resting.{GoesOn};
 ghost use Rattle.design.specs.Compiled.{design_of};
 ghost use Rattle.regions.specs.Machine.{most_entries, state_at, IsNotTaken};
-ghost use Rattle.regions.specs.Logs.{IsTaken};
+ghost use Rattle.regions.specs.StepLogs.{IsTaken};
 ghost use Rattle.walks.specs.Walking.{HasWalked};
 ghost use Rattle.races.specs.Following.{IsAdded, IsArrived, IsTurnOf, IsWayBy, TellsLong};
-ghost use Rattle.races.specs.Places.{AreAllWays, AreBounded, AreWaysFor, IsReady, IsWayOn, IsWayToEnd};
+ghost use Rattle.races.specs.SearchPlaces.{AreAllWays, AreBounded, AreWaysFor, IsReady, IsWayOn, IsWayToEnd};
 
 use crate::place::Place;
 use explore::{Ended, Expanded, Next};

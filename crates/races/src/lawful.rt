@@ -6,8 +6,8 @@ ghost use Rattle.model.specs.Runs.{last_time};
 ghost use Rattle.regions.specs.Machine.{state_at};
 ghost use Rattle.design.specs.Compiled.{design_of};
 ghost use Rattle.explore.specs.Search.{AreDistinct, IsShown};
-ghost use Rattle.walks.specs.Journals.{AreAllTexts, IsLawfulText};
-ghost use Rattle.races.specs.Places.{AreBounded};
+ghost use Rattle.walks.specs.JournalsInTime.{AreAllTexts, IsLawfulText};
+ghost use Rattle.races.specs.SearchPlaces.{AreBounded};
 
 use crate::expand::expand;
 use crate::place::{Place, Room};
@@ -42,7 +42,7 @@ struct Lawful<'d> {
 impl<'d> Orders for Lawful<'d> {
     ghost use Rattle.std.specs.Prelude.{refl};
     ghost use Rattle.statekeys.specs.Keys.{IsKey};
-    ghost use Rattle.races.specs.Places.{lawful_runs};
+    ghost use Rattle.races.specs.SearchPlaces.{lawful_runs};
     ghost use Rattle.races.specs.Serving.{lawful_alike, lawful_keyed};
 
     type Move = Entry;

@@ -1,6 +1,6 @@
 // Laws of the definitions, so that the check asks for their proofs.
 
-ghost use Rattle.races.specs.Runs.{AlikeRunsServe, KeyedRunsAreAlike, RunsBeginSilent, ShownIsLawful, AllShownAreAll};
+ghost use Rattle.races.specs.DesignRuns.{AlikeRunsServe, KeyedRunsAreAlike, RunsBeginSilent, ShownIsLawful, AllShownAreAll};
 ghost use Rattle.races.specs.Expanding.{EntriesLeadToNext, EntriesLeadToEnd, CoveringIsCovered, FollowingIsCovered};
 
 /// Lawful journals that come to one node go on alike, and a search may keep one of them for both. No run prints before its first

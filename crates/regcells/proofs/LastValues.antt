@@ -8,7 +8,7 @@ use Rattle.turn.specs.Nets.{altered}
 use Rattle.turn.proofs.Known.{ne_of}
 use Rattle.regions.specs.Past.{last_of}
 use Rattle.regcells.specs.Values.{last_value, values_after}
-use Rattle.regcells.specs.Seats.{Named, Fresh, seen_of, with_seen, last_values, changes_left, IsOf}
+use Rattle.regcells.specs.CellSeats.{Named, Fresh, seen_of, with_seen, last_values, changes_left, IsOf}
 use Rattle.regcells.proofs.Lasts.{last_given, length-given}
 
 -- what the holder has seen once it has given a register these values

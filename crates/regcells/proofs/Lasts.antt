@@ -11,7 +11,7 @@ use Rattle.logic4.specs.Sameness.{same_vector-true}
 use Rattle.turn.specs.declared.log.Net.{Net}
 use Rattle.turn.specs.Nets.{altered}
 use Rattle.regions.specs.Past.{last_of, IsNetOf}
-use Rattle.regcells.specs.Rules.{holder}
+use Rattle.regcells.specs.RegisterRule.{holder}
 use Rattle.regcells.specs.Values.{width_of, last_value, values_after}
 use Rattle.regcells.specs.Passes.{RegPass, seen_by, IsHolding}
 

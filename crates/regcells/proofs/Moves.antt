@@ -7,10 +7,10 @@ use Rattle.crossbeam_utils.specs.Register.{Turns, Forks, Merges}
 use Rattle.atomic_table.proofs.Lists.{at_set, at_snoc, set_again}
 use Rattle.logic4.specs.Vector.{Vector}
 use Rattle.regcells.specs.declared.rule.View.{View}
-use Rattle.regcells.specs.Words.{version_in, value_in, HoldValue}
+use Rattle.regcells.specs.CellWords.{version_in, value_in, HoldValue}
 use Rattle.turn.specs.Nets.{altered}
 use Rattle.regcells.specs.Values.{width_of, last_value, values_after}
-use Rattle.regcells.specs.Rules.{holder, reader, informed, IsEnd, IsEndOnceBegun, Fits, Kept, Looked, Checked, Stored}
+use Rattle.regcells.specs.RegisterRule.{holder, reader, informed, IsEnd, IsEndOnceBegun, Fits, CellInvariant, Looked, Checked, Stored}
 use Rattle.regcells.proofs.Beginnings.{prefix_self, prefix_trans, prefix_length}
 use Rattle.regcells.proofs.Lasts.{at_end}
 
@@ -45,21 +45,21 @@ fits_set seat log now views by w grows who old mine j u e =
     ((λ (h : u.holds ≡ true). ((f.0 h).0, ⊎_elim (λ (s : now ≡ log). (f.0 h).1 ∙ sym s) (λ (s : by ≡ seat). absurd (x.0 ((f.0 h).0 ∙ sym s))) who)), prefix_trans _ _ _ f.1 grows, prefix_trans _ _ _ f.2 grows))
     (at_set views by j w u e)
 
-pub begins : (words : List ℕ) → Kept words (holder [] ∷ [])
+pub begins : (words : List ℕ) → CellInvariant words (holder [] ∷ [])
 begins words = (0, [], tt, one)
   where
     one : (by : ℕ) (v : View) → get_elem? (holder [] ∷ []) by ≡ some v → Fits 0 [] by v
     one zero v e = subst (Fits 0 [] 0) (some-injective _ _ e) ((λ _. (refl, refl)), nothing_begins [], nothing_begins [])
     one (suc by) v e = absurd (some-ne-none v (sym e))
 
-pub looks : (by : ℕ) (v : View) → 0 < length v.seen → Turns Kept by v (λ x. x) Looked
+pub looks : (by : ℕ) (v : View) → 0 < length v.seen → Turns CellInvariant by v (λ x. x) Looked
 looks by v some_seen words views h at =
     let mine = h.3 by v at in
     let long : 0 < length h.1 = let l = prefix_length v.seen h.1 mine.1 in omega arith in
     let w = reader h.1 in
     (w, (h.0, h.1, h.2, fits_set h.0 h.1 h.1 views by w (prefix_self h.1) (inl refl) h.3 ((λ c. absurd (off c)), prefix_self h.1, nothing_begins h.1)), (refl, mine.1, mine.2, begun h.1 words long h.2))
 
-pub checks : (by : ℕ) (v : View) → v.holds ≡ true → 0 < length v.seen → Turns Kept by v (λ x. x) Checked
+pub checks : (by : ℕ) (v : View) → v.holds ≡ true → 0 < length v.seen → Turns CellInvariant by v (λ x. x) Checked
 checks by v holds some_seen words views h at =
     let mine = h.3 by v at in
     let all : v.seen ≡ h.1 = (mine.0 holds).1 in
@@ -79,7 +79,7 @@ end_of log x words last version value hold wide =
       hold = subst (λ w. HoldValue w words) (sym wide) hold;
     }
 
-pub stores : (by : ℕ) (v : View) (given : List Vector) (new : List ℕ) → v ≡ holder v.seen → IsEnd (values_after v.seen given) new → Turns Kept by v (λ _. new) (Stored given)
+pub stores : (by : ℕ) (v : View) (given : List Vector) (new : List ℕ) → v ≡ holder v.seen → IsEnd (values_after v.seen given) new → Turns CellInvariant by v (λ _. new) (Stored given)
 stores by v given new is end words views h at =
     let mine = (h.3 by v at).0 (ap (λ (u : View). u.holds) is) in
     let w = holder (values_after v.seen given) in
@@ -95,7 +95,7 @@ stores by v given new is end words views h at =
       refl,
     )
 
-pub notes : (by : ℕ) (v : View) → Forks Kept by v v (reader v.seen)
+pub notes : (by : ℕ) (v : View) → Forks CellInvariant by v v (reader v.seen)
 notes by v words views h at = (
   h.0,
   h.1,
@@ -106,7 +106,7 @@ notes by v words views h at = (
       (at_snoc (set views by v) (reader v.seen) u j e),
 )
 
-pub informs : (by : ℕ) (v : View) (other : ℕ) (u : View) → Merges Kept by v other u (informed v u) (reader [])
+pub informs : (by : ℕ) (v : View) (other : ℕ) (u : View) → Merges CellInvariant by v other u (informed v u) (reader [])
 informs by v other u words views h at apart there =
     let w = informed v u in
     let mine = h.3 by v at in

@@ -8,7 +8,7 @@ use Rattle.crossbeam_utils.specs.Seq.{cell_view}
 use Rattle.regcells.proofs.Lasts.{same_holding}
 use Rattle.regcells.specs.declared.register.Register.{Register}
 use Rattle.regcells.specs.Values.{values_after}
-use Rattle.regcells.specs.Seats.{Named, Fresh, seen_of, with_seen, widths_of, last_values}
+use Rattle.regcells.specs.CellSeats.{Named, Fresh, seen_of, with_seen, widths_of, last_values}
 use Rattle.regcells.specs.Passes.{RegPass, name_of_pass, name_of_register, seen_by, fresh_by, IsBegun, AllBegun, IsHolding, AllHold}
 
 module _ {A : Type 0} where

@@ -6,9 +6,9 @@ use Rattle.crossbeam_utils.specs.declared.atomic.seq_cell.Doing.{Doing}
 use Rattle.logic4.specs.Vector.{Vector}
 use Rattle.regcells.specs.declared.rule.View.{View}
 use Rattle.regcells.specs.declared.register.Register.{Register}
-use Rattle.regcells.specs.Rules.{holder}
+use Rattle.regcells.specs.RegisterRule.{holder}
 use Rattle.regcells.specs.Values.{width_of, last_value}
-use Rattle.regcells.specs.Seats.{Named, Fresh}
+use Rattle.regcells.specs.CellSeats.{Named, Fresh}
 
 abbrev pub RegPass : Type 0
 RegPass = Seat (List ℕ) (Doing (List ℕ) View)

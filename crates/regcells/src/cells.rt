@@ -7,7 +7,7 @@ ghost use Rattle.model.specs.Runs.{values_in};
 ghost use Rattle.regions.specs.Past.{IsNetOf};
 ghost use Rattle.regcells.specs.Values.{last_value, values_after};
 ghost use Rattle.regcells.specs.Passes.{name_of_pass, name_of_register, fresh_by, AllHold, AllBegun};
-ghost use Rattle.regcells.specs.Seats.{Fresh, widths_of, seen_of, with_seen, last_values, changes_left, beginnings};
+ghost use Rattle.regcells.specs.CellSeats.{Fresh, widths_of, seen_of, with_seen, last_values, changes_left, beginnings};
 
 use crate::register::Register;
 use crate::rule::RegPass;
@@ -26,7 +26,7 @@ pub struct RegCells {
 
 impl Model for RegCells {
     ghost use Rattle.std.specs.Prelude.{List, map};
-    ghost use Rattle.regcells.specs.Seats.{Named};
+    ghost use Rattle.regcells.specs.CellSeats.{Named};
 
     ghost Value = { List Named };
 
@@ -42,7 +42,7 @@ pub struct RegSeat {
 }
 
 impl Model for RegSeat {
-    ghost use Rattle.regcells.specs.Seats.{Fresh};
+    ghost use Rattle.regcells.specs.CellSeats.{Fresh};
 
     ghost Value = { Fresh };
 
@@ -60,7 +60,7 @@ pub struct Holder {
 }
 
 impl Model for Holder {
-    ghost use Rattle.regcells.specs.Seats.{Fresh};
+    ghost use Rattle.regcells.specs.CellSeats.{Fresh};
 
     ghost Value = { Fresh };
 

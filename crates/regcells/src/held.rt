@@ -1,6 +1,6 @@
 //! The cells and their holder as a store, for the calls that change the values of the registers.
 ghost use Rattle.std.specs.Prelude.{◌≡◌};
-ghost use Rattle.regcells.specs.Seats.{IsOf};
+ghost use Rattle.regcells.specs.CellSeats.{IsOf};
 
 use crate::cells::{Holder, RegCells};
 use design::RegId;
@@ -34,7 +34,7 @@ impl<'a, R: Wait> HeldStore<'a, R> {
 
 impl<'a, R: Wait> Store for HeldStore<'a, R> {
     ghost use Rattle.std.specs.Prelude.{◌≡◌, List, ℕ};
-    ghost use Rattle.regcells.specs.Seats.{Named, seen_of, last_values, changes_left, IsOf};
+    ghost use Rattle.regcells.specs.CellSeats.{Named, seen_of, last_values, changes_left, IsOf};
 
     ghost values = { λ s. last_values s.holder.now };
 

@@ -7,7 +7,7 @@ ghost use Rattle.logic4.specs.Vector.{Vector, unknown, greatest_width};
 ghost use Rattle.turn.specs.Nets.{altered};
 ghost use Rattle.regions.specs.Past.{IsNetOf};
 ghost use Rattle.regcells.specs.Values.{width_of, last_value, values_after, room_of};
-ghost use Rattle.regcells.specs.Rules.{holder};
+ghost use Rattle.regcells.specs.RegisterRule.{holder};
 ghost use Rattle.regcells.specs.Passes.{seen_by, name_of_pass, name_of_register, IsBegun, IsHolding};
 
 use crate::rule::{Cell, Checks, Giving, Looks, Notes, RegPass, Stores};

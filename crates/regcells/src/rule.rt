@@ -20,9 +20,9 @@ pub struct Growing;
 
 impl Protocol<[u64; WORDS], View> for Growing {
     ghost use Rattle.std.specs.Prelude.{[]};
-    ghost use Rattle.regcells.specs.Rules.{holder, Kept};
+    ghost use Rattle.regcells.specs.RegisterRule.{holder, CellInvariant};
 
-    ghost holds = { Kept };
+    ghost holds = { CellInvariant };
 
     ghost first = { holder [] };
 }
@@ -31,7 +31,7 @@ impl Protocol<[u64; WORDS], View> for Growing {
 pub struct Looks;
 
 impl Outcome<[u64; WORDS], View> for Looks {
-    ghost use Rattle.regcells.specs.Rules.{Looked};
+    ghost use Rattle.regcells.specs.RegisterRule.{Looked};
 
     ghost then = { Looked };
 }
@@ -40,7 +40,7 @@ impl Outcome<[u64; WORDS], View> for Looks {
 pub struct Checks;
 
 impl Outcome<[u64; WORDS], View> for Checks {
-    ghost use Rattle.regcells.specs.Rules.{Checked};
+    ghost use Rattle.regcells.specs.RegisterRule.{Checked};
 
     ghost then = { Checked };
 }
@@ -66,7 +66,7 @@ pub struct Stores<X: Giving> {
 }
 
 impl<X: Giving> Outcome<[u64; WORDS], View> for Stores<X> {
-    ghost use Rattle.regcells.specs.Rules.{Stored};
+    ghost use Rattle.regcells.specs.RegisterRule.{Stored};
 
     ghost then = { Stored X.given };
 }
@@ -75,7 +75,7 @@ impl<X: Giving> Outcome<[u64; WORDS], View> for Stores<X> {
 pub struct Notes;
 
 impl Split<View> for Notes {
-    ghost use Rattle.regcells.specs.Rules.{reader};
+    ghost use Rattle.regcells.specs.RegisterRule.{reader};
 
     ghost left = { λ v. v };
 
@@ -84,7 +84,7 @@ impl Split<View> for Notes {
 
 impl Join<View> for Notes {
     ghost use Rattle.std.specs.Prelude.{[]};
-    ghost use Rattle.regcells.specs.Rules.{reader, informed};
+    ghost use Rattle.regcells.specs.RegisterRule.{reader, informed};
 
     ghost both = { informed };
 

@@ -5,9 +5,9 @@ use Rattle.logic4.specs.declared.digit.Digit.TheVariants.{X}
 use Rattle.logic4.specs.Vector.{Vector, unknown}
 use Rattle.model.specs.States.{State, start}
 use Rattle.design.specs.Compiled.{Compiled, design_of}
-use Rattle.design.specs.Standing.{remainder_of, controls_of, IsStateOf}
+use Rattle.design.specs.DesignInvariant.{remainder_of, controls_of, IsStateOf}
 use Rattle.regions.specs.Queue.{Core, state_of}
-use Rattle.regions.specs.Passing.{HasOwnStates}
+use Rattle.regions.specs.StatePassing.{HasOwnStates}
 use Rattle.regions.specs.Machine.{Stands}
 
 -- the widths of registers that are all x

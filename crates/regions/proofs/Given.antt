@@ -13,13 +13,13 @@ use Rattle.model.specs.Runs.{Effect, action_in, turn_of, turn_refusal, refused_w
 use Rattle.model.proofs.RunLaws.{where_none}
 use Rattle.design.specs.declared.code.ProcState.{ProcState}
 use Rattle.design.specs.Compiled.{Compiled, design_of}
-use Rattle.design.specs.Standing.{remainder_of, controls_of, IsStateOf}
-use Rattle.turn.specs.Logs.{LogView, IsLogOf}
+use Rattle.design.specs.DesignInvariant.{remainder_of, controls_of, IsStateOf}
+use Rattle.turn.specs.TurnLogs.{LogView, IsLogOf}
 use Rattle.regions.specs.Queue.{Core, state_of}
 use Rattle.regions.specs.Reader.{IsTurnOn}
 use Rattle.regions.specs.Evaluations.{IsEvaluation}
-use Rattle.regions.specs.Passing.{HasOwnStates}
-use Rattle.regions.specs.Logs.{IsLogFor, IsTurnGiven}
+use Rattle.regions.specs.StatePassing.{HasOwnStates}
+use Rattle.regions.specs.StepLogs.{IsLogFor, IsTurnGiven}
 use Rattle.regions.specs.declared.machine.TakeFault.TheVariants.{TooLong}
 use Rattle.regions.specs.Machine.{IsStop}
 use Rattle.regions.proofs.Evaluated.{turn_of-is, own_state}

@@ -21,7 +21,7 @@ use Rattle.regions.specs.Find.{update_numbers}
 use Rattle.regions.specs.Order.{InOrder}
 use Rattle.regions.specs.MadeEvents.{Rises}
 use Rattle.regions.specs.Machine.{IsTurn, IsChange, IsDue, AreInOrder}
-use Rattle.regions.specs.Turns.{turn_of}
+use Rattle.regions.specs.EvaluationEntries.{turn_of}
 use Rattle.regions.proofs.Order.{IsTakenAfter, taken-after, behind, InOrder-rises}
 use Rattle.regions.proofs.Refusals.{no_evaluation}
 

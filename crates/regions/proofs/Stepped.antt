@@ -10,8 +10,8 @@ use Rattle.model.specs.States.{State, Action, Evaluate, Update}
 use Rattle.model.specs.Runs.{Effect, action_in, action_effect, turn_of, turn_refusal, update_refusal, entry_refusal, refusal, effect, unless_refused, step}
 use Rattle.model.proofs.RunLaws.{where_none}
 use Rattle.design.specs.Compiled.{Compiled, design_of}
-use Rattle.turn.specs.Logs.{LogView}
-use Rattle.regions.specs.Logs.{IsLogFor, IsTurnGiven}
+use Rattle.turn.specs.TurnLogs.{LogView}
+use Rattle.regions.specs.StepLogs.{IsLogFor, IsTurnGiven}
 
 -- a log that is given is that of a turn that there is
 has_turn : (code : Compiled) (s : State) (p : ℕ) (log : Option LogView) → IsSomeAnd log (IsLogFor code s p) → (turn : Turn) × (turn_of (design_of code) s p ≡ Some turn)

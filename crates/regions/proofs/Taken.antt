@@ -11,11 +11,11 @@ use Rattle.model.proofs.RunLaws.{unless_some}
 use Rattle.model.proofs.StepLaws.{step_is_exact}
 use Rattle.design.specs.declared.code.ProcState.{ProcState}
 use Rattle.design.specs.Compiled.{Compiled, design_of}
-use Rattle.design.specs.Standing.{IsStateOf}
-use Rattle.turn.specs.Logs.{LogView}
+use Rattle.design.specs.DesignInvariant.{IsStateOf}
+use Rattle.turn.specs.TurnLogs.{LogView}
 use Rattle.regions.specs.Queue.{Core}
-use Rattle.regions.specs.Passing.{HasOwnStates, IsKeptState, KeepsStates}
-use Rattle.regions.specs.Logs.{IsLogFor, IsTurnGiven, IsTaken, after_step, strobed, printed, finishes}
+use Rattle.regions.specs.StatePassing.{HasOwnStates, IsKeptState, KeepsStates}
+use Rattle.regions.specs.StepLogs.{IsLogFor, IsTurnGiven, IsTaken, after_step, strobed, printed, finishes}
 use Rattle.regions.proofs.Applied.{turn_at, no_turn_given}
 use Rattle.regions.proofs.Clock.{time-turned, time-updated, finished-updated}
 

@@ -1,9 +1,9 @@
 pub mod Waiters
-pub mod Waking
+pub mod ProcessWaking
 pub mod Queue
-pub mod Logs
+pub mod StepLogs
 pub mod Past
-pub mod Passing
+pub mod StatePassing
 pub mod Moves
 pub mod Find
 pub mod Future
@@ -14,6 +14,6 @@ pub mod Evaluations
 pub mod Reader
 pub mod Regions
 pub mod Copies
-pub mod Faults
-pub mod Turns
+pub mod Refused
+pub mod EvaluationEntries
 pub mod Machine

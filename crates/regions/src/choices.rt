@@ -1,7 +1,7 @@
 //! The entries that the rules permit, each made where it is asked for.
 ghost use Rattle.std.specs.Prelude.{◌≡◌, ◌++◌, [], map, length, min, slice_get};
 ghost use Rattle.std.specs.Option.{option_to_list};
-ghost use Rattle.regions.specs.Turns.{turn_of};
+ghost use Rattle.regions.specs.EvaluationEntries.{turn_of};
 
 use crate::queue::Evaluation;
 use model::entry::Entry;
@@ -20,7 +20,7 @@ pub struct Choices<'a> {
 impl<'a> Model for Choices<'a> {
     ghost use Rattle.std.specs.Prelude.{List};
     ghost use Rattle.model.specs.declared.entry.Entry.{Entry};
-    ghost use Rattle.regions.specs.Turns.{choices_of};
+    ghost use Rattle.regions.specs.EvaluationEntries.{choices_of};
 
     ghost Value = { List Entry };
 

@@ -43,7 +43,7 @@ mod waiters;
 pub use choices::Choices;
 pub use future::Due;
 pub use machine::{Machine, TakeFault};
-pub use queue::{Evaluation, Progress, Update};
+pub use queue::{Continuation, Evaluation, Update};
 pub use reader::turn_on;
 pub use state::{ApplyFault, Made, MadeEvent, State};
 pub use store::{PlainStore, Store};

@@ -8,7 +8,7 @@ ghost use Rattle.model.specs.Runs.{refusal};
 ghost use Rattle.design.specs.declared.code.ProcState.{ProcState};
 ghost use Rattle.regions.specs.Queue.{core_of, state_of};
 ghost use Rattle.regions.specs.Machine.{IsTurn, IsDue, AreInOrder};
-ghost use Rattle.regions.specs.Turns.{turn_of};
+ghost use Rattle.regions.specs.EvaluationEntries.{turn_of};
 
 use crate::choices::Choices;
 use crate::queue::{Evaluation, Queue};

@@ -1,13 +1,13 @@
 //! How a machine takes an entry: its turn, if it is one, is evaluated, and then it is applied.
 ghost use Rattle.std.specs.Prelude.{◌≡◌, ◌+◌, ◌<◌, map, Some, None, if◌then◌else◌, string_bytes, IsOk, IfErr, OnOk, OnErr, Err, MatchResult, option_copied};
 ghost use Rattle.model.specs.declared.entry.Entry.TheVariants as entries;
-ghost use Rattle.design.specs.Standing.{remainder_of};
+ghost use Rattle.design.specs.DesignInvariant.{remainder_of};
 ghost use Rattle.regions.specs.Queue.{state_of};
-ghost use Rattle.regions.specs.Logs.{IsTurnGiven, IsTaken};
+ghost use Rattle.regions.specs.StepLogs.{IsTurnGiven, IsTaken};
 ghost use Rattle.regions.specs.MadeEvents.{made_events};
 ghost use Rattle.regions.specs.Evaluations.{made_event};
 ghost use Rattle.regions.specs.Machine.{most_entries, Stands, IsStop};
-ghost use Rattle.regions.specs.Faults.{fault_of};
+ghost use Rattle.regions.specs.Refused.{fault_of};
 
 use crate::machine::TakeFault;
 use crate::reader::turn_on;
@@ -59,6 +59,13 @@ pub fn log_entry(
         Entry::Turn(number) => log_event(log, design, state, store, number),
         _ => Ok(false),
     }
+}
+
+/// The log, where it was filled.
+pub fn log_where(has: bool, log: &TurnLog) -> Option<&TurnLog>
+    ensures { option_copied result ≡ (if has then Some log.entry.now else None) }
+{
+    if has { Some(log) } else { None }
 }
 
 // What is told of an entry that was applied, or wasn't.

@@ -1,3 +1,3 @@
 pub mod Replays
-pub mod Faults
-pub mod Bytes
+pub mod JournalFaults
+pub mod ReplayBytes

@@ -1,3 +1,3 @@
 pub mod Resting
-pub mod Runs
+pub mod SeededRun
 pub mod Samples

@@ -11,8 +11,8 @@ use model::end::{End, LAST_TIME, Limits, Why};
 use model::entry::Entry;
 use regions::Machine;
 
-/// The time past which a run with these limits doesn't go: its own limit, or else the last time.
-pub fn most_time(limits: Limits) -> u64
+// The time past which a run with these limits doesn't go: its own limit, or else the last time.
+fn most_time(limits: Limits) -> u64
     ensures { result ≡ runs.most_time limits.until }
 {
     match limits.until {

@@ -2,7 +2,7 @@
 ghost use Rattle.std.specs.Prelude.{◌≡◌, ◌≤◌, ◌↔◌, false, IsTrue, IfSome, string_bytes, vec_len};
 ghost use Rattle.std.specs.List.{All, AllPairs};
 ghost use Rattle.model.specs.Runs.{last_time};
-ghost use Rattle.seeded.specs.Runs.{IsRun};
+ghost use Rattle.seeded.specs.SeededRun.{IsRun};
 ghost use Rattle.seeded.specs.Samples.{AreDistinct, WantsNoMemory};
 
 use crate::run::{SeededRun, run_seeded};

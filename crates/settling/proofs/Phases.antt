@@ -6,7 +6,7 @@ use Rattle.model.specs.Turns.{contains}
 use Rattle.model.specs.States.{State}
 use Rattle.model.specs.Laws.{evaluations_in}
 use Rattle.design.specs.Compiled.{Compiled, design_of}
-use Rattle.phases.specs.Phase.{Block, IsBlock, IsPending, HasSettled, IsOutput, progress_of, waits_for, updated_in}
+use Rattle.phases.specs.Phase.{Block, IsBlock, IsPending, HasSettled, IsOutput, continuation_of, waits_for, updated_in}
 use Rattle.combinational.specs.declared.block.Logic.{Logic}
 use Rattle.combinational.specs.declared.network.Network.{Network}
 use Rattle.combinational.specs.Found.{AreFound, HasLogic, AreApart, block_in, rank_in}
@@ -38,8 +38,8 @@ pub record Told (code : Compiled) (s : State) (network : Network) (members outpu
   pub apart : (r : ℕ) → contains (updated_in s) r ≡ true → contains outputs r ≡ false
   pub outputs_are : HaveOutputs network members outputs
   pub inside : (p : ℕ) → contains members p ≡ false → evaluations_in p s.active ≡ 0
-  pub updates_sleep : (q r : ℕ) → contains members q ≡ false → contains (updated_in s) r ≡ true → waits_for (progress_of s q) r ≡ false
-  pub outputs_sleep : (q r : ℕ) → contains members q ≡ false → contains outputs r ≡ true → waits_for (progress_of s q) r ≡ false
+  pub updates_sleep : (q r : ℕ) → contains members q ≡ false → contains (updated_in s) r ≡ true → waits_for (continuation_of s q) r ≡ false
+  pub outputs_sleep : (q r : ℕ) → contains members q ≡ false → contains outputs r ≡ true → waits_for (continuation_of s q) r ≡ false
   pub each : AreMembers code s network members
 
 -- an output of a member is among the outputs
@@ -83,7 +83,7 @@ order_if code s network members outputs told p q r false is there there' out in_
     in_order code s network p q r told.found (differ_if p q is) (told.each p there) (told.each q there') out in_it
 
 sleeps_through : (code : Compiled) (s : State) (network : Network) (members outputs : List ℕ) → Told code s network members outputs → (q r : ℕ) → contains members q ≡ false
-    → contains (updated_in s) r ≡ true ⊎ IsOutput members (block_at code network) r → waits_for (progress_of s q) r ≡ false
+    → contains (updated_in s) r ≡ true ⊎ IsOutput members (block_at code network) r → waits_for (continuation_of s q) r ≡ false
 sleeps_through code s network members outputs told q r none (inl updated) = told.updates_sleep q r none updated
 sleeps_through code s network members outputs told q r none (inr (p, there, out)) =
     told.outputs_sleep q r none (is_listed code s network members outputs told p r there out)

@@ -11,26 +11,26 @@ use Rattle.model.specs.States.{State}
 use Rattle.model.specs.Runs.{turn_of}
 use Rattle.orders.specs.Apart.{all_given}
 use Rattle.design.specs.Compiled.{Compiled, design_of}
-use Rattle.design.specs.Standing.{pending_part, remainder_of, controls_of}
-use Rattle.design.specs.Places.{remainder_at}
-use Rattle.phases.specs.Phase.{Block, triggers, progress_of, IsPending, HasSettled, IsConsistent}
-use Rattle.regions.specs.declared.queue.Progress.{Progress}
-use Rattle.regions.specs.Waking.{triggers_at}
+use Rattle.design.specs.DesignInvariant.{pending_part, remainder_of, controls_of}
+use Rattle.design.specs.CodePlaces.{remainder_at}
+use Rattle.phases.specs.Phase.{Block, triggers, continuation_of, IsPending, HasSettled, IsConsistent}
+use Rattle.regions.specs.declared.queue.Continuation.{Continuation}
+use Rattle.regions.specs.ProcessWaking.{triggers_at}
 use Rattle.combinational.specs.declared.block.Logic.{Logic}
 use Rattle.combinational.specs.declared.network.Network.{Network}
 use Rattle.combinational.specs.Found.{AreFound, HasLogic, block_in}
 use Rattle.flat.specs.declared.turned.Turned.{Turned}
 use Rattle.flat.specs.Turned.{turn_in, IsTurned}
 use Rattle.settling.specs.Settling.{IsMember}
-use Rattle.settling.specs.Standing.{StandsBehind, HasLeft, StandsAs}
+use Rattle.settling.specs.LogicStanding.{StandsBehind, HasLeft, StandsAs}
 use Rattle.settling.proofs.Places.{element_at}
 
 -- a process that goes on so, and waits for these
-abbrev placed : List Trigger → Remainder → states.Progress
+abbrev placed : List Trigger → Remainder → states.Continuation
 placed ts rest = record { remainder = rest; triggers = ts }
 
 -- the remainder of a process that goes on behind its wait
-remainder_behind : (code : Compiled) (x : Progress) (logic : Logic) → StandsBehind x logic → remainder_of code x.state ≡ (block_in code logic).rest
+remainder_behind : (code : Compiled) (x : Continuation) (logic : Logic) → StandsBehind x logic → remainder_of code x.state ≡ (block_in code logic).rest
 remainder_behind code x logic behind =
     ap (λ (o : Option (ℕ × Vector)). pending_part o ++ remainder_at (design_of code) x.state.place) behind.pending ∙ ap (remainder_at (design_of code)) behind.place
 
@@ -38,26 +38,26 @@ same_turn : (one other : turns.Turn) (o : Option turns.Turn) → o ≡ Some one 
 same_turn one other o is is' = cc
 
 -- the turn that leaves every value is the only one
-consistent : (code : Compiled) (s : State) (p : ℕ) (block : Block) → progress_of s p ≡ record { remainder = block.rest; triggers = triggers block } → HasLeft (design_of code) s p → IsConsistent (design_of code) s p block
+consistent : (code : Compiled) (s : State) (p : ℕ) (block : Block) → continuation_of s p ≡ record { remainder = block.rest; triggers = triggers block } → HasLeft (design_of code) s p → IsConsistent (design_of code) s p block
 consistent code s p block is (turn, turned, leaves) other here =
-    let at : turn_of (design_of code) s p ≡ Some other = ap (λ (x : states.Progress). short_turn (design_of code) p x.remainder s.store s.time) is ∙ here in
+    let at : turn_of (design_of code) s p ≡ Some other = ap (λ (x : states.Continuation). short_turn (design_of code) p x.remainder s.store s.time) is ∙ here in
     subst (λ (t : turns.Turn). all_given s.store t.writes ≡ s.store) (same_turn turn other (turn_of (design_of code) s p) turned at) leaves
 
 awaited_at : (controls : List (List Trigger)) (waits control : ℕ) (ts : List Trigger) → waits ≡ control → slice_get controls control ≡ Some ts → triggers_at controls (Some waits) ≡ ts
 awaited_at controls waits control ts same at = ap (λ n. slice_index_or controls n []) same ∙ element_at controls control ts [] at
 
-stands_by : (code : Compiled) (s : State) (p : ℕ) (logic : Logic) (rest : Remainder) (waits : Option ℕ) → progress_of s p ≡ record { remainder = rest; triggers = triggers_at (controls_of code) waits } → rest ≡ (block_in code logic).rest
+stands_by : (code : Compiled) (s : State) (p : ℕ) (logic : Logic) (rest : Remainder) (waits : Option ℕ) → continuation_of s p ≡ record { remainder = rest; triggers = triggers_at (controls_of code) waits } → rest ≡ (block_in code logic).rest
     → slice_get (controls_of code) logic.control ≡ Some (triggers (block_in code logic)) → StandsAs (design_of code) s p logic.control waits → IsPending s p (block_in code logic) ⊎ HasSettled (design_of code) s p (block_in code logic)
 stands_by code s p logic rest None is left at stand =
     inl (stand, is ∙ ap (placed []) left)
 stands_by code s p logic rest (Some waits) is left at (same, none, has_left) =
-    let progress : progress_of s p ≡ record { remainder = (block_in code logic).rest; triggers = triggers (block_in code logic) } =
+    let continuation : continuation_of s p ≡ record { remainder = (block_in code logic).rest; triggers = triggers (block_in code logic) } =
     is ∙ ap (placed (triggers_at (controls_of code) (Some waits))) left
     ∙ ap (λ (ts : List Trigger). placed ts (block_in code logic).rest) (awaited_at (controls_of code) waits logic.control (triggers (block_in code logic)) same at) in
-    inr (none, progress, consistent code s p (block_in code logic) progress has_left)
+    inr (none, continuation, consistent code s p (block_in code logic) continuation has_left)
 
-pub member_stands : (code : Compiled) (s : State) (network : Network) (p : ℕ) (logic : Logic) (x : Progress) → AreFound code network → slice_get network.logics.items p ≡ Some (Some logic)
-    → (p < length s.processes) × (progress_of s p ≡ record { remainder = remainder_of code x.state; triggers = triggers_at (controls_of code) x.waits }) → StandsBehind x logic → StandsAs (design_of code) s p logic.control x.waits → IsMember code s network p
+pub member_stands : (code : Compiled) (s : State) (network : Network) (p : ℕ) (logic : Logic) (x : Continuation) → AreFound code network → slice_get network.logics.items p ≡ Some (Some logic)
+    → (p < length s.processes) × (continuation_of s p ≡ record { remainder = remainder_of code x.state; triggers = triggers_at (controls_of code) x.waits }) → StandsBehind x logic → StandsAs (design_of code) s p logic.control x.waits → IsMember code s network p
 member_stands code s network p logic x found at (exists, is) behind stand =
     let has : HasLogic code p logic = found.each p logic at in
     record {

@@ -1,3 +1,3 @@
 pub mod Settling
 pub mod Waiting
-pub mod Standing
+pub mod LogicStanding

@@ -1,13 +1,13 @@
 //! Whether processes wait for registers.
 ghost use Rattle.std.specs.Prelude.{◌≡◌, ◌<◌, true, false, length, slice_index_or};
 ghost use Rattle.model.specs.Turns.{contains};
-ghost use Rattle.regions.specs.declared.queue.Progress.{Progress as Progressed};
-ghost use Rattle.regions.specs.Waking.{triggers_at};
+ghost use Rattle.regions.specs.declared.queue.Continuation.{Continuation as Continuationed};
+ghost use Rattle.regions.specs.ProcessWaking.{triggers_at};
 ghost use Rattle.settling.specs.Waiting.{WaitsForNone, OthersSleep};
 
 use combinational::is_among;
 use design::{Control, RegId};
-use regions::Progress;
+use regions::Continuation;
 
 // Whether an event control waits for none of these registers.
 fn waits_for_none(control: &Control, registers: &[RegId]) -> bool
@@ -45,13 +45,13 @@ pub(crate) fn is_one(members: &[u32], place: usize) -> bool
 // Whether the process at a place is one of these, or waits for none of the registers.
 fn sleeps_at(
     controls: &[Control],
-    processes: &[Progress],
+    processes: &[Continuation],
     members: &[u32],
     registers: &[RegId],
     place: usize,
 ) -> bool
     requires { place < length processes.now }
-    ensures { result ≡ true → (d : Progressed) → contains members.now place ≡ false → WaitsForNone (triggers_at controls.now (slice_index_or processes.now place d).waits) registers.now }
+    ensures { result ≡ true → (d : Continuationed) → contains members.now place ≡ false → WaitsForNone (triggers_at controls.now (slice_index_or processes.now place d).waits) registers.now }
 {
     if is_one(members, place) {
         return true;
@@ -62,7 +62,7 @@ fn sleeps_at(
 /// Whether each process but these waits for none of the registers.
 pub(crate) fn others_sleep(
     controls: &[Control],
-    processes: &[Progress],
+    processes: &[Continuation],
     members: &[u32],
     registers: &[RegId],
 ) -> bool

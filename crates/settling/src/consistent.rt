@@ -3,7 +3,6 @@ ghost use Rattle.std.specs.Prelude.{◌≡◌, ◌⊎◌, ◌+◌, ◌<◌, ◌=
 ghost use Rattle.std.specs.List.{list_any};
 ghost use Rattle.logic4.specs.Vector.{Vector};
 ghost use Rattle.model.specs.Expressions.{value_of};
-ghost use Rattle.model.specs.Turns.{contains};
 ghost use Rattle.orders.specs.Apart.{all_given};
 
 use design::RegId;

@@ -8,13 +8,13 @@ ghost use Rattle.combinational.specs.Found.{AreFound};
 ghost use Rattle.regions.specs.Machine.{state_at};
 ghost use Rattle.regions.specs.Queue.{evaluation_event};
 ghost use Rattle.settling.specs.Settling.{IsMember, AreMembers};
-ghost use Rattle.settling.specs.Standing.{StandsBehind, HasLeft, StandsAs};
+ghost use Rattle.settling.specs.LogicStanding.{StandsBehind, HasLeft, StandsAs};
 
 use crate::consistent::leaves_values;
 use combinational::{Logic, Network, is_among};
 use design::Design;
 use flat::evaluate;
-use regions::{Evaluation, Machine, Progress};
+use regions::{Continuation, Evaluation, Machine};
 use std::alloc::{AllocError, Global};
 use std::collections::VecDeque;
 
@@ -53,10 +53,10 @@ fn times(evaluations: &VecDeque<Evaluation>, process: u32) -> usize
 }
 
 // Whether a process goes on behind the wait of this logic.
-fn is_behind(progress: &Progress, logic: &Logic) -> bool
-    ensures { result ≡ true → StandsBehind progress.now logic.now }
+fn is_behind(continuation: &Continuation, logic: &Logic) -> bool
+    ensures { result ≡ true → StandsBehind continuation.now logic.now }
 {
-    progress.state.place == logic.place && progress.state.pending.is_none()
+    continuation.state.place == logic.place && continuation.state.pending.is_none()
 }
 
 // Whether the turn of a process leaves every value as it is.
@@ -119,15 +119,15 @@ pub(crate) fn is_member(
         Some(logic) => logic,
         None => return Ok(false),
     };
-    let progress = match machine.state().processes().get(process as usize) {
-        Some(progress) => *progress,
+    let continuation = match machine.state().processes().get(process as usize) {
+        Some(continuation) => *continuation,
         None => return Ok(false),
     };
-    if !is_behind(&progress, logic) {
+    if !is_behind(&continuation, logic) {
         return Ok(false);
     }
     machine.stands();
-    stands_as(alloc, design, machine, logic, process, progress.waits)
+    stands_as(alloc, design, machine, logic, process, continuation.waits)
 }
 
 /// Whether each of these processes is.

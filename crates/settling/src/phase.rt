@@ -1,6 +1,5 @@
 //! Whether the state of a machine is a phase.
-ghost use Rattle.std.specs.Prelude.{◌≡◌, ℕ, true, false, map, Some, slice_get, IfOk, IfSome};
-ghost use Rattle.model.specs.Turns.{contains};
+ghost use Rattle.std.specs.Prelude.{◌≡◌, true, false, map, Some, slice_get, IfOk, IfSome};
 ghost use Rattle.orders.specs.Alike.{updates_in};
 ghost use Rattle.combinational.specs.Found.{AreFound};
 ghost use Rattle.combinational.specs.declared.block.Logic.{Logic as Found};
@@ -10,23 +9,11 @@ ghost use Rattle.settling.specs.Settling.{HaveOutputs, IsPhaseOf};
 
 use crate::awaited::{is_one, others_sleep};
 use crate::member::{are_inside, are_members, logic_at};
-use combinational::{Network, is_among};
+use combinational::{Network, is_among, share};
 use design::{Control, Design, RegId};
-use regions::{Evaluation, Machine, Progress, Update};
+use regions::{Continuation, Evaluation, Machine, Update};
 use std::alloc::{AllocError, Global};
 use std::collections::VecDeque;
-
-// Whether two lists have a register in common.
-fn share(registers: &[RegId], others: &[RegId]) -> bool
-    ensures { result ≡ false → (r : ℕ) → contains registers.now r ≡ true → contains others.now r ≡ false }
-{
-    for register in registers {
-        if is_among(others, *register) {
-            return true;
-        }
-    }
-    false
-}
 
 // The registers of updates, in order.
 fn updated(alloc: Global, updates: &VecDeque<Update>) -> Result<Vec<RegId>, AllocError>
@@ -62,8 +49,8 @@ fn outputs(alloc: Global, network: &Network, members: &[u32]) -> Result<Vec<RegI
 }
 
 // Whether a process waits for one of these registers.
-fn waits_for(controls: &[Control], progress: &Progress, registers: &[RegId]) -> bool {
-    match progress.waits {
+fn waits_for(controls: &[Control], continuation: &Continuation, registers: &[RegId]) -> bool {
+    match continuation.waits {
         Some(number) => match controls.get(number) {
             Some(control) => control
                 .triggers()
@@ -90,7 +77,7 @@ fn add_once(members: &mut Vec<u32>, place: usize) -> Result<(), AllocError> {
 fn add_waiting(
     members: &mut Vec<u32>,
     controls: &[Control],
-    processes: &[Progress],
+    processes: &[Continuation],
     registers: &[RegId],
 ) -> Result<(), AllocError> {
     for at in 0..processes.len() {
@@ -116,7 +103,7 @@ fn evaluated(alloc: Global, evaluations: &VecDeque<Evaluation>) -> Result<Vec<u3
 fn reached(
     alloc: Global,
     controls: &[Control],
-    processes: &[Progress],
+    processes: &[Continuation],
     network: &Network,
     evaluations: &VecDeque<Evaluation>,
     registers: &[RegId],

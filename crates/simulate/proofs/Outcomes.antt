@@ -18,19 +18,19 @@ use Rattle.model.specs.Laws.{times_in}
 use Rattle.model.proofs.RunLaws.{events_are_taken_once}
 use native.Mathlib.Decide.{dec_lt}
 use Rattle.design.specs.Compiled.{Compiled, design_of}
-use Rattle.gateparts.specs.declared.log.Item.TheVariants.{Did, Ended}
+use Rattle.runstate.specs.declared.log.Item.TheVariants.{Did, Ended}
 use Rattle.commitgate.specs.Named.{Named}
-use Rattle.gateparts.specs.Log.{Log, entries_of, end_in, IsEndLast}
+use Rattle.runstate.specs.Log.{Log, entries_of, end_in, IsEndLast}
 use Rattle.commitgate.specs.Seats.{SeatView, new_seat}
 use Rattle.commitgate.specs.Tickets.{TicketView, IsFirstTickets}
-use Rattle.commitgate.specs.Journals.{IsLog}
+use Rattle.commitgate.specs.GateJournals.{IsLog}
 use Rattle.commitgate.specs.Closing.{ClosedView, EndsOrRuns, IsEndIn, IsClosedWith, AreAllSeats, times}
 use Rattle.eventpool.specs.Ends.{Owning, Stealing, owner_card}
 use Rattle.eventpool.specs.Pools.{Counts, cards_of, IsPool, IsUnused}
 use Rattle.eventpool.proofs.Cards.{pool_kept}
 use Rattle.workers.specs.declared.worker.Worker.{Worker}
 use Rattle.workers.specs.Counting.{turns_in, turns_at}
-use Rattle.workers.specs.Working.{IsOver, IsCounted, HasPositions, turns_of, AreDone, AreBegun, IsFixed, ArePlaced}
+use Rattle.workers.specs.WorkerInvariant.{IsOver, IsCounted, HasPositions, turns_of, AreDone, AreBegun, IsFixed, ArePlaced}
 use Rattle.model.specs.declared.end.Limits.{Limits}
 use Rattle.simulate.specs.Outcomes.{IsOutcome}
 use Rattle.workers.proofs.Counting.{turns_add_up}

@@ -9,7 +9,7 @@ use Rattle.eventpool.specs.Ends.{Owning, Stealing}
 use Rattle.eventpool.specs.Pools.{IsUnused}
 use Rattle.eventpool.proofs.Places.{some_at, below_at}
 use Rattle.workers.specs.declared.worker.Worker.{Worker}
-use Rattle.workers.specs.Working.{every, AreDone, AreBegun, ArePlaced}
+use Rattle.workers.specs.WorkerInvariant.{every, AreDone, AreBegun, ArePlaced}
 use Rattle.workers.proofs.Rows.{sum_cons}
 
 -- the lengths of the first of some lists

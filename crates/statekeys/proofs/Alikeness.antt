@@ -7,8 +7,8 @@ use Rattle.model.specs.Design.{Trigger}
 use Rattle.orders.specs.Alike.{Alike, AreAlike, IsAlikeFuture}
 use Rattle.design.specs.declared.code.ProcState.{ProcState}
 use Rattle.regions.specs.Queue.{Core, state_of, standing}
-use Rattle.regions.specs.Waking.{triggers_at}
-use Rattle.statekeys.specs.Keys.{Told, AreEvents, AreToCome, IsToldOf, IsKey}
+use Rattle.regions.specs.ProcessWaking.{triggers_at}
+use Rattle.statekeys.specs.Keys.{KeyContent, AreEvents, AreToCome, IsToldOf, IsKey}
 use Rattle.statekeys.specs.KeyLaws.{KeysTellStates}
 use Rattle.statekeys.proofs.KeyCodes.{key_code_tells}
 
@@ -26,7 +26,7 @@ future_alike times updates processes xs ys h k = record {
   due = λ time. events_alike _ _ _ _ (h.due time) (k.due time);
 }
 
-told_alike : (rem : ProcState → Remainder) (a b : Core) (v w : List Vector) (told : Told) → a.controls ≡ b.controls → IsToldOf a v told
+told_alike : (rem : ProcState → Remainder) (a b : Core) (v w : List Vector) (told : KeyContent) → a.controls ≡ b.controls → IsToldOf a v told
     → IsToldOf b w told → Alike (state_of rem v a) (state_of rem w b)
 told_alike rem a b v w told same h k = record {
   time = sym h.time ∙ k.time;
@@ -45,5 +45,5 @@ told_alike rem a b v w told same h k = record {
 pub keys_tell_states : KeysTellStates
 keys_tell_states rem a b v w key same (t, of_a, bytes) (u, of_b, bytes') =
     let one : t ≡ u = key_code_tells t u (sym bytes ∙ bytes') in
-    let P : Told → Type 0 = λ x. IsToldOf a v x in
+    let P : KeyContent → Type 0 = λ x. IsToldOf a v x in
     told_alike rem a b v w u same (subst P one of_a) of_b

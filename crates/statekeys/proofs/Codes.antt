@@ -2,8 +2,8 @@
 use Rattle.std.proofs.Common.{◌≡◌, ◌≢◌, ℕ, zero, suc, Bool, true, false, List, [], ◌∷◌, ◌++◌, length, Option, Some, None, refl, sym, ◌∙◌, ap, arith, append_assoc}
 use Rattle.std.specs.Prelude.{flat_map}
 use Rattle.logic4.specs.Vector.{Vector}
-use Rattle.logic4.specs.Words.{first_word, second_word, of_words, of_words-words}
-use Rattle.statekeys.specs.Codes.{IsSelfDelimiting, nat_code, bool_code, pair_code, option_code, list_code, vector_code}
+use Rattle.logic4.specs.VectorWords.{first_word, second_word, of_words, of_words-words}
+use Rattle.statekeys.specs.KeyCodes.{IsSelfDelimiting, nat_code, bool_code, pair_code, option_code, list_code, vector_code}
 use Rattle.statekeys.proofs.Numbers.{nat_code_tells}
 
 pub bool_code_tells : IsSelfDelimiting bool_code

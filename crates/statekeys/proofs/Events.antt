@@ -16,13 +16,13 @@ use Rattle.regions.specs.declared.queue.Update.{Update}
 use Rattle.regions.specs.declared.queue.Evaluation.{Evaluation}
 use Rattle.regions.specs.declared.future.Due.{Due}
 use Rattle.regions.specs.Queue.{evaluation_event, update_event, process_of}
-use Rattle.regions.specs.Waking.{triggers_at}
-use Rattle.regions.specs.declared.queue.Progress.{Progress}
+use Rattle.regions.specs.ProcessWaking.{triggers_at}
+use Rattle.regions.specs.declared.queue.Continuation.{Continuation}
 use Rattle.design.specs.declared.code.ProcState.{ProcState}
 use Rattle.model.specs.Design.{Trigger}
 use Rattle.regions.specs.Future.{due_event}
 use Rattle.statekeys.specs.Keys.{at_time, AreEvents, AreToCome}
-use Rattle.statekeys.specs.Parts.{going_on, assignment, due_process, due_assignment}
+use Rattle.statekeys.specs.KeyParts.{going_on, assignment, due_process, due_assignment}
 
 -- the processes of evaluations
 abbrev pub processes_of : List Evaluation → List ℕ
@@ -158,6 +158,6 @@ future_nonblocking_told ds future is =
     })
 
 -- where processes go on, and what they wait for
-pub processes_told : (controls : List (List Trigger)) (ps : List Progress) (all : List (ProcState × List Trigger))
+pub processes_told : (controls : List (List Trigger)) (ps : List Continuation) (all : List (ProcState × List Trigger))
     → map (process_of controls) ps ≡ all → map (λ (p : ProcState × Option ℕ). (p.0, triggers_at controls p.1)) (map going_on ps) ≡ all
 processes_told controls ps all h = map-map (λ (p : ProcState × Option ℕ). (p.0, triggers_at controls p.1)) going_on ps ∙ h

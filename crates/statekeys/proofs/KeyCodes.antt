@@ -4,8 +4,8 @@ use Rattle.std.specs.Prelude.{Option}
 use Rattle.std.proofs.lemmas.List.{append-nil}
 use Rattle.logic4.specs.Vector.{Vector}
 use Rattle.design.specs.declared.code.ProcState.{ProcState}
-use Rattle.statekeys.specs.Codes.{IsSelfDelimiting, nat_code, bool_code, pair_code, option_code, list_code, vector_code}
-use Rattle.statekeys.specs.Keys.{Told, state_code, process_code, update_code, key_code}
+use Rattle.statekeys.specs.KeyCodes.{IsSelfDelimiting, nat_code, bool_code, pair_code, option_code, list_code, vector_code}
+use Rattle.statekeys.specs.Keys.{KeyContent, state_code, process_code, update_code, key_code}
 use Rattle.statekeys.proofs.Numbers.{nat_code_tells}
 use Rattle.statekeys.proofs.Codes.{bool_code_tells, pair_code_tells, option_code_tells, list_code_tells, vector_code_tells}
 
@@ -29,7 +29,7 @@ right : (a b c d e f g h i j k l : List ℕ)
 right a b c d e f g h i j k l = simp (append_assoc, append-nil)
 
 -- a key in parts, one after another
-parts : (t : Told) → key_code t
+parts : (t : KeyContent) → key_code t
     ≡ nat_code t.time ++ (bool_code t.finished ++ (list_code vector_code t.values ++ (list_code process_code t.processes
     ++ (list_code update_code t.updates ++ (list_code nat_code t.evaluations ++ (list_code nat_code t.inactive
     ++ (list_code update_code t.nonblocking ++ (list_code nat_code t.monitor ++ (list_code nat_code t.future_times
@@ -40,7 +40,7 @@ parts t =
     (list_code update_code t.nonblocking) (list_code nat_code t.monitor) (list_code nat_code t.future_times)
     (list_code (pair_code nat_code nat_code) t.future_evaluations) (list_code (pair_code nat_code update_code) t.future_updates)
 
-pub key_code_tells : (t u : Told) → key_code t ≡ key_code u → t ≡ u
+pub key_code_tells : (t u : KeyContent) → key_code t ≡ key_code u → t ≡ u
 key_code_tells t u e =
     let e0 = sym (parts t) ∙ e ∙ parts u in
     let e1 = nat_code_tells t.time u.time _ _ e0 in

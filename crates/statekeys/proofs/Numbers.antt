@@ -2,7 +2,7 @@
 use Rattle.std.proofs.Common.{◌≡◌, ℕ, zero, suc, ◌+◌, ◌-◌, ◌*◌, ◌/◌, ◌%◌, ◌<◌, ◌≤◌, List, [], ◌∷◌, ◌++◌, refl, sym, ◌∙◌, ap, arith, inl, inr, append_assoc}
 use Rattle.std.specs.Prelude.{nat_lt, if◌then◌else◌}
 use Rattle.std.proofs.lemmas.Bool.{cond-true, cond-false, lt-ltb, le-ltb, cases_lt}
-use Rattle.statekeys.specs.Codes.{IsSelfDelimiting, digits_code, nat_code}
+use Rattle.statekeys.specs.KeyCodes.{IsSelfDelimiting, digits_code, nat_code}
 
 pub digits-low : (more n : ℕ) → n < 128 → digits_code more n ≡ n ∷ []
 digits-low zero n h = refl

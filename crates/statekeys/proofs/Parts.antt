@@ -3,7 +3,7 @@ use Rattle.std.proofs.Common.{◌≡◌, ℕ, List, ◌++◌, length, map, sym, 
 use Rattle.std.specs.Prelude.{flat_map}
 use Rattle.std.proofs.lemmas.List.{length-map}
 use Rattle.std.proofs.lemmas.List.Folds.{flat_map-map}
-use Rattle.statekeys.specs.Codes.{nat_code, list_code}
+use Rattle.statekeys.specs.KeyCodes.{nat_code, list_code}
 
 pub list_code-map : {A B : Type 0} (c : B → List ℕ) (f : A → B) (xs : List A) → list_code (λ x. c (f x)) xs ≡ list_code c (map f xs)
 list_code-map c f xs = λ k. nat_code (sym (length-map xs f) k) ++ sym (flat_map-map c f xs) k

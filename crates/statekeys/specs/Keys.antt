@@ -7,12 +7,12 @@ use Rattle.orders.specs.Alike as alike
 use Rattle.orders.specs.Alike.{updates_in}
 use Rattle.design.specs.declared.code.ProcState.{ProcState}
 use Rattle.regions.specs.Queue.{Core}
-use Rattle.regions.specs.Waking.{triggers_at}
-use Rattle.statekeys.specs.Codes.{nat_code, bool_code, pair_code, option_code, list_code, vector_code}
+use Rattle.regions.specs.ProcessWaking.{triggers_at}
+use Rattle.statekeys.specs.KeyCodes.{nat_code, bool_code, pair_code, option_code, list_code, vector_code}
 
 -- What a key tells: where each process goes on, and the event control that it waits at; updates as registers and values in their
 -- order; and the processes of evaluations in any order, those to come with their times.
-pub record Told : Type 0 where
+pub record KeyContent : Type 0 where
   pub time : ℕ
   pub finished : Bool
   pub values : List Vector
@@ -42,7 +42,7 @@ pub record AreToCome (times : List ℕ) (updates : List (ℕ × (ℕ × Vector))
 
 -- This is told of a state with these values of the registers: all but the numbers of its events, the next number, the count of
 -- entries, and the order of evaluations.
-pub record IsToldOf (core : Core) (values : List Vector) (told : Told) : Type 0 where
+pub record IsToldOf (core : Core) (values : List Vector) (told : KeyContent) : Type 0 where
   pub time : told.time ≡ core.time
   pub finished : told.finished ≡ core.finished
   pub store : told.values ≡ values
@@ -67,7 +67,7 @@ abbrev pub update_code : ℕ × Vector → List ℕ
 update_code u = nat_code u.0 ++ vector_code u.1
 
 -- the code of what a key tells
-abbrev pub key_code : Told → List ℕ
+abbrev pub key_code : KeyContent → List ℕ
 key_code told =
     nat_code told.time ++ bool_code told.finished ++ list_code vector_code told.values ++ list_code process_code told.processes
     ++ list_code update_code told.updates ++ list_code nat_code told.evaluations ++ list_code nat_code told.inactive
@@ -76,4 +76,4 @@ key_code told =
 
 -- these bytes are a key of a state with these values of the registers
 abbrev pub IsKey : Core → List Vector → List ℕ → Type 0
-IsKey core values key = (told : Told) × IsToldOf core values told × (key ≡ key_code told)
+IsKey core values key = (told : KeyContent) × IsToldOf core values told × (key ≡ key_code told)

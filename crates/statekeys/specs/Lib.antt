@@ -1,4 +1,4 @@
-pub mod Codes
+pub mod KeyCodes
 pub mod Keys
-pub mod Parts
+pub mod KeyParts
 pub mod KeyLaws

@@ -1,13 +1,13 @@
 //! Values as bytes that tell where they end.
 ghost use Rattle.std.specs.Prelude.{◌≡◌, ◌++◌, OnOk, flat_map};
-ghost use Rattle.statekeys.specs.Codes.{nat_code, list_code};
+ghost use Rattle.statekeys.specs.KeyCodes.{nat_code, list_code};
 
 use logic4::bits::Bits;
 use std::alloc::AllocError;
 use std::collections::VecDeque;
 
 /// A value with a code.
-pub trait Encode {
+pub(crate) trait Encode {
     ghost use Rattle.std.specs.Prelude.{ℕ, List};
 
     /// The bytes of a value.
@@ -21,7 +21,7 @@ pub trait Encode {
 /// Appends the code of a number: seven bits a byte, the low ones first, and the eighth bit set while more follow. Where
 /// memory is refused, some of its bytes may stand there.
 #[inline(always)]
-pub fn put_nat(bytes: &mut Vec<u8>, number: u128) -> Result<(), AllocError>
+pub(crate) fn put_nat(bytes: &mut Vec<u8>, number: u128) -> Result<(), AllocError>
     ensures { OnOk result (bytes.new.items ≡ bytes.old.items ++ nat_code number) }
 {
     if number < 128 {
@@ -55,7 +55,7 @@ fn put_each<T: Encode>(bytes: &mut Vec<u8>, items: &[T]) -> Result<(), AllocErro
 }
 
 /// Appends the code of a list. Where memory is refused, some of its bytes may stand there.
-pub fn put_slice<T: Encode>(bytes: &mut Vec<u8>, items: &[T]) -> Result<(), AllocError>
+pub(crate) fn put_slice<T: Encode>(bytes: &mut Vec<u8>, items: &[T]) -> Result<(), AllocError>
     ensures { OnOk result (bytes.new.items ≡ bytes.old.items ++ list_code T.code items.now) }
 {
     put_nat(bytes, items.len() as u128)?;
@@ -63,7 +63,10 @@ pub fn put_slice<T: Encode>(bytes: &mut Vec<u8>, items: &[T]) -> Result<(), Allo
 }
 
 /// Appends the code of a list, as `put_slice` does.
-pub fn put_deque<T: Encode>(bytes: &mut Vec<u8>, items: &VecDeque<T>) -> Result<(), AllocError>
+pub(crate) fn put_deque<T: Encode>(
+    bytes: &mut Vec<u8>,
+    items: &VecDeque<T>,
+) -> Result<(), AllocError>
     ensures { OnOk result (bytes.new.items ≡ bytes.old.items ++ list_code T.code items.now.items) }
 {
     put_nat(bytes, items.len() as u128)?;
@@ -97,7 +100,7 @@ impl Encode for u64 {
 }
 
 impl Encode for bool {
-    ghost use Rattle.statekeys.specs.Codes.{bool_code};
+    ghost use Rattle.statekeys.specs.KeyCodes.{bool_code};
 
     ghost code = { bool_code };
 
@@ -111,7 +114,7 @@ impl Encode for bool {
 }
 
 impl Encode for Bits {
-    ghost use Rattle.statekeys.specs.Codes.{vector_code};
+    ghost use Rattle.statekeys.specs.KeyCodes.{vector_code};
 
     ghost code = { vector_code };
 
@@ -124,7 +127,7 @@ impl Encode for Bits {
 }
 
 impl<A: Encode, B: Encode> Encode for (A, B) {
-    ghost use Rattle.statekeys.specs.Codes.{pair_code};
+    ghost use Rattle.statekeys.specs.KeyCodes.{pair_code};
 
     ghost code = { pair_code A.code B.code };
 
@@ -135,7 +138,7 @@ impl<A: Encode, B: Encode> Encode for (A, B) {
 }
 
 impl<A: Encode> Encode for Option<A> {
-    ghost use Rattle.statekeys.specs.Codes.{option_code};
+    ghost use Rattle.statekeys.specs.KeyCodes.{option_code};
 
     ghost code = { option_code A.code };
 

@@ -1,13 +1,13 @@
 //! States as bytes.
 ghost use Rattle.std.specs.Prelude.{◌≡◌, ◌++◌, map, OnOk};
 ghost use Rattle.std.specs.List.Sorted.{IsPermutation};
-ghost use Rattle.statekeys.specs.Codes.{nat_code, pair_code, list_code};
+ghost use Rattle.statekeys.specs.KeyCodes.{nat_code, pair_code, list_code};
 ghost use Rattle.statekeys.specs.Keys.{process_code, update_code, IsKey};
-ghost use Rattle.statekeys.specs.Parts.{going_on, assignment, due_process, due_assignment};
+ghost use Rattle.statekeys.specs.KeyParts.{going_on, assignment, due_process, due_assignment};
 
 use crate::encode::{Encode, put_deque, put_slice};
 use design::ProcState;
-use regions::{Due, Evaluation, PlainStore, Progress, State, Update};
+use regions::{Continuation, Due, Evaluation, PlainStore, State, Update};
 use std::alloc::{AllocError, Global};
 use std::collections::VecDeque;
 
@@ -44,7 +44,7 @@ impl Encode for ProcState {
     }
 }
 
-impl Encode for Progress {
+impl Encode for Continuation {
     ghost code = { λ p. process_code (going_on p) };
 
     fn encode(&self, bytes: &mut Vec<u8>) -> Result<(), AllocError> {
@@ -72,7 +72,7 @@ impl<E: Encode> Encode for Due<E> {
 }
 
 // Appends where each process goes on, and what it waits at.
-fn put_processes(bytes: &mut Vec<u8>, processes: &[Progress]) -> Result<(), AllocError>
+fn put_processes(bytes: &mut Vec<u8>, processes: &[Continuation]) -> Result<(), AllocError>
     ensures { OnOk result (bytes.new.items ≡ bytes.old.items ++ list_code process_code (map going_on processes.now)) }
 {
     put_slice(bytes, processes)

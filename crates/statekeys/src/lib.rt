@@ -12,6 +12,5 @@ mod encode;
 mod keys;
 mod laws;
 
-pub use encode::{Encode, put_deque, put_nat, put_slice};
 pub use keys::{Scratch, key};
 pub use laws::keys_tell_states;

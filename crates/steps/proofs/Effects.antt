@@ -1,8 +1,7 @@
 -- What comes of a step: its effect by the entry, its values, and that its events stay sound.
-use Rattle.std.proofs.Common.{◌≡◌, ℕ, suc, ◌+◌, ◌<◌, ◌≤◌, ◌==◌, ◌||◌, Bool, true, false, cond, not, List, [], ◌∷◌, ◌++◌, map, length, Option, Some, None, option_map, refl, sym, ◌∙◌, ap, subst, arith, if◌then◌else◌}
+use Rattle.std.proofs.Common.{◌≡◌, ℕ, suc, ◌+◌, ◌<◌, ◌≤◌, ◌==◌, ◌||◌, Bool, true, false, not, List, [], ◌∷◌, map, length, Option, Some, None, option_map, refl, sym, ◌∙◌, ap, subst, arith, if◌then◌else◌}
 use Rattle.std.specs.List.{All, enumerate_from}
 use Rattle.std.proofs.lemmas.List.Elements.{All-map}
-use Rattle.std.proofs.lemmas.List.{append-nil}
 use Rattle.logic4.specs.Vector.{Vector}
 use Rattle.logic4.specs.Operators.{same_vector}
 use Rattle.model.specs.declared.entry.Entry.{Entry}
@@ -10,21 +9,21 @@ use Rattle.model.specs.declared.entry.Entry.TheVariants as entries
 use Rattle.model.specs.declared.entry.Refusal.{Refusal}
 use Rattle.model.specs.declared.entry.Refusal.TheVariants.{Finished, NotDue}
 use Rattle.model.specs.Design.{Design, Process}
-use Rattle.model.specs.Expressions.{Store, value_of}
+use Rattle.model.specs.Expressions.{value_of}
 use Rattle.model.specs.Turns as turns
-use Rattle.model.specs.Turns.{Wait, Ended, Inactive, Until, OnChange, Later}
+use Rattle.model.specs.Turns.{Wait, Ended, Inactive, Until, OnChange, NonblockingAssignment}
 use Rattle.model.specs.States.{Action, Evaluate, Event, State, change, change_all, schedule, schedule_all, schedule_wait, taking, turned, updated, inactive_activated, nonblocking_activated, monitored, advanced, start, unbegun, with_nonblocking, with_future_nonblocking}
 use Rattle.model.specs.Runs.{Effect, silent, action_in, has_any, refused_where, entry_refusal, refusal, turn_of, turn_effect, update_effect, action_effect, effect, unless_refused, changes_of, step}
 use Rattle.model.proofs.RunLaws.{where_none}
 use Rattle.design.specs.Compiled.{Compiled, design_of}
 use Rattle.design.specs.Fits.{FitsRegister}
 use Rattle.turn.specs.declared.log.Nba.{Nba}
-use Rattle.turn.specs.Logs.{later_of}
+use Rattle.turn.specs.TurnLogs.{assignment_of}
 use Rattle.turn.specs.Evaluate.{written}
 use Rattle.regions.specs.Order.{InOrder, IsSound, IsOrdered}
 use Rattle.regions.proofs.Order.{InOrder-high}
 use Rattle.regions.proofs.Kept as kept
-use Rattle.steps.specs.Standing.{IsSoundState}
+use Rattle.steps.specs.ExplainerStanding.{IsSoundState}
 use Rattle.steps.proofs.Writes.{written_append, changes_first}
 
 -- of what a step is
@@ -74,14 +73,14 @@ store_if : (b : Bool) (s t u : State) → t.store ≡ s.store → u.store ≡ s.
 store_if true s t u h k = h
 store_if false s t u h k = k
 
-store_schedule : (s : State) (later : Later) → (schedule s later).store ≡ s.store
+store_schedule : (s : State) (later : NonblockingAssignment) → (schedule s later).store ≡ s.store
 store_schedule s later =
     store_if (later.due == s.time) s (with_nonblocking (Action.Update later.register later.value ∷ []) s)
     (with_future_nonblocking later.due (Action.Update later.register later.value) s) refl refl
 
-store_schedule_all : (s : State) (laters : List Later) → (schedule_all s laters).store ≡ s.store
+store_schedule_all : (s : State) (nbas : List NonblockingAssignment) → (schedule_all s nbas).store ≡ s.store
 store_schedule_all s [] = refl
-store_schedule_all s (later ∷ laters) = store_schedule_all (schedule s later) laters ∙ store_schedule s later
+store_schedule_all s (later ∷ nbas) = store_schedule_all (schedule s later) nbas ∙ store_schedule s later
 
 store_wait : (p : ℕ) (wait : Wait) (s : State) → (schedule_wait p wait s).store ≡ s.store
 store_wait p Ended s = refl
@@ -92,7 +91,7 @@ store_wait p (OnChange triggers) s = refl
 pub store_turned : (s : State) (n p : ℕ) (turn : turns.Turn) → (turned s n p turn).store ≡ written s.store (changes_of s.store turn.writes)
 store_turned s n p turn =
     let t : State = change_all (taking n s) turn.writes in
-    store_wait p turn.wait (schedule_all t turn.laters) ∙ store_schedule_all t turn.laters ∙ store_change_all (taking n s) turn.writes
+    store_wait p turn.wait (schedule_all t turn.nbas) ∙ store_schedule_all t turn.nbas ∙ store_change_all (taking n s) turn.writes
 
 pub store_updated : (s : State) (n r : ℕ) (v : Vector) → (updated s n r v).store ≡ written s.store (changes_of s.store ((r, v) ∷ []))
 store_updated s n r v = store_change (taking n s) r v
@@ -114,12 +113,12 @@ sound_state : (code : Compiled) (count : ℕ) (t : State) → kept.IsKept code.w
 sound_state code count t k = subst (λ n. IsOrdered code.widths n t) (sym k.processes) k.ordered
 
 pub sound_turned : (code : Compiled) (s : State) (n p : ℕ) (turn : turns.Turn) (nbas : List Nba) → IsSoundState code s → action_in s.active n ≡ Some (Evaluate p)
-    → map later_of nbas ≡ turn.laters → All (λ x. FitsRegister code.widths x.reg x.value) nbas → IsSoundState code (turned s n p turn)
-sound_turned code s n p turn nbas sound action laters fits =
+    → map assignment_of nbas ≡ turn.nbas → All (λ x. FitsRegister code.widths x.reg x.value) nbas → IsSoundState code (turned s n p turn)
+sound_turned code s n p turn nbas sound action given fits =
     let count : ℕ = length s.processes in
     let lt : p < count = sound_at (IsSound code.widths count) 0 s.active s.next_event n (Evaluate p) sound.active action in
-    let P : Later → Type 0 = λ l. FitsRegister code.widths l.register l.value in
-    let all : All P turn.laters = subst (λ (ls : List Later). All P ls) laters (All-map P later_of nbas fits) in
+    let P : NonblockingAssignment → Type 0 = λ l. FitsRegister code.widths l.register l.value in
+    let all : All P turn.nbas = subst (λ (ls : List NonblockingAssignment). All P ls) given (All-map P assignment_of nbas fits) in
     sound_state code count (turned s n p turn) (kept.turned-kept code.widths count s n p turn lt all (kept_state code s sound))
 
 pub sound_updated : (code : Compiled) (s : State) (n r : ℕ) (v : Vector) → IsSoundState code s → IsSoundState code (updated s n r v)

@@ -1,22 +1,19 @@
 -- Reads by their places, updates by their numbers, and the log of an active evaluation's turn.
-use Rattle.std.proofs.Common.{◌≡◌, ℕ, zero, suc, ◌+◌, ◌<◌, ◌≤◌, ◌==◌, Bool, true, false, List, [], ◌∷◌, ◌++◌, map, length, take, drop, get_or, Option, Some, None, refl, sym, ◌∙◌, ap, subst, arith, if◌then◌else◌, eq-eqb, eqb-true}
+use Rattle.std.proofs.Common.{◌≡◌, ℕ, zero, suc, ◌+◌, ◌<◌, ◌==◌, Bool, true, false, List, [], ◌∷◌, ◌++◌, map, length, take, drop, get_or, Option, Some, None, refl, sym, ◌∙◌, ap, subst, arith, if◌then◌else◌, eq-eqb, eqb-true}
 use Rattle.std.specs.Prelude.{slice_get, ◌≢◌}
-use Rattle.std.specs.List.{All}
 use Rattle.std.proofs.lemmas.List.{drop_more}
-use Rattle.logic4.specs.Vector.{Vector}
 use Rattle.model.specs.declared.entry.Entry.TheVariants as entries
 use Rattle.model.specs.declared.entry.Refusal.{Refusal}
 use Rattle.model.specs.declared.entry.Refusal.TheVariants.{Finished}
-use Rattle.model.specs.Design.{Design}
 use Rattle.model.specs.Turns.{short_turn}
 use Rattle.model.specs.States.{Action, State}
 use Rattle.model.specs.Runs.{Effect, action_in, turn_of, refused_where, entry_refusal, turn_refusal, update_refusal, refusal, effect, unless_refused, step}
 use Rattle.model.specs.declared.entry.Refusal.TheVariants as refusals
 use Rattle.design.specs.declared.code.ProcState.{ProcState}
 use Rattle.design.specs.Compiled.{Compiled, design_of}
-use Rattle.design.specs.Standing.{remainder_of, IsStateOf}
+use Rattle.design.specs.DesignInvariant.{remainder_of, IsStateOf}
 use Rattle.turn.specs.declared.memory.Seen.{Seen}
-use Rattle.turn.specs.Logs.{LogView}
+use Rattle.turn.specs.TurnLogs.{LogView}
 use Rattle.turn.specs.Reads.{registers, AreDeclared}
 use Rattle.regions.specs.declared.queue.Update.{Update}
 use Rattle.regions.specs.Queue.{update_event}
@@ -25,8 +22,8 @@ use Rattle.regions.specs.Evaluations.{IsEvaluation}
 use Rattle.regions.specs.Machine.{Position, state_at, Stands}
 use Rattle.regions.proofs.Given.{given_turn}
 use Rattle.regions.proofs.Evaluated.{turn_of-is, own_state}
-use Rattle.steps.specs.declared.told.Reading.{Reading}
-use Rattle.steps.specs.Standing.{update_of, IsLogged, HasNoTurn}
+use Rattle.steps.specs.declared.entry_account.Reading.{Reading}
+use Rattle.steps.specs.ExplainerStanding.{update_of, IsLogged, HasNoTurn}
 
 -- reads
 

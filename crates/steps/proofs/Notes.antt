@@ -1,5 +1,5 @@
 -- What is noted of an entry is what comes of its step, and so it is told behind a journal.
-use Rattle.std.proofs.Common.{◌≡◌, ℕ, ◌+◌, ◌==◌, Bool, true, false, List, [], ◌∷◌, ◌++◌, map, length, Option, Some, None, refl, sym, ◌∙◌, ap, subst, arith, if◌then◌else◌}
+use Rattle.std.proofs.Common.{◌≡◌, ℕ, ◌+◌, ◌==◌, Bool, true, false, List, [], ◌∷◌, ◌++◌, map, Option, Some, None, refl, sym, ◌∙◌, ap, subst, if◌then◌else◌}
 use Rattle.std.specs.Prelude.{min, option_and_then}
 use Rattle.logic4.specs.Vector.{Vector}
 use Rattle.model.specs.declared.entry.Entry.{Entry}
@@ -7,26 +7,25 @@ use Rattle.model.specs.declared.entry.Entry.TheVariants as entries
 use Rattle.model.specs.Design.{Design}
 use Rattle.model.specs.Expressions.{Store, value_of}
 use Rattle.model.specs.States.{Action, Evaluate, Event, State, start}
-use Rattle.model.specs.Runs.{Effect, action_in, turn_effect, update_effect, changes_of, step, run, run_from, silent, joined, values_in, version}
+use Rattle.model.specs.Runs.{Effect, action_in, turn_effect, update_effect, changes_of, step, run, run_from, silent, joined, version}
 use Rattle.model.proofs.RunLaws.{run_from-append}
 use Rattle.design.specs.Compiled.{Compiled, design_of}
-use Rattle.turn.specs.declared.log.Nba.{Nba}
-use Rattle.turn.specs.Logs.{LogView, later_of}
+use Rattle.turn.specs.TurnLogs.{LogView, assignment_of}
 use Rattle.turn.specs.Reads.{registers}
 use Rattle.turn.specs.Evaluate.{written}
 use Rattle.regions.specs.Queue.{update_event, evaluation_event}
 use Rattle.regions.specs.declared.queue.Update as queued
 use Rattle.regions.specs.declared.queue.Evaluation.{Evaluation}
-use Rattle.regions.specs.Logs.{IsTaken}
+use Rattle.regions.specs.StepLogs.{IsTaken}
 use Rattle.regions.specs.Machine.{Position, state_at}
 use Rattle.steps.specs.declared.cells.Cell.{Cell}
-use Rattle.steps.specs.declared.told.Reading.{Reading}
-use Rattle.steps.specs.declared.told.Deed.TheVariants as deeds
-use Rattle.steps.specs.Told.{Account, greatest_version, told_version, reading, changed_from, IsTurnTold, IsUpdateTold, IsRegionsTold, IsDeedTold, IsTold}
-use Rattle.steps.specs.Cells.{values_at, version_at, reading_in, HasChanged, IsChangedBy, AreWritten}
-use Rattle.steps.specs.Standing.{Standing, IsSoundState, IsLogged, HasNoTurn, IsNoted, IsBehind, IsExplained, update_of}
+use Rattle.steps.specs.declared.entry_account.Reading.{Reading}
+use Rattle.steps.specs.declared.entry_account.Deed.TheVariants as deeds
+use Rattle.steps.specs.Accounts.{Account, greatest_version, reading, changed_from, IsRegionsTold, IsDeedTold}
+use Rattle.steps.specs.Cells.{values_at, version_at, reading_in, HasChanged, AreWritten}
+use Rattle.steps.specs.ExplainerStanding.{Standing, IsSoundState, IsLogged, HasNoTurn, IsNoted, IsBehind, IsExplained, update_of}
 use Rattle.steps.proofs.Writes.{count_append, changed_none}
-use Rattle.steps.proofs.Effects.{step_effect, turn_effect_is, update_effect_is, store_turned, store_updated, sound_turned, sound_updated, IsQuietStep, quiet_inactive, quiet_nonblocking, quiet_monitor, quiet_advance}
+use Rattle.steps.proofs.Effects.{turn_effect_is, update_effect_is, store_turned, store_updated, sound_turned, sound_updated, IsQuietStep, quiet_inactive, quiet_nonblocking, quiet_monitor, quiet_advance}
 
 -- a turn
 pub turn_noted : (code : Compiled) (s : State) (n p : ℕ) (log : LogView) (old new : List Cell) (a : Account) → IsLogged code s n p log
@@ -46,7 +45,7 @@ turn_noted code s n p log old new a logged deed reads assigned writes e values i
             is_turn = l.is_turn;
             deed = deed;
             reads = reads ∙ ap (map (reading_in old)) l.is_log.uses;
-            assigned = ap (map later_of) assigned ∙ l.is_log.laters;
+            assigned = ap (map assignment_of) assigned ∙ l.is_log.nbas;
           };
       changes = writes.told ∙ ap (λ (v : Store). changed_from v (changes_of (values_at old) log.writes)) values ∙ ap (changed_from s.store) same;
       changed = subst (λ (cs : List (ℕ × Vector)). HasChanged old cs new) same writes.changed;
@@ -59,7 +58,7 @@ pub turn_sound : (code : Compiled) (s : State) (n p : ℕ) (log : LogView) → I
 turn_sound code s n p log sound logged e is =
     let l = logged.is_log in
     subst (λ (f : Effect). IsSoundState code f.state) (turn_effect_is (design_of code) s n p l.turn e logged.action l.is_turn is)
-    (sound_turned code s n p l.turn log.nbas sound logged.action l.is_log.laters l.fits.nbas)
+    (sound_turned code s n p l.turn log.nbas sound logged.action l.is_log.nbas l.fits.nbas)
 
 -- an event without a turn has no step
 pub no_turn_noted : (code : Compiled) (s : State) (n : ℕ) (e : Effect) (P : Type 0) → HasNoTurn code s n → step (design_of code) s (entries.Turn n) ≡ Some e → P
@@ -194,7 +193,7 @@ deed_told design s f g (entries.Turn n) a b reads same h =
       is_turn = h.is_turn;
       deed = same.deed ∙ h.deed;
       reads = same.reads ∙ h.reads ∙ map_same f g h.turn.uses reads;
-      assigned = ap (map later_of) same.assigned ∙ h.assigned;
+      assigned = ap (map assignment_of) same.assigned ∙ h.assigned;
     }
 deed_told design s f g (entries.Update n) a b reads same h =
     record { register = h.register; value = h.value; action = h.action; deed = same.deed ∙ h.deed; reads = same.reads ∙ h.reads; assigned = same.assigned ∙ h.assigned }

@@ -4,12 +4,12 @@ use Rattle.model.specs.declared.entry.Entry.{Entry}
 use Rattle.model.specs.States.{State}
 use Rattle.model.specs.Runs.{Effect, step}
 use Rattle.design.specs.Compiled.{Compiled, design_of}
-use Rattle.regions.specs.Logs.{IsTaken}
+use Rattle.regions.specs.StepLogs.{IsTaken}
 use Rattle.regions.specs.Machine.{Position, state_at}
 use Rattle.steps.specs.declared.cells.Cell.{Cell}
-use Rattle.steps.specs.Told.{Account}
+use Rattle.steps.specs.Accounts.{Account}
 use Rattle.steps.specs.Cells.{values_at}
-use Rattle.steps.specs.Standing.{Standing, IsKept, IsSoundState, IsNoted, IsBehind, IsExplained}
+use Rattle.steps.specs.ExplainerStanding.{Standing, IsKept, IsSoundState, IsNoted, IsBehind, IsExplained}
 use Rattle.steps.proofs.Notes.{TellSame, NotedAt, explained}
 
 -- the parts of where an explainer stands

@@ -1,5 +1,5 @@
 -- What writes make of the registers as they are known.
-use Rattle.std.proofs.Common.{◌≡◌, ℕ, zero, suc, ◌+◌, ◌<◌, ◌≤◌, ◌==◌, Bool, true, false, List, [], ◌∷◌, ◌++◌, map, length, drop, get_or, refl, sym, ◌∙◌, ap, subst, arith, append_assoc, length-append, if◌then◌else◌, eq-eqb, eqb-true}
+use Rattle.std.proofs.Common.{◌≡◌, ℕ, zero, suc, ◌+◌, ◌<◌, ◌==◌, Bool, true, false, List, [], ◌∷◌, ◌++◌, map, length, get_or, refl, sym, ◌∙◌, ap, subst, arith, append_assoc, if◌then◌else◌, eq-eqb, eqb-true}
 use Rattle.std.specs.Prelude.{min, slice_set, slice_index_or}
 use Rattle.std.proofs.lemmas.List.{append-nil, get_or-map, get_or-set_same, get_or-set_other, map-set, length-map}
 use Rattle.logic4.specs.Vector.{Vector, unknown}
@@ -8,9 +8,9 @@ use Rattle.model.specs.Expressions.{Store, value_of}
 use Rattle.model.specs.Runs.{changes_of, values_in}
 use Rattle.turn.specs.Evaluate.{written}
 use Rattle.steps.specs.declared.cells.Cell.{Cell}
-use Rattle.steps.specs.declared.told.Changed.{Changed}
-use Rattle.steps.specs.Told.{greatest_version, changed_from}
-use Rattle.steps.specs.Cells.{values_at, version_at, first_cell, HasChanged, IsChangedBy, AreWritten}
+use Rattle.steps.specs.declared.entry_account.Changed.{Changed}
+use Rattle.steps.specs.Accounts.{greatest_version, changed_from}
+use Rattle.steps.specs.Cells.{values_at, version_at, first_cell, IsChangedBy, AreWritten}
 
 pub values_in_more : (b : Bool) (r : ℕ) (c : ℕ × Vector) (cs : List (ℕ × Vector)) → (c.0 == r) ≡ b → values_in r (c ∷ cs) ≡ (if b then c.1 ∷ values_in r cs else values_in r cs)
 values_in_more true r c cs is = rw is refl

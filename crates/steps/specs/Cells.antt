@@ -6,9 +6,9 @@ use Rattle.model.specs.Expressions.{value_of}
 use Rattle.model.specs.Runs.{changes_of, values_in}
 use Rattle.turn.specs.Evaluate.{written}
 use Rattle.steps.specs.declared.cells.Cell.{Cell}
-use Rattle.steps.specs.declared.told.Reading.{Reading}
-use Rattle.steps.specs.declared.told.Changed.{Changed}
-use Rattle.steps.specs.Told.{greatest_version, changed_from}
+use Rattle.steps.specs.declared.entry_account.Reading.{Reading}
+use Rattle.steps.specs.declared.entry_account.Changed.{Changed}
+use Rattle.steps.specs.Accounts.{greatest_version, changed_from}
 
 -- the values of the registers
 abbrev pub values_at : List Cell → List Vector

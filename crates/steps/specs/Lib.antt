@@ -1,3 +1,3 @@
-pub mod Told
+pub mod Accounts
 pub mod Cells
-pub mod Standing
+pub mod ExplainerStanding

@@ -2,7 +2,7 @@
 ghost use Rattle.std.specs.Prelude.{◌≡◌, ◌<◌, [], ◌∷◌, map, length, IfOk, OnOk};
 ghost use Rattle.steps.specs.Cells.{first_cell, reading_in, AreWritten, AreWritesIn};
 
-use crate::told::{Changed, Reading};
+use crate::entry_account::{Changed, Reading};
 use design::{Design, RegId};
 use logic4::bits::Bits;
 use std::alloc::{AllocError, Global};

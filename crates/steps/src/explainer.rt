@@ -2,13 +2,13 @@
 ghost use Rattle.std.specs.Prelude.{◌≡◌, ◌+◌, ◌<◌, List, [], IfOk, IfErr, OnOk, OnErr};
 ghost use Rattle.model.specs.declared.entry.Entry.{Entry};
 ghost use Rattle.regions.specs.Machine.{most_entries, state_at};
-ghost use Rattle.steps.specs.Told.{account_of};
-ghost use Rattle.steps.specs.Standing.{IsBehind, IsExplained, IsNotExplained};
+ghost use Rattle.steps.specs.Accounts.{account_of};
+ghost use Rattle.steps.specs.ExplainerStanding.{IsBehind, IsExplained, IsNotExplained};
 
 use crate::cells::{Cell, first_cells};
+use crate::entry_account::EntryAccount;
 use crate::fault::StepFault;
 use crate::noting::note;
-use crate::told::Told;
 use design::Design;
 use model::entry::Entry;
 use regions::Machine;
@@ -24,11 +24,11 @@ pub struct Explainer<'d> {
     machine: Machine<'d>,
     cells: Vec<Cell>,
     log: TurnLog,
-    told: Told,
+    told: EntryAccount,
 }
 
 impl<'d> Model for Explainer<'d> {
-    ghost use Rattle.steps.specs.Standing.{Standing, standing_of, IsKept};
+    ghost use Rattle.steps.specs.ExplainerStanding.{Standing, standing_of, IsKept};
 
     ghost Value = { Standing };
 
@@ -56,7 +56,7 @@ impl<'d> Explainer<'d> {
             machine,
             cells,
             log: TurnLog::new(alloc),
-            told: Told::new(alloc),
+            told: EntryAccount::new(alloc),
         })
     }
 
@@ -89,7 +89,7 @@ impl<'d> Explainer<'d> {
     }
 
     /// What is told of the last entry.
-    pub fn told(&self) -> &Told
+    pub fn told(&self) -> &EntryAccount
         ensures { account_of result.now ≡ self.entry.now.account }
     {
         &self.told

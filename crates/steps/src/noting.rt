@@ -1,19 +1,19 @@
 //! What is noted of an entry before it is taken.
-ghost use Rattle.std.specs.Prelude.{◌≡◌, ◌<◌, [], ◌∷◌, map, length, slice_get, Some, None, MatchOption, IfOk, IfErr, OnOk};
+ghost use Rattle.std.specs.Prelude.{◌≡◌, ◌<◌, [], map, length, slice_get, Some, None, MatchOption, IfOk, IfErr, OnOk};
 ghost use Rattle.model.specs.declared.entry.Entry.TheVariants as entries;
 ghost use Rattle.model.specs.Runs.{Effect, action_in, step};
 ghost use Rattle.design.specs.Compiled.{design_of};
 ghost use Rattle.turn.specs.Reads.{registers, AreDeclared};
 ghost use Rattle.regions.specs.Queue.{update_event};
 ghost use Rattle.regions.specs.Machine.{state_at};
-ghost use Rattle.steps.specs.declared.told.Deed.TheVariants as deeds;
-ghost use Rattle.steps.specs.Told.{account_of};
+ghost use Rattle.steps.specs.declared.entry_account.Deed.TheVariants as deeds;
+ghost use Rattle.steps.specs.Accounts.{account_of};
 ghost use Rattle.steps.specs.Cells.{values_at, reading_in, AreWritten, AreWritesIn};
-ghost use Rattle.steps.specs.Standing.{update_of, IsNoted, IsProcessLogged, IsSoundState};
+ghost use Rattle.steps.specs.ExplainerStanding.{update_of, IsCleared, IsNoted, IsProcessLogged, IsSoundState};
 
 use crate::cells::{Cell, change, change_all, reading};
+use crate::entry_account::{Deed, EntryAccount, Reading};
 use crate::fault::StepFault;
-use crate::told::{Deed, Reading, Told};
 use design::{Design, RegId};
 use indexmap::IndexMap;
 use model::entry::Entry;
@@ -50,10 +50,12 @@ fn tell_reads(
 }
 
 // Tells what a turn reads, assigns and changes.
-fn tell_turn(told: &mut Told, cells: &mut Vec<Cell>, log: &TurnLog) -> Result<(), AllocError>
-    requires reads { told.old.reads.items ≡ [] }
-    requires changes { told.old.changes.items ≡ [] }
-    requires assigned { told.old.assigned.items ≡ [] }
+fn tell_turn(
+    told: &mut EntryAccount,
+    cells: &mut Vec<Cell>,
+    log: &TurnLog,
+) -> Result<(), AllocError>
+    requires cleared { IsCleared told.old }
     requires declared { AreDeclared (length cells.old.items) log.now.reads }
     requires writes { AreWritesIn (length cells.old.items) log.now.writes }
     ensures reads { OnOk result (told.new.reads.items ≡ map (reading_in cells.old.items) (registers log.now.reads)) }
@@ -101,15 +103,13 @@ fn note_turn(
     machine: &Machine<'_>,
     log: &mut TurnLog,
     cells: &mut Vec<Cell>,
-    told: &mut Told,
+    told: &mut EntryAccount,
     number: u64,
 ) -> Result<(), StepFault>
     requires code { machine.now.code ≡ design.now }
     requires sound { IsSoundState design.now (state_at machine.now) }
     requires cells { length cells.old.items ≡ length design.now.widths }
-    requires reads { told.old.reads.items ≡ [] }
-    requires changes { told.old.changes.items ≡ [] }
-    requires assigned { told.old.assigned.items ≡ [] }
+    requires cleared { IsCleared told.old }
     ensures noted { OnOk result ((effect : Effect) → values_at cells.old.items ≡ machine.now.values → step (design_of design.now) (state_at machine.now) (entries.Turn number) ≡ Some effect → IsNoted design.now (state_at machine.now) cells.old.items (entries.Turn number) effect cells.new.items (account_of told.new)) }
     ensures sound { OnOk result ((effect : Effect) → step (design_of design.now) (state_at machine.now) (entries.Turn number) ≡ Some effect → IsSoundState design.now effect.state) }
     ensures registers { length cells.new.items ≡ length cells.old.items }
@@ -141,14 +141,12 @@ fn update_numbered(updates: &VecDeque<Update>, number: u64) -> Option<&Update>
 fn note_update(
     machine: &Machine<'_>,
     cells: &mut Vec<Cell>,
-    told: &mut Told,
+    told: &mut EntryAccount,
     number: u64,
 ) -> Result<(), StepFault>
     requires sound { IsSoundState machine.now.code (state_at machine.now) }
     requires cells { length cells.old.items ≡ length machine.now.code.widths }
-    requires reads { told.old.reads.items ≡ [] }
-    requires changes { told.old.changes.items ≡ [] }
-    requires assigned { told.old.assigned.items ≡ [] }
+    requires cleared { IsCleared told.old }
     ensures noted { OnOk result ((effect : Effect) → values_at cells.old.items ≡ machine.now.values → step (design_of machine.now.code) (state_at machine.now) (entries.Update number) ≡ Some effect → IsNoted machine.now.code (state_at machine.now) cells.old.items (entries.Update number) effect cells.new.items (account_of told.new)) }
     ensures sound { OnOk result ((effect : Effect) → step (design_of machine.now.code) (state_at machine.now) (entries.Update number) ≡ Some effect → IsSoundState machine.now.code effect.state) }
     ensures registers { length cells.new.items ≡ length cells.old.items }
@@ -164,10 +162,8 @@ fn note_update(
 }
 
 // Forgets what was told of another entry.
-fn clear(told: &mut Told)
-    ensures reads { told.new.reads.items ≡ [] }
-    ensures changes { told.new.changes.items ≡ [] }
-    ensures assigned { told.new.assigned.items ≡ [] }
+fn clear(told: &mut EntryAccount)
+    ensures cleared { IsCleared told.new }
     ensures deed { told.new.deed ≡ deeds.Regions }
 {
     told.deed = Deed::Regions;
@@ -183,7 +179,7 @@ pub fn note(
     machine: &Machine<'_>,
     log: &mut TurnLog,
     cells: &mut Vec<Cell>,
-    told: &mut Told,
+    told: &mut EntryAccount,
     entry: Entry,
 ) -> Result<(), StepFault>
     requires code { machine.now.code ≡ design.now }

@@ -9,7 +9,7 @@ use Rattle.std.proofs.lemmas.Iterator.{YieldsList}
 use Rattle.std.proofs.lemmas.Iterator.Consumers.{YieldsList-from_shown}
 use Rattle.std.specs.Char.Escape.{escape_default}
 use Rattle.std.specs.Char.Iter.{escape_rest, escape_steps}
-use Rattle.telling.specs.Told.{IsBroken, IsWhole, Sends, Tells, spelled}
+use Rattle.telling.specs.FaultLines.{IsBroken, IsWhole, Sends, Tells, spelled}
 
 appends_then : (a b c : Option (List ℕ)) (xs ys : List ℕ) → Appends a b xs → Appends b c ys → Appends a c (xs ++ ys)
 appends_then None b c xs ys h g = tt

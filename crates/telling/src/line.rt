@@ -1,5 +1,8 @@
 //! A line of the program's own.
 
+ghost use Rattle.std.specs.Prelude.{◌≡◌, [], decimal};
+ghost use Rattle.telling.specs.FaultLines.{line, line_of};
+
 /// What stands within the text of a line: a number, a name as it is, or a path with its control characters escaped.
 #[derive(Clone, Copy)]
 pub enum Subject<'a> {
@@ -15,4 +18,39 @@ pub struct Line<'a> {
     pub head: &'static str,
     pub subject: Subject<'a>,
     pub tail: &'static str,
+}
+
+impl<'a> Line<'a> {
+    /// The line of a text alone.
+    pub fn plain(head: &'static str) -> Line<'a>
+        ensures { line_of result ≡ line head.entry.now [] [] }
+    {
+        Line {
+            head,
+            subject: Subject::Nothing,
+            tail: "",
+        }
+    }
+
+    /// The line of a text with a number behind it.
+    pub fn numbered(head: &'static str, number: u64) -> Line<'a>
+        ensures { line_of result ≡ line head.entry.now (decimal number) [] }
+    {
+        Line {
+            head,
+            subject: Subject::Number(number),
+            tail: "",
+        }
+    }
+
+    /// The line of a text with a name behind it.
+    pub fn named(head: &'static str, name: &'a str) -> Line<'a>
+        ensures { line_of result ≡ line head.entry.now name.entry.now [] }
+    {
+        Line {
+            head,
+            subject: Subject::Name(name),
+            tail: "",
+        }
+    }
 }

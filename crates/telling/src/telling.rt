@@ -3,7 +3,7 @@
 ghost use Rattle.std.specs.Prelude.{◌++◌, decimal};
 ghost use Rattle.std.specs.Char.{encode_utf8};
 ghost use Rattle.std.specs.Char.Escape.{escape_default};
-ghost use Rattle.telling.specs.Told.{Sends, Tells, end_of, head_of, line_of, rest_of, shown_letter, shown_path, spelled, subject_text};
+ghost use Rattle.telling.specs.FaultLines.{Sends, Tells, end_of, head_of, line_of, rest_of, shown_letter, shown_path, spelled, subject_text};
 
 use crate::line::{Line, Subject};
 use itoa::Buffer;

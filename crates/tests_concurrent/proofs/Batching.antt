@@ -3,10 +3,10 @@ use Rattle.std.proofs.Common.{◌≡◌, ℕ, ◌<◌, List, [], ◌∷◌, ◌+
 use Rattle.logic4.specs.Vector.{Vector}
 use Rattle.design.specs.Compiled.{Compiled}
 use Rattle.turn.specs.declared.memory.Seen.{Seen}
-use Rattle.turn.specs.Logs.{LogView}
-use Rattle.turn.specs.Answers.{IsTurnLog}
+use Rattle.turn.specs.TurnLogs.{LogView}
+use Rattle.turn.specs.TurnAnswers.{IsTurnLog}
 use Rattle.turn.specs.Reads.{GaveAll, Keeps}
-use Rattle.gateparts.specs.Histories.{IsRead}
+use Rattle.runstate.specs.Histories.{IsRead}
 use Rattle.commitgate.specs.Tickets.{TicketView, most_tries}
 use Rattle.commitgate.specs.Batches.{AreOffered}
 

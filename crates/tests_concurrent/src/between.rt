@@ -1,9 +1,9 @@
 // A turn whose reads are of two moments.
 ghost use Rattle.std.specs.Prelude.{◌≡◌, ◌<◌, MatchResult};
 ghost use Rattle.turn.specs.declared.log.FillFault.TheVariants.{TooLong};
-ghost use Rattle.turn.specs.Answers.{IsTurnLog, IsNoTurn};
+ghost use Rattle.turn.specs.TurnAnswers.{IsTurnLog, IsNoTurn};
 ghost use Rattle.turn.specs.Reads.{GaveAll};
-ghost use Rattle.gateparts.specs.Histories.{IsRead};
+ghost use Rattle.runstate.specs.Histories.{IsRead};
 
 use crate::claims::{fail, holds};
 use crate::course::Course;
@@ -36,7 +36,7 @@ struct Between<'s, 'o, 'w, 'c, 'g, 'd, K: Naming, R: Wait + Abort> {
 impl<'s, 'o, 'w, 'c, 'g, 'd, K: Naming, R: Wait + Abort> RegReader
     for Between<'s, 'o, 'w, 'c, 'g, 'd, K, R> {
     ghost use Rattle.std.specs.Prelude.{ℕ, length};
-    ghost use Rattle.gateparts.specs.Histories.{IsRead};
+    ghost use Rattle.runstate.specs.Histories.{IsRead};
 
     ghost registers = { length K.named.code.widths };
 

@@ -1,9 +1,9 @@
 // The steps of a worker at an open gate.
 ghost use Rattle.std.specs.Prelude.{◌≡◌, ◌<◌, ◌∷◌, [], IfSome, MatchResult};
 ghost use Rattle.turn.specs.declared.log.FillFault.TheVariants.{TooLong};
-ghost use Rattle.turn.specs.Answers.{IsTurnLog, IsNoTurn};
+ghost use Rattle.turn.specs.TurnAnswers.{IsTurnLog, IsNoTurn};
 ghost use Rattle.turn.specs.Reads.{GaveAll, Keeps};
-ghost use Rattle.gateparts.specs.Histories.{IsRead};
+ghost use Rattle.runstate.specs.Histories.{IsRead};
 
 use crate::claims::{fail, holds};
 use commitgate::{Closed, Gate, Grant, Naming, Reply, Rest, Seat, Ticket, UpdateReply};

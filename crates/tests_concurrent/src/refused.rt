@@ -1,7 +1,7 @@
 // A run of one seat in too little memory. A call that is refused memory changes nothing, and with more it succeeds.
-ghost use Rattle.turn.specs.Answers.{IsTurnLog};
+ghost use Rattle.turn.specs.TurnAnswers.{IsTurnLog};
 ghost use Rattle.turn.specs.Reads.{GaveAll};
-ghost use Rattle.gateparts.specs.Histories.{IsRead};
+ghost use Rattle.runstate.specs.Histories.{IsRead};
 
 use crate::claims::{fail, holds};
 use crate::course::{Course, first, keep};

@@ -9,7 +9,6 @@ use model::entry::Entry;
 use program::command;
 use progress::Untold;
 use replay::{Replayed, replay};
-use simulate::{Outcome, SimFault};
 use std::alloc::Global;
 use std::cell::RefCell;
 use std::io::{ErrorKind, Read, Write};
@@ -22,24 +21,26 @@ use std::{io, mem};
 mod bounds;
 mod claims;
 mod counts;
+mod cut;
 mod journals;
-mod limits;
 mod placing;
 mod probes;
 mod refused;
 mod replays;
+mod running;
 mod runs;
+mod sources;
 mod spared;
 mod starved;
 mod threads;
 mod tries;
 mod words;
 
-/// A run of the source, with no journal.
-const RUN: &str = "vsimtx run t.v";
-
 /// A run that keeps its journal.
 const SAVE: &str = "vsimtx run t.v --journal OUT";
+
+/// The same on one worker.
+const ONE_WORKER: &str = "vsimtx run t.v --workers 1 --journal OUT";
 
 const REPLAY: &str = "vsimtx replay t.v JOURNAL";
 
@@ -243,10 +244,6 @@ fn either<'a>(one: &'a str, other: &'a str) -> Texts<'a> {
     Texts { one, other }
 }
 
-fn only(text: &str) -> Texts<'_> {
-    either(text, text)
-}
-
 impl Texts<'_> {
     fn has(&self, lines: &[u8]) -> bool {
         lines == self.one.as_bytes() || lines == self.other.as_bytes()
@@ -270,30 +267,38 @@ fn decimal(rt: &impl Abort, alloc: Global, number: u64) -> String {
     format!(in alloc; "{number}").expect(rt, "memory")
 }
 
-/// A text, another so many times, and whatever ends it.
-fn repeated(
-    rt: &impl Abort,
-    alloc: Global,
-    before: &str,
-    part: &str,
-    times: usize,
-    after: &str,
-) -> String {
-    let mut text = joined(rt, alloc, &[before]);
-    for _ in 0..times {
-        append(rt, &mut text, part);
+/// A text, then others, and whatever ends it all. Each of the others is these parts, each with the number of the other behind it,
+/// and a last part.
+#[derive(Clone, Copy)]
+struct Pattern<'a> {
+    before: &'a str,
+    numbered: &'a [&'a str],
+    last: &'a str,
+    after: &'a str,
+}
+
+/// Parts, each with a number behind it.
+fn append_numbered(rt: &impl Abort, text: &mut String, parts: &[&str], number: &str) {
+    for &part in parts {
+        append(rt, text, part);
+        append(rt, text, number);
     }
-    append(rt, &mut text, after);
+}
+
+/// A text in which others stand so many times.
+fn repeated(rt: &impl Abort, alloc: Global, pattern: Pattern<'_>, times: u64) -> String {
+    let mut text = joined(rt, alloc, &[pattern.before]);
+    for number in 0..times {
+        let digits = decimal(rt, alloc, number);
+        append_numbered(rt, &mut text, pattern.numbered, digits.as_str());
+        append(rt, &mut text, pattern.last);
+    }
+    append(rt, &mut text, pattern.after);
     text
 }
 
 fn design_of(rt: &impl Abort, alloc: Global, source: &str) -> Design {
     read_design(alloc, source.as_bytes()).expect(rt, "a design")
-}
-
-/// What a run left, which had workers and memory.
-fn outcome_of(rt: &impl Abort, answer: Result<Outcome, SimFault>) -> Outcome {
-    answer.expect(rt, "a run")
 }
 
 /// What a lawful journal replays to.
@@ -344,6 +349,18 @@ fn output(rt: &impl Abort, room: usize, shown: &Shared) -> Counted<Target> {
     Counted::new(Target { room, written })
 }
 
+/// The status of a command line. Tests share this call of `command`, since it is dear to prove.
+fn status_of<R: Threads + Wait + Sync, F: Files, O: Write, E: Write>(
+    rt: &R,
+    alloc: Global,
+    words: &[String],
+    files: &mut F,
+    out: &mut Counted<O>,
+    err: &mut Counted<E>,
+) -> u8 {
+    command(rt, alloc, words, files, out, err)
+}
+
 /// What a command line leaves in a setting.
 fn run_in<R: Abort + Threads + Wait + Sync>(
     rt: &R,
@@ -357,7 +374,7 @@ fn run_in<R: Abort + Threads + Wait + Sync>(
     let mut files = files_in(rt, alloc, setting, &made);
     let mut out = output(rt, setting.out_room, &shown);
     let mut err = Counted::new(Vec::new(alloc));
-    let status = command(rt, alloc, words.as_slice(), &mut files, &mut out, &mut err);
+    let status = status_of(rt, alloc, words.as_slice(), &mut files, &mut out, &mut err);
     Left {
         status,
         out: copy(rt, alloc, &shown),
@@ -407,6 +424,20 @@ fn assert_in<R: Abort + Threads + Wait + Sync>(
     wanted: Wanted<'_>,
 ) {
     assert_left(rt, what, &run_in(rt, alloc, line, setting), wanted);
+}
+
+/// A command line leaves this in a setting, and these bytes in OUT.
+fn assert_made<R: Abort + Threads + Wait + Sync>(
+    rt: &R,
+    alloc: Global,
+    line: &str,
+    setting: &Setting<'_>,
+    wanted: Wanted<'_>,
+    made: &[u8],
+) {
+    let left = run_in(rt, alloc, line, setting);
+    assert_left(rt, line, &left, wanted);
+    assert_bytes(rt, line, left.made.as_slice(), made);
 }
 
 /// A command line leaves this where `t.v` is this source.

@@ -21,6 +21,13 @@ pub fn fail(rt: &impl Abort, what: &str) -> ! {
     panic!(rt; "{what}")
 }
 
+/// Puts a byte in the place of another, where the text is so long.
+pub fn put_byte(text: &mut [u8], place: usize, byte: u8) {
+    if place < text.len() {
+        text[place] = byte;
+    }
+}
+
 // Puts a text behind another.
 fn put(rt: &impl Abort, all: &mut Vec<u8>, text: &[u8]) {
     all.extend_from_slice(text).expect(rt, "memory");

@@ -13,7 +13,7 @@
 //! 3. `journal_text` has texts of journals of both versions with what `journal` reads, what it writes, and readers and writers
 //!    that fail.
 //! 4. `replays` has what a fault prints, and replays from bytes to bytes by readers and writers that fail.
-//! 5. `refused` makes the calls from bytes to bytes in too little memory.
+//! 5. `refused` makes the calls from bytes to bytes in too little memory, which `scarce` holds.
 //! 6. `dumps` has waves of small designs, and their dumps.
 //! 7. `replaced` has a source and its journal that are cut, and with each byte replaced.
 //! 8. `lawful` has searches of all orders of small designs, with their texts, at bounds and in too little memory.

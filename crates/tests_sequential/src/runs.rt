@@ -10,6 +10,7 @@ mod refused;
 mod replaced;
 mod replayed;
 mod replays;
+mod scarce;
 mod streams;
 mod too_long;
 mod turns;

@@ -3,7 +3,7 @@ use Rattle.std.proofs.Common.{◌≡◌, ℕ, ◌<◌, List, [], ◌∷◌, ◌+
 use Rattle.std.specs.Str.{IsAscii}
 use Rattle.std.proofs.lemmas.Bool.Decides.{nat_tests}
 use Rattle.std.proofs.lemmas.Str.Ascii.{IsAscii-nil, IsAscii-cons}
-use Rattle.tokens.specs.Bytes.{is_letter, is_digit, in_word, in_literal, in_string, is_escape, all}
+use Rattle.tokens.specs.ByteClasses.{is_letter, is_digit, in_word, in_literal, in_string, is_escape, all}
 use Rattle.tokens.specs.Lexing.{is_sign1, is_sign2, is_sign3, is_string_rest, is_skipped, IsPiece, space, line, block, word, system, decimal, sized, quoted, sign1, sign2, sign3}
 use Rattle.tokens.specs.Lengths.{piece_len}
 use Rattle.tokens.proofs.Steps.{if-is, and-true, same_byte}

@@ -5,7 +5,7 @@ use Rattle.std.proofs.Math.Nat.{pow-suc, pow-le-pow_right, mul-le-mul_right, mul
 use Rattle.std.proofs.lemmas.Bool.{and_parts}
 use Rattle.std.proofs.lemmas.Bool.Decides.{nat_tests}
 use Rattle.logic4.specs.Vector.{greatest_width}
-use Rattle.tokens.specs.Bytes.{is_digit, all, value_from}
+use Rattle.tokens.specs.ByteClasses.{is_digit, all, value_from}
 use Rattle.tokens.specs.Literals.{decimal_of}
 
 digit_below : (d : ℕ) → is_digit d ≡ true → d - 48 ≤ 9

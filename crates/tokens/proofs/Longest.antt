@@ -1,7 +1,7 @@
 -- The tokenizer's length is that of the longest piece at the front.
 use Rattle.std.proofs.Common.{◌≡◌, ℕ, zero, suc, ◌+◌, ◌<◌, ◌≤◌, List, [], ◌∷◌, ◌++◌, length, take, drop, Bool, true, false, ◌&&◌, ◌||◌, ◌==◌, if◌then◌else◌, inl, inr, refl, sym, ap, ◌∙◌, length-append, length-take, take-append-drop, arith}
 use Rattle.std.proofs.lemmas.Bool.Decides.{nat_tests}
-use Rattle.tokens.specs.Bytes.{is_letter, is_digit, in_word, in_literal, is_space, in_line, in_string, is_escape, all, span}
+use Rattle.tokens.specs.ByteClasses.{is_letter, is_digit, in_word, in_literal, is_space, in_line, in_string, is_escape, all, span}
 use Rattle.tokens.specs.Literals.{is_empty}
 use Rattle.tokens.specs.Lexing.{is_sign1, is_sign2, is_sign3, is_string_rest, is_comment_rest, IsPiece, space, line, block, word, system, decimal, sized, quoted, sign1, sign2, sign3, IsNext}
 use Rattle.tokens.specs.Lengths.{string_len, block_len, beyond, comment_len, number_len, system_len, sign_len1, sign_len2, sign_len, piece_len}

@@ -6,48 +6,48 @@ use Rattle.tokens.specs.declared.token.Kind.{Kind}
 use Rattle.tokens.specs.declared.token.Kind.TheVariants as k
 use Rattle.tokens.specs.Tokens.{PlainTokens}
 use Rattle.tokens.specs.Literals.{decimal_of, binary_digits, hex_digits, fitted, decimal_vector, based, literal_of, number_of, token_value, token_digits}
-use Rattle.tokens.specs.Lexing.{item_word, statement_word, bit_sign, test_sign, mark_sign, bracket_sign, kind_by_first, reading, string_text, is_string_rest, is_comment_rest}
+use Rattle.tokens.specs.Lexing.{words, system_names, signs, kind_by_first, reading, string_text, is_string_rest, is_comment_rest}
 
 abbrev one : Kind → List ℕ → ℕ → Option PlainTokens
 one kind text value = Some (record { kind = kind; text = text; value = value; bits = None } ∷ [])
 
 a_name : reading (codes "a_1$") ≡ one k.Name (codes "a_1$") 0
-unfolding reading item_word statement_word bit_sign test_sign mark_sign bracket_sign kind_by_first
+unfolding reading words system_names signs kind_by_first
 a_name = refl
 
 reserved_word : reading (codes "begin") ≡ one k.Begin (codes "begin") 0
-unfolding reading item_word
+unfolding reading words
 reserved_word = refl
 
 -- names differ by case
 name_in_capitals : reading (codes "Begin") ≡ one k.Name (codes "Begin") 0
-unfolding reading item_word statement_word bit_sign test_sign mark_sign bracket_sign kind_by_first
+unfolding reading words system_names signs kind_by_first
 name_in_capitals = refl
 
 system_name : reading (codes "$display") ≡ one k.Display (codes "$display") 0
-unfolding reading item_word statement_word
+unfolding reading words system_names
 system_name = refl
 
 another_system_name : reading (codes "$strobe") ≡ one k.Strobe (codes "$strobe") 0
-unfolding reading item_word statement_word
+unfolding reading words system_names
 another_system_name = refl
 
 -- the whole name counts
 longer_system_name : reading (codes "$strobes") ≡ one k.System (codes "$strobes") 0
-unfolding reading item_word statement_word bit_sign test_sign mark_sign bracket_sign kind_by_first
+unfolding reading words system_names signs kind_by_first
 longer_system_name = refl
 
 -- a system name that the grammar doesn't have is a token all the same
 other_system_name : reading (codes "$time") ≡ one k.System (codes "$time") 0
-unfolding reading item_word statement_word bit_sign test_sign mark_sign bracket_sign kind_by_first
+unfolding reading words system_names signs kind_by_first
 other_system_name = refl
 
 nonblocking_sign : reading (codes "<=") ≡ one k.AtMost (codes "<=") 0
-unfolding reading item_word statement_word bit_sign test_sign
+unfolding reading words system_names signs
 nonblocking_sign = refl
 
 plain_decimal : reading (codes "18") ≡ one k.Decimal (codes "18") 18
-unfolding reading item_word statement_word bit_sign test_sign mark_sign bracket_sign kind_by_first number_of decimal_of
+unfolding reading words system_names signs kind_by_first number_of decimal_of
 plain_decimal = refl
 
 eighteen_digits : number_of (codes "999999999999999999") ≡ Some (999999999999999999, None)
@@ -60,7 +60,7 @@ nineteen_digits = refl
 
 -- a sized literal carries its digits
 sized_literal : reading (codes "4'b00001") ≡ Some (record { kind = k.Sized; text = codes "4'b00001"; value = 0; bits = Some (vector 4 1) } ∷ [])
-unfolding reading item_word statement_word bit_sign test_sign mark_sign bracket_sign kind_by_first number_of literal_of decimal_of based binary_digits fitted
+unfolding reading words system_names signs kind_by_first number_of literal_of decimal_of based binary_digits fitted
 sized_literal = refl
 
 -- a plain decimal has a value, and a sized literal digits alone

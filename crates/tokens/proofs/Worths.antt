@@ -1,7 +1,7 @@
 -- What the bytes of a token are worth.
 use Rattle.std.proofs.Common.{◌≡◌, ℕ, List, [], ◌∷◌, Bool, true, false, ◌&&◌, if◌then◌else◌, Option, Some, None, option_map, refl}
 use Rattle.logic4.specs.Vector.{Vector}
-use Rattle.tokens.specs.Bytes.{is_digit, all}
+use Rattle.tokens.specs.ByteClasses.{is_digit, all}
 use Rattle.tokens.specs.Literals.{Worth, plain_worth, decimal_of, literal_of, number_of, worth_or_none, token_value}
 
 -- a number, or 0

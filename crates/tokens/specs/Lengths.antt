@@ -1,7 +1,7 @@
 -- What the functions of the tokenizer compute. The public contracts don't speak of it.
 use Rattle.std.specs.Prelude.{◌≡◌, ℕ, suc, ◌+◌, List, [], ◌∷◌, ◌++◌, drop, Bool, true, false, not, ◌&&◌, ◌||◌, ◌==◌, if◌then◌else◌, Some, None}
 use Rattle.tokens.specs.Tokens.{PlainTokens}
-use Rattle.tokens.specs.Bytes.{is_letter, is_digit, in_word, in_literal, is_space, in_line, in_string, is_escape, span}
+use Rattle.tokens.specs.ByteClasses.{is_letter, is_digit, in_word, in_literal, is_space, in_line, in_string, is_escape, span}
 use Rattle.tokens.specs.Lexing.{is_sign1, is_sign2, is_sign3, reading}
 
 -- Stands in a string, behind a `\` or not.

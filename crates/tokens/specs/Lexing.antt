@@ -4,7 +4,7 @@ use Rattle.std.specs.Str.{bytes_eq}
 use Rattle.tokens.specs.declared.token.Kind.{Kind}
 use Rattle.tokens.specs.declared.token.Kind.TheVariants as k
 use Rattle.tokens.specs.Tokens.{PlainTokens}
-use Rattle.tokens.specs.Bytes.{is_letter, is_digit, in_word, in_literal, is_space, in_line, in_string, is_escape, all}
+use Rattle.tokens.specs.ByteClasses.{is_letter, is_digit, in_word, in_literal, is_space, in_line, in_string, is_escape, all}
 use Rattle.tokens.specs.Literals.{is_empty, worth_of}
 
 -- ---- operators and marks (3.4, A.8.6)
@@ -65,83 +65,37 @@ abbrev pub or_else : Option Kind → Kind → Kind
 or_else None kind = kind
 or_else (Some kind) other = kind
 
--- The reserved words of modules, items and blocks (3.7.2).
-unfoldable pub item_word : List ℕ → Option Kind
-item_word t =
-    if bytes_eq t (codes "module") then Some k.Module
-    else (if bytes_eq t (codes "endmodule") then Some k.EndModule
-    else (if bytes_eq t (codes "reg") then Some k.Reg
-    else (if bytes_eq t (codes "initial") then Some k.Initial
-    else (if bytes_eq t (codes "always") then Some k.Always
-    else (if bytes_eq t (codes "begin") then Some k.Begin
-    else (if bytes_eq t (codes "end") then Some k.EndBlock
-    else None))))))
+-- Texts, each with the kind of its token.
+abbrev pub KindTable : Type 0
+KindTable = List (List ℕ × Kind)
 
--- The reserved words of statements and events, and the three system names that the grammar has.
-unfoldable pub statement_word : List ℕ → Option Kind
-statement_word t =
-    if bytes_eq t (codes "if") then Some k.If
-    else (if bytes_eq t (codes "else") then Some k.Else
-    else (if bytes_eq t (codes "while") then Some k.While
-    else (if bytes_eq t (codes "posedge") then Some k.Posedge
-    else (if bytes_eq t (codes "negedge") then Some k.Negedge
-    else (if bytes_eq t (codes "or") then Some k.Or
-    else (if bytes_eq t (codes "$display") then Some k.Display
-    else (if bytes_eq t (codes "$strobe") then Some k.Strobe
-    else (if bytes_eq t (codes "$finish") then Some k.Finish
-    else None))))))))
+-- The kind that a table has for a text.
+abbrev pub kind_in : KindTable → List ℕ → Option Kind
+kind_in [] t = None
+kind_in (row ∷ rows) t = if bytes_eq t row.0 then Some row.1 else kind_in rows t
 
--- The operators of bits, sums and the left shift.
-unfoldable pub bit_sign : List ℕ → Option Kind
-bit_sign t =
-    if bytes_eq t (codes "!") then Some k.Bang
-    else (if bytes_eq t (codes "~") then Some k.Tilde
-    else (if bytes_eq t (codes "&") then Some k.Ampersand
-    else (if bytes_eq t (codes "|") then Some k.Bar
-    else (if bytes_eq t (codes "^") then Some k.Caret
-    else (if bytes_eq t (codes "+") then Some k.Plus
-    else (if bytes_eq t (codes "-") then Some k.Minus
-    else (if bytes_eq t (codes "<<") then Some k.ShiftLeft
-    else None)))))))
+-- The reserved words (3.7.2).
+unfoldable pub words : KindTable
+words =
+    (codes "module", k.Module) ∷ (codes "endmodule", k.EndModule) ∷ (codes "reg", k.Reg) ∷ (codes "initial", k.Initial) ∷ (codes "always", k.Always) ∷ (codes "begin", k.Begin) ∷ (codes "end", k.EndBlock) ∷
+    (codes "if", k.If) ∷ (codes "else", k.Else) ∷ (codes "while", k.While) ∷ (codes "posedge", k.Posedge) ∷ (codes "negedge", k.Negedge) ∷ (codes "or", k.Or) ∷ []
 
--- The right shift, and the comparisons.
-unfoldable pub test_sign : List ℕ → Option Kind
-test_sign t =
-    if bytes_eq t (codes ">>") then Some k.ShiftRight
-    else (if bytes_eq t (codes "<") then Some k.Less
-    else (if bytes_eq t (codes "<=") then Some k.AtMost
-    else (if bytes_eq t (codes ">") then Some k.Greater
-    else (if bytes_eq t (codes ">=") then Some k.AtLeast
-    else (if bytes_eq t (codes "==") then Some k.Equal
-    else (if bytes_eq t (codes "!=") then Some k.NotEqual
-    else (if bytes_eq t (codes "===") then Some k.Same
-    else None)))))))
+-- The three system names that the grammar has (3.7.3).
+unfoldable pub system_names : KindTable
+system_names = (codes "$display", k.Display) ∷ (codes "$strobe", k.Strobe) ∷ (codes "$finish", k.Finish) ∷ []
 
--- The logical operators, and the marks of choices, assignments, delays and events.
-unfoldable pub mark_sign : List ℕ → Option Kind
-mark_sign t =
-    if bytes_eq t (codes "!==") then Some k.NotSame
-    else (if bytes_eq t (codes "&&") then Some k.AndAnd
-    else (if bytes_eq t (codes "||") then Some k.OrOr
-    else (if bytes_eq t (codes "?") then Some k.Question
-    else (if bytes_eq t (codes ":") then Some k.Colon
-    else (if bytes_eq t (codes "=") then Some k.Assign
-    else (if bytes_eq t (codes "#") then Some k.Hash
-    else (if bytes_eq t (codes "@") then Some k.At
-    else None)))))))
-
--- The brackets, the comma and the semicolon.
-unfoldable pub bracket_sign : List ℕ → Option Kind
-bracket_sign t =
-    if bytes_eq t (codes "(") then Some k.Open
-    else (if bytes_eq t (codes ")") then Some k.Close
-    else (if bytes_eq t (codes "[") then Some k.OpenSquare
-    else (if bytes_eq t (codes "]") then Some k.CloseSquare
-    else (if bytes_eq t (codes "{") then Some k.OpenCurly
-    else (if bytes_eq t (codes "}") then Some k.CloseCurly
-    else (if bytes_eq t (codes ",") then Some k.Comma
-    else (if bytes_eq t (codes ";") then Some k.Semicolon
-    else None)))))))
+-- The brackets, the comma and the semicolon; the operators, from the level that binds most to the one that binds least (5.1.2);
+-- and the marks of assignments, delays and events.
+unfoldable pub signs : KindTable
+signs =
+    (codes "(", k.Open) ∷ (codes ")", k.Close) ∷ (codes "[", k.OpenSquare) ∷ (codes "]", k.CloseSquare) ∷ (codes "{", k.OpenCurly) ∷ (codes "}", k.CloseCurly) ∷ (codes ",", k.Comma) ∷ (codes ";", k.Semicolon) ∷
+    (codes "!", k.Bang) ∷ (codes "~", k.Tilde) ∷
+    (codes "+", k.Plus) ∷ (codes "-", k.Minus) ∷
+    (codes "<<", k.ShiftLeft) ∷ (codes ">>", k.ShiftRight) ∷
+    (codes "<", k.Less) ∷ (codes "<=", k.AtMost) ∷ (codes ">", k.Greater) ∷ (codes ">=", k.AtLeast) ∷
+    (codes "==", k.Equal) ∷ (codes "!=", k.NotEqual) ∷ (codes "===", k.Same) ∷ (codes "!==", k.NotSame) ∷
+    (codes "&", k.Ampersand) ∷ (codes "^", k.Caret) ∷ (codes "|", k.Bar) ∷ (codes "&&", k.AndAnd) ∷ (codes "||", k.OrOr) ∷ (codes "?", k.Question) ∷ (codes ":", k.Colon) ∷
+    (codes "=", k.Assign) ∷ (codes "#", k.Hash) ∷ (codes "@", k.At) ∷ []
 
 -- The kind of a token that is no word of the grammar and no sign, by its first byte.
 unfoldable pub kind_by_first : List ℕ → Kind
@@ -152,11 +106,11 @@ kind_by_first (b ∷ bs) =
 
 -- The kind of a token that is no word of the grammar.
 abbrev pub sign_kind : List ℕ → Kind
-sign_kind t = or_else (bit_sign t) (or_else (test_sign t) (or_else (mark_sign t) (or_else (bracket_sign t) (kind_by_first t))))
+sign_kind t = or_else (kind_in signs t) (kind_by_first t)
 
 -- The kind of a token, by how it is spelled.
 abbrev pub kind_of : List ℕ → Kind
-kind_of t = or_else (item_word t) (or_else (statement_word t) (sign_kind t))
+kind_of t = or_else (kind_in words t) (or_else (kind_in system_names t) (sign_kind t))
 
 -- A piece that is no token: a space or a comment.
 abbrev pub is_skipped : List ℕ → Bool

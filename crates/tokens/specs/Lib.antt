@@ -1,4 +1,4 @@
-pub mod Bytes
+pub mod ByteClasses
 pub mod Literals
 pub mod Tokens
 pub mod Lexing

@@ -4,7 +4,7 @@ use Rattle.std.specs.Prelude.{◌≡◌, ℕ, ◌-◌, ◌^◌, List, [], ◌∷
 use Rattle.logic4.specs.declared.digit.Digit.{Digit}
 use Rattle.logic4.specs.declared.digit.Digit.TheVariants.{Zero, One, X, Z}
 use Rattle.logic4.specs.Vector.{Vector, greatest_width, vector}
-use Rattle.tokens.specs.Bytes.{is_digit, all, span, value_from}
+use Rattle.tokens.specs.ByteClasses.{is_digit, all, span, value_from}
 
 -- The number of a run of digits, of at most 18.
 unfoldable pub decimal_of : List ℕ → Option ℕ

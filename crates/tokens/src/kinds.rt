@@ -1,72 +1,106 @@
 //! The kind of a token, by how it is spelled.
 
-ghost use Rattle.std.specs.Prelude.{◌≡◌, true, slice_index};
-ghost use Rattle.std.specs.Str.{bytes_eq};
-ghost use Rattle.tokens.specs.Bytes.{is_letter};
+ghost use Rattle.std.specs.Prelude.{◌≡◌, true, map, slice_index};
+ghost use Rattle.tokens.specs.ByteClasses.{is_letter};
 ghost use Rattle.tokens.specs.Lexing as spec;
 
 use crate::spans::{all_digits, is_digit, is_letter};
 use crate::token::Kind;
 
-fn is_same(text: &[u8], word: &[u8]) -> bool
-    ensures { result ≡ bytes_eq text.now word.now }
-{
-    text == word
-}
+/// The reserved words (3.7.2).
+const WORDS: &[(&[u8], Kind)] = &[
+    (b"module", Kind::Module),
+    (b"endmodule", Kind::EndModule),
+    (b"reg", Kind::Reg),
+    (b"initial", Kind::Initial),
+    (b"always", Kind::Always),
+    (b"begin", Kind::Begin),
+    (b"end", Kind::EndBlock),
+    (b"if", Kind::If),
+    (b"else", Kind::Else),
+    (b"while", Kind::While),
+    (b"posedge", Kind::Posedge),
+    (b"negedge", Kind::Negedge),
+    (b"or", Kind::Or),
+];
 
-#[tactic(auto, unfolding(crate::specs::Lexing::item_word))]
-fn item_word(text: &[u8]) -> Option<Kind>
-    ensures { result ≡ spec.item_word text.now }
+/// The system names (3.7.3) that the grammar has.
+const SYSTEM_NAMES: &[(&[u8], Kind)] = &[
+    (b"$display", Kind::Display),
+    (b"$strobe", Kind::Strobe),
+    (b"$finish", Kind::Finish),
+];
+
+/// The brackets, the comma and the semicolon, which stand most often; the operators, from the level that binds most to the one
+/// that binds least (5.1.2); and the marks of assignments, delays and events.
+const SIGNS: &[(&[u8], Kind)] = &[
+    (b"(", Kind::Open),
+    (b")", Kind::Close),
+    (b"[", Kind::OpenSquare),
+    (b"]", Kind::CloseSquare),
+    (b"{", Kind::OpenCurly),
+    (b"}", Kind::CloseCurly),
+    (b",", Kind::Comma),
+    (b";", Kind::Semicolon),
+    (b"!", Kind::Bang),
+    (b"~", Kind::Tilde),
+    (b"+", Kind::Plus),
+    (b"-", Kind::Minus),
+    (b"<<", Kind::ShiftLeft),
+    (b">>", Kind::ShiftRight),
+    (b"<", Kind::Less),
+    (b"<=", Kind::AtMost),
+    (b">", Kind::Greater),
+    (b">=", Kind::AtLeast),
+    (b"==", Kind::Equal),
+    (b"!=", Kind::NotEqual),
+    (b"===", Kind::Same),
+    (b"!==", Kind::NotSame),
+    (b"&", Kind::Ampersand),
+    (b"^", Kind::Caret),
+    (b"|", Kind::Bar),
+    (b"&&", Kind::AndAnd),
+    (b"||", Kind::OrOr),
+    (b"?", Kind::Question),
+    (b":", Kind::Colon),
+    (b"=", Kind::Assign),
+    (b"#", Kind::Hash),
+    (b"@", Kind::At),
+];
+
+/// The kind that a table has for a text.
+fn kind_in(table: &[(&[u8], Kind)], text: &[u8]) -> Option<Kind>
+    ensures { result ≡ spec.kind_in (map (λ row. (row.0.now, row.1)) table.now) text.now }
 {
-    if is_same(text, b"module") {
-        return Some(Kind::Module);
-    }
-    if is_same(text, b"endmodule") {
-        return Some(Kind::EndModule);
-    }
-    if is_same(text, b"reg") {
-        return Some(Kind::Reg);
-    }
-    if is_same(text, b"initial") {
-        return Some(Kind::Initial);
-    }
-    if is_same(text, b"always") {
-        return Some(Kind::Always);
-    }
-    if is_same(text, b"begin") {
-        return Some(Kind::Begin);
-    }
-    if is_same(text, b"end") {
-        return Some(Kind::EndBlock);
+    let mut left = table;
+    while let [(word, kind), rest @ ..] = left {
+        if text == *word {
+            return Some(*kind);
+        }
+        left = rest;
     }
     None
 }
 
-/// The reserved words of statements and events. What begins with a letter is no system name.
-#[tactic(auto, unfolding(crate::specs::Lexing::statement_word))]
-fn statement_word(text: &[u8]) -> Option<Kind>
-    requires { is_letter (slice_index text.now 0) ≡ true }
-    ensures { result ≡ spec.statement_word text.now }
+#[tactic(auto, unfolding(crate::specs::Lexing::words))]
+fn word(text: &[u8]) -> Option<Kind>
+    ensures { result ≡ spec.kind_in spec.words text.now }
 {
-    if is_same(text, b"if") {
-        return Some(Kind::If);
-    }
-    if is_same(text, b"else") {
-        return Some(Kind::Else);
-    }
-    if is_same(text, b"while") {
-        return Some(Kind::While);
-    }
-    if is_same(text, b"posedge") {
-        return Some(Kind::Posedge);
-    }
-    if is_same(text, b"negedge") {
-        return Some(Kind::Negedge);
-    }
-    if is_same(text, b"or") {
-        return Some(Kind::Or);
-    }
-    None
+    kind_in(WORDS, text)
+}
+
+#[tactic(auto, unfolding(crate::specs::Lexing::system_names))]
+fn system_name(text: &[u8]) -> Option<Kind>
+    ensures { result ≡ spec.kind_in spec.system_names text.now }
+{
+    kind_in(SYSTEM_NAMES, text)
+}
+
+#[tactic(auto, unfolding(crate::specs::Lexing::signs))]
+fn sign(text: &[u8]) -> Option<Kind>
+    ensures { result ≡ spec.kind_in spec.signs text.now }
+{
+    kind_in(SIGNS, text)
 }
 
 /// The kind of a reserved word, or of a name.
@@ -74,10 +108,7 @@ fn word_kind(text: &[u8]) -> Kind
     requires { is_letter (slice_index text.now 0) ≡ true }
     ensures { result ≡ spec.kind_of text.now }
 {
-    if let Some(kind) = item_word(text) {
-        return kind;
-    }
-    if let Some(kind) = statement_word(text) {
+    if let Some(kind) = word(text) {
         return kind;
     }
     Kind::Name
@@ -88,140 +119,10 @@ fn system_kind(text: &[u8]) -> Kind
     requires { slice_index text.now 0 ≡ 36 }
     ensures { result ≡ spec.kind_of text.now }
 {
-    if is_same(text, b"$display") {
-        return Kind::Display;
-    }
-    if is_same(text, b"$strobe") {
-        return Kind::Strobe;
-    }
-    if is_same(text, b"$finish") {
-        return Kind::Finish;
+    if let Some(kind) = system_name(text) {
+        return kind;
     }
     Kind::System
-}
-
-#[tactic(auto, unfolding(crate::specs::Lexing::bit_sign))]
-fn bit_sign(text: &[u8]) -> Option<Kind>
-    ensures { result ≡ spec.bit_sign text.now }
-{
-    if is_same(text, b"!") {
-        return Some(Kind::Bang);
-    }
-    if is_same(text, b"~") {
-        return Some(Kind::Tilde);
-    }
-    if is_same(text, b"&") {
-        return Some(Kind::Ampersand);
-    }
-    if is_same(text, b"|") {
-        return Some(Kind::Bar);
-    }
-    if is_same(text, b"^") {
-        return Some(Kind::Caret);
-    }
-    if is_same(text, b"+") {
-        return Some(Kind::Plus);
-    }
-    if is_same(text, b"-") {
-        return Some(Kind::Minus);
-    }
-    if is_same(text, b"<<") {
-        return Some(Kind::ShiftLeft);
-    }
-    None
-}
-
-#[tactic(auto, unfolding(crate::specs::Lexing::test_sign))]
-fn test_sign(text: &[u8]) -> Option<Kind>
-    ensures { result ≡ spec.test_sign text.now }
-{
-    if is_same(text, b">>") {
-        return Some(Kind::ShiftRight);
-    }
-    if is_same(text, b"<") {
-        return Some(Kind::Less);
-    }
-    if is_same(text, b"<=") {
-        return Some(Kind::AtMost);
-    }
-    if is_same(text, b">") {
-        return Some(Kind::Greater);
-    }
-    if is_same(text, b">=") {
-        return Some(Kind::AtLeast);
-    }
-    if is_same(text, b"==") {
-        return Some(Kind::Equal);
-    }
-    if is_same(text, b"!=") {
-        return Some(Kind::NotEqual);
-    }
-    if is_same(text, b"===") {
-        return Some(Kind::Same);
-    }
-    None
-}
-
-#[tactic(auto, unfolding(crate::specs::Lexing::mark_sign))]
-fn mark_sign(text: &[u8]) -> Option<Kind>
-    ensures { result ≡ spec.mark_sign text.now }
-{
-    if is_same(text, b"!==") {
-        return Some(Kind::NotSame);
-    }
-    if is_same(text, b"&&") {
-        return Some(Kind::AndAnd);
-    }
-    if is_same(text, b"||") {
-        return Some(Kind::OrOr);
-    }
-    if is_same(text, b"?") {
-        return Some(Kind::Question);
-    }
-    if is_same(text, b":") {
-        return Some(Kind::Colon);
-    }
-    if is_same(text, b"=") {
-        return Some(Kind::Assign);
-    }
-    if is_same(text, b"#") {
-        return Some(Kind::Hash);
-    }
-    if is_same(text, b"@") {
-        return Some(Kind::At);
-    }
-    None
-}
-
-#[tactic(auto, unfolding(crate::specs::Lexing::bracket_sign))]
-fn bracket_sign(text: &[u8]) -> Option<Kind>
-    ensures { result ≡ spec.bracket_sign text.now }
-{
-    if is_same(text, b"(") {
-        return Some(Kind::Open);
-    }
-    if is_same(text, b")") {
-        return Some(Kind::Close);
-    }
-    if is_same(text, b"[") {
-        return Some(Kind::OpenSquare);
-    }
-    if is_same(text, b"]") {
-        return Some(Kind::CloseSquare);
-    }
-    if is_same(text, b"{") {
-        return Some(Kind::OpenCurly);
-    }
-    if is_same(text, b"}") {
-        return Some(Kind::CloseCurly);
-    }
-    if is_same(text, b",") {
-        return Some(Kind::Comma);
-    }
-    if is_same(text, b";") {
-        return Some(Kind::Semicolon);
-    }
-    None
 }
 
 #[tactic(auto, unfolding(crate::specs::Lexing::kind_by_first))]
@@ -251,17 +152,7 @@ fn kind_by_first(text: &[u8]) -> Kind
 fn sign_kind(text: &[u8]) -> Kind
     ensures { result ≡ spec.sign_kind text.now }
 {
-    // Brackets, commas and semicolons stand most often, and what they begin with begins no other sign.
-    if let Some(kind) = bracket_sign(text) {
-        return kind;
-    }
-    if let Some(kind) = bit_sign(text) {
-        return kind;
-    }
-    if let Some(kind) = test_sign(text) {
-        return kind;
-    }
-    if let Some(kind) = mark_sign(text) {
+    if let Some(kind) = sign(text) {
         return kind;
     }
     kind_by_first(text)

@@ -15,6 +15,6 @@
 pub mod cut;
 mod kinds;
 mod literal;
-mod pieces;
-mod spans;
+pub mod pieces;
+pub mod spans;
 pub mod token;

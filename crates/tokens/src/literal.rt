@@ -2,11 +2,11 @@
 
 ghost use Rattle.std.specs.Prelude.{◌≡◌, ◌≤◌, ◌^◌, ◌%◌, ℕ, [], true, nat_lt, length, option_map, IfOk};
 ghost use Rattle.logic4.specs.Vector.{bit_digit, vector, greatest_width};
-ghost use Rattle.tokens.specs.Bytes.{is_digit, all};
+ghost use Rattle.tokens.specs.ByteClasses.{is_digit, all};
 ghost use Rattle.tokens.specs.Literals as spec;
 ghost use Rattle.tokens.specs.Literals.{AddsDigits, plain_worth};
 
-use crate::spans::{all_digits, digit_span, digits_value, is_digit};
+use crate::spans::{Class, all_digits, digits_value, is_digit, span};
 use logic4::bits::{Bits, MAX_WIDTH};
 use logic4::digit::Digit;
 use std::alloc::{AllocError, Global};
@@ -103,7 +103,7 @@ fn filling(d: Digit) -> Digit
     match d {
         Digit::X => Digit::X,
         Digit::Z => Digit::Z,
-        _ => Digit::Zero,
+        Digit::Zero | Digit::One => Digit::Zero,
     }
 }
 
@@ -256,7 +256,7 @@ fn literal_from(alloc: Global, size: &[u8], rest: &[u8]) -> Result<Option<Bits>,
 fn literal_of(alloc: Global, text: &[u8]) -> Result<Option<Bits>, AllocError>
     ensures { IfOk result (λ fit. fit ≡ spec.literal_of text.now) }
 {
-    let (size, rest) = text.split_at(digit_span(text));
+    let (size, rest) = text.split_at(span(Class::Digit, text));
     literal_from(alloc, size, rest)
 }
 

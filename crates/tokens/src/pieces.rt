@@ -4,7 +4,7 @@ ghost use Rattle.std.specs.Prelude.{◌≡◌, ◌≤◌, ◌+◌, length, false
 ghost use Rattle.tokens.specs.Lexing as lexing;
 ghost use Rattle.tokens.specs.Lengths as spec;
 
-use crate::spans::{digit_span, is_digit, is_letter, is_space, line_span, literal_span, word_span};
+use crate::spans::{Class, is_digit, is_letter, is_space, span};
 
 /// Whether a byte may stand in a string, after a `\` or not.
 fn accepts(after: bool, b: u8) -> bool
@@ -66,13 +66,13 @@ fn beyond(before: usize, len: usize, all: usize) -> usize
     if len == 0 { 0 } else { before + len }
 }
 
-/// The length of a comment after its first `/`, 0 where it isn't one.
-fn comment_len(text: &[u8]) -> usize
+/// The length of a comment (3.3) after its first `/`, that included; 0 where it isn't one.
+pub fn comment_len(text: &[u8]) -> usize
     ensures value { result ≡ spec.comment_len text.now }
     ensures within { result ≤ length text.now + 1 }
 {
     match text {
-        [b'/', rest @ ..] => line_span(rest) + 2,
+        [b'/', rest @ ..] => span(Class::Line, rest) + 2,
         [b'*', rest @ ..] => beyond(2, block_len(rest), rest.len() + 2),
         _ => 0,
     }
@@ -84,7 +84,7 @@ fn system_len(text: &[u8]) -> usize
     ensures within { result ≤ length text.now + 1 }
 {
     match text {
-        [b, rest @ ..] if is_letter(*b) => word_span(rest) + 2,
+        [b, rest @ ..] if is_letter(*b) => span(Class::Word, rest) + 2,
         _ => 0,
     }
 }
@@ -96,7 +96,7 @@ fn number_len(n: usize, rest: &[u8]) -> usize
     ensures within { result ≤ n + length rest.now }
 {
     match rest {
-        [b'\'', after @ ..] => n + literal_span(after) + 1,
+        [b'\'', after @ ..] => n + span(Class::Literal, after) + 1,
         _ => n,
     }
 }
@@ -162,7 +162,7 @@ fn sign_len(text: &[u8]) -> usize
 
 /// The length of the longest piece at the front, 0 where none is.
 #[tactic(auto, unfolding(crate::specs::Lengths::piece_len))]
-pub fn piece_len(text: &[u8]) -> usize
+pub(crate) fn piece_len(text: &[u8]) -> usize
     ensures value { result ≡ spec.piece_len text.now }
     ensures within { result ≤ length text.now }
 {
@@ -170,10 +170,10 @@ pub fn piece_len(text: &[u8]) -> usize
         return 0;
     };
     if is_letter(*first) {
-        return word_span(rest) + 1;
+        return span(Class::Word, rest) + 1;
     }
     if is_digit(*first) {
-        let n = digit_span(rest);
+        let n = span(Class::Digit, rest);
         return number_len(n + 1, &rest[n..]);
     }
     if is_space(*first) {

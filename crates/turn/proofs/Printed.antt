@@ -3,7 +3,7 @@ use Rattle.std.proofs.Common.{◌≡◌, ℕ, ◌+◌, ◌<◌, List, length, dr
 use Rattle.std.proofs.lemmas.List.{drop_more}
 use Rattle.design.specs.declared.code.Op.{Op}
 use Rattle.design.specs.declared.code.Shown.{Shown}
-use Rattle.turn.specs.Progress.{Status, PrintsPiece, Prints}
+use Rattle.turn.specs.RunningTurn.{Status, PrintsPiece, Prints}
 
 -- what is printed from a place on is what is printed by the piece there, and from the next one on
 pub prints_more : (ops : List Op) (pieces : List Shown) (i : ℕ) (piece : Shown) (s0 s s1 t : Status) → i < length pieces → piece ≡ get_or pieces i piece → (Prints ops (drop i pieces) s t → Prints ops pieces s0 t) → PrintsPiece ops piece s s1 → Prints ops (drop (i + 1) pieces) s1 t → Prints ops pieces s0 t

@@ -8,7 +8,7 @@ use Rattle.model.specs.Turns.{contains, with_uses}
 use Rattle.design.specs.declared.code.Op.{Op}
 use Rattle.design.specs.declared.code.Op.TheVariants.{Load, Pick, Constant, Unary, Binary, BinaryConstant, BinaryRegister, Join, Resize, Choose}
 use Rattle.design.specs.Operate.{combined}
-use Rattle.design.specs.Steps.{topmost, below, act, run_ops, reads_of, all_reads, IsOpOf}
+use Rattle.design.specs.ExpressionSteps.{topmost, below, act, run_ops, reads_of, all_reads, IsOpOf}
 use Rattle.turn.specs.declared.memory.Seen.{Seen}
 use Rattle.turn.specs.Reads.{registers}
 use Rattle.turn.specs.Evaluate.{Acts, Ran, Knows, Continues, written_in}

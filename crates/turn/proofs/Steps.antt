@@ -12,30 +12,30 @@ use Rattle.logic4.specs.Operators.{truth}
 use Rattle.model.specs.declared.tree.Task.TheVariants as Task
 use Rattle.model.specs.Syntax.{Expression, Expressions, registers_of}
 use Rattle.model.specs.Design as tree
-use Rattle.model.specs.Design.{Design, Statement, Statements, Piece, Trigger, Process, statement_at, process_at, statements_of, all_of, size}
+use Rattle.model.specs.Design.{Statement, Statements, Piece, Trigger, Process, statement_at, process_at, statements_of, all_of, size}
 use Rattle.model.specs.Expressions.{Store, own_value, assigned_value}
 use Rattle.model.specs.Turns as turns
-use Rattle.model.specs.Turns.{At, Set, Remainder, Turn, Going, Next, parts, whole, next, after_statement, counted, goes_on, stops, delayed, where_true, line_text, own_values}
+use Rattle.model.specs.Turns.{At, Set, Remainder, Turn, Going, parts, whole, next, after_statement, counted, goes_on, stops, delayed, where_true}
 use Rattle.design.specs.declared.code.Node.{Node}
 use Rattle.design.specs.declared.code.Node.TheVariants as node
 use Rattle.design.specs.declared.code.ProcState.{ProcState}
 use Rattle.design.specs.declared.code.Span.{Span}
-use Rattle.design.specs.Steps.{piece, IsOpOf}
+use Rattle.design.specs.ExpressionSteps.{piece, IsOpOf}
 use Rattle.design.specs.Fits.{FitsRegister}
-use Rattle.design.specs.Places.{remainder_at, IsPlaceOf}
+use Rattle.design.specs.CodePlaces.{remainder_at, IsPlaceOf}
 use Rattle.design.specs.Compiled.{Compiled, design_of}
 use Rattle.design.specs.Meaning.{IsTest, IsFine, IsCompiled}
 use Rattle.design.proofs.Numbered.{place_named}
-use Rattle.design.specs.Standing.{pending_part, remainder_of, IsPending, IsStateOf}
+use Rattle.design.specs.DesignInvariant.{pending_part, remainder_of, IsPending, IsStateOf}
 use Rattle.turn.specs.declared.log.Suspend.{Suspend}
 use Rattle.turn.specs.declared.log.Suspend.TheVariants as suspends
 use Rattle.turn.specs.declared.machine.Step.{Step}
 use Rattle.turn.specs.declared.machine.Step.TheVariants as step
 use Rattle.turn.specs.Reads.{registers, Agrees}
 use Rattle.turn.specs.Evaluate.{Knows, written}
-use Rattle.turn.specs.Progress.{Status, at, writing, holding, delaying, printing, wait_for, chosen_place, strobing}
-use Rattle.turn.specs.Machine.{TakesNode, TakesSome, TakesPending, Takes}
-use Rattle.turn.specs.Logs.{later_of, wait_of}
+use Rattle.turn.specs.RunningTurn.{Status, at, writing, holding, delaying, printing, wait_for, chosen_place, strobing}
+use Rattle.turn.specs.TurnSteps.{TakesNode, TakesSome, TakesPending, Takes}
+use Rattle.turn.specs.TurnLogs.{assignment_of, wait_of}
 use Rattle.turn.proofs.Known.{written-append}
 use Rattle.turn.proofs.Values.{all_piece, Gets, gets, length-assigned, knows_write, Lined, lined}
 
@@ -46,7 +46,7 @@ going_of code store count s = record {
   values = written store s.writes;
   uses = registers s.reads;
   writes = s.writes;
-  laters = map later_of s.nbas;
+  nbas = map assignment_of s.nbas;
   lines = s.lines;
   strobes = s.strobes;
   count = count;
@@ -57,7 +57,7 @@ abbrev pub turn_of : Compiled → Status → Suspend → Bool → ℕ → Turn
 turn_of code s suspend finish count = record {
   uses = registers s.reads;
   writes = s.writes;
-  laters = map later_of s.nbas;
+  nbas = map assignment_of s.nbas;
   lines = s.lines;
   strobes = s.strobes;
   rest = remainder_of code s.state;
@@ -88,11 +88,11 @@ pub record Follows (code : Compiled) (p now : ℕ) (s : Status) (r : Step) (s' :
   pub agrees : (store : Store) → Agrees s'.reads store → Agrees s.reads store
   pub goes : (store : Store) (count : ℕ) → length store ≡ length code.widths → Agrees s'.reads store → StepOn code p now store count s r s'
 
-goes_eq : (left left' : Remainder) (values values' : Store) (uses uses' : List ℕ) (writes writes' : List (ℕ × Vector)) (laters laters' : List turns.Later) (lines lines' : List ℕ) (strobes : List ℕ) (count : ℕ) → left ≡ left' → values ≡ values' → uses ≡ uses' → writes ≡ writes' → laters ≡ laters' → lines ≡ lines' → turns.Goes (record { left = left; values = values; uses = uses; writes = writes; laters = laters; lines = lines; strobes = strobes; count = count }) ≡ turns.Goes (record { left = left'; values = values'; uses = uses'; writes = writes'; laters = laters'; lines = lines'; strobes = strobes; count = count })
-goes_eq left left' values values' uses uses' writes writes' laters laters' lines lines' strobes count a b c d e f = rw (a, b, c, d, e, f) refl
+goes_eq : (left left' : Remainder) (values values' : Store) (uses uses' : List ℕ) (writes writes' : List (ℕ × Vector)) (nbas nbas' : List turns.NonblockingAssignment) (lines lines' : List ℕ) (strobes : List ℕ) (count : ℕ) → left ≡ left' → values ≡ values' → uses ≡ uses' → writes ≡ writes' → nbas ≡ nbas' → lines ≡ lines' → turns.Goes (record { left = left; values = values; uses = uses; writes = writes; nbas = nbas; lines = lines; strobes = strobes; count = count }) ≡ turns.Goes (record { left = left'; values = values'; uses = uses'; writes = writes'; nbas = nbas'; lines = lines'; strobes = strobes; count = count })
+goes_eq left left' values values' uses uses' writes writes' nbas nbas' lines lines' strobes count a b c d e f = rw (a, b, c, d, e, f) refl
 
-over_eq : (uses uses' : List ℕ) (writes : List (ℕ × Vector)) (laters : List turns.Later) (lines strobes : List ℕ) (rest rest' : Remainder) (w w' : turns.Wait) (finish : Bool) (count : ℕ) → uses ≡ uses' → rest ≡ rest' → w ≡ w' → turns.Over (record { uses = uses; writes = writes; laters = laters; lines = lines; strobes = strobes; rest = rest; wait = w; finish = finish; count = count }) ≡ turns.Over (record { uses = uses'; writes = writes; laters = laters; lines = lines; strobes = strobes; rest = rest'; wait = w'; finish = finish; count = count })
-over_eq uses uses' writes laters lines strobes rest rest' w w' finish count a b c = rw (a, b, c) refl
+over_eq : (uses uses' : List ℕ) (writes : List (ℕ × Vector)) (nbas : List turns.NonblockingAssignment) (lines strobes : List ℕ) (rest rest' : Remainder) (w w' : turns.Wait) (finish : Bool) (count : ℕ) → uses ≡ uses' → rest ≡ rest' → w ≡ w' → turns.Over (record { uses = uses; writes = writes; nbas = nbas; lines = lines; strobes = strobes; rest = rest; wait = w; finish = finish; count = count }) ≡ turns.Over (record { uses = uses'; writes = writes; nbas = nbas; lines = lines; strobes = strobes; rest = rest'; wait = w'; finish = finish; count = count })
+over_eq uses uses' writes nbas lines strobes rest rest' w w' finish count a b c = rw (a, b, c) refl
 
 wait_delayed : (controls : List (List Trigger)) (now delay : ℕ) → delayed now delay ≡ wait_of controls (wait_for now delay)
 wait_delayed controls now zero = refl
@@ -243,8 +243,8 @@ module _ (code : Compiled) (p now : ℕ) where
     goes = λ store count len agree.
         stepping (going_of code store count s) (remainder_of code s.state) (remainder_at (design_of code) to) place (tree.AssignLater q delay e) left is
         ∙ goes_eq (remainder_at (design_of code) to) (remainder_at (design_of code) to) _ _ _ _ _ _ _ _ _ _ _ (count + 1) refl refl (sym got.continues.uses) refl
-        (ap (λ x. map later_of s.nbas ++ record { register = q; value = x; due = now + delay } ∷ []) (got.value store (len ∙ sym sound.size) agree)
-        ∙ sym (map-append later_of s.nbas (record { reg = q; value = v; due = now + delay } ∷ [])))
+        (ap (λ x. map assignment_of s.nbas ++ record { register = q; value = x; due = now + delay } ∷ []) (got.value store (len ∙ sym sound.size) agree)
+        ∙ sym (map-append assignment_of s.nbas (record { reg = q; value = v; due = now + delay } ∷ [])))
         refl;
   }
 

@@ -8,7 +8,7 @@ use Rattle.std.proofs.lemmas.List.{append-nil, length-map, length-replicate, tak
 use Rattle.model.specs.declared.tree.Task.TheVariants as Task
 use Rattle.model.specs.Syntax.{Expressions, all_registers_of}
 use Rattle.model.specs.Design as tree
-use Rattle.model.specs.Design.{Design, Statement, Piece, statement_at}
+use Rattle.model.specs.Design.{Statement, Piece, statement_at}
 use Rattle.model.specs.Expressions.{Store}
 use Rattle.model.specs.Turns.{At, Remainder, with_uses, line_text, own_values}
 use Rattle.model.specs.Runs.{strobe_line, strobe_lines_at}
@@ -17,16 +17,16 @@ use Rattle.design.specs.declared.code.Op.{Op}
 use Rattle.design.specs.declared.code.Shown.{Shown}
 use Rattle.design.specs.declared.code.Node.TheVariants as node
 use Rattle.design.specs.declared.code.ProcState.{ProcState}
-use Rattle.design.specs.Steps.{piece, IsOpOf}
-use Rattle.design.specs.Places.{remainder_at, statement_count, IsPlaceOf}
-use Rattle.design.specs.Trees.{process_of}
+use Rattle.design.specs.ExpressionSteps.{piece, IsOpOf}
+use Rattle.design.specs.CodePlaces.{remainder_at, statement_count, IsPlaceOf}
+use Rattle.design.specs.DesignTrees.{process_of}
 use Rattle.design.specs.Compiled.{Compiled, design_of}
 use Rattle.design.specs.Meaning.{IsFine, IsCompiled}
 use Rattle.design.proofs.Numbered.{place_named, past_is_empty, end_is_empty, some_process}
 use Rattle.turn.specs.declared.memory.Seen.{Seen}
 use Rattle.turn.specs.Reads.{registers, Agrees}
 use Rattle.turn.specs.Evaluate.{Knows, written, written_in}
-use Rattle.turn.specs.Progress.{Status, fresh, printing}
+use Rattle.turn.specs.RunningTurn.{Status, fresh, printing}
 use Rattle.turn.specs.Strobes.{PrintsStrobe, strobe_uses, strobe_uses_at, AreStrobeLines}
 use Rattle.turn.proofs.Values.{Lined, lined}
 use Rattle.turn.proofs.Steps.{not_past}

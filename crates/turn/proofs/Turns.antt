@@ -19,10 +19,10 @@ use Rattle.design.specs.declared.code.Op.{Op}
 use Rattle.design.specs.declared.code.ProcState.{ProcState}
 use Rattle.design.specs.declared.code.Shown.{Shown}
 use Rattle.design.specs.Fits.{FitsRegister}
-use Rattle.design.specs.Places.{remainder_at}
+use Rattle.design.specs.CodePlaces.{remainder_at}
 use Rattle.design.specs.Compiled.{Compiled, design_of}
 use Rattle.design.specs.Meaning.{IsFine, IsCompiled}
-use Rattle.design.specs.Standing.{pending_part, remainder_of, controls_of, IsStateOf}
+use Rattle.design.specs.DesignInvariant.{pending_part, remainder_of, controls_of, IsStateOf}
 use Rattle.turn.specs.declared.log.Suspend.{Suspend}
 use Rattle.turn.specs.declared.log.Suspend.TheVariants as suspends
 use Rattle.turn.specs.declared.machine.Step.{Step}
@@ -30,11 +30,11 @@ use Rattle.turn.specs.declared.machine.Step.TheVariants as step
 use Rattle.turn.specs.Reads.{registers, AreDeclared, Agrees}
 use Rattle.turn.specs.Partial.{under_way, going_after, first_uses}
 use Rattle.turn.specs.Evaluate.{Knows}
-use Rattle.turn.specs.Progress.{Status, fresh}
-use Rattle.turn.specs.Machine.{Takes, TakesSome, TakesPending, IsEndNode, IsAtEnd}
+use Rattle.turn.specs.RunningTurn.{Status, fresh}
+use Rattle.turn.specs.TurnSteps.{Takes, TakesSome, TakesPending, IsEndNode, IsAtEnd}
 use Rattle.turn.specs.Nets.{nets_of}
-use Rattle.turn.specs.Logs.{LogView, later_of, wait_of, IsLogOf}
-use Rattle.turn.specs.Answers.{IsTurnLog}
+use Rattle.turn.specs.TurnLogs.{LogView, assignment_of, wait_of, IsLogOf}
+use Rattle.turn.specs.TurnAnswers.{IsTurnLog}
 use Rattle.turn.proofs.Steps.{going_of, turn_of, Sound, takes_follows, not_past, place_within}
 
 -- After this many counted steps the turn is under way as the status says, on every store that agrees with the reads so
@@ -154,7 +154,7 @@ log_is : (code : Compiled) (log : LogView) (s : Status) (suspend : Suspend) (fin
 log_is code log s suspend finish n l = record {
   uses = ap registers l.reads;
   writes = l.writes;
-  laters = ap (map later_of) l.nbas;
+  nbas = ap (map assignment_of) l.nbas;
   lines = l.lines;
   strobes = l.strobes;
   rest = ap (remainder_of code) l.next;

@@ -16,14 +16,14 @@ use Rattle.design.specs.declared.code.Op.TheVariants.{Load, Pick, Constant, Unar
 use Rattle.design.specs.declared.code.Span.{Span}
 use Rattle.design.specs.declared.code.Shown.{Shown}
 use Rattle.design.specs.declared.code.Shown.TheVariants as pieces
-use Rattle.design.specs.Steps.{topmost, Computes, IsOpOf, piece}
-use Rattle.design.specs.Trees.{conversion_of}
+use Rattle.design.specs.ExpressionSteps.{topmost, Computes, IsOpOf, piece}
+use Rattle.design.specs.DesignTrees.{conversion_of}
 use Rattle.design.specs.Compiled.{Compiled}
 use Rattle.design.specs.Meaning.{IsLine, IsCompiled}
 use Rattle.turn.specs.declared.memory.Seen.{Seen}
 use Rattle.turn.specs.Reads.{registers, AreDeclared, Agrees}
 use Rattle.turn.specs.Evaluate.{NamesDeclared, Holds, Knows, Continues, written, written_in}
-use Rattle.turn.specs.Progress.{Status, printing, Valued, Prints}
+use Rattle.turn.specs.RunningTurn.{Status, printing, Valued, Prints}
 use Rattle.turn.proofs.Known.{known_same, known_other, same_or_not, written-append, length-written, there, or_true, or_false, ne_of}
 use Rattle.turn.proofs.Runs.{continues_none, continues_both}
 

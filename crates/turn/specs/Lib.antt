@@ -3,9 +3,9 @@ pub mod Nets
 pub mod Reads
 pub mod Memory
 pub mod Evaluate
-pub mod Progress
-pub mod Machine
-pub mod Logs
+pub mod RunningTurn
+pub mod TurnSteps
+pub mod TurnLogs
 pub mod Partial
-pub mod Answers
+pub mod TurnAnswers
 pub mod Strobes

@@ -10,11 +10,11 @@ use Rattle.design.specs.declared.code.Op.{Op}
 use Rattle.design.specs.declared.code.Shown.{Shown}
 use Rattle.design.specs.declared.code.Node.{Node}
 use Rattle.design.specs.declared.code.Node.TheVariants as node
-use Rattle.design.specs.Steps.{piece}
+use Rattle.design.specs.ExpressionSteps.{piece}
 use Rattle.design.specs.Compiled.{Compiled, design_of}
 use Rattle.turn.specs.declared.memory.Seen.{Seen}
 use Rattle.turn.specs.Reads.{registers, Agrees}
-use Rattle.turn.specs.Progress.{Status, printing, Prints}
+use Rattle.turn.specs.RunningTurn.{Status, printing, Prints}
 
 -- the line of a node is printed, where that is a $strobe statement's
 abbrev pub PrintsStrobe : List Op → List Shown → Option Node → Status → Status → Type 0

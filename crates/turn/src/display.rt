@@ -1,13 +1,13 @@
 //! The lines of `$display` (17.1).
-ghost use Rattle.std.specs.Prelude.{◌≡◌, ◌++◌, ◌∷◌, [], string_bytes, OnOk, IfOk};
+ghost use Rattle.std.specs.Prelude.{◌≡◌, ◌∷◌, [], string_bytes, OnOk, IfOk};
 ghost use Rattle.logic4.specs.Display as display;
-ghost use Rattle.design.specs.Trees.{conversion_of};
-ghost use Rattle.turn.specs.Reads.{GaveAll, Keeps};
+ghost use Rattle.design.specs.DesignTrees.{conversion_of};
+ghost use Rattle.turn.specs.Reads.{ReadsOn};
 ghost use Rattle.turn.specs.Evaluate.{NamesDeclared};
-ghost use Rattle.turn.specs.Progress.{status_of, printing, PrintsPiece, Prints};
+ghost use Rattle.turn.specs.RunningTurn.{status_of, printing, PrintsPiece, Prints};
 
 use crate::memory::RegReader;
-use crate::progress::Progress;
+use crate::running_turn::RunningTurn;
 use design::Ascii;
 use design::code::{Op, Shown};
 use design::tree::Conversion;
@@ -25,7 +25,7 @@ fn text_of(alloc: Global, conversion: Conversion, value: Bits) -> Result<String,
     }
 }
 
-impl Progress {
+impl RunningTurn {
     // Prints a byte. It is one of ASCII (3.6), so in UTF-8 it is the whole of a character.
     fn print_byte(&mut self, byte: Ascii) -> Result<(), AllocError>
         ensures { OnOk result (status_of self.new ≡ printing (status_of self.old) (byte ∷ [])) }
@@ -50,9 +50,7 @@ impl Progress {
     ) -> Result<(), AllocError>
         requires { NamesDeclared R.registers ops.now }
         ensures prints { OnOk result (PrintsPiece ops.now piece.now (status_of self.old) (status_of self.new)) }
-        ensures gave { OnOk result (GaveAll (R.gave reader.old) self.old.memory.reads.entries → GaveAll (R.gave reader.new) self.new.memory.reads.entries) }
-        ensures keeps { Keeps (R.gave reader.old) (R.gave reader.new) }
-        ensures lasting { R.lasting reader.new ≡ R.lasting reader.old }
+        ensures reads { ReadsOn R.gave R.lasting result reader.old self.old.memory.reads.entries reader.new self.new.memory.reads.entries }
     {
         match piece {
             Shown::Byte(byte) => self.print_byte(*byte),
@@ -73,9 +71,7 @@ impl Progress {
     ) -> Result<(), AllocError>
         requires { NamesDeclared R.registers ops.now }
         ensures prints { OnOk result (Prints ops.now pieces.now (status_of self.old) (status_of self.new)) }
-        ensures gave { OnOk result (GaveAll (R.gave reader.old) self.old.memory.reads.entries → GaveAll (R.gave reader.new) self.new.memory.reads.entries) }
-        ensures keeps { Keeps (R.gave reader.old) (R.gave reader.new) }
-        ensures lasting { R.lasting reader.new ≡ R.lasting reader.old }
+        ensures reads { ReadsOn R.gave R.lasting result reader.old self.old.memory.reads.entries reader.new self.new.memory.reads.entries }
     {
         for piece in pieces {
             self.print_piece(ops, piece, reader)?;

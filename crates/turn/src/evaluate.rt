@@ -5,8 +5,8 @@ ghost use Rattle.logic4.specs.Operators.{select_digit};
 ghost use Rattle.model.specs.Expressions.{Store};
 ghost use Rattle.design.specs.declared.code.Op.TheVariants.{Load, Pick, Unary, Binary, BinaryRegister, Join, Resize, Choose};
 ghost use Rattle.design.specs.Operate.{combined};
-ghost use Rattle.design.specs.Steps.{topmost, below, act, run_ops, IsOpOf};
-ghost use Rattle.turn.specs.Reads.{GaveAll, Keeps};
+ghost use Rattle.design.specs.ExpressionSteps.{topmost, below, act, run_ops, IsOpOf};
+ghost use Rattle.turn.specs.Reads.{ReadsOn};
 ghost use Rattle.turn.specs.Evaluate.{vectors, NamesDeclared, Holds, Acts, Ran, Evaluates};
 
 use crate::memory::{Memory, RegReader};
@@ -59,9 +59,7 @@ fn load_unknown<R: RegReader>(
     requires declared { register < R.registers }
     requires unknown { slice_index_or memory.old.known register None ≡ None }
     ensures acts { OnOk result (Acts (Load register size) memory.old.known memory.old.reads.entries (reverse stack.old.rest.items) memory.new.known memory.new.reads.entries (vectors stack.new)) }
-    ensures gave { OnOk result (GaveAll (R.gave reader.old) memory.old.reads.entries → GaveAll (R.gave reader.new) memory.new.reads.entries) }
-    ensures keeps { Keeps (R.gave reader.old) (R.gave reader.new) }
-    ensures lasting { R.lasting reader.new ≡ R.lasting reader.old }
+    ensures reads { ReadsOn R.gave R.lasting result reader.old memory.old.reads.entries reader.new memory.new.reads.entries }
 {
     let value = memory.read(reader, register)?;
     set_sized(&mut stack.top, &value, size);
@@ -79,9 +77,7 @@ fn load<R: RegReader>(
 ) -> Result<(), AllocError>
     requires { register < R.registers }
     ensures acts { OnOk result (Acts (Load register size) memory.old.known memory.old.reads.entries (reverse stack.old.rest.items) memory.new.known memory.new.reads.entries (vectors stack.new)) }
-    ensures gave { OnOk result (GaveAll (R.gave reader.old) memory.old.reads.entries → GaveAll (R.gave reader.new) memory.new.reads.entries) }
-    ensures keeps { Keeps (R.gave reader.old) (R.gave reader.new) }
-    ensures lasting { R.lasting reader.new ≡ R.lasting reader.old }
+    ensures reads { ReadsOn R.gave R.lasting result reader.old memory.old.reads.entries reader.new memory.new.reads.entries }
 {
     match memory.known.peek(register) {
         Some(value) => {
@@ -102,9 +98,7 @@ fn load_above<R: RegReader>(
 ) -> Result<(), AllocError>
     requires { register < R.registers }
     ensures acts { OnOk result (Acts (Load register size) memory.old.known memory.old.reads.entries (vectors stack.old) memory.new.known memory.new.reads.entries (vectors stack.new)) }
-    ensures gave { OnOk result (GaveAll (R.gave reader.old) memory.old.reads.entries → GaveAll (R.gave reader.new) memory.new.reads.entries) }
-    ensures keeps { Keeps (R.gave reader.old) (R.gave reader.new) }
-    ensures lasting { R.lasting reader.new ≡ R.lasting reader.old }
+    ensures reads { ReadsOn R.gave R.lasting result reader.old memory.old.reads.entries reader.new memory.new.reads.entries }
 {
     stack.keep_top()?;
     load(memory, reader, stack, register, size)
@@ -122,9 +116,7 @@ fn load_digit<R: RegReader>(
 ) -> Result<(), AllocError>
     requires { register < R.registers }
     ensures acts { OnOk result (Acts (Pick register index size) memory.old.known memory.old.reads.entries (reverse stack.old.rest.items) memory.new.known memory.new.reads.entries (vectors stack.new)) }
-    ensures gave { OnOk result (GaveAll (R.gave reader.old) memory.old.reads.entries → GaveAll (R.gave reader.new) memory.new.reads.entries) }
-    ensures keeps { Keeps (R.gave reader.old) (R.gave reader.new) }
-    ensures lasting { R.lasting reader.new ≡ R.lasting reader.old }
+    ensures reads { ReadsOn R.gave R.lasting result reader.old memory.old.reads.entries reader.new memory.new.reads.entries }
 {
     let value = memory.look(reader, register)?;
     stack.top = pick(value, index).resize(size.get());
@@ -166,9 +158,7 @@ fn act_with_unknown<R: RegReader>(
     requires declared { register < R.registers }
     requires unknown { slice_index_or memory.old.known register None ≡ None }
     ensures acts { OnOk result (Acts (BinaryRegister operator size asked register other) memory.old.known memory.old.reads.entries (vectors stack.old) memory.new.known memory.new.reads.entries (vectors stack.new)) }
-    ensures gave { OnOk result (GaveAll (R.gave reader.old) memory.old.reads.entries → GaveAll (R.gave reader.new) memory.new.reads.entries) }
-    ensures keeps { Keeps (R.gave reader.old) (R.gave reader.new) }
-    ensures lasting { R.lasting reader.new ≡ R.lasting reader.old }
+    ensures reads { ReadsOn R.gave R.lasting result reader.old memory.old.reads.entries reader.new memory.new.reads.entries }
 {
     let value = memory.read(reader, register)?;
     act_with_sized(&mut stack.top, operator, size, asked, &value, other);
@@ -189,9 +179,7 @@ fn act_with_register<R: RegReader>(
 ) -> Result<(), AllocError>
     requires { register < R.registers }
     ensures acts { OnOk result (Acts (BinaryRegister operator size asked register other) memory.old.known memory.old.reads.entries (vectors stack.old) memory.new.known memory.new.reads.entries (vectors stack.new)) }
-    ensures gave { OnOk result (GaveAll (R.gave reader.old) memory.old.reads.entries → GaveAll (R.gave reader.new) memory.new.reads.entries) }
-    ensures keeps { Keeps (R.gave reader.old) (R.gave reader.new) }
-    ensures lasting { R.lasting reader.new ≡ R.lasting reader.old }
+    ensures reads { ReadsOn R.gave R.lasting result reader.old memory.old.reads.entries reader.new memory.new.reads.entries }
 {
     match memory.known.peek(register) {
         Some(value) => {
@@ -258,9 +246,7 @@ fn step<R: RegReader>(
 ) -> Result<(), AllocError>
     requires { IsOpOf R.registers op.now }
     ensures acts { OnOk result (Acts op.now memory.old.known memory.old.reads.entries (vectors stack.old) memory.new.known memory.new.reads.entries (vectors stack.new)) }
-    ensures gave { OnOk result (GaveAll (R.gave reader.old) memory.old.reads.entries → GaveAll (R.gave reader.new) memory.new.reads.entries) }
-    ensures keeps { Keeps (R.gave reader.old) (R.gave reader.new) }
-    ensures lasting { R.lasting reader.new ≡ R.lasting reader.old }
+    ensures reads { ReadsOn R.gave R.lasting result reader.old memory.old.reads.entries reader.new memory.new.reads.entries }
 {
     match op {
         Op::Load { register, size } => return load_above(memory, reader, stack, *register, *size),
@@ -311,9 +297,7 @@ fn start_below<R: RegReader>(
 ) -> Result<(), AllocError>
     requires { IsOpOf R.registers op.now }
     ensures acts { OnOk result (Acts op.now memory.old.known memory.old.reads.entries (topmost (reverse stack.old.rest.items) ∷ below (reverse stack.old.rest.items)) memory.new.known memory.new.reads.entries (vectors stack.new)) }
-    ensures gave { OnOk result (GaveAll (R.gave reader.old) memory.old.reads.entries → GaveAll (R.gave reader.new) memory.new.reads.entries) }
-    ensures keeps { Keeps (R.gave reader.old) (R.gave reader.new) }
-    ensures lasting { R.lasting reader.new ≡ R.lasting reader.old }
+    ensures reads { ReadsOn R.gave R.lasting result reader.old memory.old.reads.entries reader.new memory.new.reads.entries }
 {
     stack.top = pop(&mut stack.rest);
     step(op, memory, reader, stack)
@@ -329,9 +313,7 @@ fn start_any<R: RegReader>(
 ) -> Result<(), AllocError>
     requires { IsOpOf R.registers op.now }
     ensures acts { OnOk result (Acts op.now memory.old.known memory.old.reads.entries (reverse stack.old.rest.items) memory.new.known memory.new.reads.entries (vectors stack.new)) }
-    ensures gave { OnOk result (GaveAll (R.gave reader.old) memory.old.reads.entries → GaveAll (R.gave reader.new) memory.new.reads.entries) }
-    ensures keeps { Keeps (R.gave reader.old) (R.gave reader.new) }
-    ensures lasting { R.lasting reader.new ≡ R.lasting reader.old }
+    ensures reads { ReadsOn R.gave R.lasting result reader.old memory.old.reads.entries reader.new memory.new.reads.entries }
 {
     match op {
         Op::Load { register, size } => load(memory, reader, stack, *register, *size),
@@ -358,9 +340,7 @@ fn start<R: RegReader>(
 ) -> Result<(), AllocError>
     requires { IsOpOf R.registers op.now }
     ensures acts { OnOk result (Acts op.now memory.old.known memory.old.reads.entries (reverse stack.old.rest.items) memory.new.known memory.new.reads.entries (vectors stack.new)) }
-    ensures gave { OnOk result (GaveAll (R.gave reader.old) memory.old.reads.entries → GaveAll (R.gave reader.new) memory.new.reads.entries) }
-    ensures keeps { Keeps (R.gave reader.old) (R.gave reader.new) }
-    ensures lasting { R.lasting reader.new ≡ R.lasting reader.old }
+    ensures reads { ReadsOn R.gave R.lasting result reader.old memory.old.reads.entries reader.new memory.new.reads.entries }
 {
     if let Op::Load { register, size } = op {
         load(memory, reader, stack, *register, *size)
@@ -379,9 +359,7 @@ fn go_on<R: RegReader>(
 ) -> Result<(), AllocError>
     requires { NamesDeclared R.registers ops.now }
     ensures ran { OnOk result (NamesDeclared (length memory.old.known) ops.now → Ran ops.now memory.old.known memory.old.reads.entries (vectors stack.old) memory.new.known memory.new.reads.entries (vectors stack.new)) }
-    ensures gave { OnOk result (GaveAll (R.gave reader.old) memory.old.reads.entries → GaveAll (R.gave reader.new) memory.new.reads.entries) }
-    ensures keeps { Keeps (R.gave reader.old) (R.gave reader.new) }
-    ensures lasting { R.lasting reader.new ≡ R.lasting reader.old }
+    ensures reads { ReadsOn R.gave R.lasting result reader.old memory.old.reads.entries reader.new memory.new.reads.entries }
 {
     for op in ops {
         step(op, memory, reader, stack)?;
@@ -399,9 +377,7 @@ pub(crate) fn compute<R: RegReader>(
     requires { NamesDeclared R.registers ops.now }
     ensures value { OnOk result (Evaluates ops.now memory.old.known memory.old.reads.entries stack.new.top memory.new.known memory.new.reads.entries) }
     ensures rest { OnOk result ((values : Store) → NamesDeclared (length memory.old.known) ops.now → Holds memory.new.known values → reverse stack.new.rest.items ≡ below (run_ops values ops.now (reverse stack.old.rest.items))) }
-    ensures gave { OnOk result (GaveAll (R.gave reader.old) memory.old.reads.entries → GaveAll (R.gave reader.new) memory.new.reads.entries) }
-    ensures keeps { Keeps (R.gave reader.old) (R.gave reader.new) }
-    ensures lasting { R.lasting reader.new ≡ R.lasting reader.old }
+    ensures reads { ReadsOn R.gave R.lasting result reader.old memory.old.reads.entries reader.new memory.new.reads.entries }
 {
     match ops.split_first() {
         Some((first, others)) => {

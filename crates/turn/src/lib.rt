@@ -11,7 +11,7 @@
 //! 5. `strobe_lines` makes the lines of `$strobe` statements once their time comes, by the same steps.
 //!
 //! What the layer above uses: on every store that has the values recorded, the log is the turn of the definitions, and a
-//! turn that is too long has none (`specs/Answers.antt`). So values of registers that weren't read count for nothing.
+//! turn that is too long has none (`specs/TurnAnswers.antt`). So values of registers that weren't read count for nothing.
 #![tactic(auto)]
 
 mod display;
@@ -21,8 +21,8 @@ mod machine;
 mod memory;
 mod operate;
 mod owned;
-mod progress;
 mod run;
+mod running_turn;
 mod stack;
 mod statements;
 mod strobes;

@@ -3,7 +3,7 @@ ghost use Rattle.std.specs.Prelude.{◌≡◌};
 ghost use Rattle.turn.specs.Nets.{nets_of};
 
 use crate::memory::Seen;
-use crate::progress::Progress;
+use crate::running_turn::RunningTurn;
 use design::{ProcState, RegId};
 use indexmap::IndexMap;
 use logic4::bits::Bits;
@@ -44,25 +44,25 @@ pub enum Suspend {
 /// met `$finish`; and the number of its counted steps. The next turn is filled into the same log, in the room that it has.
 #[derive(Drop)]
 pub struct TurnLog {
-    pub(crate) progress: Progress,
+    pub(crate) running: RunningTurn,
     pub(crate) suspend: Suspend,
     pub(crate) finish: bool,
     pub(crate) count: u32,
 }
 
 impl Model for TurnLog {
-    ghost use Rattle.turn.specs.Logs.{LogView, log_of};
+    ghost use Rattle.turn.specs.TurnLogs.{LogView, log_of};
 
     ghost Value = { LogView };
 
-    ghost view = { λ t. log_of t.progress t.suspend t.finish t.count };
+    ghost view = { λ t. log_of t.running t.suspend t.finish t.count };
 }
 
 impl TurnLog {
     /// The log of no turn, which grows with the first.
     pub fn new(alloc: Global) -> TurnLog {
         TurnLog {
-            progress: Progress::new(alloc),
+            running: RunningTurn::new(alloc),
             suspend: Suspend::Ended,
             finish: false,
             count: 0,
@@ -73,22 +73,22 @@ impl TurnLog {
     pub(crate) fn into_reads(self) -> IndexMap<RegId, Seen>
         ensures { result.entries ≡ self.reads }
     {
-        let TurnLog { progress, .. } = self;
-        progress.into_reads()
+        let TurnLog { running, .. } = self;
+        running.into_reads()
     }
 
     /// The registers that were read, each with what was seen.
     pub fn reads(&self) -> &IndexMap<RegId, Seen>
         ensures { result.now.entries ≡ self.entry.now.reads }
     {
-        &self.progress.memory.reads
+        &self.running.memory.reads
     }
 
     /// The writes, in order.
     pub fn writes(&self) -> &[(RegId, Bits)]
         ensures { result.now ≡ self.entry.now.writes }
     {
-        self.progress.writes.list()
+        self.running.writes.list()
     }
 
     /// The net of the writes of each register, in the order of its first write.
@@ -96,35 +96,35 @@ impl TurnLog {
         ensures value { result.now ≡ self.entry.now.nets }
         ensures of { result.now ≡ nets_of self.entry.now.writes }
     {
-        self.progress.writes.nets()
+        self.running.writes.nets()
     }
 
     /// The nonblocking assignments, in order.
     pub fn nbas(&self) -> &[Nba]
         ensures { result.now ≡ self.entry.now.nbas }
     {
-        self.progress.nbas.as_slice()
+        self.running.nbas.as_slice()
     }
 
     /// The lines.
     pub fn lines(&self) -> &str
         ensures { result.now ≡ self.entry.now.lines }
     {
-        self.progress.lines.as_str()
+        self.running.lines.as_str()
     }
 
     /// The places of the `$strobe` statements that were met, in order.
     pub fn strobes(&self) -> &[usize]
         ensures { result.now ≡ self.entry.now.strobes }
     {
-        self.progress.strobes.as_slice()
+        self.running.strobes.as_slice()
     }
 
     /// Where the process goes on.
     pub fn next(&self) -> ProcState
         ensures { result ≡ self.now.next }
     {
-        self.progress.state
+        self.running.state
     }
 
     /// What the process waits for.

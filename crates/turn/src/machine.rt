@@ -1,14 +1,16 @@
 //! One step of a turn.
-ghost use Rattle.std.specs.Prelude.{◌≡◌, ◌≤◌, ◌^◌, ◌↔◌, IsTrue, OnOk, IfOk};
+ghost use Rattle.std.specs.Prelude.{◌≡◌, ◌≤◌, ◌↔◌, true, false, IsTrue, IfOk};
 ghost use Rattle.model.specs.Runs.{last_time};
-ghost use Rattle.turn.specs.Reads.{GaveAll, Keeps};
+ghost use Rattle.turn.specs.declared.log.Suspend.TheVariants.{Ended};
+ghost use Rattle.turn.specs.declared.machine.Step.TheVariants.{Ends};
+ghost use Rattle.turn.specs.Reads.{ReadsOn};
 ghost use Rattle.turn.specs.Evaluate.{NamesDeclared};
-ghost use Rattle.turn.specs.Progress.{status_of, wait_for};
-ghost use Rattle.turn.specs.Machine.{TakesNode, Takes, IsAtEnd};
+ghost use Rattle.turn.specs.RunningTurn.{status_of, at, wait_for};
+ghost use Rattle.turn.specs.TurnSteps.{TakesNode, Takes, IsAtEnd};
 
 use crate::log::Suspend;
 use crate::memory::RegReader;
-use crate::progress::Progress;
+use crate::running_turn::RunningTurn;
 use design::code::{Node, Op, Shown};
 use model::tree::Task;
 use std::alloc::AllocError;
@@ -33,7 +35,33 @@ fn wait_until(now: u64, delay: u32) -> Suspend
     }
 }
 
-impl Progress {
+impl RunningTurn {
+    // The turn ends, and its process goes on at this place after what it waits for.
+    #[inline(always)]
+    fn wait(&mut self, next: usize, suspend: Suspend) -> Step
+        ensures step { result ≡ Ends suspend false }
+        ensures status { status_of self.new ≡ at (status_of self.old) next }
+    {
+        self.go(next);
+        Step::Ends {
+            suspend,
+            finish: false,
+        }
+    }
+
+    // The turn ends, and the run with it (17.4.1).
+    #[inline(always)]
+    fn finish(&mut self, next: usize) -> Step
+        ensures step { result ≡ Ends Ended true }
+        ensures status { status_of self.new ≡ at (status_of self.old) next }
+    {
+        self.go(next);
+        Step::Ends {
+            suspend: Suspend::Ended,
+            finish: true,
+        }
+    }
+
     // What a node does.
     fn take_node<R: RegReader>(
         &mut self,
@@ -46,9 +74,7 @@ impl Progress {
         requires now { now ≤ last_time }
         requires declared { NamesDeclared R.registers ops.now }
         ensures takes { IfOk result (λ r. TakesNode ops.now shown.now now node.now (status_of self.old) r (status_of self.new)) }
-        ensures gave { OnOk result (GaveAll (R.gave reader.old) self.old.memory.reads.entries → GaveAll (R.gave reader.new) self.new.memory.reads.entries) }
-        ensures keeps { Keeps (R.gave reader.old) (R.gave reader.new) }
-        ensures lasting { R.lasting reader.new ≡ R.lasting reader.old }
+        ensures reads { ReadsOn R.gave R.lasting result reader.old self.old.memory.reads.entries reader.new self.new.memory.reads.entries }
     {
         match node {
             Node::Over => return Ok(Step::Over),
@@ -77,45 +103,21 @@ impl Progress {
                 value,
                 next,
             } => {
-                let due = now + u64::from(*delay);
-                self.assign_at(ops, *value, *register, due, *next, reader)?;
+                self.compute(ops, *value, reader)?;
+                self.assign_later(*register, now + u64::from(*delay), *next)?;
             }
-            Node::Delay { delay, next } => {
-                self.go(*next);
-                return Ok(Step::Ends {
-                    suspend: wait_until(now, *delay),
-                    finish: false,
-                });
-            }
-            Node::Await { control, next } => {
-                self.go(*next);
-                return Ok(Step::Ends {
-                    suspend: Suspend::Event(*control),
-                    finish: false,
-                });
-            }
+            Node::Delay { delay, next } => return Ok(self.wait(*next, wait_until(now, *delay))),
+            Node::Await { control, next } => return Ok(self.wait(*next, Suspend::Event(*control))),
             Node::Branch {
                 condition,
                 taken,
                 missed,
             } => self.branch(ops, *condition, *taken, *missed, reader)?,
-            Node::Print {
-                task: Task::Display,
-                pieces,
-                next,
-            } => self.display(ops, shown, *pieces, *next, reader)?,
-            Node::Print {
-                task: Task::Strobe,
-                pieces: _,
-                next,
-            } => self.strobe(*next)?,
-            Node::Finish { next } => {
-                self.go(*next);
-                return Ok(Step::Ends {
-                    suspend: Suspend::Ended,
-                    finish: true,
-                });
-            }
+            Node::Print { task, pieces, next } => match task {
+                Task::Display => self.display(ops, shown, *pieces, *next, reader)?,
+                Task::Strobe => self.strobe(*next)?,
+            },
+            Node::Finish { next } => return Ok(self.finish(*next)),
         }
         Ok(Step::Goes)
     }
@@ -132,9 +134,7 @@ impl Progress {
         requires now { now ≤ last_time }
         requires declared { NamesDeclared R.registers ops.now }
         ensures takes { IfOk result (λ r. Takes nodes.now ops.now shown.now now (status_of self.old) r (status_of self.new)) }
-        ensures gave { OnOk result (GaveAll (R.gave reader.old) self.old.memory.reads.entries → GaveAll (R.gave reader.new) self.new.memory.reads.entries) }
-        ensures keeps { Keeps (R.gave reader.old) (R.gave reader.new) }
-        ensures lasting { R.lasting reader.new ≡ R.lasting reader.old }
+        ensures reads { ReadsOn R.gave R.lasting result reader.old self.old.memory.reads.entries reader.new self.new.memory.reads.entries }
     {
         let place = self.state.place;
         if let Some((register, value)) = self.state.pending {

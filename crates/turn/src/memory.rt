@@ -1,7 +1,7 @@
 //! What a turn knows of the registers: what it wrote, and what it read.
 ghost use Rattle.std.specs.Prelude.{◌≡◌, ◌<◌, ℕ, None, Some, [], replicate, nat_eq, slice_index_or, slice_set, OnOk, IfOk};
 ghost use Rattle.indexmap.specs.IndexMap.{insert_entry};
-ghost use Rattle.turn.specs.Reads.{GaveAll, Keeps};
+ghost use Rattle.turn.specs.Reads.{ReadsOn};
 ghost use Rattle.turn.specs.Memory.{Looks};
 
 use crate::table::Known;
@@ -94,9 +94,7 @@ impl Memory {
         requires declared { register < R.registers }
         requires unknown { slice_index_or self.old.known register None ≡ None }
         ensures value { IfOk result (λ v. Looks self.old.known self.old.reads.entries register v self.new.known self.new.reads.entries) }
-        ensures gave { OnOk result (GaveAll (R.gave reader.old) self.old.reads.entries → GaveAll (R.gave reader.new) self.new.reads.entries) }
-        ensures keeps { Keeps (R.gave reader.old) (R.gave reader.new) }
-        ensures lasting { R.lasting reader.new ≡ R.lasting reader.old }
+        ensures reads { ReadsOn R.gave R.lasting result reader.old self.old.reads.entries reader.new self.new.reads.entries }
     {
         let seen = reader.read(register);
         let value = seen.value;
@@ -112,9 +110,7 @@ impl Memory {
     ) -> Result<Bits, AllocError>
         requires { register < R.registers }
         ensures value { IfOk result (λ v. Looks self.old.known self.old.reads.entries register v self.new.known self.new.reads.entries) }
-        ensures gave { OnOk result (GaveAll (R.gave reader.old) self.old.reads.entries → GaveAll (R.gave reader.new) self.new.reads.entries) }
-        ensures keeps { Keeps (R.gave reader.old) (R.gave reader.new) }
-        ensures lasting { R.lasting reader.new ≡ R.lasting reader.old }
+        ensures reads { ReadsOn R.gave R.lasting result reader.old self.old.reads.entries reader.new self.new.reads.entries }
     {
         match self.known.peek(register) {
             Some(value) => Ok(*value),

@@ -2,7 +2,7 @@
 ghost use Rattle.std.specs.Prelude.{◌≡◌, ◌≤◌, length, MatchResult};
 ghost use Rattle.model.specs.Runs.{last_time};
 ghost use Rattle.turn.specs.Reads.{GaveAll, Keeps};
-ghost use Rattle.turn.specs.Answers.{IsTurnLog, IsNoRun, reads_so_far};
+ghost use Rattle.turn.specs.TurnAnswers.{IsTurnLog, IsNoRun, reads_so_far};
 
 use crate::log::{FillFault, TurnFault, TurnLog};
 use crate::memory::RegReader;

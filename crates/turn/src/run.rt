@@ -3,13 +3,13 @@ ghost use Rattle.std.specs.Prelude.{◌≡◌, ◌≤◌, length, MatchResult};
 ghost use Rattle.model.specs.Runs.{last_time};
 ghost use Rattle.turn.specs.Reads.{GaveAll, Keeps};
 ghost use Rattle.turn.specs.declared.log.FillFault.TheVariants as fault_of;
-ghost use Rattle.turn.specs.Logs.{log_of};
-ghost use Rattle.turn.specs.Answers.{IsTurnLog, IsNoTurn};
+ghost use Rattle.turn.specs.TurnLogs.{log_of};
+ghost use Rattle.turn.specs.TurnAnswers.{IsTurnLog, IsNoTurn};
 
 use crate::log::{FillFault, Suspend, TurnLog};
 use crate::machine::Step;
 use crate::memory::RegReader;
-use crate::progress::Progress;
+use crate::running_turn::RunningTurn;
 use design::{Design, ProcState};
 
 /// The most counted steps of a turn.
@@ -25,7 +25,7 @@ struct Ending {
 
 // The turn, and how it ended.
 fn run<R: RegReader>(
-    progress: &mut Progress,
+    running: &mut RunningTurn,
     design: &Design,
     state: &ProcState,
     now: u64,
@@ -33,17 +33,17 @@ fn run<R: RegReader>(
 ) -> Result<Ending, FillFault>
     requires now { now ≤ last_time }
     requires registers { length design.now.widths ≤ R.registers }
-    ensures turn { MatchResult result (λ e. IsTurnLog design.now state.now now (log_of progress.new e.suspend e.finish e.count)) (IsNoTurn design.now state.now now progress.new.memory.reads.entries) }
-    ensures gave { MatchResult result (λ _. GaveAll (R.gave reader.new) progress.new.memory.reads.entries) (λ fault. fault ≡ fault_of.TooLong → GaveAll (R.gave reader.new) progress.new.memory.reads.entries) }
+    ensures turn { MatchResult result (λ e. IsTurnLog design.now state.now now (log_of running.new e.suspend e.finish e.count)) (IsNoTurn design.now state.now now running.new.memory.reads.entries) }
+    ensures gave { MatchResult result (λ _. GaveAll (R.gave reader.new) running.new.memory.reads.entries) (λ fault. fault ≡ fault_of.TooLong → GaveAll (R.gave reader.new) running.new.memory.reads.entries) }
     ensures keeps { Keeps (R.gave reader.old) (R.gave reader.new) }
     ensures lasting { R.lasting reader.new ≡ R.lasting reader.old }
 {
     let nodes = design.nodes();
     let ops = design.ops();
     let shown = design.shown();
-    progress.begin(*state, design.registers())?;
+    running.begin(*state, design.registers())?;
     for count in 0..MOST_STEPS {
-        match progress.take(nodes, ops, shown, now, reader)? {
+        match running.take(nodes, ops, shown, now, reader)? {
             Step::Goes => {}
             Step::Over => {
                 return Ok(Ending {
@@ -61,7 +61,7 @@ fn run<R: RegReader>(
             }
         }
     }
-    if progress.is_over(nodes) {
+    if running.is_over(nodes) {
         Ok(Ending {
             suspend: Suspend::Ended,
             finish: false,
@@ -90,7 +90,7 @@ pub fn fill_turn<R: RegReader>(
     ensures keeps { Keeps (R.gave reader.old) (R.gave reader.new) }
     ensures lasting { R.lasting reader.new ≡ R.lasting reader.old }
 {
-    let ending = run(&mut log.progress, design, state, now, reader)?;
+    let ending = run(&mut log.running, design, state, now, reader)?;
     log.suspend = ending.suspend;
     log.finish = ending.finish;
     log.count = ending.count;

@@ -1,6 +1,6 @@
 //! The vectors of an expression under way.
 ghost use Rattle.std.specs.Prelude.{◌≡◌, ◌∷◌, reverse, OnOk};
-ghost use Rattle.design.specs.Steps.{topmost, below};
+ghost use Rattle.design.specs.ExpressionSteps.{topmost, below};
 ghost use Rattle.turn.specs.Evaluate.{vectors};
 
 use logic4::bits::Bits;

@@ -1,13 +1,12 @@
 //! The statements that compute something.
 ghost use Rattle.std.specs.Prelude.{◌≡◌, OnOk};
-ghost use Rattle.turn.specs.Reads.{GaveAll, Keeps};
+ghost use Rattle.turn.specs.Reads.{ReadsOn};
 ghost use Rattle.turn.specs.Evaluate.{NamesDeclared};
-ghost use Rattle.turn.specs.Progress.{status_of, chosen_place, strobing};
-ghost use Rattle.turn.specs.Machine.{Assigns, AssignsAfter, AssignsLater, Branches, Displays};
+ghost use Rattle.turn.specs.RunningTurn.{status_of, chosen_place, strobing};
+ghost use Rattle.turn.specs.TurnSteps.{Assigns, AssignsAfter, Branches, Displays};
 
-use crate::log::Nba;
 use crate::memory::RegReader;
-use crate::progress::{Progress, part};
+use crate::running_turn::{RunningTurn, part};
 use design::RegId;
 use design::code::{Op, Shown, Span};
 use logic4::digit::Truth;
@@ -24,7 +23,7 @@ fn choose_place(truth: Truth, taken: usize, missed: usize) -> usize
     }
 }
 
-impl Progress {
+impl RunningTurn {
     /// A blocking assignment (9.2.1).
     pub fn assign<R: RegReader>(
         &mut self,
@@ -36,9 +35,7 @@ impl Progress {
     ) -> Result<(), AllocError>
         requires { NamesDeclared R.registers ops.now }
         ensures takes { OnOk result (Assigns ops.now value register next (status_of self.old) (status_of self.new)) }
-        ensures gave { OnOk result (GaveAll (R.gave reader.old) self.old.memory.reads.entries → GaveAll (R.gave reader.new) self.new.memory.reads.entries) }
-        ensures keeps { Keeps (R.gave reader.old) (R.gave reader.new) }
-        ensures lasting { R.lasting reader.new ≡ R.lasting reader.old }
+        ensures reads { ReadsOn R.gave R.lasting result reader.old self.old.memory.reads.entries reader.new self.new.memory.reads.entries }
     {
         self.compute(ops, value, reader)?;
         self.write_top(register, next)?;
@@ -56,38 +53,10 @@ impl Progress {
     ) -> Result<(), AllocError>
         requires { NamesDeclared R.registers ops.now }
         ensures takes { OnOk result (AssignsAfter ops.now value register next (status_of self.old) (status_of self.new)) }
-        ensures gave { OnOk result (GaveAll (R.gave reader.old) self.old.memory.reads.entries → GaveAll (R.gave reader.new) self.new.memory.reads.entries) }
-        ensures keeps { Keeps (R.gave reader.old) (R.gave reader.new) }
-        ensures lasting { R.lasting reader.new ≡ R.lasting reader.old }
+        ensures reads { ReadsOn R.gave R.lasting result reader.old self.old.memory.reads.entries reader.new self.new.memory.reads.entries }
     {
         self.compute(ops, value, reader)?;
         self.hold(register, self.stack.top, next);
-        Ok(())
-    }
-
-    /// A nonblocking assignment, which is due at this time (9.2.2).
-    pub fn assign_at<R: RegReader>(
-        &mut self,
-        ops: &[Op],
-        value: Span,
-        register: RegId,
-        due: u64,
-        next: usize,
-        reader: &mut R,
-    ) -> Result<(), AllocError>
-        requires { NamesDeclared R.registers ops.now }
-        ensures takes { OnOk result (AssignsLater ops.now value register due next (status_of self.old) (status_of self.new)) }
-        ensures gave { OnOk result (GaveAll (R.gave reader.old) self.old.memory.reads.entries → GaveAll (R.gave reader.new) self.new.memory.reads.entries) }
-        ensures keeps { Keeps (R.gave reader.old) (R.gave reader.new) }
-        ensures lasting { R.lasting reader.new ≡ R.lasting reader.old }
-    {
-        self.compute(ops, value, reader)?;
-        let nba = Nba {
-            reg: register,
-            value: self.stack.top,
-            due,
-        };
-        self.assign_later(nba, next)?;
         Ok(())
     }
 
@@ -102,9 +71,7 @@ impl Progress {
     ) -> Result<(), AllocError>
         requires { NamesDeclared R.registers ops.now }
         ensures takes { OnOk result (Branches ops.now condition taken missed (status_of self.old) (status_of self.new)) }
-        ensures gave { OnOk result (GaveAll (R.gave reader.old) self.old.memory.reads.entries → GaveAll (R.gave reader.new) self.new.memory.reads.entries) }
-        ensures keeps { Keeps (R.gave reader.old) (R.gave reader.new) }
-        ensures lasting { R.lasting reader.new ≡ R.lasting reader.old }
+        ensures reads { ReadsOn R.gave R.lasting result reader.old self.old.memory.reads.entries reader.new self.new.memory.reads.entries }
     {
         self.compute(ops, condition, reader)?;
         let truth = self.stack.top.truth();
@@ -123,9 +90,7 @@ impl Progress {
     ) -> Result<(), AllocError>
         requires { NamesDeclared R.registers ops.now }
         ensures takes { OnOk result (Displays ops.now shown.now pieces next (status_of self.old) (status_of self.new)) }
-        ensures gave { OnOk result (GaveAll (R.gave reader.old) self.old.memory.reads.entries → GaveAll (R.gave reader.new) self.new.memory.reads.entries) }
-        ensures keeps { Keeps (R.gave reader.old) (R.gave reader.new) }
-        ensures lasting { R.lasting reader.new ≡ R.lasting reader.old }
+        ensures reads { ReadsOn R.gave R.lasting result reader.old self.old.memory.reads.entries reader.new self.new.memory.reads.entries }
     {
         self.print_pieces(ops, part(shown, pieces), reader)?;
         self.lines.push('\n')?;

@@ -1,20 +1,20 @@
 //! The lines of `$strobe` (17.1.2).
 ghost use Rattle.std.specs.Prelude.{◌≡◌, ◌≤◌, length, slice_get, string_bytes, OnOk, IfOk};
-ghost use Rattle.turn.specs.Reads.{GaveAll, Keeps};
+ghost use Rattle.turn.specs.Reads.{GaveAll, Keeps, ReadsOn};
 ghost use Rattle.turn.specs.Evaluate.{NamesDeclared};
-ghost use Rattle.turn.specs.Progress.{status_of};
+ghost use Rattle.turn.specs.RunningTurn.{status_of};
 ghost use Rattle.turn.specs.Strobes.{PrintsStrobe, AreStrobeLines};
 
 use crate::log::TurnLog;
 use crate::memory::RegReader;
-use crate::progress::{Progress, part};
+use crate::running_turn::{RunningTurn, part};
 use design::code::{Node, Op, Shown};
 use design::{Design, ProcState};
 use model::tree::Task;
 use std::alloc::{AllocError, Global};
 use std::mem;
 
-impl Progress {
+impl RunningTurn {
     // Prints the line of the statement at a place, where it is a `$strobe`.
     fn strobe_line<R: RegReader>(
         &mut self,
@@ -26,9 +26,7 @@ impl Progress {
     ) -> Result<(), AllocError>
         requires { NamesDeclared R.registers ops.now }
         ensures prints { OnOk result (PrintsStrobe ops.now shown.now (slice_get nodes.now place) (status_of self.old) (status_of self.new)) }
-        ensures gave { OnOk result (GaveAll (R.gave reader.old) self.old.memory.reads.entries → GaveAll (R.gave reader.new) self.new.memory.reads.entries) }
-        ensures keeps { Keeps (R.gave reader.old) (R.gave reader.new) }
-        ensures lasting { R.lasting reader.new ≡ R.lasting reader.old }
+        ensures reads { ReadsOn R.gave R.lasting result reader.old self.old.memory.reads.entries reader.new self.new.memory.reads.entries }
     {
         if let Some(
             Node::Print {
@@ -47,14 +45,14 @@ impl Progress {
 
 // Prints the lines of the statements at these places.
 fn print_lines<R: RegReader>(
-    progress: &mut Progress,
+    running: &mut RunningTurn,
     design: &Design,
     places: &[usize],
     reader: &mut R,
 ) -> Result<(), AllocError>
     requires registers { length design.now.widths ≤ R.registers }
-    ensures lines { OnOk result (AreStrobeLines design.now places.now progress.new.memory.reads.entries (string_bytes progress.new.lines)) }
-    ensures gave { OnOk result (GaveAll (R.gave reader.new) progress.new.memory.reads.entries) }
+    ensures lines { OnOk result (AreStrobeLines design.now places.now running.new.memory.reads.entries (string_bytes running.new.lines)) }
+    ensures gave { OnOk result (GaveAll (R.gave reader.new) running.new.memory.reads.entries) }
     ensures keeps { Keeps (R.gave reader.old) (R.gave reader.new) }
     ensures lasting { R.lasting reader.new ≡ R.lasting reader.old }
 {
@@ -65,9 +63,9 @@ fn print_lines<R: RegReader>(
         place: 0,
         pending: None,
     };
-    progress.begin(start, design.registers())?;
+    running.begin(start, design.registers())?;
     for place in places {
-        progress.strobe_line(nodes, ops, shown, *place, reader)?;
+        running.strobe_line(nodes, ops, shown, *place, reader)?;
     }
     Ok(())
 }
@@ -88,6 +86,6 @@ pub fn strobe_lines<R: RegReader>(
     ensures keeps { Keeps (R.gave reader.old) (R.gave reader.new) }
     ensures lasting { R.lasting reader.new ≡ R.lasting reader.old }
 {
-    print_lines(&mut log.progress, design, places, reader)?;
-    Ok(mem::replace(&mut log.progress.lines, String::new(alloc)))
+    print_lines(&mut log.running, design, places, reader)?;
+    Ok(mem::replace(&mut log.running.lines, String::new(alloc)))
 }

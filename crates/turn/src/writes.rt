@@ -1,7 +1,7 @@
 //! What a turn wrote, and the net of the writes of each register.
 ghost use Rattle.std.specs.Prelude.{◌≡◌, ℕ, ◌+◌, ◌<◌, ◌^◌, [], ◌∷◌, ◌++◌, true, length, Some, slice_get, MatchOption, OnOk, OnErr};
 ghost use Rattle.turn.specs.declared.log.Net.{Net};
-ghost use Rattle.turn.specs.Nets.{first_net, with_write, noted, nets_of, is_net_at, IsPlaced, HasNoNet};
+ghost use Rattle.turn.specs.Nets.{with_write, noted, nets_of, is_net_at, IsPlaced, HasNoNet};
 
 use crate::log::Net;
 use design::RegId;

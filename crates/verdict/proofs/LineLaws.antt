@@ -3,7 +3,7 @@ use Rattle.std.proofs.Common.{◌≡◌, ℕ, zero, suc, ◌+◌, ◌≤◌, min
 use Rattle.std.specs.Prelude.{◌==◌}
 use Rattle.std.specs.List.{position_or_len}
 use Rattle.std.proofs.lemmas.Bool.{ltb-true, ltb-false}
-use Rattle.verdict.specs.Lines.{line_length, first_line, behind_line, AreFirstLines, AgreeBefore}
+use Rattle.verdict.specs.VerdictLines.{line_length, first_line, behind_line, AreFirstLines, AgreeBefore}
 
 -- one line more
 more_lines : (lines : List (List ℕ)) (text left : List ℕ) → AreFirstLines lines text left → AreFirstLines (lines ++ first_line left ∷ []) text (behind_line left)

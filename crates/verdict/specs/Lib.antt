@@ -1,3 +1,3 @@
-pub mod Lines
-pub mod Races
+pub mod VerdictLines
+pub mod RaceLines
 pub mod Verdicts

@@ -1,7 +1,7 @@
 //! In which line two texts differ.
 ghost use Rattle.std.specs.Prelude.{◌≡◌, ◌≤◌, ◌↔◌, length, IfSome, IfNone, IsTrue};
-ghost use Rattle.verdict.specs.Lines as spec;
-ghost use Rattle.verdict.specs.Lines.{IsFirstDifference, HaveSameLines};
+ghost use Rattle.verdict.specs.VerdictLines as spec;
+ghost use Rattle.verdict.specs.VerdictLines.{IsFirstDifference, HaveSameLines};
 
 /// The first line in which two texts differ: its number, from 1, and what it is in each, with its newline. It is empty in a
 /// text that has ended.

@@ -4,8 +4,8 @@
 //! 2. `verdict` puts into words how many texts there are and what that means for other runs. `phrases` has its parts.
 //! 3. `race` puts a race into lines, and `difference` finds the first line in which the texts of its two runs differ.
 //!
-//! What the layer above uses: `push_verdict` and `push_race`, whose texts are pinned whole by `specs/Verdicts` and `specs/Races`, and
-//! `first_difference` (`specs/Lines`).
+//! What the layer above uses: `push_verdict` and `push_race`, whose texts are pinned whole by `specs/Verdicts` and `specs/RaceLines`, and
+//! `first_difference` (`specs/VerdictLines`).
 #![tactic(auto)]
 
 mod claim;

@@ -1,7 +1,7 @@
 //! The lines on a race.
 
 ghost use Rattle.std.specs.Prelude.{◌≡◌, ◌++◌, OnOk, Some, option_map};
-ghost use Rattle.verdict.specs.Races.{begin_text, in_quotes, journal_text, line_text, path_text, prefix_of, quoted_line, race_text, role_text, roles_text, run_text, runs_text, site_text, title_text};
+ghost use Rattle.verdict.specs.RaceLines.{begin_text, in_quotes, journal_text, line_text, path_text, prefix_of, quoted_line, race_text, role_text, roles_text, run_text, runs_text, site_text, title_text};
 
 use crate::phrases::push_number;
 use std::alloc::AllocError;

@@ -5,8 +5,8 @@ use Rattle.grammar.specs.declared.fault.Fault.{Fault}
 use Rattle.grammar.specs.declared.fault.Fault.TheVariants.{Syntax, Unsized, Deep, Memory}
 use Rattle.grammar.specs.Cursor.{Reads}
 use Rattle.vparse.specs.Nesting.{limit, open_after, signs_after, passes, deep_left, IsDeepAt}
-use Rattle.model.specs.Trees.{module_of}
-use Rattle.grammar.specs.Reading.{source}
+use Rattle.model.specs.SourceTrees.{module_of}
+use Rattle.grammar.specs.Reading.{parse_source}
 use Rattle.grammar.proofs.Steps.{if-is}
 
 some_is : (a b : ℕ) → ◌≡◌ {A = Option ℕ} (Some a) (Some b) → a ≡ b
@@ -57,10 +57,10 @@ deep_at stop ts left all token is some same count =
     let r = first 0 0 token left ts e (omega arith) in
     (r.there, λ k below deep. let no_deep = r.not_before k below in cc)
 
-pub refused_at : (stop : Option ℕ) (fuel : ℕ) (fault : Fault) (ts us new : PlainTokens) (left all token : ℕ) → stop ≡ deep_left 0 0 ts → left ≡ length new → length ts ≡ all
-    → (1 ≤ left → left ≤ all → token + left ≡ all + 1) → Reads module_of stop (source fuel us) (Err fault) new → fault ≡ Deep → IsDeepAt ts token
-refused_at stop fuel Syntax ts us new left all token is len same count read h = absurd (cc)
-refused_at stop fuel Unsized ts us new left all token is len same count read h = absurd (cc)
-refused_at stop fuel Deep ts us new left all token is len same count read h =
+pub refused_at : (stop : Option ℕ) (budget : ℕ) (fault : Fault) (ts us new : PlainTokens) (left all token : ℕ) → stop ≡ deep_left 0 0 ts → left ≡ length new → length ts ≡ all
+    → (1 ≤ left → left ≤ all → token + left ≡ all + 1) → Reads module_of stop (parse_source budget us) (Err fault) new → fault ≡ Deep → IsDeepAt ts token
+refused_at stop budget Syntax ts us new left all token is len same count read h = absurd (cc)
+refused_at stop budget Unsized ts us new left all token is len same count read h = absurd (cc)
+refused_at stop budget Deep ts us new left all token is len same count read h =
     let some : stop ≡ Some left = read ∙ sym (ap Some len) in deep_at stop ts left all token is some same count
-refused_at stop fuel Memory ts us new left all token is len same count read h = absurd (cc)
+refused_at stop budget Memory ts us new left all token is len same count read h = absurd (cc)

@@ -6,7 +6,7 @@ use Rattle.grammar.specs.Grammar.{IsModule}
 use Rattle.vparse.specs.Nesting.{IsDeep}
 use Rattle.tokens.specs.Lexing.{Cut, stray, bad_number, Stops}
 use Rattle.vparse.specs.Spells.{Spells, IsUnspelledAt, IsDeepText}
-use Rattle.vparse.specs.Faults.{of_cut, of_tokens, is_syntax}
+use Rattle.vparse.specs.TextFaults.{of_cut, of_tokens, is_syntax}
 use Rattle.tokens.specs.declared.cut.CutFault.{CutFault}
 use Rattle.tokens.specs.declared.cut.CutFault.TheVariants as cut_fault
 use Rattle.grammar.specs.declared.fault.Fault.{Fault}

@@ -1,3 +1,3 @@
 pub mod Nesting
 pub mod Spells
-pub mod Faults
+pub mod TextFaults

@@ -3,15 +3,15 @@
 ghost use Rattle.std.specs.Prelude.{◌≡◌, ◌≤◌, ◌+◌, ◌⊎◌, ℕ, map, length, false, IfOk, IfErr, MatchResult};
 ghost use Rattle.tokens.specs.Tokens.{plain_token};
 ghost use Rattle.tokens.specs.Lexing.{Stops, stray, bad_number};
-ghost use Rattle.model.specs.Trees.{module_of};
+ghost use Rattle.model.specs.SourceTrees.{module_of};
 ghost use Rattle.model.specs.Syntax as tree;
 ghost use Rattle.grammar.specs.Grammar.{IsModule};
 ghost use Rattle.vparse.specs.Nesting.{IsDeep, IsDeepAt};
 ghost use Rattle.vparse.specs.Spells.{Spells, IsUnspelledAt, IsDeepText, IsDeepTextAt};
-ghost use Rattle.vparse.specs.Faults.{of_cut, of_tokens, is_syntax};
+ghost use Rattle.vparse.specs.TextFaults.{of_cut, of_tokens, is_syntax};
 
 use crate::nesting::too_deep;
-use grammar::{Cursor, Fault, Rules, source};
+use grammar::{Cursor, Fault, Rules, parse_source};
 use model::tree::Module;
 use std::alloc::Global;
 use thiserror::Error;
@@ -52,9 +52,9 @@ fn read_module(alloc: Global, tokens: &[Token<'_>]) -> Result<Module, Misfit>
 {
     let stop = too_deep(tokens);
     let mut cursor = Cursor::new(tokens);
-    // Fuel for each token suffices: every expression and every statement inside another, and every turn of a loop, comes
+    // A budget of all tokens suffices: every expression and every statement inside another, and every turn of a loop, comes
     // after a token that is taken for it.
-    match source(Rules { alloc, stop }, &mut cursor, tokens.len()) {
+    match parse_source(Rules { alloc, stop }, &mut cursor, tokens.len()) {
         Err(fault) => Err(Misfit {
             fault,
             token: number(tokens.len(), cursor.len()),

@@ -19,7 +19,7 @@ use Rattle.orders.specs.Alike.{Alike, Rises, IsInOrder, updates_in}
 use Rattle.orders.specs.Apart.{given, all_given, WakesNone, wakes_any}
 use Rattle.orders.specs.Silent.{AreUpdates, IsSilent, settled}
 use Rattle.orders.specs.Flat.{IsFlat, HasOneMaker}
-use Rattle.orders.specs.Search.{IsOneNode, EndsHere}
+use Rattle.orders.specs.SearchLaws.{IsOneNode, EndsHere}
 use Rattle.orders.proofs.AlikeStates.{alike_states-same}
 use Rattle.orders.proofs.EventLists.{absent, own_evaluation, rises_from}
 use Rattle.orders.proofs.StatesInOrder.{run_is_in_order, run_from_in_order}

@@ -12,7 +12,7 @@ use Rattle.model.specs.Runs.{Effect, run, EndsIn, Ends}
 use Rattle.orders.proofs.StatesInOrder.{run_is_in_order}
 use Rattle.orders.proofs.AlikeStates.{alike_states-same}
 use Rattle.orders.proofs.AlikeEnds.{alike_states_end_alike}
-use Rattle.walks.specs.Journals.{EndsAreLawful, AllMayEnd}
+use Rattle.walks.specs.JournalsInTime.{EndsAreLawful, AllMayEnd}
 use Rattle.walks.proofs.Serving.{text_is}
 
 -- the end of a journal, as that of the state after it

@@ -5,12 +5,12 @@ use Rattle.model.specs.declared.entry.Entry.{Entry}
 use Rattle.model.specs.declared.end.Limits.{Limits}
 use Rattle.model.specs.Design.{Design}
 use Rattle.model.specs.Runs.{Effect, run_from, AreTimely}
-use Rattle.orders.specs.Search.{Visited, Covers}
+use Rattle.orders.specs.SearchLaws.{Visited, Covers}
 use Rattle.orders.specs.Silent.{settled}
 use Rattle.orders.proofs.AlikeStates.{alike_states-same}
 use Rattle.orders.proofs.FlatRuns.{flat_covers}
 use Rattle.orders.proofs.OneMaker.{flat_turns_cover}
-use Rattle.walks.specs.Journals.{ComesOf}
+use Rattle.walks.specs.JournalsInTime.{ComesOf}
 use Rattle.walks.specs.Cover.{nodes_after, LeadOn, CoverRuns}
 use Rattle.walks.specs.FlatWays.{FlatWayCovers, SettledWayCovers}
 use Rattle.walks.proofs.Serving.{comes_on}

@@ -1,13 +1,12 @@
 -- States in which the rules permit one entry alone.
-use Rattle.std.proofs.Common.{◌≡◌, ℕ, Bool, true, false, List, [], ◌∷◌, ◌++◌, map, length, get_or, Option, Some, None, refl, sym, ap, subst, ◌∙◌, ◌==◌, if◌then◌else◌, eq-eqb, arith}
-use Rattle.std.proofs.lemmas.Bool.{eqb-true}
+use Rattle.std.proofs.Common.{◌≡◌, ℕ, Bool, true, false, List, [], ◌∷◌, ◌++◌, map, length, get_or, Option, Some, None, refl, sym, ap, subst, ◌∙◌, ◌==◌, if◌then◌else◌, arith}
 use Rattle.model.specs.declared.entry.Entry.{Entry}
 use Rattle.model.specs.declared.entry.Entry.TheVariants.{Turn, ActivateInactive, ActivateNba, ActivateMonitor, Advance}
 use Rattle.model.specs.declared.entry.Entry.TheVariants as entries
 use Rattle.model.specs.declared.entry.Refusal.TheVariants.{Finished}
 use Rattle.model.specs.declared.end.Limits.{Limits}
-use Rattle.model.specs.States.{State, Event, Action, Evaluate}
-use Rattle.model.specs.Runs.{action_in, refused_where, turn_refusal, update_refusal, entry_refusal, refusal, IsTimely}
+use Rattle.model.specs.States.{State, Event, Action}
+use Rattle.model.specs.Runs.{action_in, turn_refusal, entry_refusal, refusal, IsTimely}
 use Rattle.model.proofs.RunLaws.{where_none}
 use Rattle.regions.specs.declared.queue.Update as queued
 use Rattle.regions.specs.declared.queue.Evaluation.{Evaluation}
@@ -19,38 +18,6 @@ use Rattle.walks.specs.Walking.{IsOnlyEntry, IsWithoutTurns}
 -- a permitted entry of a state is permitted where nothing is finished
 free : (s : State) (entry : Entry) → refusal s entry ≡ None → entry_refusal s entry ≡ None
 free s entry permitted = (where_none s.finished Finished (entry_refusal s entry) permitted).1
-
--- the turn of the one active event
-own_turn : (b : Bool) (n m p : ℕ) → (n == m) ≡ b → turn_refusal (if b then Some (Evaluate p) else None) ≡ None → m ≡ n
-own_turn true n m p is none = sym (eqb-true n m is)
-own_turn false n m p is none = cc
-
-no_own_update : (s : State) (b : Bool) (m p : ℕ) → update_refusal s m (if b then Some (Evaluate p) else None) ≡ None → ⊥
-no_own_update s true m p none = cc
-no_own_update s false m p none = cc
-
-one_active : (s : State) (n p : ℕ) (other : Entry) → entry_refusal (record s { active = (n, Evaluate p) ∷ [] }) other ≡ None → other ≡ Turn n
-one_active s n p (Turn m) none = ap (λ k. Turn k) (own_turn (n == m) n m p refl none)
-one_active s n p (entries.Update m) none = absurd (no_own_update (record s { active = (n, Evaluate p) ∷ [] }) (n == m) m p none)
-one_active s n p ActivateInactive none = cc
-one_active s n p ActivateNba none = cc
-one_active s n p ActivateMonitor none = cc
-one_active s n p (Advance time) none = cc
-
-turn_is_free : (s : State) (n p : ℕ) → s.finished ≡ false → refusal (record s { active = (n, Evaluate p) ∷ [] }) (Turn n) ≡ None
-turn_is_free s n p going =
-    let own : (n == n) ≡ true = eq-eqb n n refl in
-    ap (λ b. refused_where b Finished (turn_refusal (if n == n then Some (Evaluate p) else None))) going ∙ ap (λ b. turn_refusal (if b then Some (Evaluate p) else None)) own
-
--- the one active event, an evaluation
-pub only_turn : (limits : Limits) (s : State) (n p : ℕ) → s.finished ≡ false → s.active ≡ (n, Evaluate p) ∷ [] → IsOnlyEntry limits s (Turn n)
-only_turn limits s n p going active =
-    let same : s ≡ record s { active = (n, Evaluate p) ∷ [] } = ap (λ (es : List Event). record s { active = es }) active in
-    record {
-      only = λ other permitted. one_active s n p other (free (record s { active = (n, Evaluate p) ∷ [] }) other (subst (λ (t : State). refusal t other ≡ None) same permitted));
-      permitted = subst (λ (t : State). refusal t (Turn n) ≡ None) (sym same) (turn_is_free s n p going);
-      timely = tt;
-    }
 
 -- nothing is active: only a change of the regions is permitted
 pub only_due : (limits : Limits) (s : State) (due : Option Entry) (change : Entry) → IsDue s due → s.active ≡ [] → due ≡ Some change → IsTimely limits change → IsOnlyEntry limits s change

@@ -19,7 +19,7 @@ use Rattle.flat.specs.declared.turned.Turned.{Turned}
 use Rattle.flat.specs.Turned.{event_of, turns_in, AreTurned}
 use Rattle.walks.specs.Sole.{StandsForAll}
 use Rattle.walks.specs.Walking.{HasTaken, IsSoleWay, turns_of}
-use Rattle.walks.specs.Passing.{StandsInPhase, HasAdded, TakesEvents, HasPassed, HasPassedBehind, HasGoneBehind}
+use Rattle.walks.specs.PhasePassing.{StandsInPhase, HasAdded, TakesEvents, HasPassed, HasPassedBehind, HasGoneBehind}
 use Rattle.walks.proofs.PhaseWays.{events_timely, behind_timely, phase_stands, flat_phase_stands}
 use Rattle.walks.proofs.Settled.{no_turns, sole_settled}
 use Rattle.walks.proofs.Walks.{taken_none, taken_both}

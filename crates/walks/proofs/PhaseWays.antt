@@ -10,18 +10,18 @@ use Rattle.model.specs.declared.end.End.{End}
 use Rattle.model.specs.Design.{Design}
 use Rattle.model.specs.Turns.{contains, short_turn}
 use Rattle.model.specs.Turns as turns
-use Rattle.model.specs.States.{State, Event, Progress}
+use Rattle.model.specs.States.{State, Event, Continuation}
 use Rattle.model.specs.Runs.{Effect, HasLongTurn, silent, joined, turn_of, run_from, IsTimely, AreTimely}
 use Rattle.model.specs.Laws.{evaluations_in}
 use Rattle.model.proofs.RunLaws.{run_from-append}
 use Rattle.orders.specs.Flat.{IsFlat}
-use Rattle.orders.specs.Search.{EndsHere, Visited}
+use Rattle.orders.specs.SearchLaws.{EndsHere, Visited}
 use Rattle.orders.proofs.AlikeStates.{alike_states-same}
 use Rattle.orders.proofs.SilentUpdates.{goes_on}
 use Rattle.phases.specs.Phase.{Block, IsPending, HasSettled, IsPhase, TakesEvent, EndsPhase}
 use Rattle.phases.proofs.PhaseRuns.{phase_covers}
 use Rattle.phases.proofs.FlatPhases.{flat_phase_covers}
-use Rattle.walks.specs.Journals.{ComesOf}
+use Rattle.walks.specs.JournalsInTime.{ComesOf}
 use Rattle.walks.specs.Cover.{nodes_after, CoverRuns}
 use Rattle.walks.specs.Sole.{StandsForAll}
 use Rattle.walks.specs.Walking.{turns_of}
@@ -70,11 +70,11 @@ no_long design s members block rank p phase (n, at, long) = short (phase.stands 
     member = phase.inside p active
 
     short : IsPending s p (block p) ⊎ HasSettled design s p (block p) → ⊥
-    short (inl (one, progress)) =
+    short (inl (one, continuation)) =
         let (t, at_t, computes) = (phase.blocks p member).turns s.store s.time in
-        let is : turn_of design s p ≡ Some t = ap (λ (x : Progress). short_turn design p x.remainder s.store s.time) progress ∙ at_t in
+        let is : turn_of design s p ≡ Some t = ap (λ (x : Continuation). short_turn design p x.remainder s.store s.time) continuation ∙ at_t in
         cc
-    short (inr (none, progress, consistent)) = omega (arith, active, none)
+    short (inr (none, continuation, consistent)) = omega (arith, active, none)
 
 phase_goes_on : (design : Design) (limits : Limits) (s : State) (members : List ℕ) (block : ℕ → Block) (rank : ℕ → ℕ) (end : End) (es : List Event) → IsPhase design s members block rank → s.active ≡ es → es ≢ [] → EndsHere design limits (silent s) end → ⊥
 phase_goes_on design limits s members block rank end [] phase is some here = some refl

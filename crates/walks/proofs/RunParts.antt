@@ -9,7 +9,7 @@ use Rattle.model.specs.Design.{Design}
 use Rattle.model.specs.Runs.{Effect, silent, joined, step, run_from, IsTimely}
 use Rattle.model.proofs.RunLaws.{run_from-append}
 use Rattle.orders.proofs.SearchLaws.{then_some}
-use Rattle.walks.specs.Journals.{TextGoesOn}
+use Rattle.walks.specs.JournalsInTime.{TextGoesOn}
 use Rattle.walks.specs.Going.{StepGoesOn, WaysGoOn}
 use Rattle.walks.proofs.Serving.{run_went_on, text_is}
 

@@ -1,7 +1,6 @@
 -- How a walk goes on, and that it covers the runs.
-use Rattle.std.proofs.Common.{◌≡◌, ◌≢◌, List, [], ◌∷◌, ◌++◌, length, Result, Ok, Err, Some, refl, sym, ap, ◌∙◌, subst, append_assoc, ℕ, ◌<◌, ◌+◌, map, take, arith, get_or, zero, suc}
-use Rattle.std.specs.Prelude.{option_and_then, OnOk}
-use Rattle.std.specs.List.{Contains}
+use Rattle.std.proofs.Common.{◌≡◌, ◌≢◌, List, [], ◌∷◌, ◌++◌, length, Some, refl, sym, ap, ◌∙◌, subst, append_assoc, ℕ, ◌<◌, ◌+◌, map, take, get_or}
+use Rattle.std.specs.Prelude.{option_and_then}
 use Rattle.std.proofs.lemmas.List.{append-nil, map-append, take_more}
 use Rattle.std.proofs.lemmas.List.Elements.{All-nil, All-cons, All-append}
 use Rattle.model.specs.declared.entry.Entry.{Entry}
@@ -13,7 +12,7 @@ use Rattle.model.specs.Runs.{Effect, silent, joined, step, run_from, IsTimely, A
 use Rattle.model.proofs.RunLaws.{run_from-append}
 use Rattle.orders.proofs.SearchLaws.{then_some}
 use Rattle.design.specs.Compiled.{Compiled, design_of}
-use Rattle.regions.specs.Logs.{IsTaken}
+use Rattle.regions.specs.StepLogs.{IsTaken}
 use Rattle.regions.specs.declared.state.MadeEvent.{MadeEvent}
 use Rattle.regions.specs.declared.machine.TakeFault.{TakeFault}
 use Rattle.regions.specs.declared.machine.TakeFault.TheVariants as faults
@@ -41,12 +40,6 @@ walk_begins limits m moves none silent_is =
       state_is = refl;
       lines_are = silent_is;
     }
-
--- the one of a list of one
-pub only_of_one : (xs : List Entry) (a b : Entry) → length xs ≡ 1 → Contains xs a → b ≡ get_or xs 0 b → a ≡ b
-only_of_one [] a b one there is = absurd (omega (arith, one))
-only_of_one (x ∷ xs) a b one (zero, within, at) is = sym at ∙ sym is
-only_of_one (x ∷ xs) a b one (suc k, within, at) is = absurd (omega (arith, one, within))
 
 -- the only entry that is permitted stands for all
 only_stands : (design : Design) (limits : Limits) (s : State) (entry : Entry) (f : Effect) → IsOnlyEntry limits s entry → step design s entry ≡ Some f → StandsForAll design limits s (entry ∷ [])
@@ -161,8 +154,3 @@ still_not_taken old made entry faults.Memory h = h
 
 pub not_taken_after : (old new : Position) (entry : Entry) (fault : TakeFault) → new ≡ record old { made = new.made } → IsNotTaken old entry fault → IsNotTaken new entry fault
 not_taken_after old new entry fault same h = subst (λ (p : Position). IsNotTaken p entry fault) (sym same) (still_not_taken old new.made entry fault h)
-
--- what holds after one thing and then another, where each may fail
-pub on_ok_after : {T E : Type 0} (r : Result T E) (P Q : Type 0) → (P → Q) → OnOk r P → OnOk r Q
-on_ok_after (Ok x) P Q f p = f p
-on_ok_after (Err e) P Q f p = p

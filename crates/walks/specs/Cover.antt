@@ -8,8 +8,8 @@ use Rattle.model.specs.declared.end.End.{End}
 use Rattle.model.specs.Design.{Design}
 use Rattle.model.specs.Runs.{Effect, refusal, step, run_from, IsTimely}
 use Rattle.orders.specs.Alike.{move_of}
-use Rattle.orders.specs.Search.{IsOneNode, EndsHere, Visited, Covers}
-use Rattle.walks.specs.Journals.{ComesOf, MayEnd, ComeToOneNode}
+use Rattle.orders.specs.SearchLaws.{IsOneNode, EndsHere, Visited, Covers}
+use Rattle.walks.specs.JournalsInTime.{ComesOf, MayEnd, ComeToOneNode}
 
 -- what comes of an effect and further entries, and the effect itself where they aren't permitted
 abbrev pub after_moves : Design → Effect → List Entry → Effect

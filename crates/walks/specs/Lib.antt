@@ -1,4 +1,4 @@
-pub mod Journals
+pub mod JournalsInTime
 pub mod Cover
 pub mod Going
 pub mod LongTurns
@@ -6,4 +6,4 @@ pub mod FlatWays
 pub mod OnlyWay
 pub mod Sole
 pub mod Walking
-pub mod Passing
+pub mod PhasePassing

@@ -1,6 +1,6 @@
 // Laws of the definitions, so that the check asks for their proofs.
 
-ghost use Rattle.walks.specs.Journals.{AlikeJournalsServe, EndsAreLawful, AllMayEnd, TextGoesOn};
+ghost use Rattle.walks.specs.JournalsInTime.{AlikeJournalsServe, EndsAreLawful, AllMayEnd, TextGoesOn};
 ghost use Rattle.walks.specs.Cover.{CoveringNodesCover, FollowedMovesCover, EndsAreTheStates, NodesOfWays, PermittedAreFollowed};
 ghost use Rattle.walks.specs.FlatWays.{FlatWayCovers, SettledWayCovers};
 ghost use Rattle.walks.specs.Going.{StepGoesOn, WaysGoOn};

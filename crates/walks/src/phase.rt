@@ -3,7 +3,7 @@ ghost use Rattle.std.specs.Prelude.{◌≡◌, true, [], None, IfOk, IfSome};
 ghost use Rattle.phases.specs.Phase.{TakesEvent};
 ghost use Rattle.regions.specs.Machine.{state_at};
 ghost use Rattle.walks.specs.Walking.{IsSoleWay};
-ghost use Rattle.walks.specs.Passing.{HasAdded, HasPassed, HasPassedBehind, StandsInPhase};
+ghost use Rattle.walks.specs.PhasePassing.{HasAdded, HasPassed, HasPassedBehind, StandsInPhase};
 
 use crate::settle::{Ahead, copy_of, take_all};
 use combinational::Network;

@@ -1,23 +1,19 @@
-//! A step of a walk by the turns of a flat state, with what comes behind them where that has to be taken too, or through a phase.
-ghost use Rattle.std.specs.Prelude.{◌≡◌, ◌≢◌, true, [], map, IfOk, IfSome, OnOk};
-ghost use Rattle.model.specs.States.{State};
-ghost use Rattle.orders.specs.Flat.{IsFlat};
-ghost use Rattle.design.specs.Compiled.{design_of};
+//! The way ahead by the turns of a flat state, with what comes behind them where that has to be taken too, or through a phase.
+ghost use Rattle.std.specs.Prelude.{◌≡◌, ◌≢◌, true, [], map, IfOk, IfSome};
 ghost use Rattle.regions.specs.Machine.{state_at};
 ghost use Rattle.regions.specs.Queue.{update_event};
-ghost use Rattle.flat.specs.Turned.{event_of, turns_in, AreTurned};
-ghost use Rattle.walks.specs.Passing.{HasGoneBehind};
-ghost use Rattle.walks.specs.Walking.{HasTaken, HasWalked, IsSoleWay, turns_of, updates_of};
+ghost use Rattle.flat.specs.Turned.{event_of, AreTurned};
+ghost use Rattle.flat.specs.Tests.{IsFlatState};
+ghost use Rattle.walks.specs.PhasePassing.{HasGoneBehind};
+ghost use Rattle.walks.specs.Walking.{HasTaken, IsSoleWay, turns_of, updates_of};
 
 use crate::phase::{phase_way, take_phase};
 use flat::{Turned, flat_turns, is_silent, one_maker};
-use model::end::Limits;
 use model::entry::Entry;
 use regions::{Machine, TakeFault, Update};
 use settling::Networked;
 use std::alloc::{AllocError, Global};
 use std::collections::VecDeque;
-use std::mem;
 
 /// Where a way leads, and its entries. The machine is on the heap, so that it is moved and dropped as a pointer.
 #[derive(Drop)]
@@ -106,7 +102,7 @@ fn go_ahead(
     moves: &mut Vec<Entry>,
 ) -> Result<bool, AllocError>
     requires code { machine.now.code ≡ networked.now }
-    requires flat { IsFlat (design_of machine.now.code) (state_at machine.now) (turns_in (design_of machine.now.code) (state_at machine.now)) }
+    requires flat { IsFlatState machine.now.code (state_at machine.now) }
     requires turns { AreTurned machine.now.code (state_at machine.now) turns.now }
     requires some { turns.now ≢ [] }
     requires copy { ahead.old ≡ machine.now }
@@ -131,7 +127,7 @@ fn sole_way<'d>(
     turns: &[Turned],
 ) -> Result<Option<Ahead<'d>>, AllocError>
     requires code { machine.now.code ≡ networked.now }
-    requires flat { IsFlat (design_of machine.now.code) (state_at machine.now) (turns_in (design_of machine.now.code) (state_at machine.now)) }
+    requires flat { IsFlatState machine.now.code (state_at machine.now) }
     requires turns { AreTurned machine.now.code (state_at machine.now) turns.now }
     requires some { turns.now ≢ [] }
     ensures sole { IfOk result (λ found. IfSome found (λ ahead. IsSoleWay machine.now ahead.machine.value ahead.moves.items)) }
@@ -148,8 +144,8 @@ fn sole_way<'d>(
     }))
 }
 
-// The way that stands for all from where a machine stands, where its state is flat.
-fn flat_way<'d>(
+/// The way that stands for all from where a machine stands, where its state is flat or a phase, and where it leads.
+pub(crate) fn way_ahead<'d>(
     alloc: Global,
     networked: &Networked<'_>,
     machine: &Machine<'d>,
@@ -160,50 +156,13 @@ fn flat_way<'d>(
 {
     let turns = match flat_turns(alloc, networked.design(), machine)? {
         Some(turns) => turns,
-        None => return Ok(None),
+        None => return phase_way(alloc, networked, machine),
     };
     if turns.is_empty() {
         return Ok(None);
     }
-    sole_way(alloc, networked, machine, &turns)
-}
-
-// The way that stands for all from where a machine stands, where its state is flat or a phase.
-fn way_ahead<'d>(
-    alloc: Global,
-    networked: &Networked<'_>,
-    machine: &Machine<'d>,
-) -> Result<Option<Ahead<'d>>, AllocError>
-    requires code { machine.now.code ≡ networked.now }
-    ensures sole { IfOk result (λ found. IfSome found (λ ahead. IsSoleWay machine.now ahead.machine.value ahead.moves.items)) }
-    ensures code { IfOk result (λ found. IfSome found (λ ahead. ahead.machine.value.code ≡ machine.now.code)) }
-{
-    match flat_way(alloc, networked, machine)? {
+    match sole_way(alloc, networked, machine, &turns)? {
         Some(ahead) => Ok(Some(ahead)),
         None => phase_way(alloc, networked, machine),
     }
-}
-
-/// Goes on by the way that stands for all, where the state is flat or a phase, and the journal has room for it. Answers whether it did.
-pub(crate) fn take_sole(
-    alloc: Global,
-    networked: &Networked<'_>,
-    limits: Limits,
-    machine: &mut Machine<'_>,
-    moves: &mut Vec<Entry>,
-) -> Result<bool, AllocError>
-    requires code { machine.old.code ≡ networked.now }
-    ensures walked { OnOk result ((s : State) → HasWalked limits s machine.old moves.old.items → HasWalked limits s machine.new moves.new.items) }
-    ensures code { machine.new.code ≡ machine.old.code }
-{
-    let mut ahead = match way_ahead(alloc, networked, machine)? {
-        Some(ahead) => ahead,
-        None => return Ok(false),
-    };
-    if ahead.machine.state().entries() > u64::from(limits.max_entries) {
-        return Ok(false);
-    }
-    moves.extend_from_slice(&ahead.moves)?;
-    mem::swap(machine, &mut ahead.machine);
-    Ok(true)
 }

@@ -7,13 +7,14 @@ ghost use Rattle.design.specs.Compiled.{design_of};
 ghost use Rattle.regions.specs.Machine.{most_entries, state_at, IsNotTaken};
 ghost use Rattle.walks.specs.Walking.{HasWalked, IsOnlyEntry, IsWithoutTurns};
 
-use crate::settle::take_sole;
+use crate::settle::way_ahead;
 use model::end::Limits;
 use model::entry::Entry;
 use regions::{Machine, TakeFault};
 use seeded::resting::is_timely;
 use settling::Networked;
 use std::alloc::{AllocError, Global};
+use std::mem;
 
 // The most steps of one walk: a search looks for a state that it has seen at the end of each.
 const MOST_STEPS: u32 = 256;
@@ -112,7 +113,8 @@ fn step(
     }
 }
 
-// Goes on by the only entry, or else by the turns of a flat state or through a phase. Answers whether it did.
+// Goes on by the only entry, or else by the way ahead that stands for all, where there is one and the journal has room for it. Answers
+// whether it did.
 fn go_on(
     alloc: Global,
     networked: &Networked<'_>,
@@ -127,7 +129,16 @@ fn go_on(
     if step(limits, machine, moves)? {
         return Ok(true);
     }
-    take_sole(alloc, networked, limits, machine, moves)
+    let mut ahead = match way_ahead(alloc, networked, machine)? {
+        Some(ahead) => ahead,
+        None => return Ok(false),
+    };
+    if ahead.machine.state().entries() > u64::from(limits.max_entries) {
+        return Ok(false);
+    }
+    moves.extend_from_slice(&ahead.moves)?;
+    mem::swap(machine, &mut ahead.machine);
+    Ok(true)
 }
 
 /// Goes on from where a machine stands as long as one order stands for all, for some hundred steps at most. Answers the entries that

@@ -1,7 +1,7 @@
 -- The identifier codes: how one begins, and that no two registers have the same.
 use Rattle.std.proofs.Common.{◌≡◌, ℕ, zero, suc, ◌+◌, ◌-◌, ◌/◌, ◌%◌, ◌≤◌, ◌<◌, Bool, true, false, List, [], ◌∷◌, refl, sym, ◌∙◌, ap, arith, if◌then◌else◌, nat_lt}
 use Rattle.std.proofs.lemmas.Bool.Decides.{leb_tells}
-use Rattle.waves.specs.Codes.{code_within, code, CodesDiffer}
+use Rattle.waves.specs.IdentifierCodes.{code_within, code, CodesDiffer}
 
 -- what comes behind the first character
 abbrev behind : ℕ → ℕ → List ℕ

@@ -12,7 +12,7 @@ use Rattle.model.specs.declared.entry.Refusal.TheVariants.{Finished, NotDue, Wro
 use Rattle.model.specs.declared.tree.Task.TheVariants.{Display, Strobe}
 use Rattle.model.specs.Design.{Design, Statement, Empty, Assign, AssignAfter, AssignLater, Delay, Await, If, While, Print, Finish, statement_at, process_at}
 use Rattle.model.specs.Expressions.{value_of}
-use Rattle.model.specs.Turns.{Remainder, At, Set, Wait, Ended, Inactive, Until, OnChange, Later, Turn, Going, Next, Goes, Over, begun, counted, goes_on, stops, delayed, whole, after_statement, next, and_then, turn_within}
+use Rattle.model.specs.Turns.{Remainder, At, Set, Wait, Ended, Inactive, Until, OnChange, NonblockingAssignment, Turn, Going, Next, Goes, Over, begun, counted, goes_on, stops, delayed, whole, after_statement, next, and_then, turn_within}
 use Rattle.model.specs.States.{Action, Evaluate, Event, State, start, with_value, change, change_all, with_due, with_nonblocking, with_future_nonblocking, schedule, schedule_all, schedule_wait, taking, turned, advanced, due_else, inactive_activated, nonblocking_activated, monitored}
 use Rattle.model.specs.Runs.{Effect, silent, joined, step, run_from, run, action_in, least, least_time, refused_where, refusal, entry_refusal, time_refusal, last_time, has_earlier, Future, remainder_of, turn_of, turn_effect, update_effect, action_effect, effect, strobe_lines}
 use Rattle.model.proofs.RunLaws.{unless_some, where_none}
@@ -30,7 +30,7 @@ AreFrom low [] = Unit {0}
 AreFrom low (n ∷ ns) = (low ≤ n) × AreFrom low ns
 
 -- the nonblocking assignments of a turn aren't due before a time
-abbrev AreDueFrom : ℕ → List Later → Type 0
+abbrev AreDueFrom : ℕ → List NonblockingAssignment → Type 0
 AreDueFrom now [] = Unit {0}
 AreDueFrom now (l ∷ ls) = (now ≤ l.due) × AreDueFrom now ls
 
@@ -42,13 +42,13 @@ WaitsPast now (Until time) = now < time
 WaitsPast now (OnChange triggers) = Unit {0}
 
 abbrev IsTimely : ℕ → Turn → Type 0
-IsTimely now turn = AreDueFrom now turn.laters × WaitsPast now turn.wait
+IsTimely now turn = AreDueFrom now turn.nbas × WaitsPast now turn.wait
 
 abbrev IsTimelyNext : ℕ → Next → Type 0
-IsTimelyNext now (Goes g) = AreDueFrom now g.laters
+IsTimelyNext now (Goes g) = AreDueFrom now g.nbas
 IsTimelyNext now (Over turn) = IsTimely now turn
 
-due_from-append : (now : ℕ) (ls : List Later) (l : Later) → AreDueFrom now ls → now ≤ l.due → AreDueFrom now (ls ++ l ∷ [])
+due_from-append : (now : ℕ) (ls : List NonblockingAssignment) (l : NonblockingAssignment) → AreDueFrom now ls → now ≤ l.due → AreDueFrom now (ls ++ l ∷ [])
 due_from-append now [] l h le = (le, tt)
 due_from-append now (k ∷ ls) l h le = (h.0, due_from-append now ls l h.1 le)
 
@@ -56,11 +56,11 @@ waits-delayed : (now delay : ℕ) → WaitsPast now (delayed now delay)
 waits-delayed now zero = tt
 waits-delayed now (suc delay) = omega arith
 
-statement_timely : (design : Design) (now : ℕ) (g : Going) (place : ℕ) (s : Statement) (rest : Remainder) → AreDueFrom now g.laters → IsTimelyNext now (after_statement design now g place s rest)
+statement_timely : (design : Design) (now : ℕ) (g : Going) (place : ℕ) (s : Statement) (rest : Remainder) → AreDueFrom now g.nbas → IsTimelyNext now (after_statement design now g place s rest)
 statement_timely design now g place Empty rest h = h
 statement_timely design now g place (Assign r e) rest h = h
 statement_timely design now g place (AssignAfter r delay e) rest h = (h, waits-delayed now delay)
-statement_timely design now g place (AssignLater r delay e) rest h = due_from-append now g.laters _ h (omega arith)
+statement_timely design now g place (AssignLater r delay e) rest h = due_from-append now g.nbas _ h (omega arith)
 statement_timely design now g place (Delay delay body) rest h = (h, waits-delayed now delay)
 statement_timely design now g place (Await triggers body) rest h = (h, tt)
 statement_timely design now g place (If c body otherwise) rest h = h
@@ -69,20 +69,20 @@ statement_timely design now g place (Print Display format arguments) rest h = h
 statement_timely design now g place (Print Strobe format arguments) rest h = h
 statement_timely design now g place Finish rest h = (h, tt)
 
-end_timely : (design : Design) (p now : ℕ) (g : Going) (b : Bool) → AreDueFrom now g.laters → IsTimelyNext now (if b then goes_on (counted [] g) (whole design p) else stops g Ended false [])
+end_timely : (design : Design) (p now : ℕ) (g : Going) (b : Bool) → AreDueFrom now g.nbas → IsTimelyNext now (if b then goes_on (counted [] g) (whole design p) else stops g Ended false [])
 end_timely design p now g true h = h
 end_timely design p now g false h = (h, tt)
 
-next_timely : (design : Design) (p now : ℕ) (g : Going) (left : Remainder) → AreDueFrom now g.laters → IsTimelyNext now (next design p now g left)
+next_timely : (design : Design) (p now : ℕ) (g : Going) (left : Remainder) → AreDueFrom now g.nbas → IsTimelyNext now (next design p now g left)
 next_timely design p now g (At place ∷ rest) h = statement_timely design now g place (statement_at design place) rest h
 next_timely design p now g (Set r v ∷ rest) h = h
 next_timely design p now g [] h = end_timely design p now g (process_at design p).repeats h
 
-from_next : (now : ℕ) (n : Next) (others : Going → Option Turn) (turn : Turn) → ((g : Going) → AreDueFrom now g.laters → others g ≡ Some turn → IsTimely now turn) → IsTimelyNext now n → and_then n others ≡ Some turn → IsTimely now turn
+from_next : (now : ℕ) (n : Next) (others : Going → Option Turn) (turn : Turn) → ((g : Going) → AreDueFrom now g.nbas → others g ≡ Some turn → IsTimely now turn) → IsTimelyNext now n → and_then n others ≡ Some turn → IsTimely now turn
 from_next now (Goes g) others turn later timely h = later g timely h
 from_next now (Over t) others turn later timely h = let same : t ≡ turn = cc in subst (IsTimely now) same timely
 
-turn_timely : (k : ℕ) (design : Design) (p now : ℕ) (g : Going) (turn : Turn) → AreDueFrom now g.laters → turn_within k design p now g ≡ Some turn → IsTimely now turn
+turn_timely : (k : ℕ) (design : Design) (p now : ℕ) (g : Going) (turn : Turn) → AreDueFrom now g.nbas → turn_within k design p now g ≡ Some turn → IsTimely now turn
 unfolding turn_within
 turn_timely zero design p now g turn timely h = cc
 turn_timely (suc k) design p now g turn timely h =
@@ -117,14 +117,14 @@ ahead-change_all time [] s h = h
 ahead-change_all time (w ∷ ws) s h =
     ahead-change_all time ws (change s w.0 w.1) (ahead_if time s (with_value w.0 w.1 s) (same_vector (value_of s.store w.0) w.1) h h)
 
-ahead_later : (time : ℕ) (s : State) (l : Later) (b : Bool) → (l.due == s.time) ≡ b → time ≤ l.due → IsAheadAt time s
+ahead_later : (time : ℕ) (s : State) (l : NonblockingAssignment) (b : Bool) → (l.due == s.time) ≡ b → time ≤ l.due → IsAheadAt time s
     → IsAheadAt time (if b then with_nonblocking (Action.Update l.register l.value ∷ []) s else with_future_nonblocking l.due (Action.Update l.register l.value) s)
 ahead_later time s l true is le h = h
 ahead_later time s l false is le h =
     let later : time < l.due = grind (arith, eqb_tells l.due s.time) in
     (h.0, h.1, above-with_due time (l.due, (s.next_event, Action.Update l.register l.value)) s.future_nonblocking later h.2)
 
-ahead-schedule_all : (time : ℕ) (ls : List Later) (s : State) → AreDueFrom time ls → IsAheadAt time s → IsAheadAt time (schedule_all s ls)
+ahead-schedule_all : (time : ℕ) (ls : List NonblockingAssignment) (s : State) → AreDueFrom time ls → IsAheadAt time s → IsAheadAt time (schedule_all s ls)
 ahead-schedule_all time [] s due h = h
 ahead-schedule_all time (l ∷ ls) s due h =
     ahead-schedule_all time ls (schedule s l) due.1 (ahead_later time s l (l.due == s.time) refl due.0 h)
@@ -140,8 +140,8 @@ ahead-turned s m p turn timely h =
     let t : State = taking m s in
     let begun : IsAheadAt s.time t = (refl, h.0, h.1) in
     let written : IsAheadAt s.time (change_all t turn.writes) = ahead-change_all s.time turn.writes t begun in
-    let u : State = schedule_all (change_all t turn.writes) turn.laters in
-    let scheduled : IsAheadAt s.time u = ahead-schedule_all s.time turn.laters (change_all t turn.writes) timely.0 written in
+    let u : State = schedule_all (change_all t turn.writes) turn.nbas in
+    let scheduled : IsAheadAt s.time u = ahead-schedule_all s.time turn.nbas (change_all t turn.writes) timely.0 written in
     let waiting : IsAheadAt s.time (schedule_wait p turn.wait u) = ahead-schedule_wait s.time p turn.wait u timely.1 scheduled in
     waiting
 

@@ -4,7 +4,7 @@ use Rattle.logic4.specs.Vector.{Vector, unknown}
 use Rattle.logic4.specs.Display.{binary_text}
 use Rattle.model.specs.Syntax.{Text}
 use Rattle.waves.specs.declared.wave.Change.{Change}
-use Rattle.waves.specs.Codes.{code}
+use Rattle.waves.specs.IdentifierCodes.{code}
 
 -- the line of one digit: the digit and the code
 abbrev pub scalar_line : ℕ → List ℕ → List ℕ

@@ -1,4 +1,4 @@
-pub mod Codes
+pub mod IdentifierCodes
 pub mod Dump
 pub mod Waves
-pub mod Told
+pub mod Changes

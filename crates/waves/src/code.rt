@@ -1,7 +1,7 @@
 //! The identifier codes of registers (18.2).
 
 ghost use Rattle.std.specs.Prelude.{◌≡◌, ◌++◌, OnOk};
-ghost use Rattle.waves.specs.Codes.{code};
+ghost use Rattle.waves.specs.IdentifierCodes.{code};
 
 use design::RegId;
 use std::alloc::AllocError;

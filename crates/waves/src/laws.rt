@@ -1,6 +1,6 @@
 //! Laws of the definitions, so that the check asks for their proofs.
 
-ghost use Rattle.waves.specs.Codes.{CodesDiffer};
+ghost use Rattle.waves.specs.IdentifierCodes.{CodesDiffer};
 ghost use Rattle.waves.specs.Waves.{AdvancesRise};
 
 /// In a lawful journal each advance goes to a later time.

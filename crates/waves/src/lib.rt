@@ -15,8 +15,8 @@ mod dump;
 mod fault;
 mod laws;
 mod lines;
+mod recorded;
 mod recording;
-mod told;
 mod wave;
 
 pub use dump::value_change_dump;

@@ -1,23 +1,24 @@
 -- What a worker counts while it fills a batch and commits it.
-use Rattle.std.proofs.Common.{◌≡◌, ℕ, ◌+◌, ◌-◌, ◌^◌, ◌<◌, ◌≤◌, min, List, [], ◌∷◌, ◌++◌, length, set, get_or, map, ap, ◌∙◌, arith, Bool, true, false, if◌then◌else◌, subst, sym, refl}
+use Rattle.std.proofs.Common.{◌≡◌, ℕ, ◌+◌, ◌-◌, ◌^◌, ◌<◌, ◌≤◌, min, List, [], ◌∷◌, ◌++◌, length, set, get_or, map, ap, ◌∙◌, arith, subst, sym, refl}
 use Rattle.std.proofs.lemmas.List.{get_or-set_same}
 use Rattle.logic4.specs.Vector.{Vector}
 use Rattle.design.specs.Compiled.{Compiled}
-use Rattle.turn.specs.Logs.{LogView}
-use Rattle.turn.specs.Answers.{IsTurnLog}
+use Rattle.turn.specs.TurnLogs.{LogView}
+use Rattle.turn.specs.TurnAnswers.{IsTurnLog}
 use Rattle.turn.specs.Reads.{GaveAll}
-use Rattle.gateparts.specs.Histories.{IsRead}
+use Rattle.runstate.specs.Histories.{IsRead}
 use Rattle.commitgate.specs.Tickets.{TicketView, most_tries}
 use Rattle.commitgate.specs.Batches.{AreOffered}
 use Rattle.eventpool.specs.Ends.{Owning, Stealing, thief_card}
 use Rattle.commitgate.specs.Seats.{SeatView}
 use Rattle.commitgate.specs.Named.{Named}
 use Rattle.workers.specs.declared.batch.Batch.{Batch}
-use Rattle.workers.specs.declared.batch.Next.TheVariants.{Enough, Over}
-use Rattle.workers.specs.Batching.{IsOpen, Fills, Leads}
-use Rattle.workers.specs.Working.{turns_of, Goes, OnlyPuts, SameEnds, OverUnless, got_by_ends, Serves}
+use Rattle.workers.specs.declared.next.Next.{Next}
+use Rattle.workers.specs.declared.next.Next.TheVariants.{GoesOn, Ends}
+use Rattle.workers.specs.Batching.{IsOpen, Fills, Leads, filling_after}
+use Rattle.workers.specs.WorkerInvariant.{turns_of, Goes, OnlyPuts, SameEnds, OverUnless, got_by_ends, Serves}
 use Rattle.workers.specs.declared.worker.Worker.{Worker}
-use Rattle.workers.specs.Keeping.{weigh_got, GotOne, Later, Within}
+use Rattle.workers.specs.Keeping.{weigh_got, GotOne, Extends, Within}
 use Rattle.workers.proofs.Rounds.{got_kept}
 use Rattle.workers.proofs.Onward.{got_puts_all, later_puts, later_taken, later_more}
 
@@ -132,10 +133,10 @@ module _ {A : Type 0} where
   fills_begun_more a b c turns more most f goes one few puts row = fills_more a b c turns 1 0 0 more 0 most 0 (fills_begun a b turns more goes one few puts row) f
 
   -- what comes of a ticket of which the gate was told: the batch is empty, or the run is over
-  pub leads_told : (n : Named) (goes_on : Bool) (batch : Batch A) (w : Worker A) → (goes_on ≡ true → batch.tickets.items ≡ []) → OverUnless n goes_on w.seat
-      → Leads n (if goes_on then Enough else Over) batch w
-  leads_told n true batch w empty over = subst (λ (l : List TicketView). AreOffered n.code w.seat.fresh l batch.logs.items) (sym (empty refl)) tt
-  leads_told n false batch w empty over = over refl
+  pub leads_told : (n : Named) (after : Next) (batch : Batch A) (w : Worker A) → (after ≡ GoesOn → batch.tickets.items ≡ []) → OverUnless n after w.seat
+      → Leads n (filling_after after) batch w
+  leads_told n GoesOn batch w empty over = subst (λ (l : List TicketView). AreOffered n.code w.seat.fresh l batch.logs.items) (sym (empty refl)) tt
+  leads_told n Ends batch w empty over = over refl
 
   -- a ticket is served where a batch that it began was filled and committed
   pub serves_fills : (a b : Worker A) (taken left : ℕ) → Fills a b 0 1 taken left 0 → Serves a b

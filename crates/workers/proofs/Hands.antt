@@ -1,15 +1,17 @@
 -- What a worker has in hand, from round to round.
-use Rattle.std.proofs.Common.{◌≡◌, ℕ, ◌+◌, ◌≤◌, Bool, true, false, if◌then◌else◌, List, [], ◌∷◌, ◌++◌, length, refl, sym, ap, ◌∙◌, subst, arith, append-nil, length-append}
+use Rattle.std.proofs.Common.{◌≡◌, ℕ, ◌+◌, ◌≤◌, List, [], ◌∷◌, ◌++◌, length, refl, sym, ap, ◌∙◌, subst, arith, append-nil, length-append}
 use Rattle.commitgate.specs.Named.{Named}
 use Rattle.commitgate.specs.Seats.{SeatView}
 use Rattle.commitgate.specs.Tickets.{TicketView}
 use Rattle.eventpool.specs.Ends.{Owning, Stealing}
-use Rattle.workers.specs.declared.batch.Next.{Next}
-use Rattle.workers.specs.declared.batch.Next.TheVariants.{More, Enough, Over}
+use Rattle.workers.specs.declared.batch.Filling.{Filling}
+use Rattle.workers.specs.declared.batch.Filling.TheVariants.{More, Enough, Over}
+use Rattle.workers.specs.declared.next.Next.{Next}
+use Rattle.workers.specs.declared.next.Next.TheVariants.{GoesOn, Ends}
 use Rattle.workers.specs.declared.worker.Worker.{Worker}
 use Rattle.workers.specs.Keeping.{GotOne, GotNone, is_for, LosesNone, Keeps, KeepsAll, Within, HasLostNone}
-use Rattle.workers.specs.Batching.{KeepsOn}
-use Rattle.workers.specs.Working.{Goes}
+use Rattle.workers.specs.Batching.{KeepsOn, filling_after}
+use Rattle.workers.specs.WorkerInvariant.{Goes}
 use Rattle.workers.proofs.Weighing.{weigh_append}
 use Rattle.workers.proofs.Kept.{kept_hand, kept_back, kept_looks, kept_put, kept_taken, kept_ends}
 
@@ -80,16 +82,16 @@ module _ {A : Type 0} where
   }
 
   -- what comes of a ticket that the batch doesn't get
-  pub keeps_told : (n : Named) (goes_on : Bool) (a b : Worker A) (hand left : List TicketView) → (goes_on ≡ true → left ≡ []) → (goes_on ≡ true → KeepsAll n a hand b [])
-      → KeepsOn n (if goes_on then Enough else Over) a hand b left
-  keeps_told n true a b hand left none keeps = subst (λ (l : List TicketView). KeepsAll n a hand b l) (sym (none refl)) (keeps refl)
-  keeps_told n false a b hand left none keeps = tt
+  pub keeps_told : (n : Named) (after : Next) (a b : Worker A) (hand left : List TicketView) → (after ≡ GoesOn → left ≡ []) → (after ≡ GoesOn → KeepsAll n a hand b [])
+      → KeepsOn n (filling_after after) a hand b left
+  keeps_told n GoesOn a b hand left none keeps = subst (λ (l : List TicketView). KeepsAll n a hand b l) (sym (none refl)) (keeps refl)
+  keeps_told n Ends a b hand left none keeps = tt
 
   -- a ticket that goes back into the deque
-  pub keeps_back : (n : Named) (goes_on : Bool) (a b : Worker A) (tickets : List TicketView) (ticket : TicketView) → (goes_on ≡ true → b.seat ≡ a.seat)
-      → (goes_on ≡ true → b.owner.put ≡ a.owner.put ++ ticket ∷ []) → b.owner.taken ≡ a.owner.taken → b.row.items ≡ a.row.items
-      → KeepsOn n (if goes_on then Enough else Over) a (tickets ++ ticket ∷ []) b tickets
-  keeps_back n true a b tickets ticket seat put taken row = record {
+  pub keeps_back : (n : Named) (after : Next) (a b : Worker A) (tickets : List TicketView) (ticket : TicketView) → (after ≡ GoesOn → b.seat ≡ a.seat)
+      → (after ≡ GoesOn → b.owner.put ≡ a.owner.put ++ ticket ∷ []) → b.owner.taken ≡ a.owner.taken → b.row.items ≡ a.row.items
+      → KeepsOn n (filling_after after) a (tickets ++ ticket ∷ []) b tickets
+  keeps_back n GoesOn a b tickets ticket seat put taken row = record {
     all = λ placed k.
         subst (λ (p : SeatView × List (Stealing TicketView)). LosesNone n placed p.0 b.owner p.1 [] tickets) (λ i. (sym (seat refl) i, sym row i))
         (kept_put n placed a.seat a.owner b.owner a.row.items (ticket ∷ []) [] tickets (put refl) taken
@@ -97,16 +99,16 @@ module _ {A : Type 0} where
         (kept_hand n placed a.seat a.owner a.row.items [] [] (tickets ++ ticket ∷ []) (ticket ∷ tickets) (λ event. refl)
         (λ event. let p = weigh_append (is_for event) tickets (ticket ∷ []) in omega (arith, p)) k)));
   }
-  keeps_back n false a b tickets ticket seat put taken row = tt
+  keeps_back n Ends a b tickets ticket seat put taken row = tt
 
   -- it may go on with what it has in hand
-  keeps_on : (n : Named) (next : Next) (a b c : Worker A) (hand more left : List TicketView) → KeepsAll n a hand b more → KeepsOn n next b more c left → KeepsOn n next a hand c left
+  keeps_on : (n : Named) (next : Filling) (a b c : Worker A) (hand more left : List TicketView) → KeepsAll n a hand b more → KeepsOn n next b more c left → KeepsOn n next a hand c left
   keeps_on n More a b c hand more left f g = keeps_more n a b c hand more left f g
   keeps_on n Enough a b c hand more left f g = keeps_more n a b c hand more left f g
   keeps_on n Over a b c hand more left f g = tt
 
   -- the next ticket is taken
-  pub keeps_extended : (n : Named) (next : Next) (a b c : Worker A) (ticket : TicketView) (hand left : List TicketView) → b.seat ≡ a.seat → b.owner.put ≡ a.owner.put
+  pub keeps_extended : (n : Named) (next : Filling) (a b c : Worker A) (ticket : TicketView) (hand left : List TicketView) → b.seat ≡ a.seat → b.owner.put ≡ a.owner.put
       → GotOne a.owner a.row.items b.owner b.row.items ticket
       → KeepsOn n next b (hand ++ ticket ∷ []) c left → KeepsOn n next a hand c left
   keeps_extended n next a b c ticket hand left seat put got keeps = keeps_on n next a b c hand (hand ++ ticket ∷ []) left (record { all = taken }) keeps
@@ -119,29 +121,29 @@ module _ {A : Type 0} where
           (kept_taken n placed a.seat a.owner b.owner a.row.items b.row.items ticket [] hand got put k))
 
   -- a batch that asked for more got more
-  pub keeps_next : (n : Named) (next next' : Next) (a b c : Worker A) (hand more left : List TicketView) → next ≡ More → KeepsOn n next a hand b more → KeepsOn n next' b more c left
+  pub keeps_next : (n : Named) (next next' : Filling) (a b c : Worker A) (hand more left : List TicketView) → next ≡ More → KeepsOn n next a hand b more → KeepsOn n next' b more c left
       → KeepsOn n next' a hand c left
-  keeps_next n next next' a b c hand more left is f g = keeps_on n next' a b c hand more left (subst (λ (m : Next). KeepsOn n m a hand b more) is f) g
+  keeps_next n next next' a b c hand more left is f g = keeps_on n next' a b c hand more left (subst (λ (m : Filling). KeepsOn n m a hand b more) is f) g
 
   -- the gate is told of a turn that is too long
-  pub keeps_long : {turns : ℕ} (n : Named) (next : Next) (goes_on : Bool) (a b c : Worker A) (tickets tickets' left : List TicketView) (ticket ticket' : TicketView)
-      → next ≡ (if goes_on then Enough else Over) → Goes turns 0 a.seat b.seat → b.owner ≡ a.owner → b.row.items ≡ a.row.items → tickets' ≡ tickets → ticket' ≡ ticket
-      → (goes_on ≡ true → left ≡ []) → (goes_on ≡ true → KeepsAll n b (tickets' ++ ticket' ∷ []) c []) → KeepsOn n next a (tickets ++ ticket ∷ []) c left
-  keeps_long n next goes_on a b c tickets tickets' left ticket ticket' is goes owner row same back empty keeps =
-      subst (λ (m : Next). KeepsOn n m a (tickets ++ ticket ∷ []) c left) (sym is)
-      (keeps_told n goes_on a c (tickets ++ ticket ∷ []) left empty
+  pub keeps_long : {turns : ℕ} (n : Named) (next : Filling) (after : Next) (a b c : Worker A) (tickets tickets' left : List TicketView) (ticket ticket' : TicketView)
+      → next ≡ (filling_after after) → Goes turns 0 a.seat b.seat → b.owner ≡ a.owner → b.row.items ≡ a.row.items → tickets' ≡ tickets → ticket' ≡ ticket
+      → (after ≡ GoesOn → left ≡ []) → (after ≡ GoesOn → KeepsAll n b (tickets' ++ ticket' ∷ []) c []) → KeepsOn n next a (tickets ++ ticket ∷ []) c left
+  keeps_long n next after a b c tickets tickets' left ticket ticket' is goes owner row same back empty keeps =
+      subst (λ (m : Filling). KeepsOn n m a (tickets ++ ticket ∷ []) c left) (sym is)
+      (keeps_told n after a c (tickets ++ ticket ∷ []) left empty
       (λ on. keeps_read n a b c (tickets ++ ticket ∷ []) [] goes owner row
       (subst (λ (p : List TicketView × TicketView). KeepsAll n b (p.0 ++ p.1 ∷ []) c []) (λ i. (same i, back i)) (keeps on))))
 
   -- a ticket that is to be evaluated under the lock goes back
-  pub keeps_held : (n : Named) (next : Next) (goes_on : Bool) (a b : Worker A) (tickets : List TicketView) (ticket : TicketView) → next ≡ (if goes_on then Enough else Over)
-      → (goes_on ≡ true → b.seat ≡ a.seat) → (goes_on ≡ true → b.owner.put ≡ a.owner.put ++ ticket ∷ []) → b.owner.taken ≡ a.owner.taken → b.row.items ≡ a.row.items
+  pub keeps_held : (n : Named) (next : Filling) (after : Next) (a b : Worker A) (tickets : List TicketView) (ticket : TicketView) → next ≡ (filling_after after)
+      → (after ≡ GoesOn → b.seat ≡ a.seat) → (after ≡ GoesOn → b.owner.put ≡ a.owner.put ++ ticket ∷ []) → b.owner.taken ≡ a.owner.taken → b.row.items ≡ a.row.items
       → KeepsOn n next a (tickets ++ ticket ∷ []) b tickets
-  keeps_held n next goes_on a b tickets ticket is seat put taken row =
-      subst (λ (m : Next). KeepsOn n m a (tickets ++ ticket ∷ []) b tickets) (sym is) (keeps_back n goes_on a b tickets ticket seat put taken row)
+  keeps_held n next after a b tickets ticket is seat put taken row =
+      subst (λ (m : Filling). KeepsOn n m a (tickets ++ ticket ∷ []) b tickets) (sym is) (keeps_back n after a b tickets ticket seat put taken row)
 
   -- the first ticket of a batch is that in hand
-  pub keeps_first : (n : Named) (next : Next) (a b : Worker A) (tickets left : List TicketView) (ticket : TicketView) → tickets ≡ []
+  pub keeps_first : (n : Named) (next : Filling) (a b : Worker A) (tickets left : List TicketView) (ticket : TicketView) → tickets ≡ []
       → KeepsOn n next a (tickets ++ ticket ∷ []) b left → KeepsOn n next a (ticket ∷ []) b left
   keeps_first n next a b tickets left ticket none keeps = subst (λ (l : List TicketView). KeepsOn n next a (l ++ ticket ∷ []) b left) none keeps
 

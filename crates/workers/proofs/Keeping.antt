@@ -4,7 +4,7 @@ use Rattle.commitgate.specs.Tickets.{TicketView}
 use Rattle.commitgate.specs.declared.reply.Grant.{Grant}
 use Rattle.commitgate.specs.declared.reply.Reply.{Reply}
 use Rattle.eventpool.specs.Ends.{Owning, owner_card}
-use Rattle.workers.specs.Working.{OnlyPuts, tickets_in, tickets_of, granted_by}
+use Rattle.workers.specs.WorkerInvariant.{OnlyPuts, tickets_in, tickets_of, granted_by}
 use Rattle.workers.proofs.Seats.{begins_more}
 
 -- one of several was put

@@ -6,13 +6,13 @@ use Rattle.model.specs.declared.entry.Entry.{Entry}
 use Rattle.model.specs.declared.entry.Entry.TheVariants.{Turn, Update, ActivateInactive, ActivateNba, ActivateMonitor, Advance}
 use Rattle.model.specs.declared.end.Why.{Why}
 use Rattle.turn.specs.declared.memory.Seen.{Seen}
-use Rattle.turn.specs.Logs.{LogView}
-use Rattle.gateparts.specs.Log.{Log, entries_of}
+use Rattle.turn.specs.TurnLogs.{LogView}
+use Rattle.runstate.specs.Log.{Log, entries_of}
 use Rattle.commitgate.specs.Named.{Named}
 use Rattle.commitgate.specs.Seats.{SeatView, ReadsOn}
 use Rattle.commitgate.specs.Tickets.{TicketView, again}
-use Rattle.commitgate.specs.Answers.{IsRegionChange}
-use Rattle.commitgate.specs.Told.{CommitCauses, IsAppended, IsRefused, IsGone, AnsweredTo, LongAnsweredTo, HeldAnsweredTo, IsUpdatedTo, IsChangedTo}
+use Rattle.commitgate.specs.GateAnswers.{IsRegionChange}
+use Rattle.commitgate.specs.SeatAnswers.{CommitCauses, IsAppended, IsRefused, IsGone, AnsweredTo, LongAnsweredTo, HeldAnsweredTo, IsUpdatedTo, IsChangedTo}
 use Rattle.commitgate.specs.Batches.{AreUpdatedTo, UpdatesEndedTo, UpdatesAnsweredTo, AreAnsweredTo}
 use Rattle.commitgate.specs.declared.reply.Grant.{Grant}
 use Rattle.commitgate.specs.declared.reply.Reply.{Reply}
@@ -21,7 +21,7 @@ use Rattle.commitgate.specs.declared.reply.UpdatesEnd.{UpdatesEnd}
 use Rattle.commitgate.specs.declared.reply.UpdatesEnd.TheVariants as ends
 use Rattle.eventpool.specs.Ends.{Owning, Stealing}
 use Rattle.workers.specs.Keeping.{weigh, GotOne, GotNone, is_for, tickets_for, is_turn, turned, granted, WasGone, LosesNone}
-use Rattle.workers.specs.Working.{tickets_in, tickets_of, granted_by, IsSettled}
+use Rattle.workers.specs.WorkerInvariant.{tickets_in, tickets_of, granted_by, IsSettled}
 use Rattle.workers.proofs.Seats.{begins_more, entries_begin, below_longer, begins_length, goes_appended}
 use Rattle.workers.proofs.Weighing.{weigh_append, turned_round}
 use Rattle.workers.proofs.Places.{turned_same, granted_same, turned_more, granted_more}

@@ -4,10 +4,10 @@ use Rattle.commitgate.specs.Seats.{SeatView}
 use Rattle.commitgate.specs.Tickets.{TicketView}
 use Rattle.eventpool.specs.Ends.{Owning, Stealing}
 use Rattle.workers.specs.declared.worker.Worker.{Worker}
-use Rattle.workers.specs.Keeping.{weigh, weigh_got, GotOne, GotNone, Later, Within}
-use Rattle.workers.specs.Working.{Goes, OnlyPuts}
+use Rattle.workers.specs.Keeping.{weigh, weigh_got, GotOne, GotNone, Extends, Within}
+use Rattle.workers.specs.WorkerInvariant.{Goes, OnlyPuts}
 use Rattle.workers.proofs.Seats.{begins_more}
-use Rattle.workers.proofs.Told.{GoesOn}
+use Rattle.workers.proofs.Told.{GoesOnce}
 
 module _ {A : Type 0} where
   -- ends into which tickets were put got what they had got
@@ -15,7 +15,7 @@ module _ {A : Type 0} where
       → weigh_got weight b.owner b.row.items ≡ weigh_got weight a.owner a.row.items
   got_puts_all a b weight puts row = (λ i. weigh weight (puts.1 i) + weigh (λ (t : Stealing TicketView). weigh weight t.stolen) (row i))
 
-  pub later_more : (a b c : Worker A) → Later a b → Later b c → Later a c
+  pub later_more : (a b c : Worker A) → Extends a b → Extends b c → Extends a c
   later_more a b c f g = record {
     seen = begins_more a.seat.seen b.seat.seen c.seat.seen f.seen g.seen;
     mine = begins_more a.seat.mine b.seat.mine c.seat.mine f.mine g.mine;
@@ -24,7 +24,7 @@ module _ {A : Type 0} where
   }
 
   -- a worker that puts tickets alone
-  pub later_puts : {turns entries : ℕ} (a b : Worker A) → Goes turns entries a.seat b.seat → OnlyPuts a.owner b.owner → b.row.items ≡ a.row.items → Later a b
+  pub later_puts : {turns entries : ℕ} (a b : Worker A) → Goes turns entries a.seat b.seat → OnlyPuts a.owner b.owner → b.row.items ≡ a.row.items → Extends a b
   later_puts a b goes puts row = record {
     seen = goes.seen;
     mine = goes.mine;
@@ -34,7 +34,7 @@ module _ {A : Type 0} where
 
   -- a worker that got a ticket
   pub later_taken : (a b : Worker A) (ticket : TicketView) → b.seat ≡ a.seat → b.owner.put ≡ a.owner.put
-      → GotOne a.owner a.row.items b.owner b.row.items ticket → Later a b
+      → GotOne a.owner a.row.items b.owner b.row.items ticket → Extends a b
   later_taken a b ticket seat put got = record {
     seen = ([], append-nil a.seat.seen ∙ ap (λ (s : SeatView). s.seen) (sym seat));
     mine = ([], append-nil a.seat.mine ∙ ap (λ (s : SeatView). s.mine) (sym seat));
@@ -89,5 +89,5 @@ module _ {A : Type 0} where
   within_self a = within_none a a refl refl (λ weight. refl)
 
   -- a ticket was served by a worker that put the new ones
-  pub within_one : (a b : Worker A) → GoesOn a.seat b.seat → OnlyPuts a.owner b.owner → b.row.items ≡ a.row.items → Within 1 0 a b
+  pub within_one : (a b : Worker A) → GoesOnce a.seat b.seat → OnlyPuts a.owner b.owner → b.row.items ≡ a.row.items → Within 1 0 a b
   within_one a b goes puts row = within_most a b goes.0 0 1 0 goes.1 (omega arith) (within_puts a b goes.0 goes.0 goes.2 puts row)

@@ -9,12 +9,12 @@ use Rattle.model.specs.declared.entry.Entry.{Entry}
 use Rattle.model.specs.States.{Event, State}
 use Rattle.model.specs.Runs.{after}
 use Rattle.design.specs.Compiled.{Compiled, design_of}
-use Rattle.gateparts.specs.Log.{entries_of, items_of}
+use Rattle.runstate.specs.Log.{entries_of, items_of}
 use Rattle.commitgate.specs.Named.{Named}
 use Rattle.commitgate.specs.Seats.{SeatView}
 use Rattle.commitgate.specs.Tickets.{TicketView}
-use Rattle.commitgate.specs.Journals.{AreTicketsOf, made_active}
-use Rattle.commitgate.specs.Told.{IsAppended}
+use Rattle.commitgate.specs.GateJournals.{AreTicketsOf, made_active}
+use Rattle.commitgate.specs.SeatAnswers.{IsAppended}
 use Rattle.workers.specs.Keeping.{weigh, tickets_for, is_turn, is_turn_at, turned_at, made_between, granted_at, over_own, turned, granted}
 use Rattle.workers.proofs.Weighing.{weigh_snoc}
 use Rattle.workers.proofs.Seats.{get_before, get_last, entries_append, entries_begin, items_entry, begins_more}

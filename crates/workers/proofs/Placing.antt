@@ -5,7 +5,7 @@ use Rattle.std.proofs.lemmas.Bool.{cond_below, cond_above}
 use native.Mathlib.Decide.{ℕ_discrete, dec_lt}
 use Rattle.eventpool.specs.Ends.{Owning}
 use Rattle.eventpool.proofs.Places.{below_at, there_at, one_at, set_here, set_there}
-use Rattle.workers.specs.Working.{every, ArePlaced}
+use Rattle.workers.specs.WorkerInvariant.{every, ArePlaced}
 
 -- how many tickets go to others before the worker w gets one, where the next one goes to another worker
 pub ahead : ℕ → ℕ → ℕ → ℕ

@@ -3,9 +3,9 @@ use Rattle.std.proofs.Common.{◌≡◌, ℕ, ◌+◌, ◌-◌, ◌^◌, min, Li
 use Rattle.eventpool.specs.Ends.{Owning, Stealing, owner_card, thief_card}
 use Rattle.eventpool.proofs.Cards.{one_card}
 use Rattle.commitgate.specs.Seats.{SeatView}
-use Rattle.workers.specs.Working.{HasPositions, turns_of, Goes, OnlyPuts, SameEnds, IsCounted, IsReady, got_by_ends, Serves, Works, IsFixed}
+use Rattle.workers.specs.WorkerInvariant.{HasPositions, turns_of, Goes, OnlyPuts, SameEnds, IsCounted, IsReady, got_by_ends, Serves, Works, IsFixed}
 use Rattle.workers.specs.declared.worker.Worker.{Worker}
-use Rattle.workers.proofs.Told.{GoesOn}
+use Rattle.workers.proofs.Told.{GoesOnce}
 
 module _ {T : Type 0} where
   counted_idle : {entries : ℕ} (s s' : SeatView) (o o1 : Owning T) (r r1 : List (Stealing T)) (e e' : ℕ)
@@ -18,7 +18,7 @@ module _ {T : Type 0} where
       )
 
   counted_served : (s s' : SeatView) (o o1 : Owning T) (r r1 : List (Stealing T)) (e e' : ℕ)
-      → got_by_ends o1 r1 ≡ got_by_ends o r → GoesOn s s' → e' ≡ min (e + 1) (2 ^ 64 - 1) → IsReady s o r e → IsCounted s' o1 r1 e'
+      → got_by_ends o1 r1 ≡ got_by_ends o r → GoesOnce s s' → e' ≡ min (e + 1) (2 ^ 64 - 1) → IsReady s o r e → IsCounted s' o1 r1 e'
   counted_served s s' o o1 r r1 e e' got goes more c =
       let t = goes.2.counted c.0 in let one = goes.1 in (
         goes.2.positions c.0,
@@ -66,7 +66,7 @@ module _ {A : Type 0} where
       )
 
   -- a ticket is served by a worker that puts the new ones
-  pub serves_puts : (a b : Worker A) → GoesOn a.seat b.seat → OnlyPuts a.owner b.owner → b.row.items ≡ a.row.items
+  pub serves_puts : (a b : Worker A) → GoesOnce a.seat b.seat → OnlyPuts a.owner b.owner → b.row.items ≡ a.row.items
       → b.evaluations ≡ min (a.evaluations + 1) (2 ^ 64 - 1) → Serves a b
   serves_puts a b goes puts row more = record {
     worker = goes.2.worker;

@@ -1,24 +1,17 @@
 -- What a seat's calls keep.
 use Rattle.std.proofs.Common.{◌≡◌, ℕ, zero, suc, ◌+◌, ◌<◌, ◌≤◌, Bool, true, false, List, [], ◌∷◌, ◌++◌, length, Option, Some, refl, sym, ap, ◌∙◌, subst, arith, append_assoc, append-nil, length-append, inl, inr, ⊎_elim}
-use Rattle.std.specs.Prelude.{slice_get, IsSome, Result, MatchResult}
+use Rattle.std.specs.Prelude.{slice_get, IsSome}
 use Rattle.std.specs.List.{AllByRecursion}
 use mathlib.Core.List.{IsPrefix}
 use Rattle.model.specs.declared.entry.Entry.{Entry}
 use Rattle.model.specs.declared.end.Why.{Why}
-use Rattle.logic4.specs.Vector.{Vector}
-use Rattle.design.specs.Compiled.{Compiled}
-use Rattle.turn.specs.Logs.{LogView}
-use Rattle.turn.specs.declared.log.FillFault.{FillFault}
-use Rattle.turn.specs.Reads.{GaveAll}
-use Rattle.turn.specs.declared.log.FillFault.TheVariants as fault
-use Rattle.gateparts.specs.Histories.{IsRead}
 use Rattle.commitgate.specs.Named.{Named}
-use Rattle.gateparts.specs.Log.{Log, entries_of, entry_in, items_of}
+use Rattle.runstate.specs.Log.{Log, entries_of, entry_in, items_of}
 use Rattle.commitgate.specs.Seats.{SeatView, ReadsOn}
 use Rattle.commitgate.specs.Tickets.{TicketView}
-use Rattle.commitgate.specs.Told.{IsAppended, IsRefused, IsStopped, IsQuietTo, StoppedTo}
+use Rattle.commitgate.specs.SeatAnswers.{IsAppended, IsRefused, IsStopped, IsQuietTo, StoppedTo}
 use Rattle.workers.specs.Counting.{turn_count, turn_count_at, turns_at}
-use Rattle.workers.specs.Working.{turns_of, Goes, IsOver}
+use Rattle.workers.specs.WorkerInvariant.{turns_of, Goes, IsOver}
 
 -- beginnings
 module _ {A : Type 0} where
@@ -156,13 +149,6 @@ goes_few a e d x y le f = record {
   positions = f.positions;
   counted = f.counted;
 }
-
--- what the reader gave, the seat gave
-pub given_by : (code : Compiled) (s t : List (List Vector)) (log : LogView) (r : Result (Unit {0}) FillFault) → t ≡ s
-    → MatchResult r (λ _. GaveAll (IsRead code s) log.reads) (λ f. f ≡ fault.TooLong → GaveAll (IsRead code s) log.reads)
-    → MatchResult r (λ _. GaveAll (IsRead code t) log.reads) (λ f. f ≡ fault.TooLong → GaveAll (IsRead code t) log.reads)
-given_by code s t log r e m =
-    subst (λ fresh. MatchResult r (λ _. GaveAll (IsRead code fresh) log.reads) (λ f. f ≡ fault.TooLong → GaveAll (IsRead code fresh) log.reads)) (sym e) m
 
 pub goes_first : (b d : ℕ) (x y z : SeatView) → Goes 0 0 x y → Goes b d y z → Goes b d x z
 goes_first b d x y z f g = record {

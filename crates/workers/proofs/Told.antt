@@ -12,17 +12,17 @@ use Rattle.logic4.specs.Vector.{Vector}
 use Rattle.design.specs.Compiled.{Compiled}
 use Rattle.turn.specs.Reads.{GaveAll}
 use Rattle.regcells.specs.Meetings.{fresh_of, Rises}
-use Rattle.gateparts.specs.Histories.{IsRead}
-use Rattle.gateparts.proofs.Beginnings.{prefix_get}
+use Rattle.runstate.specs.Histories.{IsRead}
+use Rattle.runstate.proofs.Beginnings.{prefix_get}
 use Rattle.commitgate.proofs.Batches.{answered_follows}
 use Rattle.commitgate.specs.Named.{Named}
 use Rattle.commitgate.specs.Seats.{SeatView}
 use Rattle.commitgate.specs.Tickets.{TicketView}
-use Rattle.commitgate.specs.Answers.{IsRegionChange}
-use Rattle.commitgate.specs.Told.{CommitCauses, AnsweredTo, LongAnsweredTo, HeldAnsweredTo, IsUpdatedTo, IsChangedTo}
+use Rattle.commitgate.specs.GateAnswers.{IsRegionChange}
+use Rattle.commitgate.specs.SeatAnswers.{CommitCauses, AnsweredTo, LongAnsweredTo, HeldAnsweredTo, IsUpdatedTo, IsChangedTo}
 use Rattle.workers.specs.Counting.{turn_count}
-use Rattle.workers.specs.Working.{Goes, IsSettled}
-use Rattle.turn.specs.Logs.{LogView}
+use Rattle.workers.specs.WorkerInvariant.{Goes, IsSettled}
+use Rattle.turn.specs.TurnLogs.{LogView}
 use Rattle.commitgate.specs.Batches.{AreUpdatedTo, UpdatesEndedTo, UpdatesAnsweredTo, AreAnsweredTo, AnswersEnd, HadMemory}
 use Rattle.commitgate.specs.declared.reply.UpdatesEnd.{UpdatesEnd}
 use Rattle.commitgate.specs.declared.reply.UpdatesEnd.TheVariants as ends
@@ -30,12 +30,12 @@ use Rattle.commitgate.specs.declared.reply.Grant.{Grant}
 use Rattle.workers.proofs.Seats.{goes_appended, goes_refused, goes_stopped, goes_self, goes_first, goes_then, goes_more, goes_few, begins_more}
 
 -- the seat goes on, with one more turn at most
-abbrev pub GoesOn : SeatView → SeatView → Type 0
-GoesOn old new = (turns : ℕ) × (turns ≤ 1) × Goes turns turns old new
+abbrev pub GoesOnce : SeatView → SeatView → Type 0
+GoesOnce old new = (turns : ℕ) × (turns ≤ 1) × Goes turns turns old new
 
 module _ {A : Type 0} where
   pub answered : (n : Named) (causes : Why → Type 0) (old : SeatView) (ticket : TicketView) (reads : List (ℕ × Seen)) (new : SeatView) (r : Reply A)
-      → AnsweredTo n causes old ticket reads new r → GoesOn old new
+      → AnsweredTo n causes old ticket reads new r → GoesOnce old new
   answered n causes old ticket reads new (Accepted grant) a = (1, omega arith, goes_appended n old (Turn ticket.event) grant.position grant.entry grant.tickets.items new a.appended)
   answered n causes old ticket reads new (Stale r back) a = (0, omega arith, goes_refused n old new a.refused)
   answered n causes old ticket reads new Gone a = (0, omega arith, goes_refused n old new a.refused)
@@ -52,11 +52,11 @@ module _ {A : Type 0} where
   long_goes n old ticket reads new (NoMemory back) a = absurd a
 
   pub long_answered : (n : Named) (old : SeatView) (ticket : TicketView) (reads : List (ℕ × Seen)) (new : SeatView) (r : Reply A)
-      → LongAnsweredTo n old ticket reads new r → GoesOn old new
+      → LongAnsweredTo n old ticket reads new r → GoesOnce old new
   long_answered n old ticket reads new r a = (0, omega arith, long_goes n old ticket reads new r a)
 
   pub held_answered : (n : Named) (old : SeatView) (ticket : TicketView) (new : SeatView) (r : Reply A)
-      → HeldAnsweredTo n old ticket new r → GoesOn old new
+      → HeldAnsweredTo n old ticket new r → GoesOnce old new
   held_answered n old ticket new (Accepted grant) a = (1, omega arith, goes_appended n old (Turn ticket.event) grant.position grant.entry grant.tickets.items new a.appended)
   held_answered n old ticket new (Stale r back) a = absurd a
   held_answered n old ticket new Gone a = (0, omega arith, goes_refused n old new a.refused)
@@ -77,10 +77,10 @@ no_turn (Advance time) h = refl
 pub changed : (n : Named) (old : SeatView) (position : ℕ) (named : Entry) (tickets : List TicketView) (new : SeatView) → IsChangedTo n old position named tickets new → Goes 0 1 old new
 changed n old position named tickets new c = subst (λ (k : ℕ). Goes k 1 old new) (no_turn c.change c.is_change) (goes_appended n old c.change position named tickets new c.appended)
 
-pub first_on : (a b c : SeatView) → Goes 0 0 a b → GoesOn b c → GoesOn a c
+pub first_on : (a b c : SeatView) → Goes 0 0 a b → GoesOnce b c → GoesOnce a c
 first_on a b c f g = (g.0, g.1, goes_first g.0 g.0 a b c f g.2)
 
-pub on_then : (a b c : SeatView) → GoesOn a b → Goes 0 0 b c → GoesOn a c
+pub on_then : (a b c : SeatView) → GoesOnce a b → Goes 0 0 b c → GoesOnce a c
 on_then a b c f g = (f.0, f.1, goes_then f.0 f.0 a b c f.2 g)
 
 -- a seat that appended updates

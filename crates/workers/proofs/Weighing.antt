@@ -1,7 +1,7 @@
 -- Sums of weights over lists.
 use Rattle.std.proofs.Common.{◌≡◌, ℕ, zero, suc, ◌+◌, ◌<◌, List, [], ◌∷◌, ◌++◌, length, get_or, set, refl, sym, ap, ◌∙◌, arith, length-append}
 use Rattle.eventpool.specs.Ends.{Owning, Stealing}
-use Rattle.workers.specs.Working.{got_by_ends}
+use Rattle.workers.specs.WorkerInvariant.{got_by_ends}
 use Rattle.workers.specs.Keeping.{weigh, weigh_got, StoleOne, StoleNone, GotOne, GotNone}
 
 pub weigh_append : {T : Type 0} (f : T → ℕ) (xs ys : List T) → weigh f (xs ++ ys) ≡ weigh f xs + weigh f ys

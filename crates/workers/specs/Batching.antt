@@ -2,21 +2,23 @@
 use Rattle.std.specs.Prelude.{◌≡◌, ℕ, ◌+◌, ◌-◌, ◌^◌, ◌<◌, ◌≤◌, List, length, slice_index_or}
 use Rattle.std.specs.VecDeque.{deque_capacity}
 use Rattle.commitgate.specs.Named.{Named}
-use Rattle.turn.specs.Logs.{LogView}
+use Rattle.turn.specs.TurnLogs.{LogView}
 use Rattle.turn.specs.Reads.{GaveAll}
-use Rattle.turn.specs.Answers.{IsNoTurn}
+use Rattle.turn.specs.TurnAnswers.{IsNoTurn}
 use Rattle.turn.specs.declared.log.FillFault.TheVariants.{TooLong}
-use Rattle.gateparts.specs.Histories.{IsRead}
+use Rattle.runstate.specs.Histories.{IsRead}
 use Rattle.commitgate.specs.Seats.{SeatView}
 use Rattle.commitgate.specs.Tickets.{TicketView}
 use Rattle.commitgate.specs.Batches.{AreOffered}
 use Rattle.eventpool.specs.Ends.{Owning, Stealing}
 use Rattle.workers.specs.declared.batch.Batch.{Batch}
-use Rattle.workers.specs.declared.batch.Next.{Next}
-use Rattle.workers.specs.declared.batch.Next.TheVariants.{More, Enough, Over}
+use Rattle.workers.specs.declared.batch.Filling.{Filling}
+use Rattle.workers.specs.declared.batch.Filling.TheVariants.{More, Enough, Over}
+use Rattle.workers.specs.declared.next.Next.{Next}
+use Rattle.workers.specs.declared.next.Next.TheVariants.{GoesOn, Ends}
 use Rattle.workers.specs.declared.worker.Worker.{Worker}
-use Rattle.workers.specs.Keeping.{weigh_got, Later, KeepsAll}
-use Rattle.workers.specs.Working.{HasPositions, turns_of, SameEnds, IsOver, got_by_ends}
+use Rattle.workers.specs.Keeping.{weigh_got, Extends, KeepsAll}
+use Rattle.workers.specs.WorkerInvariant.{HasPositions, turns_of, SameEnds, IsOver, got_by_ends}
 
 -- the most of them
 abbrev pub most_turns : ℕ
@@ -38,14 +40,19 @@ IsLong n batch ticket s =
     (log : LogView) → log ≡ slice_index_or batch.logs.items (length batch.tickets.items) log
     → IsNoTurn n.code ticket.state ticket.time log.reads TooLong × GaveAll (IsRead n.code s.fresh) log.reads
 
+-- what comes of a ticket that the batch doesn't get
+abbrev pub filling_after : Next → Filling
+filling_after GoesOn = Enough
+filling_after Ends = Over
+
 -- what comes of a ticket: the turns of the batch may be committed, or the run is over
-abbrev pub Leads : {A : Type 0} → Named → Next → Batch A → Worker A → Type 0
+abbrev pub Leads : {A : Type 0} → Named → Filling → Batch A → Worker A → Type 0
 Leads n More batch worker = IsOffered n batch worker
 Leads n Enough batch worker = IsOffered n batch worker
 Leads n Over batch worker = IsOver n worker.seat
 
 -- a ticket that leads on is kept: where the worker had the first tickets in hand before, it has the others after it
-abbrev pub KeepsOn : {A : Type 0} → Named → Next → Worker A → List TicketView → Worker A → List TicketView → Type 0
+abbrev pub KeepsOn : {A : Type 0} → Named → Filling → Worker A → List TicketView → Worker A → List TicketView → Type 0
 KeepsOn n More old hand new hand' = KeepsAll n old hand new hand'
 KeepsOn n Enough old hand new hand' = KeepsAll n old hand new hand'
 KeepsOn n Over old hand new hand' = Unit {0}
@@ -61,7 +68,7 @@ IsOpen s owner row evaluations turns tickets =
 pub record Fills {A : Type 0} (old new : Worker A) (turns tickets taken more left : ℕ) : Type 0 where
   pub worker : new.seat.worker ≡ old.seat.worker
   pub ends : SameEnds old.owner old.row.items new.owner new.row.items
-  pub later : Later old new
+  pub later : Extends old new
   pub entries_few : length new.seat.mine + (more + left) ≤ length old.seat.mine + (turns + tickets + taken)
   pub tickets_few : weigh_got (λ ticket. 1) new.owner new.row.items ≤ weigh_got (λ ticket. 1) old.owner old.row.items + taken
   pub counted : IsOpen old.seat old.owner old.row.items old.evaluations turns tickets → IsOpen new.seat new.owner new.row.items new.evaluations more left

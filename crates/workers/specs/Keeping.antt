@@ -8,11 +8,11 @@ use Rattle.model.specs.declared.entry.Entry.TheVariants.{Turn, Update, ActivateI
 use Rattle.model.specs.States.{Event, State}
 use Rattle.model.specs.Runs.{after}
 use Rattle.design.specs.Compiled.{design_of}
-use Rattle.gateparts.specs.Log.{Log, entries_of}
+use Rattle.runstate.specs.Log.{Log, entries_of}
 use Rattle.commitgate.specs.Named.{Named}
 use Rattle.commitgate.specs.Seats.{SeatView}
 use Rattle.commitgate.specs.Tickets.{TicketView}
-use Rattle.commitgate.specs.Journals.{IsLog, After, IsActiveTicket, made_active}
+use Rattle.commitgate.specs.GateJournals.{IsLog, After, IsActiveTicket, made_active}
 use Rattle.eventpool.specs.Ends.{Owning, Stealing}
 use Rattle.workers.specs.declared.worker.Worker.{Worker}
 
@@ -120,7 +120,7 @@ pub record KeepsAll {A : Type 0} (n : Named) (old : Worker A) (hand : List Ticke
 
 -- A worker that went on: it has seen, appended and put all that it had, with more behind it, and its ends got what they had got, with
 -- more tickets.
-pub record Later {A : Type 0} (old new : Worker A) : Type 0 where
+pub record Extends {A : Type 0} (old new : Worker A) : Type 0 where
   pub seen : IsPrefix old.seat.seen new.seat.seen
   pub mine : IsPrefix old.seat.mine new.seat.mine
   pub put : IsPrefix old.owner.put new.owner.put
@@ -128,7 +128,7 @@ pub record Later {A : Type 0} (old new : Worker A) : Type 0 where
 
 -- It appended at most so many entries meanwhile, and got at most so many tickets.
 pub record Within {A : Type 0} (entries tickets : ℕ) (old new : Worker A) : Type 0 where
-  pub later : Later old new
+  pub later : Extends old new
   pub entries_few : length new.seat.mine ≤ length old.seat.mine + entries
   pub tickets_few : weigh_got (λ ticket. 1) new.owner new.row.items ≤ weigh_got (λ ticket. 1) old.owner old.row.items + tickets
 

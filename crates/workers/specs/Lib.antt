@@ -1,4 +1,4 @@
-pub mod Working
+pub mod WorkerInvariant
 pub mod Counting
 pub mod Keeping
 pub mod Batching

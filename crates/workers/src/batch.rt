@@ -1,21 +1,23 @@
 //! Several turns at once: a worker whose turns are short evaluates the tickets of its own deque, one after another, and commits
 //! their turns in one holding of the lock.
-ghost use Rattle.std.specs.Prelude.{◌≡◌, ℕ, ◌+◌, ◌<◌, ◌≤◌, ◌++◌, List, [], ◌∷◌, true, if◌then◌else◌, length, IfOk, IfErr, MatchResult};
+ghost use Rattle.std.specs.Prelude.{◌≡◌, ℕ, ◌+◌, ◌<◌, ◌≤◌, ◌++◌, List, [], ◌∷◌, length, IfOk, IfErr, MatchResult};
 ghost use Rattle.std.specs.List.{All};
 ghost use Rattle.commitgate.specs.Batches.{AreOffered};
 ghost use Rattle.regcells.specs.Meetings.{Rises};
 ghost use Rattle.turn.specs.declared.log.FillFault.TheVariants.{TooLong};
 ghost use Rattle.commitgate.specs.Tickets.{TicketView, most_tries};
-ghost use Rattle.workers.specs.Working.{Goes, OverUnless, OnlyPuts, Serves, IsSettled, tickets_of};
+ghost use Rattle.workers.specs.WorkerInvariant.{Goes, OverUnless, OnlyPuts, Serves, IsSettled, tickets_of};
 ghost use Rattle.workers.specs.Keeping.{KeepsAll, Within};
-ghost use Rattle.workers.specs.Batching.{most_turns, HasRoom, IsOffered, IsLong, Leads, KeepsOn, Fills};
-ghost use Rattle.workers.specs.declared.batch.Next.TheVariants.{Enough, Over};
+ghost use Rattle.workers.specs.Batching.{most_turns, HasRoom, IsOffered, IsLong, Leads, KeepsOn, Fills, filling_after};
+ghost use Rattle.workers.specs.declared.next.Next.TheVariants.{GoesOn};
 
 use crate::deques::put;
+use crate::next::Next;
 use crate::pace::Pace;
 use crate::probe::{EventAt, Probe};
-use crate::worker::{Shared, Worker, evaluate, finish};
-use commitgate::{MAX_TRIES, Naming, Reply, Seat, Ticket};
+use crate::reads::WorkerReads;
+use crate::worker::{RunContext, Worker, finish};
+use commitgate::{MAX_TRIES, Naming, Reply, Seat, Ticket, evaluate};
 use eventpool::Owner;
 use std::alloc::{AllocError, Global};
 use std::collections::VecDeque;
@@ -42,7 +44,7 @@ pub struct Batch<K: Naming> {
 
 /// What comes after a ticket: another one, or the batch is committed as it is, or the run is over.
 #[derive(Clone, Copy)]
-pub enum Next {
+pub enum Filling {
     More,
     Enough,
     Over,
@@ -72,7 +74,7 @@ impl<K: Naming> Batch<K> {
 
 // Evaluates a ticket's turn into the next log of a batch, and adds it. Else the ticket comes back.
 fn add<K: Naming, P: Probe, R: Wait>(
-    run: &Shared<'_, '_, K, P, R>,
+    run: &RunContext<'_, '_, K, P, R>,
     batch: &mut Batch<K>,
     seat: &mut Seat<K>,
     ticket: Ticket<K>,
@@ -89,7 +91,13 @@ fn add<K: Naming, P: Probe, R: Wait>(
     ensures long { IfErr result (λ e. e.1 ≡ TooLong → IsLong K.named batch.new ticket seat.new) }
 {
     let place = batch.tickets.len();
-    match evaluate::<K, Brand, P, R>(run, &mut batch.logs[place], seat, &ticket) {
+    let phase = run.read_phase(seat.worker());
+    match evaluate::<K, Brand, WorkerReads<'_, P>, R>(
+        &phase,
+        &mut batch.logs[place],
+        seat,
+        &ticket,
+    ) {
         Ok(()) => {
             batch.tickets.push_back_reserved(ticket);
             Ok(batch.logs[place].count())
@@ -99,10 +107,13 @@ fn add<K: Naming, P: Probe, R: Wait>(
 }
 
 // What comes of a ticket that the batch doesn't get.
-fn after(goes_on: bool) -> Next
-    ensures { result ≡ (if goes_on then Enough else Over) }
+fn after(next: Next) -> Filling
+    ensures { result ≡ filling_after next }
 {
-    if goes_on { Next::Enough } else { Next::Over }
+    match next {
+        Next::GoesOn => Filling::Enough,
+        Next::Ends => Filling::Over,
+    }
 }
 
 impl<K: Naming> Batch<K> {
@@ -126,12 +137,12 @@ impl<K: Naming> Batch<K> {
 // Tells the gate of a turn that is too long, by the reads of the log behind those of the batch. The turns before it are committed first.
 // Answers whether the worker goes on, and then the batch is empty.
 fn tell_long<K: Naming, P: Probe, R: Wait>(
-    run: &Shared<'_, '_, K, P, R>,
+    run: &RunContext<'_, '_, K, P, R>,
     batch: &mut Batch<K>,
     pace: &mut Pace,
     worker: &mut Worker<K>,
     ticket: Ticket<K>,
-) -> bool
+) -> Next
     requires room { HasRoom batch.old }
     requires few { length batch.old.tickets.items < most_turns }
     requires tries { ticket.tries < most_tries }
@@ -139,14 +150,15 @@ fn tell_long<K: Naming, P: Probe, R: Wait>(
     requires long { IsLong K.named batch.old ticket worker.old.seat }
     ensures room { HasRoom batch.new }
     ensures few { length batch.new.tickets.items ≤ length batch.old.tickets.items }
-    ensures empty { result ≡ true → batch.new.tickets.items ≡ [] }
+    ensures empty { result ≡ GoesOn → batch.new.tickets.items ≡ [] }
     ensures fills { Fills worker.old worker.new (length batch.old.tickets.items) 0 0 (length batch.new.tickets.items) 0 }
-    ensures keeps { result ≡ true → KeepsAll K.named worker.old (batch.old.tickets.items ++ ticket ∷ []) worker.new [] }
+    ensures keeps { result ≡ GoesOn → KeepsAll K.named worker.old (batch.old.tickets.items ++ ticket ∷ []) worker.new [] }
     ensures over { OverUnless K.named result worker.new.seat }
 {
     let place = batch.tickets.len();
-    if !commit(run, batch, pace, worker) {
-        return false;
+    match commit(run, batch, pace, worker) {
+        Next::GoesOn => {}
+        Next::Ends => return Next::Ends,
     }
     let at = EventAt::of(&ticket);
     let (seat, owner) = (&mut worker.seat, &mut worker.owner);
@@ -156,58 +168,15 @@ fn tell_long<K: Naming, P: Probe, R: Wait>(
 }
 
 // Evaluates the turn of a ticket that the worker got, and adds it to the batch. A turn that is too long stands in no batch:
-// the gate is told of it at once, and the worker takes one ticket at a time from then on.
-fn start<K: Naming, P: Probe, R: Wait>(
-    run: &Shared<'_, '_, K, P, R>,
-    batch: &mut Batch<K>,
-    pace: &mut Pace,
-    worker: &mut Worker<K>,
-    ticket: Ticket<K>,
-) -> Next
-    requires design { run.now.design.now ≡ K.named.code }
-    requires room { HasRoom batch.old }
-    requires few { length batch.old.tickets.items < most_turns }
-    requires tries { ticket.tries < most_tries }
-    requires offered { IsOffered K.named batch.old worker.old }
-    ensures room { HasRoom batch.new }
-    ensures few { length batch.new.tickets.items ≤ length batch.old.tickets.items + 1 }
-    ensures fills { Fills worker.old worker.new (length batch.old.tickets.items) 1 0 (length batch.new.tickets.items) 0 }
-    ensures keeps { KeepsOn K.named result worker.old (batch.old.tickets.items ++ ticket ∷ []) worker.new batch.new.tickets.items }
-    ensures leads { Leads K.named result batch.new worker.new }
-{
-    worker.evaluations = worker.evaluations.saturating_add(1);
-    let at = EventAt::of(&ticket);
-    run.probe
-        .evaluation(worker.seat.worker(), at.event, ticket.tries());
-    match add(run, batch, &mut worker.seat, ticket) {
-        Ok(count) => {
-            pace.note(count);
-            batch.note(at, count);
-            if batch.is_enough(pace.turns()) {
-                Next::Enough
-            } else {
-                Next::More
-            }
-        }
-        Err((ticket, FillFault::TooLong)) => {
-            pace.stay_alone();
-            after(tell_long(run, batch, pace, worker, ticket))
-        }
-        Err((_, FillFault::Memory)) => {
-            run.gate.stop(run.rt, &mut worker.seat);
-            Next::Over
-        }
-    }
-}
-
-// The same with a ticket of any tries. One whose turn is to be evaluated under the lock goes back, too.
+// the gate is told of it at once, and the worker takes one ticket at a time from then on. So it does where a turn is to be
+// evaluated under the lock, whose ticket goes back.
 fn begin<K: Naming, P: Probe, R: Wait>(
-    run: &Shared<'_, '_, K, P, R>,
+    run: &RunContext<'_, '_, K, P, R>,
     batch: &mut Batch<K>,
     pace: &mut Pace,
     worker: &mut Worker<K>,
     ticket: Ticket<K>,
-) -> Next
+) -> Filling
     requires design { run.now.design.now ≡ K.named.code }
     requires room { HasRoom batch.old }
     requires few { length batch.old.tickets.items < most_turns }
@@ -219,22 +188,44 @@ fn begin<K: Naming, P: Probe, R: Wait>(
     ensures leads { Leads K.named result batch.new worker.new }
 {
     if ticket.tries() < MAX_TRIES {
-        start(run, batch, pace, worker, ticket)
+        worker.evaluations = worker.evaluations.saturating_add(1);
+        let at = EventAt::of(&ticket);
+        run.probe
+            .evaluation(worker.seat.worker(), at.event, ticket.tries());
+        match add(run, batch, &mut worker.seat, ticket) {
+            Ok(count) => {
+                pace.note(count);
+                batch.note(at, count);
+                if batch.is_enough(pace.turns()) {
+                    Filling::Enough
+                } else {
+                    Filling::More
+                }
+            }
+            Err((ticket, FillFault::TooLong)) => {
+                pace.stay_alone();
+                after(tell_long(run, batch, pace, worker, ticket))
+            }
+            Err((_, FillFault::Memory)) => {
+                run.gate.stop(run.rt, &mut worker.seat);
+                Filling::Over
+            }
+        }
     } else {
         pace.stay_alone();
         let (seat, owner) = (&mut worker.seat, &mut worker.owner);
-        let is_put = put(run.rt, run.gate, seat, owner, ticket);
-        after(is_put)
+        let next = put(run.rt, run.gate, seat, owner, ticket);
+        after(next)
     }
 }
 
 // The same with the next ticket of the worker's own deque, if there is one.
 fn extend<K: Naming, P: Probe, R: Wait>(
-    run: &Shared<'_, '_, K, P, R>,
+    run: &RunContext<'_, '_, K, P, R>,
     batch: &mut Batch<K>,
     pace: &mut Pace,
     worker: &mut Worker<K>,
-) -> Next
+) -> Filling
     requires design { run.now.design.now ≡ K.named.code }
     requires room { HasRoom batch.old }
     requires few { length batch.old.tickets.items < most_turns }
@@ -247,96 +238,97 @@ fn extend<K: Naming, P: Probe, R: Wait>(
 {
     match worker.owner.take() {
         Some(ticket) => begin(run, batch, pace, worker, ticket),
-        None => Next::Enough,
+        None => Filling::Enough,
     }
 }
 
 // Fills an empty batch, from a ticket that the worker got on. Answers whether the worker goes on.
 fn fill<K: Naming, P: Probe, R: Wait>(
-    run: &Shared<'_, '_, K, P, R>,
+    run: &RunContext<'_, '_, K, P, R>,
     batch: &mut Batch<K>,
     pace: &mut Pace,
     worker: &mut Worker<K>,
     ticket: Ticket<K>,
-) -> bool
+) -> Next
     requires design { run.now.design.now ≡ K.named.code }
     requires room { HasRoom batch.old }
     requires empty { batch.old.tickets.items ≡ [] }
     ensures room { HasRoom batch.new }
     ensures few { length batch.new.tickets.items ≤ most_turns }
     ensures fills { (taken : ℕ) × (taken ≤ 15) × Fills worker.old worker.new 0 1 taken (length batch.new.tickets.items) 0 }
-    ensures keeps { result ≡ true → KeepsAll K.named worker.old (ticket ∷ []) worker.new batch.new.tickets.items }
-    ensures offered { result ≡ true → IsOffered K.named batch.new worker.new }
+    ensures keeps { result ≡ GoesOn → KeepsAll K.named worker.old (ticket ∷ []) worker.new batch.new.tickets.items }
+    ensures offered { result ≡ GoesOn → IsOffered K.named batch.new worker.new }
     ensures over { OverUnless K.named result worker.new.seat }
 {
     batch.steps = 0;
     let mut next = begin(run, batch, pace, worker, ticket);
     for _place in 1..MOST_TURNS {
         match next {
-            Next::More => {}
-            Next::Enough => return true,
-            Next::Over => return false,
+            Filling::More => {}
+            Filling::Enough => return Next::GoesOn,
+            Filling::Over => return Next::Ends,
         }
         next = extend(run, batch, pace, worker);
     }
     match next {
-        Next::More => true,
-        Next::Enough => true,
-        Next::Over => false,
+        Filling::More => Next::GoesOn,
+        Filling::Enough => Next::GoesOn,
+        Filling::Over => Next::Ends,
     }
 }
 
 // What comes of the answers: each is told to the probe, and settled. Answers whether the worker goes on, and then memory was
 // refused for none.
 fn settle_all<K: Naming, P: Probe, R: Wait>(
-    run: &Shared<'_, '_, K, P, R>,
+    run: &RunContext<'_, '_, K, P, R>,
     batch: &mut Batch<K>,
     pace: &mut Pace,
     seat: &mut Seat<K>,
     owner: &mut Owner<Ticket<K>>,
-) -> bool
+) -> Next
     requires room { HasRoom batch.old }
     requires few { length batch.old.replies.items ≤ most_turns }
     ensures room { HasRoom batch.new }
     ensures tickets { batch.new.tickets ≡ batch.old.tickets }
     ensures logs { batch.new.logs ≡ batch.old.logs }
     ensures goes { Goes 0 0 seat.old seat.new }
-    ensures kept { result ≡ true → seat.new ≡ seat.old }
+    ensures kept { result ≡ GoesOn → seat.new ≡ seat.old }
     ensures puts { OnlyPuts owner.old owner.new }
-    ensures all { result ≡ true → owner.new.put ≡ owner.old.put ++ tickets_of batch.old.replies.items }
+    ensures all { result ≡ GoesOn → owner.new.put ≡ owner.old.put ++ tickets_of batch.old.replies.items }
     ensures over { OverUnless K.named result seat.new }
-    ensures settled { result ≡ true → All IsSettled batch.old.replies.items }
+    ensures settled { result ≡ GoesOn → All IsSettled batch.old.replies.items }
 {
     for place in 0..MOST_TURNS {
         let at = batch.events[place];
         let Some(reply) = batch.replies.pop_front() else {
-            return true;
+            return Next::GoesOn;
         };
         pace.answered(&reply);
-        if !finish(run, seat, owner, at, reply) {
-            return false;
+        match finish(run, seat, owner, at, reply) {
+            Next::GoesOn => {}
+            Next::Ends => return Next::Ends,
         }
     }
-    true
+    Next::GoesOn
 }
 
 // Commits the turns of a batch in one holding of the lock, and settles the answers. Answers whether the worker goes on.
 fn commit<K: Naming, P: Probe, R: Wait>(
-    run: &Shared<'_, '_, K, P, R>,
+    run: &RunContext<'_, '_, K, P, R>,
     batch: &mut Batch<K>,
     pace: &mut Pace,
     worker: &mut Worker<K>,
-) -> bool
+) -> Next
     requires room { HasRoom batch.old }
     requires few { length batch.old.tickets.items ≤ most_turns }
     requires offered { IsOffered K.named batch.old worker.old }
     ensures room { HasRoom batch.new }
     ensures few { length batch.new.tickets.items ≤ length batch.old.tickets.items }
-    ensures empty { result ≡ true → batch.new.tickets.items ≡ [] }
+    ensures empty { result ≡ GoesOn → batch.new.tickets.items ≡ [] }
     ensures logs { batch.new.logs ≡ batch.old.logs }
-    ensures rises { result ≡ true → Rises worker.old.seat.fresh worker.new.seat.fresh }
+    ensures rises { result ≡ GoesOn → Rises worker.old.seat.fresh worker.new.seat.fresh }
     ensures fills { Fills worker.old worker.new (length batch.old.tickets.items) 0 0 (length batch.new.tickets.items) 0 }
-    ensures keeps { result ≡ true → (rest : List TicketView) → KeepsAll K.named worker.old (batch.old.tickets.items ++ rest) worker.new rest }
+    ensures keeps { result ≡ GoesOn → (rest : List TicketView) → KeepsAll K.named worker.old (batch.old.tickets.items ++ rest) worker.new rest }
     ensures over { OverUnless K.named result worker.new.seat }
 {
     let Batch {
@@ -354,24 +346,25 @@ fn commit<K: Naming, P: Probe, R: Wait>(
 /// Evaluates a ticket that the worker got, and more of its own deque, and commits their turns. Answers whether the worker goes
 /// on, and then the batch is empty again.
 pub(crate) fn serve_several<K: Naming, P: Probe, R: Wait>(
-    run: &Shared<'_, '_, K, P, R>,
+    run: &RunContext<'_, '_, K, P, R>,
     batch: &mut Batch<K>,
     pace: &mut Pace,
     worker: &mut Worker<K>,
     ticket: Ticket<K>,
-) -> bool
+) -> Next
     requires design { run.now.design.now ≡ K.named.code }
     requires room { HasRoom batch.old }
     requires empty { batch.old.tickets.items ≡ [] }
     ensures room { HasRoom batch.new }
-    ensures empty { result ≡ true → batch.new.tickets.items ≡ [] }
+    ensures empty { result ≡ GoesOn → batch.new.tickets.items ≡ [] }
     ensures serves { Serves worker.old worker.new }
-    ensures keeps { result ≡ true → KeepsAll K.named worker.old (ticket ∷ []) worker.new [] }
+    ensures keeps { result ≡ GoesOn → KeepsAll K.named worker.old (ticket ∷ []) worker.new [] }
     ensures within { Within 16 15 worker.old worker.new }
     ensures over { OverUnless K.named result worker.new.seat }
 {
-    if !fill(run, batch, pace, worker, ticket) {
-        return false;
+    match fill(run, batch, pace, worker, ticket) {
+        Next::GoesOn => {}
+        Next::Ends => return Next::Ends,
     }
     commit(run, batch, pace, worker)
 }

@@ -1,10 +1,12 @@
 //! Where a worker's tickets come from, and where they go.
-ghost use Rattle.std.specs.Prelude.{◌≡◌, ◌+◌, ◌++◌, true, [], ◌∷◌, map, length, IfSome, IfNone};
+ghost use Rattle.std.specs.Prelude.{◌≡◌, ◌+◌, ◌++◌, [], ◌∷◌, map, length, IfSome, IfNone};
 ghost use Rattle.std.specs.List.{sum_by};
 ghost use Rattle.eventpool.specs.Ends.{thief_card};
 ghost use Rattle.workers.specs.Keeping.{StoleOne, StoleNone, GotOne, GotNone};
-ghost use Rattle.workers.specs.Working.{Goes, OverUnless, OnlyPuts, SameEnds, got_by_ends};
+ghost use Rattle.workers.specs.WorkerInvariant.{Goes, OverUnless, OnlyPuts, SameEnds, got_by_ends};
+ghost use Rattle.workers.specs.declared.next.Next.TheVariants.{GoesOn};
 
+use crate::next::Next;
 use commitgate::{Gate, Naming, Seat, Ticket};
 use crossbeam_utils::Backoff;
 use eventpool::{Owner, Stolen, Thief};
@@ -102,18 +104,18 @@ pub(crate) fn put<K: Naming, R: Wait>(
     seat: &mut Seat<K>,
     owner: &mut Owner<Ticket<K>>,
     ticket: Ticket<K>,
-) -> bool
+) -> Next
     ensures goes { Goes 0 0 seat.old seat.new }
-    ensures kept { result ≡ true → seat.new ≡ seat.old }
+    ensures kept { result ≡ GoesOn → seat.new ≡ seat.old }
     ensures puts { OnlyPuts owner.old owner.new }
-    ensures all { result ≡ true → owner.new.put ≡ owner.old.put ++ ticket ∷ [] }
+    ensures all { result ≡ GoesOn → owner.new.put ≡ owner.old.put ++ ticket ∷ [] }
     ensures over { OverUnless K.named result seat.new }
 {
     match owner.put(ticket) {
-        Ok(()) => true,
+        Ok(()) => Next::GoesOn,
         Err(_) => {
             gate.stop(rt, seat);
-            false
+            Next::Ends
         }
     }
 }
@@ -125,21 +127,22 @@ pub(crate) fn put_all<K: Naming, R: Wait>(
     seat: &mut Seat<K>,
     owner: &mut Owner<Ticket<K>>,
     mut tickets: Vec<Ticket<K>>,
-) -> bool
+) -> Next
     ensures goes { Goes 0 0 seat.old seat.new }
-    ensures kept { result ≡ true → seat.new ≡ seat.old }
+    ensures kept { result ≡ GoesOn → seat.new ≡ seat.old }
     ensures puts { OnlyPuts owner.old owner.new }
-    ensures all { result ≡ true → owner.new.put ≡ owner.old.put ++ tickets.items }
+    ensures all { result ≡ GoesOn → owner.new.put ≡ owner.old.put ++ tickets.items }
     ensures over { OverUnless K.named result seat.new }
 {
     if tickets.is_empty() {
-        return true;
+        return Next::GoesOn;
     }
     for ticket in tickets.drain(..) {
-        if !put(rt, gate, seat, owner, ticket) {
-            return false;
+        match put(rt, gate, seat, owner, ticket) {
+            Next::GoesOn => {}
+            Next::Ends => return Next::Ends,
         }
     }
     seat.keep_room(tickets);
-    true
+    Next::GoesOn
 }

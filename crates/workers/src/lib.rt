@@ -10,23 +10,24 @@
 //! 3. Where a worker's turns are short, it takes tickets only while no other such worker does, since they would only meet at
 //!    the lock (`pace`). It evaluates several of them, one after another, and commits them in one holding of the lock, as long
 //!    as none of them makes another stale (`batch`).
-//! 4. A worker ends where no event is left or the run is stopped; want of memory stops it. What the workers had is taken
-//!    apart (`apart`).
+//! 4. A worker ends where no event is left or the run is stopped (`next`); want of memory stops it. What the workers had is
+//!    taken apart (`left_by_workers`).
 #![tactic(auto)]
 
-mod apart;
 mod batch;
 mod deques;
 mod fault;
+mod left_by_workers;
+mod next;
 mod pace;
 mod probe;
-mod reader;
+mod reads;
 mod team;
 mod worker;
 
-pub use apart::Apart;
 pub use fault::SimFault;
+pub use left_by_workers::LeftByWorkers;
 pub use pace::Lane;
 pub use probe::{Probe, ReplyKind, Unobserved};
 pub use team::{gather, place, work_all};
-pub use worker::{Shared, Worker};
+pub use worker::{RunContext, Worker};

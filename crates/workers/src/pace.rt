@@ -112,7 +112,7 @@ impl Pace {
                 self.turns = 1;
                 self.fresh = 0;
             }
-            _ => {
+            Reply::Accepted(_) | Reply::Gone | Reply::Stopped(_) | Reply::NoMemory(_) => {
                 self.fresh = self.fresh.saturating_add(1);
                 if self.fresh >= ENOUGH && self.turns < MOST_TURNS {
                     self.turns = self.turns.saturating_mul(2);

@@ -3,11 +3,11 @@ ghost use Rattle.std.specs.Prelude.{◌≡◌, ◌+◌, ◌<◌, ◌∷◌, map,
 ghost use Rattle.std.specs.List.{AllByRecursion};
 ghost use Rattle.std.specs.Thread.{IsSend, IsSync};
 ghost use Rattle.design.specs.contracts.design.Design as design_rows;
-ghost use Rattle.workers.specs.Working.{AreDone, ArePlaced, IsDone, IsFixed};
+ghost use Rattle.workers.specs.WorkerInvariant.{AreDone, ArePlaced, IsDone, IsFixed};
 
 use crate::fault::SimFault;
 use crate::probe::Probe;
-use crate::worker::{Shared, Worker, work};
+use crate::worker::{RunContext, Worker, work};
 use commitgate::{Naming, Seat, Ticket};
 use design::Design;
 use eventpool::{Owner, Thief};
@@ -22,7 +22,7 @@ use std::thread::{Promise, Threads};
 struct ComesToEnd<K: Naming>(Snapshot<Worker<K>>);
 
 impl<K: Naming> Promise<Worker<K>> for ComesToEnd<K> {
-    ghost use Rattle.workers.specs.Working.{IsDone};
+    ghost use Rattle.workers.specs.WorkerInvariant.{IsDone};
 
     ghost kept_by = { λ p r. IsDone K.named p.0.value r };
 }
@@ -94,7 +94,7 @@ fn design_is_shared()
 /// Starts a worker in a thread of its own for each but the first, which works here, and joins them all, in order. Where one
 /// can't be started the run is stopped.
 pub fn work_all<K: Naming + Send + Sync, P: Probe, R: Threads + Wait + Sync>(
-    run: &Shared<'_, '_, K, P, R>,
+    run: &RunContext<'_, '_, K, P, R>,
     own: Worker<K>,
     others: Vec<Worker<K>>,
 ) -> Result<Vec<Worker<K>>, SimFault>

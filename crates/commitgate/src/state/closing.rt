@@ -1,7 +1,7 @@
 //! The seats that are given back, and what a gate leaves.
 ghost use Rattle.std.specs.Prelude.{◌≡◌, length};
-ghost use Rattle.gateparts.specs.Log.{entries_of};
-ghost use Rattle.commitgate.specs.Journals.{IsLog};
+ghost use Rattle.runstate.specs.Log.{entries_of};
+ghost use Rattle.commitgate.specs.GateJournals.{IsLog};
 ghost use Rattle.commitgate.specs.Closing.{IsClosed, IsEndIn, Settled};
 
 use crate::closed::Closed;
@@ -9,7 +9,7 @@ use crate::context::Context;
 use crate::naming::Naming;
 use crate::seat::Seat;
 use crate::state::GateState;
-use gateparts::Parts;
+use runstate::RunState;
 use std::sync::Wait;
 
 impl<'d, K: Naming> GateState<'d, K> {
@@ -34,11 +34,11 @@ impl<'d, K: Naming> GateState<'d, K> {
     {
         let end = self.end();
         let GateState {
-            parts,
+            run_state,
             spare: _,
             of: _,
         } = self;
-        let Parts {
+        let RunState {
             design: _,
             limits: _,
             regions: _,
@@ -47,7 +47,7 @@ impl<'d, K: Naming> GateState<'d, K> {
             made,
             end: _,
             whole: _,
-        } = parts;
+        } = run_state;
         Closed::new(journal, made.lines, end, committed)
     }
 }

@@ -1,13 +1,13 @@
 //! The change of the regions that is due where nothing is active.
 ghost use Rattle.std.specs.Prelude.{◌≡◌, ◌↔◌, length, IsTrue, IfSome, IfNone, MatchOption};
 ghost use Rattle.model.specs.Runs.{IsTimely};
-ghost use Rattle.gateparts.specs.Log.{entries_of};
-ghost use Rattle.gateparts.specs.GateState.{state_in};
-ghost use Rattle.commitgate.specs.Answers.{IsResting, MustWait, stopped_for_memory};
-ghost use Rattle.commitgate.specs.Regions.{IsDueChange, IsPassed};
+ghost use Rattle.runstate.specs.Log.{entries_of};
+ghost use Rattle.runstate.specs.GateState.{state_in};
+ghost use Rattle.commitgate.specs.GateAnswers.{IsResting, MustWait, stopped_for_memory};
+ghost use Rattle.commitgate.specs.DueRegions.{IsDueChange, IsPassed};
 ghost use Rattle.commitgate.specs.Closing.{IsEndOf};
 ghost use Rattle.commitgate.specs.Replies.{RestAnswered};
-ghost use Rattle.commitgate.specs.Told.{RestAnsweredTo, StoppedTo};
+ghost use Rattle.commitgate.specs.SeatAnswers.{RestAnsweredTo, StoppedTo};
 
 use crate::context::Context;
 use crate::naming::Naming;
@@ -39,9 +39,9 @@ impl<'d, K: Naming> GateState<'d, K> {
     pub fn must_wait(&self, seen: u64) -> bool
         ensures { IsTrue result ↔ MustWait self.now seen }
     {
-        self.parts.end.is_none()
-            & self.parts.regions.is_active()
-            & self.parts.regions.first_update().is_none()
+        self.run_state.end.is_none()
+            & self.run_state.regions.is_active()
+            & self.run_state.regions.first_update().is_none()
             & (self.entries() <= seen)
     }
 
@@ -49,10 +49,10 @@ impl<'d, K: Naming> GateState<'d, K> {
     pub(crate) fn end(&self) -> End
         ensures { IsEndOf K.named.code self.now result }
     {
-        match self.parts.end {
+        match self.run_state.end {
             Some(why) => End::Stopped(why),
             None => {
-                if self.parts.regions.is_quiet() {
+                if self.run_state.regions.is_quiet() {
                     End::Quiet
                 } else {
                     End::Running
@@ -66,7 +66,7 @@ impl<'d, K: Naming> GateState<'d, K> {
         requires { IsResting K.named.code self.now }
         ensures { IsDueChange (state_in K.named.code self.now) result }
     {
-        let regions = &self.parts.regions;
+        let regions = &self.run_state.regions;
         if regions.legal(&Entry::ActivateInactive) {
             return Entry::ActivateInactive;
         }
@@ -100,7 +100,7 @@ impl<'d, K: Naming> GateState<'d, K> {
             End::Quiet => return Rest::Quiet,
             End::Running => {}
         }
-        if self.parts.regions.is_active() {
+        if self.run_state.regions.is_active() {
             return Rest::Busy;
         }
         if self.is_full() {
@@ -109,7 +109,7 @@ impl<'d, K: Naming> GateState<'d, K> {
             return Rest::Stopped(Why::Entries);
         }
         let change = self.due_change();
-        if let Some(why) = passed_limit(self.parts.limits, change) {
+        if let Some(why) = passed_limit(self.run_state.limits, change) {
             self.stop(context, seat, why);
             self.known();
             return Rest::Stopped(why);

@@ -1,13 +1,10 @@
 //! A ticket's turn that is evaluated under the lock, and so can't be stale.
 ghost use Rattle.std.specs.Prelude.{◌≡◌, MatchResult};
 ghost use Rattle.commitgate.specs.Tickets.{IsCurrent, most_tries};
-ghost use Rattle.commitgate.specs.HeldTurns.{is_refused, IsHeldTurn, IsNoHeldTurn};
-ghost use Rattle.turn.specs.Answers.{IsTurnLog};
-ghost use Rattle.turn.specs.Reads.{GaveAll};
-ghost use Rattle.gateparts.specs.Histories.{IsRead};
-ghost use Rattle.commitgate.specs.Answers.{MayCommit, AreCurrent};
+ghost use Rattle.commitgate.specs.HeldTurns.{is_refused, IsCurrentTurn, IsNoHeldTurn};
+ghost use Rattle.commitgate.specs.GateAnswers.{MayCommit};
 ghost use Rattle.commitgate.specs.Replies.{Answered, HeldAnswered};
-ghost use Rattle.commitgate.specs.Told.{CommitCauses, AnsweredTo, HeldAnsweredTo};
+ghost use Rattle.commitgate.specs.SeatAnswers.{CommitCauses, AnsweredTo, HeldAnsweredTo};
 
 use crate::context::Context;
 use crate::naming::Naming;
@@ -38,14 +35,14 @@ impl<'d, K: Naming> GateState<'d, K> {
     ) -> Result<(), FillFault>
         requires current { IsCurrent self.old.core ticket.now }
         ensures same { self.new ≡ self.old }
-        ensures turn { MatchResult result (λ _. IsHeldTurn K.named.code self.old ticket.now log.new) (IsNoHeldTurn K.named.code self.old ticket.now) }
+        ensures turn { MatchResult result (λ _. IsCurrentTurn K.named.code self.old ticket.now log.new) (IsNoHeldTurn K.named.code self.old ticket.now) }
     {
         self.known();
         ticket.known();
         let state = ticket.state();
         let now = ticket.time();
         let (rt, cells) = (context.rt, context.cells);
-        self.parts.evaluate(rt, cells, log, state, now)
+        self.run_state.evaluate(rt, cells, log, state, now)
     }
 
     /// Appends a turn that was evaluated under the lock, in the name of a seat that has seen the whole log.
@@ -58,9 +55,7 @@ impl<'d, K: Naming> GateState<'d, K> {
     ) -> Reply<K>
         requires seen { seat.old.seen ≡ self.old.log }
         requires may { MayCommit K.named.limits self.old ticket }
-        requires current { AreCurrent K.named.code self.old log.now.reads }
-        requires turn { IsTurnLog K.named.code ticket.state ticket.time log.now }
-        requires read { GaveAll (IsRead K.named.code self.old.histories) log.now.reads }
+        requires turn { IsCurrentTurn K.named.code self.old ticket log.now }
         ensures state { Answered K.named.code K.named.limits seat.old.worker self.old ticket log.now.reads self.new result }
         ensures seat { AnsweredTo K.named CommitCauses seat.old ticket log.now.reads seat.new result }
     {

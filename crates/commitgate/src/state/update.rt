@@ -4,7 +4,7 @@ ghost use Rattle.std.specs.Vec.{vec_capacity};
 ghost use Rattle.commitgate.specs.Batches.{TicketsEnd, UpdatesAnswered, UpdatesAnsweredTo};
 ghost use Rattle.commitgate.specs.declared.reply.UpdatesEnd.TheVariants.{NoRoom};
 ghost use Rattle.commitgate.specs.Replies.{UpdateAnswered};
-ghost use Rattle.commitgate.specs.Told.{UpdateAnsweredTo};
+ghost use Rattle.commitgate.specs.SeatAnswers.{UpdateAnsweredTo};
 
 use crate::context::Context;
 use crate::naming::Naming;
@@ -33,7 +33,7 @@ impl<'d, K: Naming> GateState<'d, K> {
         if let Some(why) = self.ended() {
             return UpdateReply::Stopped(why);
         }
-        let Some(number) = self.parts.regions.first_update() else {
+        let Some(number) = self.run_state.regions.first_update() else {
             return UpdateReply::Nothing;
         };
         if self.is_full() {

@@ -5,7 +5,7 @@ ghost use Rattle.regions.specs.Future.{due_event};
 
 use super::State;
 use crate::future::Due;
-use crate::queue::{Evaluation, Progress, Update};
+use crate::queue::{Continuation, Evaluation, Update};
 use design::Control;
 use std::collections::VecDeque;
 
@@ -54,7 +54,7 @@ impl State {
     }
 
     /// Where each process goes on, and the event control that it waits at, by its number.
-    pub fn processes(&self) -> &[Progress]
+    pub fn processes(&self) -> &[Continuation]
         ensures { map (process_of self.now.controls) result.now ≡ self.now.processes }
     {
         self.queue.processes.as_slice()

@@ -1,11 +1,11 @@
 //! Where tickets are put, and in which order workers look for them. Probes hold workers, so that each ticket can be got in
 //! one way alone.
 
-use super::claims::{holds, holds_as};
+use super::claims::{holds, holds_as, holds_of};
 use super::counts::Count;
-use super::{design_of, outcome_of};
+use super::running::run_source;
 use design::RegId;
-use simulate::{Options, Outcome, Probe, ReplyKind, simulate};
+use simulate::{Outcome, Probe, ReplyKind};
 use std::alloc::Global;
 use std::process::Abort;
 use std::sync::Wait;
@@ -68,46 +68,19 @@ impl Probe for HoldsEvaluations<'_> {
     fn replied(&self, _worker: u32, _event: u64, _kind: ReplyKind) {}
 }
 
-const TWO_WORKERS: Options = Options {
-    workers: 2,
-    until: None,
-    max_entries: 100,
-};
-
-const FOUR_WORKERS: Options = Options {
-    workers: 4,
-    ..TWO_WORKERS
-};
-
-/// Runs a source on two or four workers.
-fn run<P: Probe, R: Abort + Threads + Wait + Sync>(
-    rt: &R,
-    alloc: Global,
-    source: &str,
-    four: bool,
-    probe: &P,
-) -> Outcome {
-    let design = design_of(rt, alloc, source);
-    let answer = if four {
-        simulate(rt, alloc, &design, FOUR_WORKERS, probe)
-    } else {
-        simulate(rt, alloc, &design, TWO_WORKERS, probe)
-    };
-    outcome_of(rt, answer)
-}
-
 /// So many tickets were put, of which so many were stolen, and none is left.
-fn assert_tally(rt: &impl Abort, outcome: &Outcome, puts: u128, steals: u128) {
-    holds(rt, outcome.tally.puts() == puts, "the puts");
-    holds(rt, outcome.tally.steals() == steals, "the steals");
-    holds(rt, outcome.tally.left() == 0, "what is left");
+fn assert_tally(rt: &impl Abort, source: &str, outcome: &Outcome, puts: u128, steals: u128) {
+    let tally = &outcome.tally;
+    holds_of(rt, tally.puts() == puts, "the puts", source);
+    holds_of(rt, tally.steals() == steals, "the steals", source);
+    holds_of(rt, tally.left() == 0, "what is left", source);
 }
 
-/// A source, on two or four workers, how long its evaluations are held, and what comes of it.
+/// A source, on how many workers, how long its evaluations are held, and what comes of it.
 #[derive(Clone, Copy)]
 struct Held<'a> {
     source: &'a str,
-    four: bool,
+    workers: u32,
     begun: &'a [u64],
     digits: &'a [u64; 4],
     puts: u128,
@@ -119,9 +92,9 @@ fn assert_held<R: Abort + Threads + Wait + Sync>(rt: &R, alloc: Global, held: &H
         begun: held.begun,
         looked: Looked::new(),
     };
-    let outcome = run(rt, alloc, held.source, held.four, &probe);
+    let outcome = run_source(rt, alloc, held.source, held.workers, &probe);
     probe.looked.assert(rt, held.digits);
-    assert_tally(rt, &outcome, held.puts, held.steals);
+    assert_tally(rt, held.source, &outcome, held.puts, held.steals);
 }
 
 /// The same comes of each of a hundred runs.
@@ -134,46 +107,41 @@ fn assert_all_held<R: Abort + Threads + Wait + Sync>(rt: &R, alloc: Global, held
 const EIGHT_PROCESSES: &str =
     "module t; initial ; initial ; initial ; initial ; initial ; initial ; initial ; initial ; endmodule";
 
-const PLACED: Held<'static> = Held {
-    source: EIGHT_PROCESSES,
-    four: true,
-    begun: &[4, 4, 4, 4, 8, 8, 8, 8],
-    digits: &[15, 26, 37, 48],
-    puts: 8,
-    steals: 0,
-};
+const HELD_RUNS: &[Held<'static>] = &[
+    // first tickets are placed round and round
+    Held {
+        source: EIGHT_PROCESSES,
+        workers: 4,
+        begun: &[4, 4, 4, 4, 8, 8, 8, 8],
+        digits: &[15, 26, 37, 48],
+        puts: 8,
+        steals: 0,
+    },
+    // a worker steals from the next one first
+    Held {
+        source: EIGHT_PROCESSES,
+        workers: 4,
+        begun: &[8, 8, 4, 8],
+        digits: &[1, 2, 37_856, 4],
+        puts: 8,
+        steals: 3,
+    },
+    // a later ticket goes to the worker that made it
+    Held {
+        source: "module t; reg a; initial a=1'b1; initial @(a) ; initial ; initial ; endmodule",
+        workers: 2,
+        begun: &[3, 0, 0, 5],
+        digits: &[135, 24, 0, 0],
+        puts: 5,
+        steals: 0,
+    },
+];
 
 #[test]
-fn first_tickets_are_placed_round_and_round(rt: HostRuntime) {
-    assert_all_held(&rt, rt.alloc(), &PLACED);
-}
-
-const STOLEN: Held<'static> = Held {
-    source: EIGHT_PROCESSES,
-    four: true,
-    begun: &[8, 8, 4, 8],
-    digits: &[1, 2, 37_856, 4],
-    puts: 8,
-    steals: 3,
-};
-
-#[test]
-fn a_worker_steals_from_the_next_first(rt: HostRuntime) {
-    assert_all_held(&rt, rt.alloc(), &STOLEN);
-}
-
-const LATER: Held<'static> = Held {
-    source: "module t; reg a; initial a=1'b1; initial @(a) ; initial ; initial ; endmodule",
-    four: false,
-    begun: &[3, 0, 0, 5],
-    digits: &[135, 24, 0, 0],
-    puts: 5,
-    steals: 0,
-};
-
-#[test]
-fn a_later_ticket_goes_to_the_worker_that_made_it(rt: HostRuntime) {
-    assert_all_held(&rt, rt.alloc(), &LATER);
+fn each_ticket_is_got_in_its_one_way(rt: HostRuntime) {
+    for held in HELD_RUNS {
+        assert_all_held(&rt, rt.alloc(), held);
+    }
 }
 
 /// Keeps the evaluation of event 0 open until the second read of event 1 has begun, that read until event 2 is evaluated,
@@ -210,9 +178,9 @@ fn assert_stale<R: Abort + Threads + Wait + Sync>(rt: &R, alloc: Global) {
         looked: Looked::new(),
         reads: Count::new(),
     };
-    let outcome = run(rt, alloc, source, false, &probe);
+    let outcome = run_source(rt, alloc, source, 2, &probe);
     probe.looked.assert(rt, &[13, 22, 0, 0]);
-    assert_tally(rt, &outcome, 4, 0);
+    assert_tally(rt, source, &outcome, 4, 0);
 }
 
 #[test]

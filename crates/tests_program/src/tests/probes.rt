@@ -1,23 +1,19 @@
 //! Runs on two workers, one of which a probe holds: evaluations overlap, and a turn that read what has changed since is
 //! evaluated again.
 
-use super::claims::holds;
+use super::claims::{holds, holds_of};
 use super::counts::Count;
+use super::running::{outcome_of, run_on};
+use super::sources::{COPIES, DISPLAYS};
 use super::threads::total;
-use super::{Texts, design_of, outcome_of, replayed};
+use super::{Texts, design_of, replayed};
 use design::{Design, RegId};
 use model::end::End;
-use simulate::{Options, Outcome, Probe, ReplyKind, simulate};
+use simulate::{Outcome, Probe, ReplyKind};
 use std::alloc::Global;
 use std::process::Abort;
 use std::sync::Wait;
 use std::thread::Threads;
-
-const TWO_WORKERS: Options = Options {
-    workers: 2,
-    until: None,
-    max_entries: 100,
-};
 
 /// A source, how many entries its runs have and how many evaluations at most, and what they may print.
 #[derive(Clone, Copy)]
@@ -38,12 +34,16 @@ fn assert_raced(
 ) {
     let closed = &outcome.closed;
     let evaluations = total(outcome.evaluations.as_slice());
-    holds(rt, evaluations <= raced.evaluations, "the evaluations");
-    holds(rt, closed.entries().len() == raced.entries, "the entries");
-    holds(rt, closed.end() == End::Quiet, "the end");
-    holds(rt, raced.texts.has(closed.lines().as_bytes()), "the lines");
+    let is_few = evaluations <= raced.evaluations;
+    holds_of(rt, is_few, "the evaluations", raced.source);
+    let is_all = closed.entries().len() == raced.entries;
+    holds_of(rt, is_all, "the entries", raced.source);
+    holds_of(rt, closed.end() == End::Quiet, "the end", raced.source);
+    let is_one = raced.texts.has(closed.lines().as_bytes());
+    holds_of(rt, is_one, "the lines", raced.source);
     let again = replayed(rt, alloc, design, closed.entries());
-    holds(rt, again.lines.as_str() == closed.lines(), "the replay");
+    let is_same = again.lines.as_str() == closed.lines();
+    holds_of(rt, is_same, "the replay", raced.source);
 }
 
 /// A run on two workers.
@@ -54,7 +54,7 @@ fn run<P: Probe, R: Abort + Threads + Wait + Sync>(
     probe: &P,
 ) {
     let design = design_of(rt, alloc, raced.source);
-    let answer = simulate(rt, alloc, &design, TWO_WORKERS, probe);
+    let answer = run_on(rt, alloc, &design, 2, None, probe);
     assert_raced(rt, alloc, &design, raced, &outcome_of(rt, answer));
 }
 
@@ -103,36 +103,34 @@ fn assert_all_overlap<R: Abort + Threads + Wait + Sync>(rt: &R, alloc: Global, r
     }
 }
 
-/// Two processes print a line each.
-const DISPLAYS: Raced<'static> = Raced {
-    source: "module t; reg a; initial begin a=1'b1; $display(\"x\"); end initial $display(\"y\"); endmodule",
-    entries: 2,
-    evaluations: 2,
-    texts: Texts {
-        one: "x\ny\n",
-        other: "y\nx\n",
+const OVERLAPS: &[Raced<'static>] = &[
+    // two processes print a line each
+    Raced {
+        source: DISPLAYS,
+        entries: 2,
+        evaluations: 2,
+        texts: Texts {
+            one: "x\ny\n",
+            other: "y\nx\n",
+        },
     },
-};
+    // two processes copy each other's register at one time
+    Raced {
+        source: COPIES,
+        entries: 9,
+        evaluations: 28,
+        texts: Texts {
+            one: "1 1\n",
+            other: "0 0\n",
+        },
+    },
+];
 
 #[test]
-fn evaluations_of_two_displays_overlap(rt: HostRuntime) {
-    assert_all_overlap(&rt, rt.alloc(), &DISPLAYS);
-}
-
-/// Two processes copy each other's register at one time.
-const COPIES: Raced<'static> = Raced {
-    source: "module t; reg a, b; initial begin a=1'b0; b=1'b1; end initial #1 a=b; initial #1 b=a; initial #2 $display(\"%b %b\",a,b); endmodule",
-    entries: 9,
-    evaluations: 28,
-    texts: Texts {
-        one: "1 1\n",
-        other: "0 0\n",
-    },
-};
-
-#[test]
-fn evaluations_of_two_copies_overlap(rt: HostRuntime) {
-    assert_all_overlap(&rt, rt.alloc(), &COPIES);
+fn evaluations_overlap(rt: HostRuntime) {
+    for raced in OVERLAPS {
+        assert_all_overlap(&rt, rt.alloc(), raced);
+    }
 }
 
 /// Keeps the evaluation of event 0 open until the second read has begun, and that read until the gate has answered to

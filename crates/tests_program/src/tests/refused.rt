@@ -1,14 +1,16 @@
 //! Runs on one worker in too little memory: each ends before its first entry, is stopped for memory with a beginning of its
 //! journal, or is whole.
 
-use super::claims::{fail, holds};
-use super::{design_of, outcome_of, replayed};
+use super::claims::{fail, holds, holds_of};
+use super::running::{outcome_of, run_on};
+use super::sources::{SWAP, WRITERS};
+use super::{design_of, replayed};
 use commitgate::Closed;
 use design::Design;
 use hoard::Hoard;
 use model::end::{End, Why};
 use model::entry::Entry;
-use simulate::{Options, Outcome, SimFault, Unobserved, simulate};
+use simulate::{Outcome, SimFault, Unobserved};
 use std::alloc::Global;
 use std::process::Abort;
 use std::sync::Wait;
@@ -21,12 +23,6 @@ const ROOMS: usize = 1_200;
 
 /// The bytes of a piece of memory. Each run takes a piece, and each look at what it left.
 const PIECE: usize = 64 << 10;
-
-const ONE_WORKER: Options = Options {
-    workers: 1,
-    until: None,
-    max_entries: 100,
-};
 
 /// How many runs had no memory to begin with, and how many were stopped for want of it.
 #[derive(Clone, Copy)]
@@ -62,7 +58,7 @@ fn assert_end(rt: &impl Abort, end: End, is_whole: bool) {
 /// A journal replays to these lines.
 fn assert_lines(rt: &impl Abort, alloc: Global, design: &Design, entries: &[Entry], lines: &str) {
     let again = replayed(rt, alloc, design, entries);
-    holds(rt, again.lines.as_str() == lines, "the lines");
+    holds_of(rt, again.lines.as_str() == lines, "the lines", lines);
 }
 
 /// A run of one worker has one journal, of which the run that was stopped has a beginning, with its lines.
@@ -74,11 +70,6 @@ fn assert_begun(rt: &impl Abort, alloc: Global, design: &Design, whole: &[Entry]
     assert_lines(rt, alloc, design, entries, lines.as_str());
 }
 
-fn run<R: Abort + Threads + Wait + Sync>(rt: &R, alloc: Global, design: &Design) -> Outcome {
-    let answer = simulate(rt, alloc, design, ONE_WORKER, &Unobserved);
-    outcome_of(rt, answer)
-}
-
 /// What a run leaves in so much memory, if it begins. Then there is a piece of memory for a look at it.
 fn run_within<R: Abort + Threads + Wait + Sync>(
     rt: &R,
@@ -88,7 +79,7 @@ fn run_within<R: Abort + Threads + Wait + Sync>(
     room: usize,
 ) -> Result<Outcome, SimFault> {
     holds(rt, hoard.leave(room), "a piece of memory");
-    let answer = simulate(rt, alloc, design, ONE_WORKER, &Unobserved);
+    let answer = run_on(rt, alloc, design, 1, None, &Unobserved);
     holds(rt, hoard.open(), "a piece of memory");
     answer
 }
@@ -146,35 +137,25 @@ fn run_starved<R: Abort + Threads + Wait + Sync>(
 /// A source is refused memory before its run begins, and while it goes on.
 fn assert_starved<R: Abort + Threads + Wait + Sync>(rt: &R, alloc: Global, source: &str) {
     let design = design_of(rt, alloc, source);
-    let whole = run(rt, alloc, &design);
+    let whole = outcome_of(rt, run_on(rt, alloc, &design, 1, None, &Unobserved));
     let refused = run_starved(rt, alloc, &design, whole.closed.entries());
     holds(rt, refused.begins > 0 && refused.stops > 0, source);
 }
 
-#[test]
-fn a_swap_is_stopped_for_memory(rt: HostRuntime) {
-    let source =
-        "module t; reg a, b; initial begin a=1'b0; b=1'b1; #1 a<=b; b<=a; #1 $display(\"%b %b\",a,b); end endmodule";
-    assert_starved(&rt, rt.alloc(), source);
-}
+const SOURCES: &[&str] = &[
+    // a swap
+    SWAP,
+    // a glitch
+    "module t; reg a; initial begin a=1'b1; #1 a=1'b0; a=1'b1; end initial #0 @(posedge a) $display(\"glitch\"); endmodule",
+    // two writers
+    WRITERS,
+    // a copy
+    "module t; reg a, b; initial a=1'b1; initial b=a; initial #1 $display(\"%b\",b); endmodule",
+];
 
 #[test]
-fn a_glitch_is_stopped_for_memory(rt: HostRuntime) {
-    let source =
-        "module t; reg a; initial begin a=1'b1; #1 a=1'b0; a=1'b1; end initial #0 @(posedge a) $display(\"glitch\"); endmodule";
-    assert_starved(&rt, rt.alloc(), source);
-}
-
-#[test]
-fn two_writers_are_stopped_for_memory(rt: HostRuntime) {
-    let source =
-        "module t; reg a; initial a=1'b0; initial a=1'b1; initial #0 $display(\"%b\",a); endmodule";
-    assert_starved(&rt, rt.alloc(), source);
-}
-
-#[test]
-fn a_copy_is_stopped_for_memory(rt: HostRuntime) {
-    let source =
-        "module t; reg a, b; initial a=1'b1; initial b=a; initial #1 $display(\"%b\",b); endmodule";
-    assert_starved(&rt, rt.alloc(), source);
+fn a_run_is_stopped_for_memory(rt: HostRuntime) {
+    for &source in SOURCES {
+        assert_starved(&rt, rt.alloc(), source);
+    }
 }

@@ -1,52 +1,75 @@
-//! Replays of journals that break off, of one that goes past the last time, and of files that can't be read.
+//! Files that can't be read, and replays of journals that break off, and of one that goes past the last time.
 
-use super::{
-    EXPLAIN, REPLAY, append, assert_cut, assert_in, assert_line, decimal, joined, over_journal,
-    tells,
-};
+use super::sources::{HI, LONGEST_WAITS, ONE_TURN};
+use super::{REPLAY, append, assert_in, assert_line, decimal, joined, over_journal, tells};
 use std::alloc::Global;
 use std::process::Abort;
 use std::sync::Wait;
 use std::thread::Threads;
 
-/// One process, which prints a line.
-const HI: &str = "module t; initial $display(\"hi\"); endmodule";
+/// The journal of one turn in version 1.
+const FIRST_VERSION: &[u8] = b"vsimtx-journal 1\nT 0\n";
 
-/// The text of its journal in version 1.
-const ONE: &[u8] = b"vsimtx-journal 1\nT 0\n";
+const UNDECLARED: &str = "module t; initial a = 1'b0; endmodule";
 
-/// The same in version 2.
-const TWO: &[u8] = b"vsimtx-journal 2\nT 0\nE 1\n";
+/// A text that is no module.
+const UNFINISHED: &str = "always";
 
-const FILE_FAULTS: &[(&str, u8, &str)] = &[
+/// Command lines over a source, whose file breaks off, is too large or is interrupted, or over a journal that breaks off; and what
+/// each tells.
+const FILE_FAULTS: &[(&str, &str, u8, &str)] = &[
     (
-        "vsimtx replay broken.v JOURNAL",
+        "vsimtx run broken.v",
+        UNDECLARED,
         1,
         "vsimtx: cannot read broken.v\n",
     ),
-    ("vsimtx replay large.v JOURNAL", 6, "vsimtx: memory\n"),
+    ("vsimtx run large.v", UNDECLARED, 6, "vsimtx: memory\n"),
+    (
+        "vsimtx run interrupted.v",
+        UNDECLARED,
+        3,
+        "vsimtx: E1 undeclared a\n",
+    ),
+    (
+        "vsimtx replay broken.v JOURNAL",
+        UNFINISHED,
+        1,
+        "vsimtx: cannot read broken.v\n",
+    ),
+    (
+        "vsimtx replay large.v JOURNAL",
+        UNFINISHED,
+        6,
+        "vsimtx: memory\n",
+    ),
     (
         "vsimtx replay t.v BROKEN",
+        UNFINISHED,
         3,
         "vsimtx: P2 syntax at token 1\n",
     ),
     (
         "vsimtx explain broken.v JOURNAL",
+        UNFINISHED,
         1,
         "vsimtx: cannot read broken.v\n",
     ),
     (
         "vsimtx explain t.v BROKEN",
+        UNFINISHED,
         3,
         "vsimtx: P2 syntax at token 1\n",
     ),
     (
         "vsimtx waves broken.v JOURNAL --out OUT",
+        UNFINISHED,
         1,
         "vsimtx: cannot read broken.v\n",
     ),
     (
         "vsimtx waves t.v BROKEN --out OUT",
+        UNFINISHED,
         3,
         "vsimtx: P2 syntax at token 1\n",
     ),
@@ -54,8 +77,8 @@ const FILE_FAULTS: &[(&str, u8, &str)] = &[
 
 #[test]
 fn tells_the_first_file_fault(rt: HostRuntime) {
-    for &(line, status, err) in FILE_FAULTS {
-        assert_line(&rt, rt.alloc(), line, "always", tells(status, err));
+    for &(line, source, status, err) in FILE_FAULTS {
+        assert_line(&rt, rt.alloc(), line, source, tells(status, err));
     }
 }
 
@@ -71,31 +94,8 @@ fn assert_broken<R: Abort + Threads + Wait + Sync>(rt: &R, alloc: Global, journa
 
 #[test]
 fn tells_that_a_journal_breaks_off(rt: HostRuntime) {
-    assert_broken(&rt, rt.alloc(), ONE);
-    assert_broken(&rt, rt.alloc(), TWO);
-}
-
-/// What there may be room for of a journal in words.
-const WORDS_CUT: &[&str] = &[
-    "",
-    "1  time 0  active  turn of process 0, initial at line 1",
-];
-
-#[test]
-fn tells_that_words_are_cut(rt: HostRuntime) {
-    for &out in WORDS_CUT {
-        assert_cut(&rt, rt.alloc(), EXPLAIN, over_journal(HI, TWO), out);
-    }
-}
-
-/// What there may be room for of a line.
-pub(super) const CUTS: &[&str] = &["", "h", "hi"];
-
-#[test]
-fn tells_that_lines_are_cut(rt: HostRuntime) {
-    for &out in CUTS {
-        assert_cut(&rt, rt.alloc(), REPLAY, over_journal(HI, TWO), out);
-    }
+    assert_broken(&rt, rt.alloc(), FIRST_VERSION);
+    assert_broken(&rt, rt.alloc(), ONE_TURN);
 }
 
 /// The entries of a turn, and of the end of its wait.
@@ -123,9 +123,8 @@ fn journal_of_longest_waits(rt: &impl Abort, alloc: Global, after: &str) -> Stri
 
 #[test]
 fn no_journal_goes_past_the_last_time(rt: HostRuntime) {
-    let source = "module t; always #4294967295 ; endmodule";
     let journal = journal_of_longest_waits(&rt, rt.alloc(), "A 281479271612415\n");
-    let setting = over_journal(source, journal.as_bytes());
+    let setting = over_journal(LONGEST_WAITS, journal.as_bytes());
     let wanted = tells(5, "vsimtx: entry 131074: J5 time limit\n");
     assert_in(&rt, rt.alloc(), "the last time", REPLAY, &setting, wanted);
 }

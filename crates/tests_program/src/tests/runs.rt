@@ -2,21 +2,15 @@
 //! that the run printed.
 
 use super::claims::holds;
+use super::sources::{COPIES, DISPLAYS, FINISHES, LONGEST_WAITS, WAITERS, WRITERS};
 use super::{
-    Left, SAVE, Texts, assert_bytes, assert_cut, assert_left, assert_replayed, assert_texts,
-    either, over, run_line, tells,
+    ONE_WORKER, SAVE, Texts, Wanted, assert_left, assert_replayed, assert_texts, either, prints,
+    run_line, tells,
 };
 use std::alloc::Global;
 use std::process::Abort;
 use std::sync::Wait;
 use std::thread::Threads;
-
-/// What a run of the source leaves. A replay of its journal prints the same lines.
-fn run_twice<R: Abort + Threads + Wait + Sync>(rt: &R, alloc: Global, source: &str) -> Left {
-    let left = run_line(rt, alloc, SAVE, source);
-    assert_replayed(rt, alloc, source, &left);
-    left
-}
 
 /// A run by this line prints one of the texts, and its journal replays to the same.
 fn assert_run_by<R: Abort + Threads + Wait + Sync>(
@@ -31,67 +25,41 @@ fn assert_run_by<R: Abort + Threads + Wait + Sync>(
     assert_replayed(rt, alloc, source, &left);
 }
 
-/// The source runs and prints one of two texts, each of a hundred times.
+/// So many runs of a source print one of two texts each.
 fn assert_race<R: Abort + Threads + Wait + Sync>(
     rt: &R,
     alloc: Global,
     source: &str,
     texts: Texts<'_>,
+    times: u32,
 ) {
-    for _ in 0..100 {
+    for _ in 0..times {
         assert_run_by(rt, alloc, SAVE, source, texts);
     }
 }
 
-/// Sources, and the two texts that each may print.
-const RACES: &[(&str, &str, &str)] = &[
+/// Sources, the two texts that each may print, and how often it is run.
+const RACES: &[(&str, &str, &str, u32)] = &[
+    (DISPLAYS, "x\ny\n", "y\nx\n", 100),
+    (WRITERS, "0\n", "1\n", 100),
+    (WAITERS, "p1\np2\n", "p2\np1\n", 100),
+    (FINISHES, "a\n", "c\na\n", 100),
+    // copies race as whole turns
+    (COPIES, "1 1\n", "0 0\n", 1_000),
+    // strobes of two processes come in the order of their turns
     (
-        "module t; reg a; initial begin a=1'b1; $display(\"x\"); end initial $display(\"y\"); endmodule",
-        "x\ny\n",
-        "y\nx\n",
-    ),
-    (
-        "module t; reg a; initial a=1'b0; initial a=1'b1; initial #0 $display(\"%b\",a); endmodule",
-        "0\n",
-        "1\n",
-    ),
-    (
-        "module t; reg a; initial #0 a=1'b1; initial @(a) $display(\"p1\"); initial @(posedge a) $display(\"p2\"); endmodule",
-        "p1\np2\n",
-        "p2\np1\n",
-    ),
-    (
-        "module t; initial begin $display(\"a\"); $finish; $display(\"b\"); end initial $display(\"c\"); endmodule",
-        "a\n",
-        "c\na\n",
+        "module t; initial $strobe(\"p\"); initial $strobe(\"q\"); endmodule",
+        "p\nq\n",
+        "q\np\n",
+        100,
     ),
 ];
 
 #[test]
 fn prints_a_race_in_one_of_its_orders(rt: HostRuntime) {
-    for &(source, one, other) in RACES {
-        assert_race(&rt, rt.alloc(), source, either(one, other));
+    for &(source, one, other, times) in RACES {
+        assert_race(&rt, rt.alloc(), source, either(one, other), times);
     }
-}
-
-#[test]
-fn copies_race_as_whole_turns(rt: HostRuntime) {
-    let source =
-        "module t; reg a, b; initial begin a=1'b0; b=1'b1; end initial #1 a=b; initial #1 b=a; initial #2 $display(\"%b %b\",a,b); endmodule";
-    let texts = either("1 1\n", "0 0\n");
-    for _ in 0..10 {
-        assert_race(&rt, rt.alloc(), source, texts);
-    }
-}
-
-/// A process whose turns don't end is stopped before its first entry.
-fn assert_endless_turn<R: Abort + Threads + Wait + Sync>(rt: &R, alloc: Global) {
-    let source = "module t; always ; endmodule";
-    let left = run_twice(rt, alloc, source);
-    let text = "vsimtx: stopped: process 0 too long\n";
-    assert_left(rt, source, &left, tells(4, text));
-    let journal = b"vsimtx-journal 2\nE 0\n";
-    assert_bytes(rt, source, left.made.as_slice(), journal);
 }
 
 fn lines_in(text: &[u8]) -> usize {
@@ -100,8 +68,9 @@ fn lines_in(text: &[u8]) -> usize {
 
 /// The header, 131,073 entries, of which the last two are at the last time that is reached, and their count.
 fn assert_last_time<R: Abort + Threads + Wait + Sync>(rt: &R, alloc: Global) {
-    let source = "module t; always #4294967295 ; endmodule";
-    let left = run_twice(rt, alloc, source);
+    let source = LONGEST_WAITS;
+    let left = run_line(rt, alloc, SAVE, source);
+    assert_replayed(rt, alloc, source, &left);
     assert_left(rt, source, &left, tells(4, "vsimtx: stopped: time\n"));
     let journal = left.made.as_slice();
     holds(rt, lines_in(journal) == 131_075, "the lines");
@@ -110,26 +79,34 @@ fn assert_last_time<R: Abort + Threads + Wait + Sync>(rt: &R, alloc: Global) {
 }
 
 #[test]
-fn stops_where_time_or_a_turn_ends(rt: HostRuntime) {
-    assert_endless_turn(&rt, rt.alloc());
+fn stops_at_the_last_time(rt: HostRuntime) {
     assert_last_time(&rt, rt.alloc());
 }
 
-#[test]
-fn tells_that_output_is_cut(rt: HostRuntime) {
-    let source = "module t; initial $display(\"hello\"); endmodule";
-    assert_cut(&rt, rt.alloc(), SAVE, over(source), "hel");
+/// The first of the two processes that runs is the run's only entry.
+fn assert_first_process<R: Abort + Threads + Wait + Sync>(rt: &R, alloc: Global) {
+    let line = "vsimtx run t.v --max-entries 1";
+    let source = FINISHES;
+    let left = run_line(rt, alloc, line, source);
+    let wanted = if left.status == 0 {
+        prints("a\n")
+    } else {
+        Wanted {
+            status: 4,
+            out: "c\n",
+            err: "vsimtx: stopped: entries\n",
+        }
+    };
+    assert_left(rt, source, &left, wanted);
 }
 
 #[test]
-fn strobes_of_two_processes_come_in_the_order_of_their_turns(rt: HostRuntime) {
-    let source = "module t; initial $strobe(\"p\"); initial $strobe(\"q\"); endmodule";
-    let texts = either("p\nq\n", "q\np\n");
-    assert_race(&rt, rt.alloc(), source, texts);
+fn the_most_entries_stop_a_run_with_events_left(rt: HostRuntime) {
+    assert_first_process(&rt, rt.alloc());
 }
 
 const EVERY_NUMBER: &[&str] = &[
-    "vsimtx run t.v --workers 1 --journal OUT",
+    ONE_WORKER,
     "vsimtx run t.v --workers 2 --journal OUT",
     "vsimtx run t.v --workers 3 --journal OUT",
     "vsimtx run t.v --workers 4 --journal OUT",

@@ -6,11 +6,14 @@
 //! rest.
 
 use super::claims::{fail, holds, holds_as, holds_of};
-use super::{EXPLAIN, REPLAY, Shared, Target, WAVES, repeated, words_of};
+use super::sources::NO_ENTRY;
+use super::{
+    EXPLAIN, ONE_WORKER, Pattern, REPLAY, Shared, Target, WAVES, Wanted, repeated, status_of,
+    tells, words_of,
+};
 use files::Files;
 use hoard::Hoard;
 use journal::Counted;
-use program::command;
 use progress::Untold;
 use std::alloc::Global;
 use std::cell::RefCell;
@@ -38,12 +41,8 @@ const LONGEST: usize = 8_192;
 /// No mark.
 const NEVER: u8 = b'-';
 
-const HI: &str = "module t; reg a; initial begin $display(\"hi\"); #1 a = 1'b0; end endmodule";
-
-/// A journal without an entry takes no memory but that of its text.
-const NO_ENTRY: &[u8] = b"vsimtx-journal 2\nE 0\n";
-
-const ONE_WORKER: &str = "vsimtx run t.v --workers 1 --journal OUT";
+const TWO_TURNS: &str =
+    "module t; reg a; initial begin $display(\"hi\"); #1 a = 1'b0; end endmodule";
 
 const STOPPED: &[u8] = b"vsimtx: stopped: memory\n";
 
@@ -98,7 +97,7 @@ impl Read for Marked<'_> {
     }
 }
 
-/// FILE and JOURNAL, and the place of OUT.
+/// FILE and the place of OUT. JOURNAL has no entry, and takes no memory but that of its text.
 #[derive(Drop)]
 struct Starved<'a> {
     source: &'a [u8],
@@ -157,13 +156,15 @@ impl<'a> Files for Starved<'a> {
     }
 }
 
-/// What a command writes, and the marks that it passes, in room that was there before.
+/// What a command writes, and the marks that it passes, in room that was there before; and all memory, of which some pieces can be
+/// given back.
 #[derive(Drop)]
 struct Places {
     out: Shared,
     err: Shared,
     made: Shared,
     passed: Shared,
+    hoard: RefCell<Hoard>,
 }
 
 fn place(rt: &impl Abort, alloc: Global) -> Shared {
@@ -171,12 +172,14 @@ fn place(rt: &impl Abort, alloc: Global) -> Shared {
     Rc::new(alloc, RefCell::new(bytes)).expect(rt, "memory")
 }
 
-fn new_places(rt: &impl Abort, alloc: Global) -> Places {
+/// Places, and so many pieces.
+fn new_places(rt: &impl Abort, alloc: Global, pieces: usize) -> Places {
     Places {
         out: place(rt, alloc),
         err: place(rt, alloc),
         made: place(rt, alloc),
         passed: place(rt, alloc),
+        hoard: hoarded(rt, alloc, pieces),
     }
 }
 
@@ -241,33 +244,93 @@ fn leave(hoard: &RefCell<Hoard>, rest: usize) {
     }
 }
 
-/// A command line with the source, whose first turn prints this line.
-#[derive(Clone, Copy)]
-struct Asked<'a> {
-    words: &'a [String],
-    source: &'a [u8],
-    line: &'a [u8],
+/// Standard output, whose first write may be a mark.
+#[derive(Drop)]
+struct MarkedTarget<'a> {
+    target: Target,
+    first: u8,
+    marks: Marks<'a>,
 }
 
-/// The status of a command, which writes to these places.
-fn status_of<R: Abort + Threads + Wait + Sync>(
+impl Write for MarkedTarget<'_> {
+    fn write(&mut self, buf: &[u8]) -> io::Result<usize> {
+        self.marks.pass(once(&mut self.first));
+        self.target.write(buf)
+    }
+
+    fn flush(&mut self) -> io::Result<()> {
+        Ok(())
+    }
+}
+
+/// A command line with its source, the mark of its first byte on output, and its memory: so many pieces up to a mark, and a rest
+/// from there on.
+#[derive(Clone, Copy)]
+struct Asked<'a> {
+    line: &'a str,
+    source: &'a str,
+    first: u8,
+    pieces: usize,
+    loss: u8,
+    rest: usize,
+}
+
+/// A command that reads FILE, and then has no memory.
+fn asking<'a>(line: &'a str, source: &'a str) -> Asked<'a> {
+    Asked {
+        line,
+        source,
+        first: NEVER,
+        pieces: ENOUGH,
+        loss: b'F',
+        rest: 0,
+    }
+}
+
+/// The status of a command, which writes to these places and passes these marks.
+fn status_at<R: Abort + Threads + Wait + Sync>(
     rt: &R,
     alloc: Global,
+    words: &[String],
     asked: Asked<'_>,
     places: &Places,
     marks: Marks<'_>,
 ) -> u8 {
-    clear_all(places);
     let mut files = Starved {
-        source: asked.source,
+        source: asked.source.as_bytes(),
         journal: NO_ENTRY,
         made: places.made.clone().expect(rt, "a count"),
         marks,
     };
-    let mut out = Counted::new(target(rt, &places.out));
+    let mut out = Counted::new(MarkedTarget {
+        target: target(rt, &places.out),
+        first: asked.first,
+        marks,
+    });
     let mut err = Counted::new(target(rt, &places.err));
     marks.pass(b's');
-    command(rt, alloc, asked.words, &mut files, &mut out, &mut err)
+    status_of(rt, alloc, words, &mut files, &mut out, &mut err)
+}
+
+/// The status of a command in the memory that it has.
+fn status_with<R: Abort + Threads + Wait + Sync>(
+    rt: &R,
+    alloc: Global,
+    asked: Asked<'_>,
+    places: &Places,
+) -> u8 {
+    clear_all(places);
+    open_all(rt, &places.hoard, asked.pieces);
+    let words = words_of(rt, alloc, asked.line);
+    let marks = Marks {
+        passed: &places.passed,
+        hoard: &places.hoard,
+        loss: asked.loss,
+        rest: asked.rest,
+    };
+    let status = status_at(rt, alloc, words.as_slice(), asked, places, marks);
+    shut(&places.hoard);
+    status
 }
 
 /// Command lines, the mark at which each loses all memory, the marks that it passes, and what is told.
@@ -293,51 +356,75 @@ const LOSSES: &[(&str, u8, &str, &str)] = &[
     (WAVES, b'J', "sfFjJO", "vsimtx: entry 0: memory\n"),
 ];
 
-/// A command passed these marks, wrote this line alone, and had the status of memory.
-fn assert_told(rt: &impl Abort, places: &Places, status: u8, passed: &str, line: &str) {
-    holds_of(rt, status == 6, "the status", passed);
+/// A command passed these marks, and left this and no OUT.
+fn assert_passed(rt: &impl Abort, places: &Places, passed: &str, status: u8, wanted: Wanted<'_>) {
+    holds_of(rt, status == wanted.status, "the status", passed);
     let is_passed = has(&places.passed, passed.as_bytes());
     holds_of(rt, is_passed, "the marks", passed);
-    let is_told = has(&places.err, line.as_bytes());
+    let is_told = has(&places.err, wanted.err.as_bytes());
     holds_of(rt, is_told, "the line", passed);
-    let is_silent = has(&places.out, b"") && has(&places.made, b"");
-    holds_of(rt, is_silent, "nothing else", passed);
+    let is_alone = has(&places.out, wanted.out.as_bytes()) && has(&places.made, b"");
+    holds_of(rt, is_alone, "nothing else", passed);
 }
 
-/// What a command line tells that loses all memory at a mark.
-fn assert_loss<R: Abort + Threads + Wait + Sync>(
+/// What a command leaves in the memory that it has.
+fn assert_lost<R: Abort + Threads + Wait + Sync>(
     rt: &R,
     alloc: Global,
+    asked: Asked<'_>,
     places: &Places,
-    hoard: &RefCell<Hoard>,
-    loss: (&str, u8, &str, &str),
+    passed: &str,
+    wanted: Wanted<'_>,
 ) {
-    let (line, mark, passed, told) = loss;
-    open_all(rt, hoard, ENOUGH);
-    let words = words_of(rt, alloc, line);
-    let asked = Asked {
-        words: words.as_slice(),
-        source: HI.as_bytes(),
-        line: b"hi\n",
-    };
-    let marks = Marks {
-        passed: &places.passed,
-        hoard,
-        loss: mark,
-        rest: 0,
-    };
-    let status = status_of(rt, alloc, asked, places, marks);
-    shut(hoard);
-    assert_told(rt, places, status, passed, told);
+    let status = status_with(rt, alloc, asked, places);
+    assert_passed(rt, places, passed, status, wanted);
 }
 
 #[test]
 fn tells_what_memory_was_for(rt: HostRuntime) {
-    let places = new_places(&rt, rt.alloc());
-    let hoard = hoarded(&rt, rt.alloc(), 256);
-    for &loss in LOSSES {
-        assert_loss(&rt, rt.alloc(), &places, &hoard, loss);
+    let places = new_places(&rt, rt.alloc(), 256);
+    for &(line, loss, passed, told) in LOSSES {
+        let asked = Asked {
+            loss,
+            ..asking(line, TWO_TURNS)
+        };
+        assert_lost(&rt, rt.alloc(), asked, &places, passed, tells(6, told));
     }
+}
+
+/// In a process that can start no thread, a second worker can't be started.
+#[test]
+fn tells_that_no_worker_starts(rt: HostRuntime) {
+    let places = new_places(&rt, rt.alloc(), 16);
+    let asked = Asked {
+        pieces: 8,
+        loss: NEVER,
+        ..asking("vsimtx run t.v --workers 2", TWO_TURNS)
+    };
+    let wanted = tells(6, "vsimtx: cannot start worker\n");
+    assert_lost(&rt, rt.alloc(), asked, &places, "sfF", wanted);
+}
+
+const RACE: &str = "module t; reg a; initial a = 1'b1; initial $display(\"%b\", a); endmodule";
+
+/// What is told of the race before the search, and that memory was refused.
+const NAMED: Wanted<'static> = Wanted {
+    status: 6,
+    out: "race 1: register a, time 0\n  process 0, initial at line 1, writes it\n  process 1, initial at line 1, reads it\n  the first before the second: line 1 is `1`\n  the second before the first: line 1 is `x`\n",
+    err: "vsimtx: memory\n",
+};
+
+/// A race is told before the search of all orders, which loses all memory at the first byte of what it tells: nothing is said of the texts.
+#[test]
+fn tells_races_before_the_search(rt: HostRuntime) {
+    let places = new_places(&rt, rt.alloc(), 64);
+    let asked = Asked {
+        first: b'o',
+        pieces: 32,
+        loss: b'o',
+        ..asking("vsimtx races t.v", RACE)
+    };
+    assert_lost(&rt, rt.alloc(), asked, &places, "sfFo", NAMED);
 }
 
 /// What may be told in too little memory.
@@ -395,66 +482,39 @@ fn assert_refused(rt: &impl Abort, places: &Places, status: u8, line: &[u8]) {
     }
 }
 
-/// What a command leaves that reads FILE and then has this rest of all memory. Answers its status.
-fn status_with<R: Abort + Threads + Wait + Sync>(
-    rt: &R,
-    alloc: Global,
-    asked: Asked<'_>,
-    places: &Places,
-    hoard: &RefCell<Hoard>,
-    rest: usize,
-) -> u8 {
-    open_all(rt, hoard, ENOUGH);
-    let marks = Marks {
-        passed: &places.passed,
-        hoard,
-        loss: b'F',
-        rest,
-    };
-    let status = status_of(rt, alloc, asked, places, marks);
-    shut(hoard);
-    status
-}
-
 /// Calls a command with a greater and greater rest until it is done. Answers how many of these it told before, one after another.
 fn told_in_all<R: Abort + Threads + Wait + Sync>(
     rt: &R,
     alloc: Global,
     asked: Asked<'_>,
     places: &Places,
+    shown: &[u8],
     wanted: &[(&str, &str)],
 ) -> usize {
-    let hoard = hoarded(rt, alloc, 6 * RESTS);
     let mut told = 0;
     for count in 0..RESTS {
         let rest = count.saturating_mul(STEP);
-        let status = status_with(rt, alloc, asked, places, &hoard, rest);
+        let status = status_with(rt, alloc, Asked { rest, ..asked }, places);
         if status == 0 {
             return told;
         }
-        assert_refused(rt, places, status, asked.line);
+        assert_refused(rt, places, status, shown);
         told = told_after(wanted, told, places);
     }
     fail(rt, "never done")
 }
 
-/// A command tells these in too little memory, one after another as it gets more, and at last is done.
+/// A command line with the source, whose first turn prints this line, tells these in too little memory, one after another as it
+/// gets more, and at last is done.
 fn assert_all_told<R: Abort + Threads + Wait + Sync>(
     rt: &R,
     alloc: Global,
-    line: &str,
-    source: &str,
+    asked: Asked<'_>,
     shown: &str,
     wanted: &[(&str, &str)],
 ) {
-    let words = words_of(rt, alloc, line);
-    let places = new_places(rt, alloc);
-    let asked = Asked {
-        words: words.as_slice(),
-        source: source.as_bytes(),
-        line: shown.as_bytes(),
-    };
-    let told = told_in_all(rt, alloc, asked, &places, wanted);
+    let places = new_places(rt, alloc, 6 * RESTS);
+    let told = told_in_all(rt, alloc, asked, &places, shown.as_bytes(), wanted);
     let told = told as u64;
     holds_as(rt, "lines of memory", told, wanted.len() as u64);
 }
@@ -468,7 +528,8 @@ const OF_A_RUN: &[(&str, &str)] = &[
 
 #[test]
 fn a_run_tells_what_memory_was_for(rt: HostRuntime) {
-    assert_all_told(&rt, rt.alloc(), ONE_WORKER, HI, "hi\n", OF_A_RUN);
+    let asked = asking(ONE_WORKER, TWO_TURNS);
+    assert_all_told(&rt, rt.alloc(), asked, "hi\n", OF_A_RUN);
 }
 
 /// There is no memory for the tree of a source, and then for its design.
@@ -477,105 +538,17 @@ const OF_A_SOURCE: &[(&str, &str)] = &[
     ("sfF", "vsimtx: E10 memory\n"),
 ];
 
+/// A process that prints a long line.
+const LONG: Pattern<'static> = Pattern {
+    before: "module t; initial $display(\"",
+    numbered: &[],
+    last: "h",
+    after: "\"); endmodule",
+};
+
 #[test]
 fn a_source_tells_what_memory_was_for(rt: HostRuntime) {
-    let before = "module t; initial $display(\"";
-    let source = repeated(&rt, rt.alloc(), before, "h", 2_000, "\"); endmodule");
-    assert_all_told(&rt, rt.alloc(), REPLAY, source.as_str(), "", OF_A_SOURCE);
-}
-
-/// In a process that can start no thread, a second worker can't be started.
-#[test]
-fn tells_that_no_worker_starts(rt: HostRuntime) {
-    let words = words_of(&rt, rt.alloc(), "vsimtx run t.v --workers 2");
-    let places = new_places(&rt, rt.alloc());
-    let hoard = hoarded(&rt, rt.alloc(), 16);
-    open_all(&rt, &hoard, 8);
-    let asked = Asked {
-        words: words.as_slice(),
-        source: HI.as_bytes(),
-        line: b"hi\n",
-    };
-    let marks = Marks {
-        passed: &places.passed,
-        hoard: &hoard,
-        loss: NEVER,
-        rest: 0,
-    };
-    let status = status_of(&rt, rt.alloc(), asked, &places, marks);
-    assert_told(&rt, &places, status, "sfF", "vsimtx: cannot start worker\n");
-}
-
-/// Standard output, whose first write is a mark.
-#[derive(Drop)]
-struct MarkedTarget<'a> {
-    target: Target,
-    first: u8,
-    marks: Marks<'a>,
-}
-
-impl Write for MarkedTarget<'_> {
-    fn write(&mut self, buf: &[u8]) -> io::Result<usize> {
-        self.marks.pass(once(&mut self.first));
-        self.target.write(buf)
-    }
-
-    fn flush(&mut self) -> io::Result<()> {
-        Ok(())
-    }
-}
-
-const RACE: &str = "module t; reg a; initial a = 1'b1; initial $display(\"%b\", a); endmodule";
-
-/// What is told of the race before the search.
-const NAMED: &[u8] =
-    b"race 1: register a, time 0\n  process 0, initial at line 1, writes it\n  process 1, initial at line 1, reads it\n  the first before the second: line 1 is `1`\n  the second before the first: line 1 is `x`\n";
-
-/// The status of a search that loses all memory at the first byte of what it tells.
-fn status_of_search<R: Abort + Threads + Wait + Sync>(
-    rt: &R,
-    alloc: Global,
-    words: &[String],
-    places: &Places,
-    marks: Marks<'_>,
-) -> u8 {
-    let mut files = Starved {
-        source: RACE.as_bytes(),
-        journal: NO_ENTRY,
-        made: places.made.clone().expect(rt, "a count"),
-        marks,
-    };
-    let mut out = Counted::new(MarkedTarget {
-        target: target(rt, &places.out),
-        first: b'o',
-        marks,
-    });
-    let mut err = Counted::new(target(rt, &places.err));
-    command(rt, alloc, words, &mut files, &mut out, &mut err)
-}
-
-/// A race is told before the search of all orders, which has no memory: nothing is said of the texts.
-#[test]
-fn tells_races_before_the_search(rt: HostRuntime) {
-    let words = words_of(&rt, rt.alloc(), "vsimtx races t.v");
-    let places = new_places(&rt, rt.alloc());
-    let hoard = hoarded(&rt, rt.alloc(), 64);
-    open_all(&rt, &hoard, 32);
-    let marks = Marks {
-        passed: &places.passed,
-        hoard: &hoard,
-        loss: b'o',
-        rest: 0,
-    };
-    let status = status_of_search(&rt, rt.alloc(), words.as_slice(), &places, marks);
-    shut(&hoard);
-    assert_named(&rt, &places, status);
-}
-
-/// The race is told alone, and then that memory was refused.
-fn assert_named(rt: &impl Abort, places: &Places, status: u8) {
-    holds(rt, status == 6, "the status of memory");
-    holds(rt, has(&places.passed, b"fFo"), "the marks");
-    holds(rt, has(&places.out, NAMED), "the race alone");
-    holds(rt, has(&places.err, b"vsimtx: memory\n"), "the line");
+    let source = repeated(&rt, rt.alloc(), LONG, 2_000);
+    let asked = asking(REPLAY, source.as_str());
+    assert_all_told(&rt, rt.alloc(), asked, "", OF_A_SOURCE);
 }

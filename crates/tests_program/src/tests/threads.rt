@@ -1,16 +1,16 @@
 //! Runs on several workers, many times over: each prints one of the texts of its design, leaves a journal that one thread
 //! replays to the same text, and evaluates no event more than four times.
 
-ghost use Rattle.std.specs.Prelude.{◌≤◌};
-
-use super::claims::holds;
+use super::claims::{holds, holds_of};
 use super::counts::Evaluations;
-use super::{Texts, design_of, either, only, outcome_of, replayed};
+use super::running::{outcome_of, run_on};
+use super::sources::{CLOCK, COPIES, FINISHES, SWAP, WAITERS};
+use super::{Texts, design_of, either, replayed};
 use commitgate::Closed;
 use design::Design;
 use model::entry::Entry;
 use regions::State;
-use simulate::{Options, Outcome, simulate};
+use simulate::Outcome;
 use std::alloc::Global;
 use std::process::Abort;
 use std::sync::Wait;
@@ -75,34 +75,25 @@ fn assert_outcome(
     texts: Texts<'_>,
 ) {
     let closed = &outcome.closed;
-    holds(rt, texts.has(closed.lines().as_bytes()), "the lines");
+    let is_one = texts.has(closed.lines().as_bytes());
+    holds_of(rt, is_one, "the lines", texts.one);
     let active = active_after(rt, alloc, design, closed);
     let counted = evaluations.assert_few(rt);
-    holds(
-        rt,
-        counted == total(outcome.evaluations.as_slice()),
-        "the evaluations",
-    );
+    let is_sum = counted == total(outcome.evaluations.as_slice());
+    holds_of(rt, is_sum, "the evaluations", texts.one);
     assert_evaluations(rt, turns_in(closed.entries()), active, counted);
 }
 
+/// One run up to time 25.
 fn assert_run<R: Abort + Threads + Wait + Sync>(
     rt: &R,
     alloc: Global,
     design: &Design,
     workers: u32,
     texts: Texts<'_>,
-)
-    requires some { 1 ≤ workers }
-    requires few { workers ≤ 16 }
-{
-    let options = Options {
-        workers,
-        until: Some(25),
-        max_entries: 1_000,
-    };
+) {
     let evaluations = Evaluations::new(rt, alloc, EVENTS);
-    let answer = simulate(rt, alloc, design, options, &evaluations);
+    let answer = run_on(rt, alloc, design, workers, Some(25), &evaluations);
     let outcome = outcome_of(rt, answer);
     assert_outcome(rt, alloc, design, &outcome, &evaluations, texts);
 }
@@ -115,88 +106,70 @@ fn assert_runs<R: Abort + Threads + Wait + Sync>(
     workers: u32,
     runs: u32,
     texts: Texts<'_>,
-)
-    requires some { 1 ≤ workers }
-    requires few { workers ≤ 16 }
-{
+) {
     for _ in 0..runs {
         assert_run(rt, alloc, design, workers, texts);
     }
 }
 
-/// A thousand runs of a source on 2, 4 and 16 workers each, and a hundred on 1, 3 and 8.
+/// The runs of a source on some numbers of workers.
 fn assert_source<R: Abort + Threads + Wait + Sync>(
     rt: &R,
     alloc: Global,
     source: &str,
     texts: Texts<'_>,
+    runs_on: &[(u32, u32)],
 ) {
     let design = design_of(rt, alloc, source);
-    assert_runs(rt, alloc, &design, 1, 100, texts);
-    assert_runs(rt, alloc, &design, 2, 1_000, texts);
-    assert_runs(rt, alloc, &design, 3, 100, texts);
-    assert_runs(rt, alloc, &design, 4, 1_000, texts);
-    assert_runs(rt, alloc, &design, 8, 100, texts);
-    assert_runs(rt, alloc, &design, 16, 1_000, texts);
+    for &(workers, runs) in runs_on {
+        assert_runs(rt, alloc, &design, workers, runs, texts);
+    }
 }
+
+/// Numbers of workers, and how often each of them runs a source.
+const RUNS: &[(u32, u32)] = &[
+    (1, 100),
+    (2, 1_000),
+    (3, 100),
+    (4, 1_000),
+    (8, 100),
+    (16, 1_000),
+];
+
+/// The same of a source with strobes.
+const STROBED_RUNS: &[(u32, u32)] = &[(1, 1_000), (4, 1_000), (16, 1_000)];
+
+/// Sources, the two texts that each may print, or its only one twice, and its runs.
+const SOURCES: &[(&str, &str, &str, &[(u32, u32)])] = &[
+    // copies race as whole turns
+    (COPIES, "1 1\n", "0 0\n", RUNS),
+    // waiters wake in either order
+    (WAITERS, "p1\np2\n", "p2\np1\n", RUNS),
+    // a finished run ends on every worker
+    (FINISHES, "a\n", "c\na\n", RUNS),
+    // a clock stops at its limit on every worker
+    (CLOCK, "t\nt\n", "t\nt\n", RUNS),
+    // a swap has one outcome
+    (SWAP, "1 0\n", "1 0\n", RUNS),
+    // strobes of one time come in the order of the turns
+    (
+        "module t; reg a; initial begin a=1'b0; $strobe(\"p %b\",a); a<=1'b1; end initial $strobe(\"q %b\",a); endmodule",
+        "p 1\nq 1\n",
+        "q 1\np 1\n",
+        STROBED_RUNS,
+    ),
+    // strobes come before the time advances
+    (
+        "module t; reg [3:0] n; initial begin n=4'd0; while (n<4'd3) begin $strobe(\"n %0d\",n); n<=n+4'd1; #1; end end endmodule",
+        "n 1\nn 2\nn 3\n",
+        "n 1\nn 2\nn 3\n",
+        STROBED_RUNS,
+    ),
+];
 
 #[test]
-fn copies_race_as_whole_turns(rt: HostRuntime) {
-    let source =
-        "module t; reg a, b; initial begin a=1'b0; b=1'b1; end initial #1 a=b; initial #1 b=a; initial #2 $display(\"%b %b\",a,b); endmodule";
-    assert_source(&rt, rt.alloc(), source, either("1 1\n", "0 0\n"));
-}
-
-#[test]
-fn waiters_wake_in_either_order(rt: HostRuntime) {
-    let source =
-        "module t; reg a; initial #0 a=1'b1; initial @(a) $display(\"p1\"); initial @(posedge a) $display(\"p2\"); endmodule";
-    assert_source(&rt, rt.alloc(), source, either("p1\np2\n", "p2\np1\n"));
-}
-
-#[test]
-fn a_finished_run_ends_on_every_worker(rt: HostRuntime) {
-    let source =
-        "module t; initial begin $display(\"a\"); $finish; $display(\"b\"); end initial $display(\"c\"); endmodule";
-    assert_source(&rt, rt.alloc(), source, either("a\n", "c\na\n"));
-}
-
-#[test]
-fn a_clock_stops_at_its_limit_on_every_worker(rt: HostRuntime) {
-    let source = "module t; always #10 $display(\"t\"); endmodule";
-    assert_source(&rt, rt.alloc(), source, only("t\nt\n"));
-}
-
-/// A thousand runs of a source on 1, 4 and 16 workers each.
-fn assert_strobes<R: Abort + Threads + Wait + Sync>(
-    rt: &R,
-    alloc: Global,
-    source: &str,
-    texts: Texts<'_>,
-) {
-    let design = design_of(rt, alloc, source);
-    assert_runs(rt, alloc, &design, 1, 1_000, texts);
-    assert_runs(rt, alloc, &design, 4, 1_000, texts);
-    assert_runs(rt, alloc, &design, 16, 1_000, texts);
-}
-
-#[test]
-fn strobes_of_one_time_come_in_the_order_of_the_turns(rt: HostRuntime) {
-    let source =
-        "module t; reg a; initial begin a=1'b0; $strobe(\"p %b\",a); a<=1'b1; end initial $strobe(\"q %b\",a); endmodule";
-    assert_strobes(&rt, rt.alloc(), source, either("p 1\nq 1\n", "q 1\np 1\n"));
-}
-
-#[test]
-fn strobes_come_before_the_time_advances(rt: HostRuntime) {
-    let source =
-        "module t; reg [3:0] n; initial begin n=4'd0; while (n<4'd3) begin $strobe(\"n %0d\",n); n<=n+4'd1; #1; end end endmodule";
-    assert_strobes(&rt, rt.alloc(), source, only("n 1\nn 2\nn 3\n"));
-}
-
-#[test]
-fn a_swap_has_one_outcome(rt: HostRuntime) {
-    let source =
-        "module t; reg a, b; initial begin a=1'b0; b=1'b1; #1 a<=b; b<=a; #1 $display(\"%b %b\",a,b); end endmodule";
-    assert_source(&rt, rt.alloc(), source, only("1 0\n"));
+fn every_number_of_workers_prints_one_of_the_texts(rt: HostRuntime) {
+    for &(source, one, other, runs_on) in SOURCES {
+        assert_source(&rt, rt.alloc(), source, either(one, other), runs_on);
+    }
 }

@@ -2,10 +2,11 @@
 
 use super::claims::{holds, holds_as};
 use super::counts::{Count, Evaluations};
-use super::{append, decimal, design_of, joined, outcome_of, repeated};
+use super::running::run_source;
+use super::{Pattern, repeated};
 use design::RegId;
 use model::end::{End, Why};
-use simulate::{Options, Outcome, Probe, ReplyKind, simulate};
+use simulate::{Probe, ReplyKind};
 use std::alloc::Global;
 use std::process::Abort;
 use std::sync::Wait;
@@ -72,69 +73,22 @@ impl Probe for Mixes {
     }
 }
 
-const ONE_WORKER: Options = Options {
-    workers: 1,
-    until: None,
-    max_entries: 1_000,
+/// So many times two processes, of which the second one writes the same number to both registers, and one that loops where they
+/// differ.
+const MIXED: Pattern<'static> = Pattern {
+    before: "module t; reg [7:0] a, b;",
+    numbered: &[" initial ; initial begin a=8'd", "; b=8'd"],
+    last: "; end",
+    after: " initial while (a!==b) begin end endmodule",
 };
-
-const TWO_WORKERS: Options = Options {
-    workers: 2,
-    ..ONE_WORKER
-};
-
-fn run_on_one<R: Abort + Threads + Wait + Sync>(
-    rt: &R,
-    alloc: Global,
-    source: &str,
-    probe: &Evaluations,
-) -> Outcome {
-    let design = design_of(rt, alloc, source);
-    outcome_of(rt, simulate(rt, alloc, &design, ONE_WORKER, probe))
-}
-
-fn run_on_two<R: Abort + Threads + Wait + Sync>(
-    rt: &R,
-    alloc: Global,
-    source: &str,
-    probe: &Mixes,
-) -> Outcome {
-    let design = design_of(rt, alloc, source);
-    outcome_of(rt, simulate(rt, alloc, &design, TWO_WORKERS, probe))
-}
-
-/// A process that does nothing, and one that writes a number to both registers.
-fn two_processes(rt: &impl Abort, alloc: Global, number: u32) -> String {
-    let digits = decimal(rt, alloc, u64::from(number));
-    joined(
-        rt,
-        alloc,
-        &[
-            " initial ; initial begin a=8'd",
-            digits.as_str(),
-            "; b=8'd",
-            digits.as_str(),
-            "; end",
-        ],
-    )
-}
-
-/// So many times two processes, of which the second one writes both registers, and one that loops where they differ.
-fn mixed(rt: &impl Abort, alloc: Global, times: u32) -> String {
-    let mut text = joined(rt, alloc, &["module t; reg [7:0] a, b;"]);
-    for number in 0..times {
-        let processes = two_processes(rt, alloc, number);
-        append(rt, &mut text, processes.as_str());
-    }
-    append(rt, &mut text, " initial while (a!==b) begin end endmodule");
-    text
-}
 
 /// So many processes that do nothing, and one that loops for ever.
-fn endless(rt: &impl Abort, alloc: Global, times: u32) -> String {
-    let last = " initial while (1'b1) begin end endmodule";
-    repeated(rt, alloc, "module t;", " initial ;", times as usize, last)
-}
+const ENDLESS: Pattern<'static> = Pattern {
+    before: "module t;",
+    numbered: &[],
+    last: " initial ;",
+    after: " initial while (1'b1) begin end endmodule",
+};
 
 /// An event was evaluated so often, and none more than four times.
 fn assert_times(rt: &impl Abort, evaluations: &Evaluations, event: u64, wanted: u64) {
@@ -150,8 +104,8 @@ fn assert_end(rt: &impl Abort, end: End, wanted: End) {
 fn assert_mixed<R: Abort + Threads + Wait + Sync>(rt: &R, alloc: Global, times: u32) {
     let event = u64::from(times).saturating_mul(2);
     let probe = Mixes::new(rt, alloc, event);
-    let source = mixed(rt, alloc, times);
-    let outcome = run_on_two(rt, alloc, source.as_str(), &probe);
+    let source = repeated(rt, alloc, MIXED, u64::from(times));
+    let outcome = run_source(rt, alloc, source.as_str(), 2, &probe);
     assert_end(rt, outcome.closed.end(), End::Quiet);
     assert_times(rt, &probe.evaluations, event, 4);
     holds(rt, probe.given_up.get() == 0, "the waits ended");
@@ -161,8 +115,8 @@ fn assert_mixed<R: Abort + Threads + Wait + Sync>(rt: &R, alloc: Global, times: 
 fn assert_endless<R: Abort + Threads + Wait + Sync>(rt: &R, alloc: Global, times: u32) {
     let event = u64::from(times);
     let probe = Evaluations::new(rt, alloc, event.saturating_add(1));
-    let source = endless(rt, alloc, times);
-    let outcome = run_on_one(rt, alloc, source.as_str(), &probe);
+    let source = repeated(rt, alloc, ENDLESS, event);
+    let outcome = run_source(rt, alloc, source.as_str(), 1, &probe);
     let closed = &outcome.closed;
     assert_end(rt, closed.end(), End::Stopped(Why::TooLong(times)));
     holds(rt, closed.entries().len() == times as usize, "the entries");

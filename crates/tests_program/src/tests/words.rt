@@ -1,12 +1,11 @@
-//! Command lines and files that give no run.
+//! Command lines that give no run.
 
-use super::{assert_cut, assert_line, joined, over, prints, tells};
+use super::sources::EMPTY;
+use super::{assert_line, joined, prints, tells};
 use std::alloc::Global;
 use std::process::Abort;
 use std::sync::Wait;
 use std::thread::Threads;
-
-const EMPTY: &str = "module t; endmodule";
 
 /// The help of the program as a whole.
 const WHOLE: &str =
@@ -35,7 +34,6 @@ fn shows_help(rt: HostRuntime) {
     for &(line, text) in HELP {
         assert_line(&rt, rt.alloc(), line, EMPTY, prints(text));
     }
-    assert_cut(&rt, rt.alloc(), "vsimtx --help", over(EMPTY), "Simul");
 }
 
 const USAGE: &str = "Usage: vsimtx <COMMAND>\n\n";
@@ -162,18 +160,4 @@ fn refuses_wrong_words(rt: HostRuntime) {
         assert_refused(&rt, rt.alloc(), line, why, usage);
     }
     assert_line(&rt, rt.alloc(), "vsimtx", EMPTY, tells(2, WHOLE));
-}
-
-const FILE_FAULTS: &[(&str, u8, &str)] = &[
-    ("vsimtx run broken.v", 1, "vsimtx: cannot read broken.v\n"),
-    ("vsimtx run large.v", 6, "vsimtx: memory\n"),
-    ("vsimtx run interrupted.v", 3, "vsimtx: E1 undeclared a\n"),
-];
-
-#[test]
-fn tells_why_a_file_was_not_read(rt: HostRuntime) {
-    let source = "module t; initial a = 1'b0; endmodule";
-    for &(line, status, text) in FILE_FAULTS {
-        assert_line(&rt, rt.alloc(), line, source, tells(status, text));
-    }
 }

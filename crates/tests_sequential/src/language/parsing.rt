@@ -1,7 +1,7 @@
 //! A page of source that is read, cut, and with each of its bytes replaced, and the deepest statement. Other sources that are accepted or
 //! refused are rows of `shown`.
 
-use crate::claims::{holds, holds_at, repeated};
+use crate::claims::{holds, holds_at, put_byte, repeated};
 use model::tree::Module;
 use std::alloc::Global;
 use std::process::Abort;
@@ -82,9 +82,7 @@ fn reads_or_refuses_each_cut_of_a_page(rt: HostRuntime) {
 /// A text with each byte in turn at one place.
 fn assert_each_byte(rt: &impl Abort, alloc: Global, text: &mut [u8], place: usize) {
     for byte in 0..=255u8 {
-        if place < text.len() {
-            text[place] = byte;
-        }
+        put_byte(text, place, byte);
         let found = fault(alloc, text);
         holds_at(rt, is_named(found, text.len()), "another byte at", place);
     }
@@ -95,8 +93,6 @@ fn reads_or_refuses_a_page_with_a_byte_replaced(rt: HostRuntime) {
     let mut text = Vec::from_slice(rt.alloc(), PAGE).expect(&rt, "memory");
     for place in 0..PAGE.len() {
         assert_each_byte(&rt, rt.alloc(), &mut text, place);
-        if place < text.len() {
-            text[place] = PAGE[place];
-        }
+        put_byte(&mut text, place, PAGE[place]);
     }
 }

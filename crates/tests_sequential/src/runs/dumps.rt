@@ -2,123 +2,82 @@
 //! in enough.
 
 use super::held::design_of;
-use super::refused::leave;
+use super::scarce::Scarce;
 use crate::claims::holds;
 use design::Design;
-use hoard::Hoard;
+use fixtures::entries::{A1, A3, A5, A7, N, T0, T1, T2, T3, U1};
 use model::entry::Entry;
 use progress::Untold;
 use std::alloc::Global;
 use std::process::Abort;
 use waves::{WaveFault, value_change_dump, waves};
 
+/// A source with the name of its module, and the beginning of all of its dumps: what is declared, and the values before the first entry.
+#[derive(Clone, Copy)]
+pub struct Scope<'a> {
+    name: &'a str,
+    source: &'a [u8],
+    head: &'a str,
+}
+
 /// A register of one digit that is changed twice at time 0, and one of four that is changed at times 0 and 5.
-const TWO: &[u8] =
-    b"module two; reg a; reg [3:0] b; initial begin a=1'b0; a=1'b1; b=4'b1x0z; #5 b=4'h3; end endmodule";
+const TWO: Scope<'static> = Scope {
+    name: "two",
+    source: b"module two; reg a; reg [3:0] b; initial begin a=1'b0; a=1'b1; b=4'b1x0z; #5 b=4'h3; end endmodule",
+    head: "$timescale 1 ns $end\n$scope module two $end\n$var reg 1 ! a $end\n$var reg 4 \" b $end\n$upscope $end\n$enddefinitions $end\n#0\n$dumpvars\nx!\nbxxxx \"\n$end\n",
+};
 
 /// Registers that have several values at one time: the first two end at a new one, the third at its old one, and at time 3 the
 /// first does so too. Nothing is changed at time 7.
-const LAST: &[u8] =
-    b"module last; reg a; reg [1:0] b; reg c; initial begin a=1'b0; a=1'b1; b=2'bx1; b<=2'b1z; c=1'b1; c=1'bx; #3 a=1'b0; a=1'b1; b=2'b00; #4 ; end endmodule";
+const LAST: Scope<'static> = Scope {
+    name: "last",
+    source: b"module last; reg a; reg [1:0] b; reg c; initial begin a=1'b0; a=1'b1; b=2'bx1; b<=2'b1z; c=1'b1; c=1'bx; #3 a=1'b0; a=1'b1; b=2'b00; #4 ; end endmodule",
+    head: "$timescale 1 ns $end\n$scope module last $end\n$var reg 1 ! a $end\n$var reg 2 \" b $end\n$var reg 1 # c $end\n$upscope $end\n$enddefinitions $end\n#0\n$dumpvars\nx!\nbxx \"\nx#\n$end\n",
+};
 
 /// Two processes that change one register at time 5, in either order.
-const ORDER: &[u8] = b"module order; reg a; initial #5 a=1'b1; initial #5 a=1'b0; endmodule";
+const ORDER: Scope<'static> = Scope {
+    name: "order",
+    source: b"module order; reg a; initial #5 a=1'b1; initial #5 a=1'b0; endmodule",
+    head: "$timescale 1 ns $end\n$scope module order $end\n$var reg 1 ! a $end\n$upscope $end\n$enddefinitions $end\n#0\n$dumpvars\nx!\n$end\n",
+};
 
 /// A register of 128 digits, which has each digit, and is all z for the longest delay.
-const WIDE: &[u8] =
-    b"module wide; reg [127:0] w; initial begin w=128'h8000000000000000000000000000zx01; #1 w=128'bz; #4294967295 w=128'd1; end endmodule";
+const WIDE: Scope<'static> = Scope {
+    name: "wide",
+    source: b"module wide; reg [127:0] w; initial begin w=128'h8000000000000000000000000000zx01; #1 w=128'bz; #4294967295 w=128'd1; end endmodule",
+    head: "$timescale 1 ns $end\n$scope module wide $end\n$var reg 128 ! w $end\n$upscope $end\n$enddefinitions $end\n#0\n$dumpvars\nbxxxxxxxxxxxxxxxxxxxxxxxxxxxxxxxxxxxxxxxxxxxxxxxxxxxxxxxxxxxxxxxxxxxxxxxxxxxxxxxxxxxxxxxxxxxxxxxxxxxxxxxxxxxxxxxxxxxxxxxxxxxxxxxx !\n$end\n",
+};
 
-/// A source with the name of its module, a journal, and their dump.
-#[derive(Clone, Copy)]
-pub struct Row<'a> {
-    scope: &'a str,
-    source: &'a [u8],
-    journal: &'a [Entry],
-    text: &'a str,
-}
+/// No register.
+const EMPTY: Scope<'static> = Scope {
+    name: "none",
+    source: b"module none; initial ; endmodule",
+    head: "$timescale 1 ns $end\n$scope module none $end\n$upscope $end\n$enddefinitions $end\n#0\n$dumpvars\n$end\n",
+};
+
+/// A design, a journal, and what its dump has behind the beginning.
+pub type Row<'a> = (Scope<'a>, &'a [Entry], &'a str);
 
 /// Journals that go to the end, journals that stop before it, and a design without registers.
 pub const DUMPS: &[Row<'static>] = &[
-    Row {
-        scope: "two",
-        source: TWO,
-        journal: &[Entry::Turn(0), Entry::Advance(5), Entry::Turn(1)],
-        text: "$timescale 1 ns $end\n$scope module two $end\n$var reg 1 ! a $end\n$var reg 4 \" b $end\n$upscope $end\n$enddefinitions $end\n#0\n$dumpvars\nx!\nbxxxx \"\n$end\n1!\nb1x0z \"\n#5\nb0011 \"\n",
-    },
-    Row {
-        scope: "two",
-        source: TWO,
-        journal: &[Entry::Turn(0), Entry::Advance(5)],
-        text: "$timescale 1 ns $end\n$scope module two $end\n$var reg 1 ! a $end\n$var reg 4 \" b $end\n$upscope $end\n$enddefinitions $end\n#0\n$dumpvars\nx!\nbxxxx \"\n$end\n1!\nb1x0z \"\n#5\n",
-    },
-    Row {
-        scope: "two",
-        source: TWO,
-        journal: &[],
-        text: "$timescale 1 ns $end\n$scope module two $end\n$var reg 1 ! a $end\n$var reg 4 \" b $end\n$upscope $end\n$enddefinitions $end\n#0\n$dumpvars\nx!\nbxxxx \"\n$end\n",
-    },
-    Row {
-        scope: "last",
-        source: LAST,
-        journal: &[
-            Entry::Turn(0),
-            Entry::ActivateNba,
-            Entry::Update(1),
-            Entry::Advance(3),
-            Entry::Turn(2),
-            Entry::Advance(7),
-            Entry::Turn(3),
-        ],
-        text: "$timescale 1 ns $end\n$scope module last $end\n$var reg 1 ! a $end\n$var reg 2 \" b $end\n$var reg 1 # c $end\n$upscope $end\n$enddefinitions $end\n#0\n$dumpvars\nx!\nbxx \"\nx#\n$end\n1!\nb1z \"\n#3\nb00 \"\n#7\n",
-    },
-    Row {
-        scope: "last",
-        source: LAST,
-        journal: &[Entry::Turn(0), Entry::ActivateNba],
-        text: "$timescale 1 ns $end\n$scope module last $end\n$var reg 1 ! a $end\n$var reg 2 \" b $end\n$var reg 1 # c $end\n$upscope $end\n$enddefinitions $end\n#0\n$dumpvars\nx!\nbxx \"\nx#\n$end\n1!\nbx1 \"\n",
-    },
-    Row {
-        scope: "order",
-        source: ORDER,
-        journal: &[
-            Entry::Turn(0),
-            Entry::Turn(1),
-            Entry::Advance(5),
-            Entry::Turn(2),
-            Entry::Turn(3),
-        ],
-        text: "$timescale 1 ns $end\n$scope module order $end\n$var reg 1 ! a $end\n$upscope $end\n$enddefinitions $end\n#0\n$dumpvars\nx!\n$end\n#5\n0!\n",
-    },
-    Row {
-        scope: "order",
-        source: ORDER,
-        journal: &[
-            Entry::Turn(0),
-            Entry::Turn(1),
-            Entry::Advance(5),
-            Entry::Turn(3),
-            Entry::Turn(2),
-        ],
-        text: "$timescale 1 ns $end\n$scope module order $end\n$var reg 1 ! a $end\n$upscope $end\n$enddefinitions $end\n#0\n$dumpvars\nx!\n$end\n#5\n1!\n",
-    },
-    Row {
-        scope: "wide",
-        source: WIDE,
-        journal: &[
-            Entry::Turn(0),
-            Entry::Advance(1),
-            Entry::Turn(1),
-            Entry::Advance(4294967296),
-            Entry::Turn(2),
-        ],
-        text: "$timescale 1 ns $end\n$scope module wide $end\n$var reg 128 ! w $end\n$upscope $end\n$enddefinitions $end\n#0\n$dumpvars\nbxxxxxxxxxxxxxxxxxxxxxxxxxxxxxxxxxxxxxxxxxxxxxxxxxxxxxxxxxxxxxxxxxxxxxxxxxxxxxxxxxxxxxxxxxxxxxxxxxxxxxxxxxxxxxxxxxxxxxxxxxxxxxxxx !\n$end\nb1000000000000000000000000000000000000000000000000000000000000000000000000000000000000000000000000000000000000000zzzzxxxx00000001 !\n#1\nbzzzzzzzzzzzzzzzzzzzzzzzzzzzzzzzzzzzzzzzzzzzzzzzzzzzzzzzzzzzzzzzzzzzzzzzzzzzzzzzzzzzzzzzzzzzzzzzzzzzzzzzzzzzzzzzzzzzzzzzzzzzzzzzz !\n#4294967296\nb00000000000000000000000000000000000000000000000000000000000000000000000000000000000000000000000000000000000000000000000000000001 !\n",
-    },
-    Row {
-        scope: "none",
-        source: b"module none; initial ; endmodule",
-        journal: &[Entry::Turn(0)],
-        text: "$timescale 1 ns $end\n$scope module none $end\n$upscope $end\n$enddefinitions $end\n#0\n$dumpvars\n$end\n",
-    },
+    (TWO, &[T0, A5, T1], "1!\nb1x0z \"\n#5\nb0011 \"\n"),
+    (TWO, &[T0, A5], "1!\nb1x0z \"\n#5\n"),
+    (TWO, &[], ""),
+    (
+        LAST,
+        &[T0, N, U1, A3, T2, A7, T3],
+        "1!\nb1z \"\n#3\nb00 \"\n#7\n",
+    ),
+    (LAST, &[T0, N], "1!\nbx1 \"\n"),
+    (ORDER, &[T0, T1, A5, T2, T3], "#5\n0!\n"),
+    (ORDER, &[T0, T1, A5, T3, T2], "#5\n1!\n"),
+    (
+        WIDE,
+        &[T0, A1, T1, Entry::Advance(4294967296), T2],
+        "b1000000000000000000000000000000000000000000000000000000000000000000000000000000000000000000000000000000000000000zzzzxxxx00000001 !\n#1\nbzzzzzzzzzzzzzzzzzzzzzzzzzzzzzzzzzzzzzzzzzzzzzzzzzzzzzzzzzzzzzzzzzzzzzzzzzzzzzzzzzzzzzzzzzzzzzzzzzzzzzzzzzzzzzzzzzzzzzzzzzzzzzzzz !\n#4294967296\nb00000000000000000000000000000000000000000000000000000000000000000000000000000000000000000000000000000000000000000000000000000001 !\n",
+    ),
+    (EMPTY, &[T0], ""),
 ];
 
 // The dump of a journal.
@@ -133,10 +92,16 @@ fn dump_of(
     Ok(text)
 }
 
+// A text is the two parts of a dump, one behind the other.
+fn assert_dump(rt: &impl Abort, text: &[u8], head: &str, changes: &str) {
+    let behind = text.strip_prefix(head.as_bytes()).expect(rt, head);
+    holds(rt, behind == changes.as_bytes(), changes);
+}
+
 // A dump is the row's, or the line that tells why there is none tells of memory.
 fn assert_told(rt: &impl Abort, alloc: Global, answer: &Result<Vec<u8>, WaveFault>, row: &Row<'_>) {
     match answer {
-        Ok(bytes) => holds(rt, bytes.as_slice() == row.text.as_bytes(), row.text),
+        Ok(bytes) => assert_dump(rt, bytes, row.0.head, row.2),
         Err(fault) => {
             let told = format!(in alloc; "{fault}").expect(rt, "memory");
             holds(rt, told.as_str().ends_with("memory"), "another fault");
@@ -145,18 +110,13 @@ fn assert_told(rt: &impl Abort, alloc: Global, answer: &Result<Vec<u8>, WaveFaul
 }
 
 /// Whether the dump of a row is made in so much memory. If not, it tells of memory.
-pub fn is_dumped(
-    rt: &impl Abort,
-    alloc: Global,
-    hoard: &mut Hoard,
-    row: &Row<'_>,
-    count: usize,
-) -> bool {
-    holds(rt, hoard.open(), "a piece of memory");
-    let design = design_of(rt, alloc, row.source);
-    leave(rt, hoard, count);
-    let answer = dump_of(alloc, row.scope, &design, row.journal);
-    holds(rt, hoard.open(), "a piece of memory");
+pub fn is_dumped(rt: &impl Abort, memory: &mut Scarce, row: &Row<'_>) -> bool {
+    let alloc = memory.alloc;
+    memory.open(rt);
+    let design = design_of(rt, alloc, row.0.source);
+    memory.leave(rt);
+    let answer = dump_of(alloc, row.0.name, &design, row.1);
+    memory.open(rt);
     assert_told(rt, alloc, &answer, row);
     answer.is_ok()
 }

@@ -4,10 +4,12 @@ use super::compare::{assert_entries, assert_number};
 use super::dumps::{self, DUMPS, is_dumped};
 use super::held::text_of_fault;
 use super::journal_text::read;
+use super::scarce::Scarce;
 use crate::claims::{fail, holds};
 use crate::language::faults_told::is_told;
+use fixtures::entries::{T0, T1};
+use fixtures::{COPY, GLITCH, GLITCH_JOURNAL, SWAP, SWAP_JOURNAL};
 use frontend::read_design;
-use hoard::Hoard;
 use journal::{Counted, ReadFault, WriteFault, write_journal};
 use model::entry::Entry;
 use replay::{BytesFault, replay_bytes};
@@ -25,27 +27,13 @@ const PIECE: usize = 32 << 10;
 /// More bytes than any of the texts has.
 const TEXT: usize = 256;
 
-/// A swap by nonblocking assignments, and its journal.
-pub const SWAP: &[u8] =
-    b"module t; reg a, b; initial begin a=1'b0; b=1'b1; #1 a<=b; b<=a; #1 $display(\"%b %b\",a,b); end endmodule";
-
-pub const JOURNAL: &[u8] = b"vsimtx-journal 1\nT 0\nA 1\nT 1\nN\nU 2\nU 3\nA 2\nT 4\n";
-
-pub const ENTRIES: [Entry; 8] = [
-    Entry::Turn(0),
-    Entry::Advance(1),
-    Entry::Turn(1),
-    Entry::ActivateNba,
-    Entry::Update(2),
-    Entry::Update(3),
-    Entry::Advance(2),
-    Entry::Turn(4),
-];
+/// The text of the swap's journal.
+pub const SWAP_TEXT: &[u8] = b"vsimtx-journal 1\nT 0\nA 1\nT 1\nN\nU 2\nU 3\nA 2\nT 4\n";
 
 /// A source, how many registers it has, and of one of its runs the journal's text in both versions, the entries and the lines.
 #[derive(Clone, Copy)]
 struct Row<'a> {
-    source: &'a [u8],
+    source: &'a str,
     registers: u64,
     text: &'a [u8],
     written: &'a [u8],
@@ -58,33 +46,25 @@ const ROWS: &[Row<'static>] = &[
     Row {
         source: SWAP,
         registers: 2,
-        text: JOURNAL,
+        text: SWAP_TEXT,
         written: b"vsimtx-journal 2\nT 0\nA 1\nT 1\nN\nU 2\nU 3\nA 2\nT 4\nE 8\n",
-        entries: &ENTRIES,
+        entries: SWAP_JOURNAL,
         lines: b"1 0\n",
     },
     Row {
-        source: b"module t; reg a; initial begin a=1'b1; #1 a=1'b0; a=1'b1; end initial #0 @(posedge a) $display(\"glitch\"); endmodule",
+        source: GLITCH,
         registers: 1,
         text: b"vsimtx-journal 1\nT 0\nT 1\nI\nT 3\nA 1\nT 2\nT 4\n",
         written: b"vsimtx-journal 2\nT 0\nT 1\nI\nT 3\nA 1\nT 2\nT 4\nE 7\n",
-        entries: &[
-            Entry::Turn(0),
-            Entry::Turn(1),
-            Entry::ActivateInactive,
-            Entry::Turn(3),
-            Entry::Advance(1),
-            Entry::Turn(2),
-            Entry::Turn(4),
-        ],
+        entries: GLITCH_JOURNAL,
         lines: b"glitch\n",
     },
     Row {
-        source: b"module t; reg a, b; initial a=1'b1; initial b=a; endmodule",
+        source: COPY,
         registers: 2,
         text: b"vsimtx-journal 1\nT 1\nT 0\n",
         written: b"vsimtx-journal 2\nT 1\nT 0\nE 2\n",
-        entries: &[Entry::Turn(1), Entry::Turn(0)],
+        entries: &[T1, T0],
         lines: b"",
     },
 ];
@@ -100,57 +80,32 @@ enum Call<'a> {
     Fault,
 }
 
-// Room for any of the texts. Behind that all memory is taken again.
-fn room(rt: &impl Abort, alloc: Global, hoard: &mut Hoard) -> Vec<u8> {
-    holds(rt, hoard.open(), "a piece of memory");
-    Vec::with_capacity(alloc, TEXT).expect(rt, "memory")
-}
-
-/// Leaves memory for a call that is made again and again.
-pub fn leave(rt: &impl Abort, hoard: &mut Hoard, count: usize) {
-    hoard.shut();
-    let is_left = hoard.leave(count.saturating_mul(STEP));
-    holds(rt, is_left, "a piece of memory");
-}
-
 // The text of the fault of a source tells of memory alone.
 fn assert_memory(rt: &impl Abort, told: &str) {
     holds(rt, (told == "P6 memory") | (told == "E10 memory"), told);
 }
 
 // Whether a design is read.
-fn is_design(
-    rt: &impl Abort,
-    alloc: Global,
-    hoard: &mut Hoard,
-    row: &Row<'_>,
-    count: usize,
-) -> bool {
-    leave(rt, hoard, count);
-    let answer = read_design(alloc, row.source);
-    holds(rt, hoard.open(), "a piece of memory");
+fn is_design(rt: &impl Abort, memory: &mut Scarce, row: &Row<'_>) -> bool {
+    memory.leave(rt);
+    let answer = read_design(memory.alloc, row.source.as_bytes());
+    memory.open(rt);
     match answer {
         Ok(design) => {
             assert_number(rt, u64::from(design.registers()), row.registers);
             true
         }
         Err(fault) => {
-            assert_memory(rt, text_of_fault(rt, alloc, &fault).as_str());
+            assert_memory(rt, text_of_fault(rt, memory.alloc, &fault).as_str());
             false
         }
     }
 }
 
 // Whether a journal is read.
-fn is_journal(
-    rt: &impl Abort,
-    alloc: Global,
-    hoard: &mut Hoard,
-    row: &Row<'_>,
-    count: usize,
-) -> bool {
-    leave(rt, hoard, count);
-    match read(alloc, row.text) {
+fn is_journal(rt: &impl Abort, memory: &mut Scarce, row: &Row<'_>) -> bool {
+    memory.leave(rt);
+    match read(memory.alloc, row.text) {
         Ok(entries) => {
             assert_entries(rt, &entries, row.entries);
             true
@@ -174,16 +129,10 @@ fn assert_begun(rt: &impl Abort, fault: Option<WriteFault>, out: &[u8], whole: &
 }
 
 // Whether a journal is written, into room that is there already.
-fn is_written(
-    rt: &impl Abort,
-    alloc: Global,
-    hoard: &mut Hoard,
-    row: &Row<'_>,
-    count: usize,
-) -> bool {
-    let mut out = Counted::new(room(rt, alloc, hoard));
-    leave(rt, hoard, count);
-    let fault = write_journal(alloc, &mut out, row.entries).err();
+fn is_written(rt: &impl Abort, memory: &mut Scarce, row: &Row<'_>) -> bool {
+    let mut out = Counted::new(memory.room(rt, TEXT));
+    memory.leave(rt);
+    let fault = write_journal(memory.alloc, &mut out, row.entries).err();
     assert_begun(rt, fault, &out.into_inner(), row.written);
     fault.is_none()
 }
@@ -197,17 +146,13 @@ fn assert_refused_replay(rt: &impl Abort, alloc: Global, fault: &BytesFault, out
 }
 
 // Whether the lines of a replay are written, into room that is there already.
-fn is_replayed(
-    rt: &impl Abort,
-    alloc: Global,
-    hoard: &mut Hoard,
-    row: &Row<'_>,
-    count: usize,
-) -> bool {
-    let mut out = Counted::new(room(rt, alloc, hoard));
-    leave(rt, hoard, count);
-    let answer = replay_bytes(alloc, row.source, &mut Counted::new(row.text), &mut out);
-    holds(rt, hoard.open(), "a piece of memory");
+fn is_replayed(rt: &impl Abort, memory: &mut Scarce, row: &Row<'_>) -> bool {
+    let alloc = memory.alloc;
+    let source = row.source.as_bytes();
+    let mut out = Counted::new(memory.room(rt, TEXT));
+    memory.leave(rt);
+    let answer = replay_bytes(alloc, source, &mut Counted::new(row.text), &mut out);
+    memory.open(rt);
     let out = out.into_inner();
     match answer {
         Ok(()) => {
@@ -222,31 +167,26 @@ fn is_replayed(
 }
 
 // Whether a call is done in so much memory. If not, it tells of memory.
-fn is_done(
-    rt: &impl Abort,
-    alloc: Global,
-    hoard: &mut Hoard,
-    call: Call<'_>,
-    count: usize,
-) -> bool {
+fn is_done(rt: &impl Abort, memory: &mut Scarce, call: Call<'_>) -> bool {
     match call {
-        Call::Design(row) => is_design(rt, alloc, hoard, row, count),
-        Call::Read(row) => is_journal(rt, alloc, hoard, row, count),
-        Call::Write(row) => is_written(rt, alloc, hoard, row, count),
-        Call::Replay(row) => is_replayed(rt, alloc, hoard, row, count),
-        Call::Dump(row) => is_dumped(rt, alloc, hoard, row, count),
+        Call::Design(row) => is_design(rt, memory, row),
+        Call::Read(row) => is_journal(rt, memory, row),
+        Call::Write(row) => is_written(rt, memory, row),
+        Call::Replay(row) => is_replayed(rt, memory, row),
+        Call::Dump(row) => is_dumped(rt, memory, row),
         Call::Fault => {
-            leave(rt, hoard, count);
-            is_told(rt, alloc)
+            memory.leave(rt);
+            is_told(rt, memory.alloc)
         }
     }
 }
 
 // A call gets more and more memory, of which there is too little at first.
 fn assert_done(rt: &impl Abort, alloc: Global, call: Call<'_>) {
-    let mut hoard = Hoard::new(alloc, 3 * ROOMS, PIECE).expect(rt, "memory");
+    let mut memory = Scarce::new(rt, alloc, STEP, 3 * ROOMS, PIECE);
     for count in 0..ROOMS {
-        if is_done(rt, alloc, &mut hoard, call, count) {
+        memory.steps = count;
+        if is_done(rt, &mut memory, call) {
             holds(rt, count > 0, "memory was refused");
             return;
         }

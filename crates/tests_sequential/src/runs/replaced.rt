@@ -2,12 +2,13 @@
 
 use super::held::design_of;
 use super::journal_text::read;
-use super::refused::{ENTRIES, JOURNAL, SWAP};
+use super::refused::SWAP_TEXT;
 use super::replayed::outcome;
-use crate::claims::{holds, holds_at};
+use crate::claims::{holds, holds_at, put_byte};
 use crate::language::parsing::fault;
 use design::Design;
 use elaborate::{ElabFault, elaborate};
+use fixtures::{SWAP, SWAP_JOURNAL};
 use journal::ReadFault;
 use model::entry::Entry;
 use model::tree::Module;
@@ -19,7 +20,7 @@ use vparse::{ParseFault, parse};
 /// How many entries are those of the swap, up to the first that isn't.
 fn lawful(entries: &[Entry]) -> usize {
     let mut count = 0usize;
-    for (entry, wanted) in entries.iter().zip(&ENTRIES) {
+    for (entry, wanted) in entries.iter().zip(SWAP_JOURNAL) {
         if entry != wanted {
             return count;
         }
@@ -33,7 +34,7 @@ fn assert_replayed(rt: &impl Abort, alloc: Global, design: &Design, entries: &[E
     let count = lawful(entries);
     match outcome(rt, alloc, design, entries) {
         Ok(printed) => {
-            let is_whole = count == ENTRIES.len();
+            let is_whole = count == SWAP_JOURNAL.len();
             holds_at(rt, count == entries.len(), "lawful entries", count);
             holds_at(rt, printed.is_over == is_whole, "the end behind", count);
         }
@@ -85,7 +86,7 @@ fn fault_of_cut(len: usize) -> Option<ReadFault> {
     if len < HEADER {
         return Some(ReadFault::Header);
     }
-    match JOURNAL.get(len - 1) {
+    match SWAP_TEXT.get(len - 1) {
         Some(b'\n') => None,
         _ => Some(ReadFault::Cut),
     }
@@ -93,10 +94,10 @@ fn fault_of_cut(len: usize) -> Option<ReadFault> {
 
 #[test]
 fn a_cut_journal_is_read_up_to_a_newline(rt: HostRuntime) {
-    let design = design_of(&rt, rt.alloc(), SWAP);
-    for len in 0..=JOURNAL.len() {
-        let lines = line_at(JOURNAL, len).saturating_sub(2);
-        let text = JOURNAL.get(..len).expect(&rt, "a beginning");
+    let design = design_of(&rt, rt.alloc(), SWAP.as_bytes());
+    for len in 0..=SWAP_TEXT.len() {
+        let lines = line_at(SWAP_TEXT, len).saturating_sub(2);
+        let text = SWAP_TEXT.get(..len).expect(&rt, "a beginning");
         assert_read(&rt, rt.alloc(), &design, text, lines, fault_of_cut(len));
     }
 }
@@ -124,13 +125,13 @@ fn fault_of_journal(place: usize, old: u8, new: u8) -> Option<ReadFault> {
             ReadFault::Header
         });
     }
-    if place == JOURNAL.len() - 1 {
+    if place == SWAP_TEXT.len() - 1 {
         return Some(ReadFault::Cut);
     }
     if is_line(old, new) {
         return None;
     }
-    Some(ReadFault::Line(line_at(JOURNAL, place)))
+    Some(ReadFault::Line(line_at(SWAP_TEXT, place)))
 }
 
 /// The journal with every value at one place.
@@ -143,22 +144,18 @@ fn assert_journals(
     old: u8,
 ) {
     for new in 0..=255u8 {
-        if place < text.len() {
-            text[place] = new;
-        }
+        put_byte(text, place, new);
         let fault = fault_of_journal(place, old, new);
-        assert_read(rt, alloc, design, text, ENTRIES.len() as u64, fault);
+        assert_read(rt, alloc, design, text, SWAP_JOURNAL.len() as u64, fault);
     }
-    if place < text.len() {
-        text[place] = old;
-    }
+    put_byte(text, place, old);
 }
 
 #[test]
 fn a_journal_with_a_byte_replaced_is_replayed_as_far_as_it_is_lawful(rt: HostRuntime) {
-    let design = design_of(&rt, rt.alloc(), SWAP);
-    let mut text = Vec::from_slice(rt.alloc(), JOURNAL).expect(&rt, "memory");
-    for (place, old) in JOURNAL.iter().enumerate() {
+    let design = design_of(&rt, rt.alloc(), SWAP.as_bytes());
+    let mut text = Vec::from_slice(rt.alloc(), SWAP_TEXT).expect(&rt, "memory");
+    for (place, old) in SWAP_TEXT.iter().enumerate() {
         assert_journals(&rt, rt.alloc(), &design, &mut text, place, *old);
     }
 }
@@ -193,12 +190,16 @@ fn may_be_faulty(fault: &ElabFault) -> bool {
 
 /// The swap's journal replays on this design to its end, or one of its entries is refused by the rules.
 fn assert_led(rt: &impl Abort, alloc: Global, design: &Design) {
-    match outcome(rt, alloc, design, &ENTRIES) {
+    match outcome(rt, alloc, design, SWAP_JOURNAL) {
         Ok(printed) => holds(rt, printed.is_over, "events are left"),
         Err(fault) => {
             let is_refused = matches!(fault.cause, Cause::Refused(_));
             holds(rt, is_refused, "another cause");
-            holds(rt, fault.entry <= ENTRIES.len() as u64, "another entry");
+            holds(
+                rt,
+                fault.entry <= SWAP_JOURNAL.len() as u64,
+                "another entry",
+            );
         }
     }
 }
@@ -230,20 +231,16 @@ fn assert_source(rt: &impl Abort, alloc: Global, text: &[u8], place: usize, new:
 /// The source with every value at one place.
 fn assert_sources(rt: &impl Abort, alloc: Global, text: &mut [u8], place: usize, old: u8) {
     for new in 0..=255u8 {
-        if place < text.len() {
-            text[place] = new;
-        }
+        put_byte(text, place, new);
         assert_source(rt, alloc, text, place, new);
     }
-    if place < text.len() {
-        text[place] = old;
-    }
+    put_byte(text, place, old);
 }
 
 #[test]
 fn a_source_with_a_byte_replaced_has_a_design_or_a_fault(rt: HostRuntime) {
-    let mut text = Vec::from_slice(rt.alloc(), SWAP).expect(&rt, "memory");
-    for (place, old) in SWAP.iter().enumerate() {
+    let mut text = Vec::from_slice(rt.alloc(), SWAP.as_bytes()).expect(&rt, "memory");
+    for (place, old) in SWAP.as_bytes().iter().enumerate() {
         assert_sources(&rt, rt.alloc(), &mut text, place, *old);
     }
 }
@@ -251,7 +248,7 @@ fn a_source_with_a_byte_replaced_has_a_design_or_a_fault(rt: HostRuntime) {
 #[test]
 fn a_cut_source_is_no_module(rt: HostRuntime) {
     for len in 0..SWAP.len() {
-        let text = SWAP.get(..len).expect(&rt, "a beginning");
+        let text = SWAP.as_bytes().get(..len).expect(&rt, "a beginning");
         let fault = fault(rt.alloc(), text).expect(&rt, "a fault");
         holds_at(&rt, may_refuse(fault, len, b' '), "cut at", len);
     }

@@ -1,30 +1,25 @@
 //! What a fault prints, and replays from bytes to bytes: their lines, or the line that tells of the fault.
 
 use super::compare::{assert_row, assert_text};
-use super::refused::{JOURNAL, SWAP};
+use super::refused::SWAP_TEXT;
 use super::replayed::{assert_prints, assert_refuses};
 use super::streams::{ByteReader, ByteWriter};
 use crate::claims::holds;
+use fixtures::entries::{I, T0, T1, T2, T3, T4};
+use fixtures::{HI, RACE, SWAP};
 use journal::Counted;
-use model::entry::{Entry, Refusal};
+use model::entry::Refusal;
 use replay::{BytesFault, Cause, ReplayFault, replay_bytes};
 use std::alloc::Global;
 use std::io::ErrorKind;
 use std::process::Abort;
-
-/// Two processes write one register, and a third shows it once both are over.
-const RACE: &[u8] =
-    b"module t; reg a; initial a=1'b0; initial a=1'b1; initial #0 $display(\"%b\",a); endmodule";
-
-/// One process, which prints a line.
-const HI: &[u8] = b"module t; initial $display(\"hi\"); endmodule";
 
 /// What is left of a replay by a reader and a writer that fail after so many bytes: what was written, and then the line
 /// that tells of the fault, if there is one.
 fn left_of(
     rt: &impl Abort,
     alloc: Global,
-    both: (&[u8], &[u8]),
+    both: (&str, &[u8]),
     reads: usize,
     writes: usize,
 ) -> String {
@@ -39,7 +34,7 @@ fn left_of(
         left: writes,
         answers_zero: false,
     });
-    let told = replay_bytes(alloc, source, &mut journal, &mut out);
+    let told = replay_bytes(alloc, source.as_bytes(), &mut journal, &mut out);
     let taken = out.into_inner().taken;
     text_of(rt, alloc, &taken, &told)
 }
@@ -98,24 +93,18 @@ fn says_why(rt: HostRuntime) {
 
 #[test]
 fn replays_entries(rt: HostRuntime) {
-    let mut journal = [
-        Entry::Turn(1),
-        Entry::Turn(0),
-        Entry::Turn(2),
-        Entry::ActivateInactive,
-        Entry::Turn(3),
-    ];
-    let is_over = assert_prints(&rt, rt.alloc(), RACE, &journal, "0\n");
+    let source = RACE.as_bytes();
+    let is_over = assert_prints(&rt, rt.alloc(), source, &[T1, T0, T2, I, T3], "0\n");
     holds(&rt, is_over, "nothing is left to do");
-    journal[4] = Entry::Turn(4);
-    assert_refuses(&rt, rt.alloc(), RACE, &journal, 5, Refusal::NotActive);
+    let journal = [T1, T0, T2, I, T4];
+    assert_refuses(&rt, rt.alloc(), source, &journal, 5, Refusal::NotActive);
 }
 
 // A replay by a reader and a writer that fail after so many bytes leaves this. It stands at this place of its test.
 fn assert_left_of(
     rt: &impl Abort,
     alloc: Global,
-    both: (&[u8], &[u8]),
+    both: (&str, &[u8]),
     limits: (usize, usize),
     want: &str,
     place: usize,
@@ -125,7 +114,7 @@ fn assert_left_of(
 }
 
 /// Sources with a journal, and what is left where a writer fails after 0, 1, .. bytes.
-const FAILED: &[(&[u8], &[u8], &[&str])] = &[
+const FAILED: &[(&str, &[u8], &[&str])] = &[
     (HI, b"vsimtx-journal 1\nT 0\n", &["cannot write"]),
     (
         HI,
@@ -134,7 +123,7 @@ const FAILED: &[(&[u8], &[u8], &[&str])] = &[
     ),
     (
         SWAP,
-        JOURNAL,
+        SWAP_TEXT,
         &[
             "cannot write",
             "1cannot write",

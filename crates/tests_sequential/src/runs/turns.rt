@@ -7,7 +7,7 @@ ghost use Rattle.design.specs.Operate.{joined_two};
 ghost use Rattle.model.specs.Expressions.{Store};
 ghost use Rattle.model.specs.declared.tree.BinaryOperator.TheVariants.{Add};
 ghost use Rattle.design.specs.declared.code.Op.TheVariants.{Load, BinaryRegister};
-ghost use Rattle.design.specs.Steps.{below, piece, run_ops};
+ghost use Rattle.design.specs.ExpressionSteps.{below, piece, run_ops};
 
 use super::compare::{assert_length, assert_number, assert_text};
 use super::held::{Held, Taken, assert_read_at, beginning, design_of, first_turn, turn_from};

@@ -4,7 +4,7 @@ use Rattle.std.proofs.lemmas.List.{take_all, take_more}
 use Rattle.clap.specs.Words.{new_app}
 use Rattle.arguments.specs.declared.parameters.Parameter.{Parameter}
 use Rattle.arguments.specs.Arguments.{HasRules, parameters_of, rule_for}
-use Rattle.arguments.specs.Words.{with_arguments, word_of}
+use Rattle.arguments.specs.CommandWords.{with_arguments, word_of}
 use Rattle.arguments.proofs.TaskLemmas.{argument_more, task_app}
 use Rattle.arguments.proofs.commands.command.Goals as goal
 

@@ -2,7 +2,7 @@
 use Rattle.std.proofs.Common.{◌≡◌, map, take}
 use Rattle.clap.specs.Words.{app_of, new_app}
 use Rattle.arguments.specs.Arguments.{HasRules, rule_for}
-use Rattle.arguments.specs.Words.{with_arguments, word_of}
+use Rattle.arguments.specs.CommandWords.{with_arguments, word_of}
 use Rattle.arguments.proofs.commands.command.Given as goal
 
 abbrev pub invariant-loop-parameter : goal.invariant-loop-parameter

@@ -1,7 +1,7 @@
 -- One command more; all of them at the end.
 use Rattle.std.proofs.Common.{◌≡◌, ◌∙◌, ap, take}
 use Rattle.std.proofs.lemmas.List.{take_all, take_more}
-use Rattle.arguments.specs.Words.{bare_app, every_task, with_tasks}
+use Rattle.arguments.specs.CommandWords.{bare_app, every_task, with_tasks}
 use Rattle.arguments.proofs.TaskLemmas.{all_tasks, task_more}
 use Rattle.arguments.proofs.commands.program.Goals as goal
 

@@ -3,7 +3,7 @@ use Rattle.std.proofs.Common.{◌≡◌}
 use Rattle.clap.specs.Built.{IsParsedFrom}
 use Rattle.clap.specs.Words.{HasMatchesOf, app_of, found_of, rows_of}
 use Rattle.arguments.specs.Arguments.{Gives}
-use Rattle.arguments.specs.Words.{app_by, rows_by, texts_of}
+use Rattle.arguments.specs.CommandWords.{app_by, rows_by, texts_of}
 use Rattle.arguments.proofs.GivenLemmas.{if_ok}
 use Rattle.arguments.proofs.TaskLemmas.{task_gives, task_is_free, task_is_simple}
 use Rattle.arguments.proofs.WordLemmas.{failed_by, found_by}

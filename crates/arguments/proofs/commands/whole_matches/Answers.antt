@@ -1,5 +1,5 @@
 use Rattle.clap.specs.Words.{app_of}
-use Rattle.arguments.specs.Words.{texts_of}
+use Rattle.arguments.specs.CommandWords.{texts_of}
 use Rattle.arguments.proofs.WordLemmas.{whole_taken, whole_failed}
 use Rattle.arguments.proofs.commands.whole_matches.Goals as goal
 

@@ -1,7 +1,7 @@
 use Rattle.std.proofs.Common.{◌≡◌, ◌∙◌, ap, ℕ, Option, unwrap_or, codes, rules, lit<}
 use Rattle.std.specs.Str.Parse.{ParsesUnsigned, ExplainsUnsignedError, HasUnsignedDigitsIfOk}
 use Rattle.clap.specs.Words.{found_of, rows_of}
-use Rattle.arguments.specs.Words.{number_given}
+use Rattle.arguments.specs.CommandWords.{number_given}
 use Rattle.arguments.proofs.WordLemmas.{signed_given}
 use Rattle.arguments.proofs.given.given_workers.Goals as goal
 

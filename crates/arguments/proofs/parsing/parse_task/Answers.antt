@@ -1,6 +1,6 @@
 -- What was found in the words says what they ask for, or why they ask for nothing.
 use Rattle.clap.specs.Words.{found_of, kind_of, rows_of}
-use Rattle.arguments.specs.Words.{Asks, AsksTwoOrders, FailsAs, IsAskedBy, texts_of}
+use Rattle.arguments.specs.CommandWords.{Asks, AsksTwoOrders, FailsAs, IsAskedBy, texts_of}
 use Rattle.arguments.proofs.GivenLemmas.{if_err, if_ok}
 use Rattle.arguments.proofs.TaskLemmas.{task_asks, task_fails, task_two_orders}
 use Rattle.arguments.proofs.parsing.parse_task.Goals as goal

@@ -1,6 +1,6 @@
 -- Why the words make no request.
 use Rattle.clap.specs.Words.{kind_of}
-use Rattle.arguments.specs.Words.{texts_of}
+use Rattle.arguments.specs.CommandWords.{texts_of}
 use Rattle.arguments.proofs.WordLemmas.{refused}
 use Rattle.arguments.proofs.parsing.read_request.Goals as goal
 

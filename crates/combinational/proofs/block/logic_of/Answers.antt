@@ -1,7 +1,7 @@
 use Rattle.std.proofs.Common.{rules, ◌≡◌, ◌<◌, ◌≤◌, ℕ, true, false, [], length, get_or, ap, subst, ◌∙◌}
 use Rattle.model.specs.Design.{End}
 use Rattle.model.specs.Turns.{contains}
-use Rattle.design.specs.Trees.{statements_of}
+use Rattle.design.specs.DesignTrees.{statements_of}
 use Rattle.phases.specs.Combinational.{is_plain, reads, written, settled}
 use Rattle.combinational.proofs.Waits.{IsAwaiting}
 use Rattle.combinational.proofs.Bounds.{process_there}

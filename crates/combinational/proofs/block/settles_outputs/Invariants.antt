@@ -1,6 +1,6 @@
 use Rattle.std.proofs.Common.{◌≡◌, ℕ, true, false, drop}
 use Rattle.model.specs.Turns.{contains}
-use Rattle.design.specs.Trees.{statements_of}
+use Rattle.design.specs.DesignTrees.{statements_of}
 use Rattle.phases.specs.Combinational.{settled}
 use Rattle.combinational.proofs.block.settles_outputs.Given as goal
 

@@ -1,5 +1,5 @@
 use Rattle.std.proofs.Common.{◌≡◌, drop}
-use Rattle.design.specs.Trees.{statements_of}
+use Rattle.design.specs.DesignTrees.{statements_of}
 use Rattle.phases.specs.Combinational.{is_plain as plain}
 use Rattle.combinational.proofs.body.+plain.Given as goal
 

@@ -4,7 +4,7 @@ use Rattle.std.specs.Prelude.{not, ◌&&◌, ◌||◌}
 use Rattle.model.specs.Syntax.{registers_of}
 use Rattle.model.specs.Turns.{contains}
 use Rattle.model.specs.TurnCases.{all_but}
-use Rattle.design.specs.Trees.{statements_of, expression_of}
+use Rattle.design.specs.DesignTrees.{statements_of, expression_of}
 use Rattle.design.proofs.Views.{viewed_if}
 use Rattle.phases.specs.Combinational.{reads_one, reads}
 use Rattle.phases.proofs.Blocks.{append_tells}

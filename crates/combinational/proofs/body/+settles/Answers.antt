@@ -2,7 +2,7 @@
 use Rattle.std.proofs.Common.{ap, sym, ◌∙◌}
 use Rattle.std.specs.Prelude.{◌&&◌}
 use Rattle.model.specs.Turns.{contains}
-use Rattle.design.specs.Trees.{statements_of}
+use Rattle.design.specs.DesignTrees.{statements_of}
 use Rattle.design.proofs.Views.{viewed_if}
 use Rattle.phases.specs.Combinational.{settled_one, settled}
 use Rattle.combinational.proofs.Lists.{common_is}

@@ -1,6 +1,6 @@
 use Rattle.std.proofs.Common.{◌≡◌, drop}
 use Rattle.model.specs.Turns.{contains}
-use Rattle.design.specs.Trees.{statements_of}
+use Rattle.design.specs.DesignTrees.{statements_of}
 use Rattle.phases.specs.Combinational.{settled}
 use Rattle.combinational.proofs.body.+settles.Given as goal
 

@@ -1,7 +1,7 @@
 use Rattle.std.proofs.Common.{◌≡◌, drop}
 use Rattle.model.specs.Syntax.{all_registers_of}
 use Rattle.model.specs.Turns.{contains}
-use Rattle.design.specs.Trees.{expressions_of}
+use Rattle.design.specs.DesignTrees.{expressions_of}
 use Rattle.combinational.proofs.expression.+reads.Given as goal
 
 -- it is read by all where it is by those that are left

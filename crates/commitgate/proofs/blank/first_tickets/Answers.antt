@@ -5,7 +5,7 @@ use Rattle.std.specs.Prelude.{slice_index_or}
 use Rattle.model.specs.Runs.{last_time}
 use Rattle.model.specs.States.{State}
 use Rattle.design.specs.Compiled.{Compiled, design_of}
-use Rattle.design.specs.Trees.{process_of}
+use Rattle.design.specs.DesignTrees.{process_of}
 use Rattle.regcells.specs.Values.{last_value}
 use Rattle.commitgate.specs.Tickets.{TicketView, IsFirstTicket}
 use Rattle.regions.proofs.Evaluated.{own_state}
@@ -18,7 +18,7 @@ unreachable-requires g c =
     let count = length-map code.processes process_of in
     let same = ap (λ (l : Compiled). length (design_of l).processes) c.requires.code in
     let below : c.from-event.result < length code.processes = omega (arith, count, same) in
-    never_missing code c.args.parts.now.regions (map last_value c.args.parts.now.holder.seen) c.from-event.result c.requires.starts below c.in-None.ensures
+    never_missing code c.args.run_state.now.regions (map last_value c.args.run_state.now.holder.seen) c.from-event.result c.requires.starts below c.in-None.ensures
 
 pub new-requires-clause-time : goal.new-requires-clause-time
 new-requires-clause-time g c =
@@ -27,7 +27,7 @@ new-requires-clause-time g c =
 
 pub new-requires-clause-own : goal.new-requires-clause-own
 new-requires-clause-own g c =
-    own_state g.K.Naming.named.code c.args.parts.now.regions c.from-event.result c.in-Some.process c.in-Some.state c.requires.states c.in-Some.ensures
+    own_state g.K.Naming.named.code c.args.run_state.now.regions c.from-event.result c.in-Some.process c.in-Some.state c.requires.states c.in-Some.ensures
 
 pub loop-process-preserved : goal.loop-process-preserved
 loop-process-preserved g c =
@@ -35,9 +35,9 @@ loop-process-preserved g c =
     let total = length-map code.processes process_of in
     let same = ap (λ (l : Compiled). length (design_of l).processes) c.requires.code in
     let below : c.from-event.result < length code.processes = omega (arith, total, same) in
-    let made : TicketView = record { event = c.from-event.result; process = c.in-Some.process; state = c.in-Some.state; time = c.args.parts.now.regions.time; tries = 0 } in
+    let made : TicketView = record { event = c.from-event.result; process = c.in-Some.process; state = c.in-Some.state; time = c.args.run_state.now.regions.time; tries = 0 } in
     let first : IsFirstTicket code c.from-event.result made =
-    first_ticket code c.args.parts.now.regions (map last_value c.args.parts.now.holder.seen) c.from-event.result c.in-Some.process c.in-Some.state c.requires.starts below c.in-Some.ensures in
+    first_ticket code c.args.run_state.now.regions (map last_value c.args.run_state.now.holder.seen) c.from-event.result c.in-Some.process c.in-Some.state c.requires.starts below c.in-Some.ensures in
     let is_made : made ≡ c.new.result = sym (c.new.ensures ∙ (λ i. record { event = c.from-event.result; process = c.in-Some.process; state = c.in-Some.state; time = c.time-time.ensures i; tries = 0 })) in
     let place : c.from-event.result ≡ length c.loop-process.tickets.items = c.from-event.ensures ∙ sym c.loop-process.invariant.count in
     let new = subst (λ (t : TicketView). IsFirstTicket code c.from-event.result t) is_made first in

@@ -1,9 +1,9 @@
 -- The seats of the registers are alike, so each worker gets one of them.
 use Rattle.std.proofs.Common.{◌≡◌, ◌∙◌, ◌+◌, ◌-◌, ◌++◌, ◌∷◌, [], ℕ, None, replicate, ap, sym, arith}
 use Rattle.std.proofs.lemmas.List.FromFn.{map-range_with_len_more}
-use Rattle.regcells.specs.Seats as regs
+use Rattle.regcells.specs.CellSeats as regs
 use Rattle.commitgate.specs.Blanks.{first_fresh}
-use Rattle.gateparts.specs.Marked.{keeper}
+use Rattle.runstate.specs.Marked.{keeper}
 use Rattle.commitgate.specs.Seats.{new_seat}
 use Rattle.commitgate.proofs.Openings.{last_left, last_out}
 use Rattle.commitgate.proofs.blank.seat_all.Goals as goal

@@ -2,7 +2,7 @@ use Rattle.std.proofs.Common.{◌≡◌, ◌-◌, [], map, replicate}
 use Rattle.std.specs.List.{range_with_len}
 use Rattle.crossbeam_utils.specs.Seq.{cell_view}
 use Rattle.commitgate.specs.Blanks.{first_fresh}
-use Rattle.gateparts.specs.Marked.{keeper}
+use Rattle.runstate.specs.Marked.{keeper}
 use Rattle.commitgate.specs.Seats.{new_seat}
 use Rattle.commitgate.proofs.blank.seat_all.Given as goal
 

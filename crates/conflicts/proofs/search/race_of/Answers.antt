@@ -4,7 +4,7 @@ use Rattle.std.specs.Prelude.{IfSome}
 use Rattle.model.specs.declared.entry.Entry.{Entry}
 use Rattle.design.specs.Compiled.{design_of}
 use Rattle.seeded.specs.declared.run.SeededRun.{SeededRun}
-use Rattle.seeded.specs.Runs.{IsRun}
+use Rattle.seeded.specs.SeededRun.{IsRun}
 use Rattle.seeded.specs.Samples.{AreDistinct}
 use Rattle.deeds.specs.Roles.{HasBothOrders}
 use Rattle.conflicts.proofs.search.race_of.Goals as goal

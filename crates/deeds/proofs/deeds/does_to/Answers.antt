@@ -2,8 +2,8 @@
 use Rattle.std.proofs.Common.{List, sym, ◌∙◌, ap}
 use Rattle.std.specs.Prelude.{◌==◌}
 use Rattle.std.specs.List.{list_any}
-use Rattle.model.specs.Turns.{Later}
-use Rattle.turn.specs.Logs.{later_of}
+use Rattle.model.specs.Turns.{NonblockingAssignment}
+use Rattle.turn.specs.TurnLogs.{assignment_of}
 use Rattle.deeds.specs.declared.role.Does.{Does}
 use Rattle.deeds.specs.Roles.{does_to}
 use Rattle.deeds.proofs.Leading.{any_of_map}
@@ -12,6 +12,6 @@ use Rattle.deeds.proofs.deeds.does_to.Goals as goal
 pub returns-in-Assigns : goal.returns-in-Assigns
 returns-in-Assigns c turn h =
     c.assigns.ensures
-    ∙ (sym (any_of_map (λ (l : Later). l.register == c.args.register) later_of c.args.log.now.nbas)
-    ∙ (ap (λ (ls : List Later). list_any (λ l. l.register == c.args.register) ls) h.1.laters
+    ∙ (sym (any_of_map (λ (l : NonblockingAssignment). l.register == c.args.register) assignment_of c.args.log.now.nbas)
+    ∙ (ap (λ (ls : List NonblockingAssignment). list_any (λ l. l.register == c.args.register) ls) h.1.nbas
     ∙ ap (λ (d : Does). does_to c.args.register d turn) (sym c.in-Assigns.is)))

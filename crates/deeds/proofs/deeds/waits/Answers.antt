@@ -4,7 +4,7 @@ use Rattle.std.specs.Prelude.{◌==◌}
 use Rattle.std.specs.List.{list_any}
 use Rattle.model.specs.Design.{Trigger}
 use Rattle.turn.specs.declared.log.Suspend.{Suspend}
-use Rattle.turn.specs.Logs.{wait_of}
+use Rattle.turn.specs.TurnLogs.{wait_of}
 use Rattle.deeds.specs.Roles.{waits_for}
 use Rattle.deeds.proofs.deeds.waits.Goals as goal
 

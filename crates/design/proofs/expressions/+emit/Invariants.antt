@@ -1,6 +1,6 @@
 use Rattle.std.proofs.Common.{◌≡◌, ◌++◌, true, drop}
 use Rattle.design.specs.Sound.{AreSoundExpressions}
-use Rattle.design.specs.Trees.{expressions_of}
+use Rattle.design.specs.DesignTrees.{expressions_of}
 use Rattle.design.specs.Generate.{parts_code}
 use Rattle.design.proofs.expressions.+emit.Given as goal
 

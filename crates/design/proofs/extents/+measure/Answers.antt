@@ -1,6 +1,6 @@
 use Rattle.std.proofs.Common.{rules, ◌≡◌, ◌+◌, ◌++◌, ◌∷◌, subst, length, drop, sym, ◌∙◌, arith}
 use Rattle.std.proofs.lemmas.Grind.{common_steps}
-use Rattle.design.specs.Trees.{statement_of, statements_of, expression_of}
+use Rattle.design.specs.DesignTrees.{statement_of, statements_of, expression_of}
 use Rattle.design.specs.Extents.{extent_of, extents_inside, extents}
 use Rattle.design.proofs.Places.{left_more}
 use Rattle.model.specs.Design.{If}

@@ -1,5 +1,5 @@
 use Rattle.std.proofs.Common.{◌+◌, ◌++◌, length, drop, map, sym, ◌∙◌, ap}
-use Rattle.design.specs.Trees.{process_of, statements_of}
+use Rattle.design.specs.DesignTrees.{process_of, statements_of}
 use Rattle.design.specs.Extents.{extents, all_extents}
 use Rattle.design.proofs.Places.{left_more}
 use Rattle.design.proofs.Measured.{measured_process}

@@ -1,5 +1,5 @@
 use Rattle.std.proofs.Common.{rules, ◌≡◌, length, map, sym, ap, ◌∙◌, subst}
-use Rattle.design.specs.Trees.{process_of}
+use Rattle.design.specs.DesignTrees.{process_of}
 use Rattle.design.specs.Extents.{IsMeasured}
 use Rattle.design.specs.Emit.{Emitted}
 use Rattle.design.specs.Emitter.{emitted_of}

@@ -1,7 +1,7 @@
 use Rattle.std.proofs.Common.{◌≡◌, ◌≤◌, ◌+◌, drop}
 use Rattle.model.specs.Expressions as size
 use Rattle.design.specs.Sound.{AreSoundExpressions}
-use Rattle.design.specs.Trees.{expressions_of}
+use Rattle.design.specs.DesignTrees.{expressions_of}
 use Rattle.design.proofs.sizes.+own.Given as goal
 
 -- what is left adds up to the whole, and each part adds a digit at least

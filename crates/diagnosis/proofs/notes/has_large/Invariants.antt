@@ -1,6 +1,6 @@
 -- What is found from here on is what is found in all.
 use Rattle.std.proofs.Common.{◌≡◌, length, false}
-use Rattle.diagnosis.specs.Words.{has_large}
+use Rattle.diagnosis.specs.LackedWords.{has_large}
 use Rattle.diagnosis.proofs.notes.has_large.Given as goal
 
 abbrev pub invariant-loop-left : goal.invariant-loop-left

@@ -1,6 +1,6 @@
 -- What the rows that are left have for the word is what the table has.
 use Rattle.std.proofs.Common.{◌≡◌, length, map}
-use Rattle.diagnosis.specs.Words.{advice_in, words}
+use Rattle.diagnosis.specs.LackedWords.{advice_in, words}
 use Rattle.diagnosis.proofs.words.advice_in_table.Given as goal
 
 abbrev pub invariant-loop-left : goal.invariant-loop-left

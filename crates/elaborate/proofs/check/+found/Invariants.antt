@@ -1,10 +1,10 @@
 use Rattle.std.proofs.Common.{◌≡◌, ◌+◌, ◌≤◌, map, drop}
 use Rattle.logic4.specs.Vector.{greatest_width}
-use Rattle.model.specs.Trees.{expression_of, expressions}
+use Rattle.model.specs.SourceTrees.{expression_of, expressions}
 use Rattle.model.specs.Elaboration.{all_resolved, widths_of}
 use Rattle.model.specs.Expressions.{total_size}
 use Rattle.elaborate.specs.Formed.{AreFormed}
-use Rattle.elaborate.specs.Findings.{capped, all_found, or_else, verdict}
+use Rattle.elaborate.specs.FirstFindings.{capped, all_found, or_else, verdict}
 use Rattle.elaborate.proofs.check.+found.Given as goal
 
 abbrev pub invariant-expressions-loop-part : goal.invariant-expressions-loop-part

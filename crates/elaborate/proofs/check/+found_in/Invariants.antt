@@ -1,6 +1,6 @@
 use Rattle.std.proofs.Common.{◌≡◌, map, drop}
-use Rattle.model.specs.Trees.{statement_of, statements}
-use Rattle.elaborate.specs.Findings.{all_found_in}
+use Rattle.model.specs.SourceTrees.{statement_of, statements}
+use Rattle.elaborate.specs.FirstFindings.{all_found_in}
 use Rattle.elaborate.specs.Formed.{AreFormedStatements}
 use Rattle.elaborate.proofs.check.+found_in.Given as goal
 

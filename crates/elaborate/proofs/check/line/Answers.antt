@@ -1,5 +1,5 @@
 use Rattle.std.proofs.Common.{sym, ap, ◌∙◌}
-use Rattle.elaborate.specs.Findings.{found_format}
+use Rattle.elaborate.specs.FirstFindings.{found_format}
 use Rattle.elaborate.proofs.Sizes.{count_is}
 use Rattle.elaborate.proofs.check.line.Goals as goal
 

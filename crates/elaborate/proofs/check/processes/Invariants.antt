@@ -1,6 +1,6 @@
 use Rattle.std.proofs.Common.{◌≡◌, map, drop}
-use Rattle.model.specs.Trees.{process_of}
-use Rattle.elaborate.specs.Findings.{found_by}
+use Rattle.model.specs.SourceTrees.{process_of}
+use Rattle.elaborate.specs.FirstFindings.{found_by}
 use Rattle.elaborate.specs.Formed.{AreFormedProcesses}
 use Rattle.elaborate.proofs.check.processes.Given as goal
 

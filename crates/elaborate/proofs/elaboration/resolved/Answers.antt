@@ -1,10 +1,10 @@
 use Rattle.std.proofs.Common.{◌≡◌, [], None, Some, map, sym, ap, subst, ◌∙◌, rules}
 use Rattle.model.specs.Elaboration.{declared, process_of}
-use Rattle.model.specs.Trees as trees
-use Rattle.model.specs.Trees.{module_of, declaration_of}
-use Rattle.design.specs.Trees as tree
+use Rattle.model.specs.SourceTrees as trees
+use Rattle.model.specs.SourceTrees.{module_of, declaration_of}
+use Rattle.design.specs.DesignTrees as tree
 use Rattle.elaborate.specs.Registers.{all_declared}
-use Rattle.elaborate.specs.Findings.{plain, found_names, found_among, IsFirstOf}
+use Rattle.elaborate.specs.FirstFindings.{plain, found_names, found_among, IsFirstOf}
 use Rattle.elaborate.specs.Formed.{AreFormedProcesses}
 use Rattle.elaborate.specs.Small.{AreSmallProcesses}
 use Rattle.elaborate.proofs.Whole.{of_names, of_processes, told_first, faultless, small_processes, same_design, sound_processes}

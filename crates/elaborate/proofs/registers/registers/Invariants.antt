@@ -1,7 +1,7 @@
 use Rattle.std.proofs.Common.{◌≡◌, ◌++◌, [], map, drop}
-use Rattle.model.specs.Trees.{declaration_of}
+use Rattle.model.specs.SourceTrees.{declaration_of}
 use Rattle.elaborate.specs.Registers.{all_declared}
-use Rattle.elaborate.specs.Findings.{found_names}
+use Rattle.elaborate.specs.FirstFindings.{found_names}
 use Rattle.elaborate.proofs.registers.registers.Given as goal
 
 abbrev pub invariant-loop-declaration : goal.invariant-loop-declaration

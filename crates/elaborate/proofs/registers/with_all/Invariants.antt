@@ -1,6 +1,6 @@
 use Rattle.std.proofs.Common.{◌≡◌, ◌++◌, map, drop, string_bytes}
 use Rattle.elaborate.specs.Registers.{of_range}
-use Rattle.elaborate.specs.Findings.{found_names}
+use Rattle.elaborate.specs.FirstFindings.{found_names}
 use Rattle.elaborate.proofs.registers.with_all.Given as goal
 
 abbrev pub invariant-loop-name : goal.invariant-loop-name

@@ -1,7 +1,7 @@
 use Rattle.std.proofs.Common.{◌≡◌, ◌++◌, map, drop}
-use Rattle.design.specs.Trees as tree
+use Rattle.design.specs.DesignTrees as tree
 use Rattle.model.specs.Elaboration.{resolved}
-use Rattle.model.specs.Trees.{expression_of, expressions}
+use Rattle.model.specs.SourceTrees.{expression_of, expressions}
 use Rattle.elaborate.specs.Small.{AreSmall}
 use Rattle.elaborate.proofs.resolve.+resolved.Given as goal
 

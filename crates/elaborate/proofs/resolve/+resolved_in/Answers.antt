@@ -1,4 +1,4 @@
-use Rattle.design.specs.Trees as tree
+use Rattle.design.specs.DesignTrees as tree
 use Rattle.elaborate.proofs.Turns.{one_statement, last_statement, others_small}
 use Rattle.elaborate.proofs.resolve.+resolved_in.Goals as goal
 

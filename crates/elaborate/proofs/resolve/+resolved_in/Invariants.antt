@@ -1,7 +1,7 @@
 use Rattle.std.proofs.Common.{◌≡◌, map, drop}
-use Rattle.design.specs.Trees as tree
+use Rattle.design.specs.DesignTrees as tree
 use Rattle.model.specs.Elaboration.{block_of, followed_by}
-use Rattle.model.specs.Trees.{statement_of, statements}
+use Rattle.model.specs.SourceTrees.{statement_of, statements}
 use Rattle.elaborate.specs.Small.{AreSmallStatements}
 use Rattle.elaborate.proofs.resolve.+resolved_in.Given as goal
 

@@ -1,7 +1,7 @@
 use Rattle.std.proofs.Common.{◌≡◌, ◌++◌, map, drop}
-use Rattle.design.specs.Trees as tree
+use Rattle.design.specs.DesignTrees as tree
 use Rattle.model.specs.Elaboration as model
-use Rattle.model.specs.Trees.{process_of}
+use Rattle.model.specs.SourceTrees.{process_of}
 use Rattle.elaborate.specs.Small.{AreSmallProcesses}
 use Rattle.elaborate.proofs.resolve.processes.Given as goal
 

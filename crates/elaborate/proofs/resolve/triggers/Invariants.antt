@@ -1,6 +1,6 @@
 use Rattle.std.proofs.Common.{◌≡◌, ◌++◌, map, drop}
 use Rattle.model.specs.Elaboration as model
-use Rattle.model.specs.Trees.{trigger_of}
+use Rattle.model.specs.SourceTrees.{trigger_of}
 use Rattle.elaborate.proofs.resolve.triggers.Given as goal
 
 abbrev pub invariant-loop-event : goal.invariant-loop-event

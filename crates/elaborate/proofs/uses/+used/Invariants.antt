@@ -1,6 +1,6 @@
 use Rattle.std.proofs.Common.{◌≡◌, map, drop}
-use Rattle.model.specs.Trees.{expression_of, expressions}
-use Rattle.elaborate.specs.Findings.{all_used}
+use Rattle.model.specs.SourceTrees.{expression_of, expressions}
+use Rattle.elaborate.specs.FirstFindings.{all_used}
 use Rattle.elaborate.proofs.uses.+used.Given as goal
 
 abbrev pub invariant-expressions-loop-part : goal.invariant-expressions-loop-part

@@ -1,6 +1,6 @@
 use Rattle.std.proofs.Common.{◌≡◌, map, drop}
-use Rattle.model.specs.Trees.{statement_of, statements}
-use Rattle.elaborate.specs.Findings.{all_used_in}
+use Rattle.model.specs.SourceTrees.{statement_of, statements}
+use Rattle.elaborate.specs.FirstFindings.{all_used_in}
 use Rattle.elaborate.proofs.uses.+used_in.Given as goal
 
 abbrev pub invariant-block-loop-s : goal.invariant-block-loop-s

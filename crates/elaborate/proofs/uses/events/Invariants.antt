@@ -1,6 +1,6 @@
 use Rattle.std.proofs.Common.{◌≡◌, map, drop}
-use Rattle.model.specs.Trees.{trigger_of}
-use Rattle.elaborate.specs.Findings.{unknown_among}
+use Rattle.model.specs.SourceTrees.{trigger_of}
+use Rattle.elaborate.specs.FirstFindings.{unknown_among}
 use Rattle.elaborate.proofs.uses.events.Given as goal
 
 abbrev pub invariant-loop-event : goal.invariant-loop-event

@@ -1,6 +1,6 @@
 use Rattle.std.proofs.Common.{◌≡◌, map, drop}
-use Rattle.model.specs.Trees.{process_of}
-use Rattle.elaborate.specs.Findings.{used_by}
+use Rattle.model.specs.SourceTrees.{process_of}
+use Rattle.elaborate.specs.FirstFindings.{used_by}
 use Rattle.elaborate.proofs.uses.processes.Given as goal
 
 abbrev pub invariant-loop-process : goal.invariant-loop-process

@@ -1,7 +1,7 @@
 -- One line more.
 use Rattle.std.proofs.Common.{◌++◌, ◌<◌, length, map, rules}
 use Rattle.regions.specs.Future.{due_event}
-use Rattle.explain.specs.Endings.{future_lines}
+use Rattle.explain.specs.ExplainedEnd.{future_lines}
 use Rattle.explain.proofs.Pieces.{future_step}
 use Rattle.explain.proofs.ending.push_future.Goals as goal
 

@@ -1,7 +1,7 @@
 -- What is still to be put are the lines of the events that are left.
 use Rattle.std.proofs.Common.{◌≡◌, ◌++◌, drop, map}
 use Rattle.regions.specs.Future.{due_event}
-use Rattle.explain.specs.Endings.{future_lines}
+use Rattle.explain.specs.ExplainedEnd.{future_lines}
 use Rattle.explain.proofs.ending.push_future.Given as goal
 
 abbrev pub invariant-loop-i : goal.invariant-loop-i

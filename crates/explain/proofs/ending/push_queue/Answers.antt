@@ -1,6 +1,6 @@
 -- One line more.
 use Rattle.std.proofs.Common.{◌++◌, ◌<◌, length, map, rules}
-use Rattle.explain.specs.Endings.{region_lines}
+use Rattle.explain.specs.ExplainedEnd.{region_lines}
 use Rattle.explain.proofs.Pieces.{region_step}
 use Rattle.explain.proofs.ending.push_queue.Goals as goal
 

@@ -1,6 +1,6 @@
 -- What is still to be put are the lines of the events that are left.
 use Rattle.std.proofs.Common.{◌≡◌, ◌++◌, drop, map}
-use Rattle.explain.specs.Endings.{region_lines}
+use Rattle.explain.specs.ExplainedEnd.{region_lines}
 use Rattle.explain.proofs.ending.push_queue.Given as goal
 
 abbrev pub invariant-loop-i : goal.invariant-loop-i

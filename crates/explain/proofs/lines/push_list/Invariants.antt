@@ -1,6 +1,6 @@
 -- What is still to be put are the parts that are left.
 use Rattle.std.proofs.Common.{◌≡◌, ◌++◌, drop}
-use Rattle.explain.specs.Lines.{list_text}
+use Rattle.explain.specs.EntryLines.{list_text}
 use Rattle.explain.proofs.lines.push_list.Given as goal
 
 abbrev pub invariant-loop-place : goal.invariant-loop-place

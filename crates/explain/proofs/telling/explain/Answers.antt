@@ -1,7 +1,7 @@
 -- The design of the source, and the journal that was left to read.
 use Rattle.std.proofs.Common.{List, OnOk, subst}
 use Rattle.model.specs.declared.entry.Entry.{Entry}
-use Rattle.explain.specs.Texts.{Explains, ExplainsFault}
+use Rattle.explain.specs.ExplainedText.{Explains, ExplainsFault}
 use Rattle.explain.specs.Explained.{IfReplay}
 use Rattle.explain.proofs.Ends.{no_source_if, no_read_if, begun_if, text_if, text_fault_if, lawful_if, replay_if}
 use Rattle.explain.proofs.telling.explain.Goals as goal

@@ -4,8 +4,8 @@ use Rattle.std.specs.Prelude.{slice_index_or}
 use Rattle.model.specs.declared.entry.Entry.TheVariants.{Turn}
 use Rattle.replay.specs.declared.fault.Cause.{Cause}
 use Rattle.steps.specs.declared.fault.StepFault.{StepFault}
-use Rattle.steps.specs.Standing.{IsNotExplained}
-use Rattle.replay.specs.Faults.{IsCauseOf}
+use Rattle.steps.specs.ExplainerStanding.{IsNotExplained}
+use Rattle.replay.specs.JournalFaults.{IsCauseOf}
 use Rattle.explain.proofs.Next.{next_failure}
 use Rattle.explain.proofs.Sending.{next_told}
 use Rattle.explain.proofs.telling.explain_next.Goals as goal

@@ -1,6 +1,6 @@
 use Rattle.std.proofs.Common.{◌≡◌, ℕ, List, [], ◌++◌, get_or, refl, sym, ap, ◌∙◌, subst}
 use Rattle.explore.specs.Grown.{grown}
-use Rattle.explore.specs.Texts.{texts}
+use Rattle.explore.specs.NumberedTexts.{texts}
 use Rattle.explore.specs.Trail.{ways}
 use Rattle.explore.specs.declared.kept.Pending.{Pending}
 use Rattle.explore.proofs.Keeping.{AreKept-texts, Grows-texts, there_leads, IsText-next, IsVisited-next, IsPending-next, AreKept-push, Grows-push, pushed_leads}

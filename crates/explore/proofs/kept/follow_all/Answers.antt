@@ -2,7 +2,7 @@ use Rattle.std.proofs.Common.{◌≡◌, [], ◌∷◌, ◌++◌, length, get_or
 use Rattle.std.proofs.lemmas.List.Elements.{All-pop, All-nil}
 use Rattle.std.proofs.lemmas.List.{append-nil}
 use Rattle.std.specs.List.{All}
-use Rattle.explore.specs.Kept.{Leads}
+use Rattle.explore.specs.SearchKept.{Leads}
 use Rattle.explore.specs.Search.{IsNext}
 use Rattle.explore.specs.Trail.{ways}
 use Rattle.explore.specs.declared.Next.{Next}

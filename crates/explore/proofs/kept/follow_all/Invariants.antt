@@ -1,7 +1,7 @@
 use Rattle.std.proofs.Common.{◌≡◌, ◌≤◌, ◌++◌, [], List, length, get_or, IsTrue}
 use Rattle.std.specs.List.{All}
 use Rattle.explore.specs.declared.Next.{Next}
-use Rattle.explore.specs.Kept.{AreKept, Grows, Leads}
+use Rattle.explore.specs.SearchKept.{AreKept, Grows, Leads}
 use Rattle.explore.specs.Search.{IsNext}
 use Rattle.explore.specs.Trail.{ways}
 use Rattle.explore.proofs.kept.follow_all.Given as goal

@@ -1,6 +1,6 @@
 use Rattle.std.proofs.Common.{◌≡◌, ℕ, ◌<◌, ◌≤◌, ◌+◌, ◌-◌, ◌*◌, [], length, get_or, IsTrue, ◌⊎◌}
 use Rattle.std.specs.List.{All, AllPairs, Any}
-use Rattle.explore.specs.Kept.{AreKept}
+use Rattle.explore.specs.SearchKept.{AreKept}
 use Rattle.explore.specs.Search.{IsOfRun, AreDistinct, IsShown, IsFollowed, Serves}
 use Rattle.explore.specs.Trail.{ways}
 use Rattle.explore.proofs.search.search.Given as goal

@@ -1,6 +1,6 @@
 -- The updates that are next wake nobody.
 use Rattle.std.proofs.Common.{◌∙◌, sym, ap}
-use Rattle.design.specs.Standing.{remainder_of, controls_of}
+use Rattle.design.specs.DesignInvariant.{remainder_of, controls_of}
 use Rattle.flat.proofs.Evaluated.{silent_from}
 use Rattle.flat.proofs.silent.is_silent.Goals as goal
 

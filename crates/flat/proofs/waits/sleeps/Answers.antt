@@ -1,7 +1,7 @@
 -- Nothing is awaited.
 use Rattle.std.proofs.Common.{ℕ, [], ◌∷◌, Option, sym, subst}
 use Rattle.orders.specs.Apart.{WakesNone}
-use Rattle.regions.specs.Waking.{triggers_at}
+use Rattle.regions.specs.ProcessWaking.{triggers_at}
 use Rattle.flat.specs.Tests.{waiting}
 use Rattle.flat.proofs.Sleeping.{nothing_awaited}
 use Rattle.flat.proofs.waits.sleeps.Goals as goal

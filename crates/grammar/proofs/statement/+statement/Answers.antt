@@ -6,53 +6,60 @@ use Rattle.grammar.specs.Cursor.{left_of, kind, sees, take}
 use Rattle.tokens.specs.declared.token.Kind.TheVariants.{Begin, Else}
 use Rattle.model.specs.Syntax.{Text, Expression, Statement}
 use Rattle.model.specs.Syntax as tree
-use Rattle.model.specs.Trees.{statements}
+use Rattle.model.specs.SourceTrees.{statements}
 use Rattle.grammar.specs.Nodes.{statements_view}
 use Rattle.grammar.specs.Reading as spec
-use Rattle.grammar.specs.Reading.{statements_from}
+use Rattle.grammar.specs.Reading.{parse_statements}
 use Rattle.grammar.proofs.Turns.{one_more, deeper}
 use Rattle.grammar.proofs.statement.+statement.Goals as goal
 
-pub block-loop-turn-preserved : goal.block-loop-turn-preserved
-unfolding statements_from
-block-loop-turn-preserved t c =
-    let e = one_more (λ n. statements_from (spec.statement c.args.fuel) n (statements_view c.loop-turn.found) (left_of c.loop-turn.tokens)) c.args.fuel c.loop-turn._turn c.loop-turn-test.true c.loop-turn.invariant in
+pub parse_block-loop-turn-preserved : goal.parse_block-loop-turn-preserved
+unfolding parse_statements
+parse_block-loop-turn-preserved t c =
+    let e = one_more (λ n. parse_statements (spec.parse_statement c.args.budget) n (statements_view c.loop-turn.found) (left_of c.loop-turn.tokens)) c.args.budget c.loop-turn._turn c.loop-turn-test.true c.loop-turn.invariant in
     grind (arith, common_steps)
 
-branch_is : (inner : spec.Parser Statement) (fuel : ℕ) (t : PlainToken) (test : Expression Text) (body : List Statement) (ts us vs ws : PlainTokens)
-    → take ts ≡ Some (t, us) → spec.condition fuel us ≡ Some (test, vs) → spec.block inner fuel vs ≡ Some (body, ws)
-    → spec.branch inner fuel ts ≡ spec.otherwise inner fuel test body ws
-unfolding spec.branch
-branch_is inner fuel t test body ts us vs ws a b c = rw (a, b, c)
+guarded_is : (inner : spec.Parser Statement) (budget : ℕ) (t : PlainToken) (test : Expression Text) (body : List Statement) (ts us vs ws : PlainTokens)
+    → take ts ≡ Some (t, us) → spec.parse_parenthesized (spec.parse_expression budget) us ≡ Some (test, vs) → spec.parse_block inner budget vs ≡ Some (body, ws)
+    → spec.parse_guarded inner budget ts ≡ Some ((test, body), ws)
+unfolding spec.parse_guarded
+guarded_is inner budget t test body ts us vs ws a b c = rw (a, b, c)
 
-pub branch-returns : goal.branch-returns
-branch-returns t c = rw (branch_is _ _ _ _ _ _ _ _ _ c.in_ok-take.ensures c.in_ok-test.ensures c.in_ok-body.ensures) c.otherwise.ensures
+pub parse_guarded-returns : goal.parse_guarded-returns
+parse_guarded-returns t c = guarded_is _ _ _ _ _ _ _ _ _ c.in_ok-take.ensures c.in_ok-test.ensures c.in_ok-body.ensures
 
-pub statement-returns : goal.statement-returns
-statement-returns t c = rw (deeper (λ n. spec.statement n (left_of c.args.tokens.now)) c.args.fuel (omega arith)) c.statement_form.ensures
+if_is : (inner : spec.Parser Statement) (budget : ℕ) (p : Expression Text × List Statement) (ts us : PlainTokens)
+    → spec.parse_guarded inner budget ts ≡ Some (p, us) → spec.parse_if inner budget ts ≡ spec.parse_else inner budget p.0 p.1 us
+unfolding spec.parse_if
+if_is inner budget p ts us a = rw a
 
-otherwise_is : (inner : spec.Parser Statement) (fuel : ℕ) (t : PlainToken) (test : Expression Text) (body other : List Statement) (ts us rest : PlainTokens)
-    → sees Else ts ≡ true → take ts ≡ Some (t, us) → spec.block inner fuel us ≡ Some (other, rest)
-    → spec.otherwise inner fuel test body ts ≡ Some (tree.IfElse test (statements body) (statements other), rest)
-unfolding spec.otherwise
-otherwise_is inner fuel t test body other ts us rest a b c = rw (a, b, c)
+pub parse_if-returns : goal.parse_if-returns
+parse_if-returns t c = rw (if_is _ _ _ _ _ c.in_ok-found.ensures) c.parse_else.ensures
 
-pub otherwise-returns : goal.otherwise-returns
-otherwise-returns t c = rw c.branches_of.ensures (otherwise_is _ _ _ _ _ _ _ _ _ (sym c.sees.ensures ∙ c.if-not-sees.false) c.in_ok-take.ensures c.in_ok-other.ensures)
+pub parse_statement-returns : goal.parse_statement-returns
+parse_statement-returns t c = rw (deeper (λ n. spec.parse_statement n (left_of c.args.tokens.now)) c.args.budget (omega arith)) c.parse_form.ensures
 
-begin_is : (inner : spec.Parser Statement) (fuel : ℕ) (body : List Statement) (ts rest : PlainTokens) → kind ts ≡ Begin → spec.block inner fuel ts ≡ Some (body, rest)
-    → spec.statement_form inner fuel ts ≡ Some (tree.Block (statements body), rest)
-unfolding spec.statement_form
-begin_is inner fuel body ts rest a b = rw (a, b)
+else_is : (inner : spec.Parser Statement) (budget : ℕ) (t : PlainToken) (test : Expression Text) (body other : List Statement) (ts us rest : PlainTokens)
+    → sees Else ts ≡ true → take ts ≡ Some (t, us) → spec.parse_block inner budget us ≡ Some (other, rest)
+    → spec.parse_else inner budget test body ts ≡ Some (tree.IfElse test (statements body) (statements other), rest)
+unfolding spec.parse_else
+else_is inner budget t test body other ts us rest a b c = rw (a, b, c)
 
-pub statement_form-returns-in_ok-found-in-Begin : goal.statement_form-returns-in_ok-found-in-Begin
-statement_form-returns-in_ok-found-in-Begin t c = rw c.block_of.ensures (begin_is _ _ _ _ _ (sym c.kind.ensures ∙ c.in-Begin.is) c.in_ok-found-in-Begin.ensures)
+pub parse_else-returns : goal.parse_else-returns
+parse_else-returns t c = rw c.if_else_of.ensures (else_is _ _ _ _ _ _ _ _ _ (sym c.sees.ensures ∙ c.if-not-sees.false) c.in_ok-take.ensures c.in_ok-other.ensures)
 
-looped_is : (inner : spec.Parser Statement) (fuel : ℕ) (t : PlainToken) (test : Expression Text) (body : List Statement) (ts us vs ws : PlainTokens)
-    → take ts ≡ Some (t, us) → spec.condition fuel us ≡ Some (test, vs) → spec.block inner fuel vs ≡ Some (body, ws)
-    → spec.looped inner fuel ts ≡ Some (tree.While test (statements body), ws)
-unfolding spec.looped
-looped_is inner fuel t test body ts us vs ws a b c = rw (a, b, c)
+begin_is : (inner : spec.Parser Statement) (budget : ℕ) (body : List Statement) (ts rest : PlainTokens) → kind ts ≡ Begin → spec.parse_block inner budget ts ≡ Some (body, rest)
+    → spec.parse_form inner budget ts ≡ Some (tree.Block (statements body), rest)
+unfolding spec.parse_form
+begin_is inner budget body ts rest a b = rw (a, b)
 
-pub looped-returns : goal.looped-returns
-looped-returns t c = rw c.loop_of.ensures (looped_is _ _ _ _ _ _ _ _ _ c.in_ok-take.ensures c.in_ok-test.ensures c.in_ok-body.ensures)
+pub parse_form-returns-in_ok-found-in-Begin : goal.parse_form-returns-in_ok-found-in-Begin
+parse_form-returns-in_ok-found-in-Begin t c = rw c.block_of.ensures (begin_is _ _ _ _ _ (sym c.kind.ensures ∙ c.in-Begin.is) c.in_ok-found-in-Begin.ensures)
+
+while_is : (inner : spec.Parser Statement) (budget : ℕ) (p : Expression Text × List Statement) (ts us : PlainTokens)
+    → spec.parse_guarded inner budget ts ≡ Some (p, us) → spec.parse_while inner budget ts ≡ Some (tree.While p.0 (statements p.1), us)
+unfolding spec.parse_while
+while_is inner budget p ts us a = rw a
+
+pub parse_while-returns : goal.parse_while-returns
+parse_while-returns t c = rw c.while_of.ensures (while_is _ _ _ _ _ c.in_ok-found.ensures)

@@ -1,6 +1,6 @@
 -- What is found from here on is what is found in all.
 use Rattle.std.proofs.Common.{◌≡◌, length}
-use Rattle.places.specs.Lines.{last_line, last_line_or}
+use Rattle.places.specs.TextLines.{last_line, last_line_or}
 use Rattle.places.proofs.lines.last_line.Given as goal
 
 abbrev pub invariant-loop-left : goal.invariant-loop-left

@@ -1,6 +1,6 @@
 -- The count so far and that of what is left are the whole.
 use Rattle.std.proofs.Common.{◌≡◌, ◌+◌, ◌≤◌, length}
-use Rattle.places.specs.Lines.{newlines}
+use Rattle.places.specs.TextLines.{newlines}
 use Rattle.places.proofs.lines.newlines.Given as goal
 
 abbrev pub invariant-loop-left : goal.invariant-loop-left

@@ -1,7 +1,7 @@
 -- The byte that is found from here on is the one that is found in all.
 use Rattle.std.proofs.Common.{◌≡◌, map, length}
 use Rattle.places.specs.PlainSpots.{plain_spot}
-use Rattle.places.specs.Places.{byte_of}
+use Rattle.places.specs.SourcePlaces.{byte_of}
 use Rattle.places.proofs.place.byte_of.Given as goal
 
 abbrev pub invariant-loop-left : goal.invariant-loop-left

@@ -1,7 +1,7 @@
 -- The processes found and those of what is left are all.
 use Rattle.std.proofs.Common.{◌≡◌, ◌++◌, map, length}
 use Rattle.places.specs.PlainSpots.{plain_spot}
-use Rattle.places.specs.Places.{process_list}
+use Rattle.places.specs.SourcePlaces.{process_list}
 use Rattle.places.proofs.place.processes.Given as goal
 
 abbrev pub invariant-loop-left : goal.invariant-loop-left

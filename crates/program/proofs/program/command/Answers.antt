@@ -1,9 +1,9 @@
 -- What the status tells of how a command ended.
 use Rattle.std.proofs.Common.{◌≡◌, ◌⊎◌, ◌≤◌, ◌∙◌, inr, sym, subst, ℕ}
 use Rattle.journal.specs.Counted.{held}
-use Rattle.arguments.specs.Words.{texts_of}
+use Rattle.arguments.specs.CommandWords.{texts_of}
 use Rattle.program.specs.Printed.{IsUnprinted, untouched, window_in}
-use Rattle.program.specs.Told.{IsTold}
+use Rattle.program.specs.StandardError.{IsTold}
 use Rattle.program.proofs.Ended.{IsSourceStatus, done_by_status, right_by_status, faulty_by_status, refused_by_status, stopped_by_status, wanting_by_status, several_by_status, nothing_by_status, unsaved_by_status, silent_by_status, source_status, told_by_status, refused_done, kept}
 use Rattle.program.proofs.Statuses.{at_most_seven}
 use Rattle.program.proofs.program.command.Goals as goal

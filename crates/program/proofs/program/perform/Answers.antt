@@ -2,7 +2,7 @@
 use Rattle.std.proofs.Common.{ap, subst}
 use Rattle.std.specs.Io.KnownBytes.{Keeps}
 use Rattle.journal.specs.Counted.{held}
-use Rattle.arguments.specs.Words.{Asks, AsksExplain}
+use Rattle.arguments.specs.CommandWords.{Asks, AsksExplain}
 use Rattle.program.proofs.Ended.{check_alone, explain_alone, if_err, if_read, is_check, is_explain, kept, left_of_dump, left_of_telling, left_unless_one, one_only, output_same, unless_one, unless_told, version_performed}
 use Rattle.program.proofs.program.perform.Goals as goal
 

@@ -3,7 +3,7 @@ use Rattle.std.proofs.Common.{inr}
 use Rattle.journal.specs.Counted.{held}
 use Rattle.program.specs.declared.fault.Fault.TheVariants as fault
 use Rattle.program.specs.Printed.{untouched}
-use Rattle.program.specs.Told.{of_fault}
+use Rattle.program.specs.StandardError.{of_fault}
 use Rattle.program.proofs.Ended.{kept, output_same, unprinted_without}
 use Rattle.program.proofs.program.without_words.Goals as goal
 

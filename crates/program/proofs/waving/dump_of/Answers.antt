@@ -1,6 +1,6 @@
 -- The text of the wave, with the name of the module that was parsed.
 use Rattle.std.proofs.Common.{◌∙◌, ap, ℕ, List}
-use Rattle.model.specs.Trees.{module_of}
+use Rattle.model.specs.SourceTrees.{module_of}
 use Rattle.waves.specs.Dump.{vcd_text}
 use Rattle.program.proofs.waving.dump_of.Goals as goal
 

@@ -4,7 +4,7 @@ use Rattle.model.specs.declared.entry.Entry.{Entry}
 use Rattle.model.specs.Runs.{refusal}
 use Rattle.regions.specs.Machine.{Position, state_at}
 use Rattle.std.specs.List.{All}
-use Rattle.races.specs.Places.{AreWaysFor}
+use Rattle.races.specs.SearchPlaces.{AreWaysFor}
 use Rattle.races.proofs.Ways.{front_and_last, more_ways_for}
 use Rattle.races.proofs.expand.follow_all.Goals as goal
 

@@ -5,7 +5,7 @@ use Rattle.model.specs.declared.entry.Entry.{Entry}
 use Rattle.model.specs.declared.entry.Entry.TheVariants.{Turn}
 use Rattle.regions.specs.Machine.{Position, state_at}
 use Rattle.races.specs.Following.{IsWayBy}
-use Rattle.races.specs.Places.{AreWaysFor}
+use Rattle.races.specs.SearchPlaces.{AreWaysFor}
 use Rattle.races.proofs.Ways.{more_ways_for}
 use Rattle.races.proofs.expand.follow_each.Goals as goal
 

@@ -6,8 +6,8 @@ use Rattle.model.specs.declared.end.End.{End}
 use Rattle.design.specs.Compiled.{Compiled, design_of}
 use Rattle.explore.specs.Search.{IsShown}
 use Rattle.explore.specs.declared.Shown.{Shown}
-use Rattle.walks.specs.Journals.{AreAllTexts, IsLawfulText}
-use Rattle.races.specs.Places.{Holds}
+use Rattle.walks.specs.JournalsInTime.{AreAllTexts, IsLawfulText}
+use Rattle.races.specs.SearchPlaces.{Holds}
 use Rattle.races.proofs.Searches.{shown_of_run, all_of_runs}
 use Rattle.races.proofs.lawful.lawful_orders.Goals as goal
 

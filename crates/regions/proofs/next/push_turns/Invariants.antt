@@ -1,5 +1,5 @@
 use Rattle.std.proofs.Common.{◌≡◌, ◌++◌, map, take}
-use Rattle.regions.specs.Turns.{turn_of}
+use Rattle.regions.specs.EvaluationEntries.{turn_of}
 use Rattle.regions.proofs.next.push_turns.Given as goal
 
 abbrev pub invariant-loop-evaluation : goal.invariant-loop-evaluation

@@ -1,9 +1,9 @@
 -- The entry is the turn.
 use Rattle.std.proofs.Common.{sym, subst}
 use Rattle.std.specs.Prelude.{Some, None, if◌then◌else◌, MatchResult}
-use Rattle.design.specs.Standing.{remainder_of}
+use Rattle.design.specs.DesignInvariant.{remainder_of}
 use Rattle.regions.specs.Queue.{state_of}
-use Rattle.regions.specs.Logs.{IsTurnGiven}
+use Rattle.regions.specs.StepLogs.{IsTurnGiven}
 use Rattle.regions.specs.Machine.{IsStop}
 use Rattle.regions.proofs.take.log_entry.Goals as goal
 

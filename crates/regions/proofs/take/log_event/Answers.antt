@@ -4,7 +4,7 @@ use Rattle.model.specs.declared.entry.Entry.TheVariants as entries
 use Rattle.model.specs.Runs.{refusal, action_in}
 use Rattle.model.specs.Turns.{short_turn}
 use Rattle.design.specs.Compiled.{design_of}
-use Rattle.design.specs.Standing.{remainder_of, IsStateOf}
+use Rattle.design.specs.DesignInvariant.{remainder_of, IsStateOf}
 use Rattle.turn.specs.declared.log.FillFault.{FillFault}
 use Rattle.regions.specs.Queue.{state_of}
 use Rattle.regions.specs.Reader.{IsTurnOn, IsNoTurnOn}

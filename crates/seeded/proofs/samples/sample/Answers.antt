@@ -5,7 +5,7 @@ use Rattle.std.proofs.lemmas.List.Elements.{All-push}
 use Rattle.std.proofs.lemmas.List.Quantifiers.{all_pairs_push}
 use Rattle.std.specs.List.{All, AllPairs}
 use Rattle.seeded.specs.declared.run.SeededRun.{SeededRun}
-use Rattle.seeded.specs.Runs.{IsRun}
+use Rattle.seeded.specs.SeededRun.{IsRun}
 use Rattle.seeded.specs.Samples.{AreDistinct, WantsNoMemory}
 use Rattle.seeded.proofs.samples.sample.Goals as goal
 

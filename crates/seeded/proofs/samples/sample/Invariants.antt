@@ -1,7 +1,7 @@
 -- What is kept so far.
 use Rattle.std.proofs.Common.{◌≤◌, vec_len}
 use Rattle.std.specs.List.{All, AllPairs}
-use Rattle.seeded.specs.Runs.{IsRun}
+use Rattle.seeded.specs.SeededRun.{IsRun}
 use Rattle.seeded.specs.Samples.{AreDistinct, WantsNoMemory}
 use Rattle.seeded.proofs.samples.sample.Given as goal
 

@@ -1,7 +1,7 @@
 -- Each other process sleeps.
 use Rattle.std.proofs.Common.{◌≡◌, ℕ, false, get_or, arith, subst, sym, ⊎_elim}
 use Rattle.model.specs.Turns.{contains}
-use Rattle.regions.specs.Waking.{triggers_at}
+use Rattle.regions.specs.ProcessWaking.{triggers_at}
 use Rattle.settling.specs.Waiting.{WaitsForNone}
 use Rattle.combinational.proofs.Places.{last_or}
 use Rattle.settling.proofs.awaited.others_sleep.Goals as goal

@@ -4,10 +4,10 @@ use Rattle.std.specs.Prelude.{slice_get}
 use Rattle.std.proofs.lemmas.Result.{IfOk-weaker}
 use Rattle.design.specs.Compiled.{design_of}
 use Rattle.regions.specs.Machine.{state_at}
-use Rattle.regions.specs.declared.queue.Progress.{Progress}
+use Rattle.regions.specs.declared.queue.Continuation.{Continuation}
 use Rattle.combinational.specs.declared.block.Logic.{Logic}
 use Rattle.settling.specs.Settling.{IsMember}
-use Rattle.settling.specs.Standing.{StandsAs}
+use Rattle.settling.specs.LogicStanding.{StandsAs}
 use Rattle.settling.proofs.Places.{process_at}
 use Rattle.settling.proofs.Standings.{member_stands}
 use Rattle.settling.proofs.Tested.{processes_told}
@@ -18,7 +18,7 @@ returns c =
     let m = c.args.machine.now in
     let p = c.args.process in
     let network = c.args.network.now in
-    let x : Progress = c.in-Some-get.progress.now in
+    let x : Continuation = c.in-Some-get.continuation.now in
     let logic : Logic = c.in-Some.logic.now in
     let ps = c.processes.result.now in
     let found : slice_get network.logics.items p ≡ Some (Some logic) = c.in-Some.ensures.found in

@@ -5,7 +5,7 @@ use Rattle.std.proofs.lemmas.Result.{IfOk-weaker}
 use Rattle.model.specs.Laws.{evaluations_in}
 use Rattle.design.specs.Compiled.{design_of}
 use Rattle.regions.specs.Machine.{state_at}
-use Rattle.settling.specs.Standing.{HasLeft, StandsAs}
+use Rattle.settling.specs.LogicStanding.{HasLeft, StandsAs}
 use Rattle.settling.proofs.Tested.{inside_told}
 use Rattle.settling.proofs.member.stands_as.Goals as goal
 

@@ -24,7 +24,7 @@ returns c =
     (record {
       found = c.requires.found;
       goes_on = c.is_over.ensures c.if-is_over.false;
-      apart = apart_told (updated_in s) registers c.deref.result.now outputs c.requires.registers c.deref.ensures.value (c.share.ensures c.if-share.false);
+      apart = apart_told (updated_in s) registers c.deref.result.now outputs c.requires.registers c.deref.ensures.value (c.share.ensures.apart c.if-share.false);
       outputs_are = c.in_ok-outputs.ensures;
       inside = λ p none. sym (inside_told m.core c.state-state.result.now us es p c.active.ensures c.state-state.ensures) ∙ c.are_inside.ensures c.if-not-are_inside.false p none;
       updates_sleep = sleep_told m.code c.args.design.now m.core c.state-state.result.now m.values c.processes.result.now c.event_controls-controls.result.now members registers (updated_in s) c.requires.code c.stands.ensures c.event_controls-controls.ensures c.processes.ensures c.state-state.ensures c.requires.registers (c.others_sleep.ensures c.if-not-others_sleep.false);

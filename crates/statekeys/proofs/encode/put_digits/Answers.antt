@@ -1,5 +1,5 @@
 use Rattle.std.proofs.Common.{◌++◌, ◌/◌, ap, sym, ◌∙◌}
-use Rattle.statekeys.specs.Codes.{nat_code}
+use Rattle.statekeys.specs.KeyCodes.{nat_code}
 use Rattle.statekeys.proofs.Numbers.{nat_code-low, nat_code_more}
 use Rattle.statekeys.proofs.encode.put_digits.Goals as goal
 

@@ -1,5 +1,5 @@
 use Rattle.std.proofs.Common.{◌≡◌, ◌++◌}
-use Rattle.statekeys.specs.Codes.{nat_code}
+use Rattle.statekeys.specs.KeyCodes.{nat_code}
 use Rattle.statekeys.proofs.encode.put_digits.Given as goal
 
 abbrev pub invariant-loop-left : goal.invariant-loop-left

@@ -1,14 +1,14 @@
 use Rattle.std.proofs.Common.{◌≡◌, ℕ, List, [], ◌++◌, map, refl, sym, ◌∙◌, ap}
 use Rattle.std.proofs.lemmas.Result.{on_ok_weaker}
 use Rattle.design.specs.declared.code.ProcState.{ProcState}
-use Rattle.statekeys.specs.Codes.{nat_code, bool_code, pair_code, list_code, vector_code}
-use Rattle.statekeys.specs.Keys.{Told, IsToldOf, IsKey, process_code, update_code, key_code}
-use Rattle.statekeys.specs.Parts.{going_on, assignment, due_assignment}
+use Rattle.statekeys.specs.KeyCodes.{nat_code, bool_code, pair_code, list_code, vector_code}
+use Rattle.statekeys.specs.Keys.{KeyContent, IsToldOf, IsKey, process_code, update_code, key_code}
+use Rattle.statekeys.specs.KeyParts.{going_on, assignment, due_assignment}
 use Rattle.statekeys.proofs.Events.{active_told, inactive_told, nonblocking_told, future_inactive_told, future_nonblocking_told, processes_told}
 use Rattle.statekeys.proofs.keys.key.Goals as goal
 
 -- what is told of the state
-abbrev told : goal.After-put_future_updates → Told
+abbrev told : goal.After-put_future_updates → KeyContent
 told c =
     record {
       time = c.time.result;
@@ -44,7 +44,7 @@ is_told c = record {
 
 pub returns : goal.returns
 returns c =
-    let t : Told = told c in
+    let t : KeyContent = told c in
     let s1 = c.in_ok-encode.ensures ∙ ap (λ bs. bs ++ nat_code t.time) (c.reserve.ensures.items ∙ c.clear.ensures.items) in
     let s2 = c.in_ok-encode-2.ensures ∙ ap (λ bs. bs ++ bool_code t.finished) s1 in
     let s3 = c.in_ok-put_slice.ensures ∙ ap (λ bs. bs ++ list_code vector_code t.values) s2 in

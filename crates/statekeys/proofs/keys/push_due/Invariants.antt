@@ -1,5 +1,5 @@
 use Rattle.std.proofs.Common.{◌≡◌, ◌++◌, map, take}
-use Rattle.statekeys.specs.Parts.{due_process}
+use Rattle.statekeys.specs.KeyParts.{due_process}
 use Rattle.statekeys.proofs.keys.push_due.Given as goal
 
 abbrev pub invariant-loop-due : goal.invariant-loop-due

@@ -1,7 +1,7 @@
 use Rattle.std.proofs.lemmas.Result.{on_ok_weaker}
-use Rattle.statekeys.specs.Codes.{nat_code, pair_code}
+use Rattle.statekeys.specs.KeyCodes.{nat_code, pair_code}
 use Rattle.statekeys.specs.Keys.{update_code}
-use Rattle.statekeys.specs.Parts.{due_assignment}
+use Rattle.statekeys.specs.KeyParts.{due_assignment}
 use Rattle.statekeys.proofs.Parts.{put_map}
 use Rattle.statekeys.proofs.keys.put_future_updates.Goals as goal
 

@@ -1,6 +1,6 @@
 use Rattle.std.proofs.lemmas.Result.{on_ok_weaker}
 use Rattle.statekeys.specs.Keys.{process_code}
-use Rattle.statekeys.specs.Parts.{going_on}
+use Rattle.statekeys.specs.KeyParts.{going_on}
 use Rattle.statekeys.proofs.Parts.{put_map}
 use Rattle.statekeys.proofs.keys.put_processes.Goals as goal
 

@@ -1,6 +1,6 @@
 use Rattle.std.proofs.lemmas.Result.{on_ok_weaker}
 use Rattle.statekeys.specs.Keys.{update_code}
-use Rattle.statekeys.specs.Parts.{assignment}
+use Rattle.statekeys.specs.KeyParts.{assignment}
 use Rattle.statekeys.proofs.Parts.{put_map}
 use Rattle.statekeys.proofs.keys.put_updates.Goals as goal
 

@@ -1,9 +1,9 @@
 -- The turn of an active evaluation, and why there is none.
-use Rattle.std.proofs.Common.{◌≡◌, ℕ, List, None, sym, ◌∙◌, ap, subst}
+use Rattle.std.proofs.Common.{◌≡◌, ℕ, List, None, sym, ◌∙◌, subst}
 use Rattle.logic4.specs.Vector.{Vector}
 use Rattle.model.specs.Turns.{short_turn}
 use Rattle.design.specs.Compiled.{design_of}
-use Rattle.design.specs.Standing.{remainder_of, IsStateOf}
+use Rattle.design.specs.DesignInvariant.{remainder_of, IsStateOf}
 use Rattle.turn.specs.declared.log.FillFault.{FillFault}
 use Rattle.regions.specs.Queue.{Core}
 use Rattle.regions.specs.Evaluations.{IsEvaluation}

@@ -6,9 +6,9 @@ use Rattle.model.specs.Runs.{Effect, step}
 use Rattle.model.specs.declared.entry.Entry.TheVariants as entries
 use Rattle.design.specs.Compiled.{Compiled, design_of}
 use Rattle.regions.specs.Machine.{state_at}
-use Rattle.steps.specs.Told.{account_of}
+use Rattle.steps.specs.Accounts.{account_of}
 use Rattle.steps.specs.Cells.{values_at}
-use Rattle.steps.specs.Standing.{IsNoted, IsSoundState}
+use Rattle.steps.specs.ExplainerStanding.{IsNoted, IsSoundState}
 use Rattle.steps.proofs.Notes.{other_noted, other_sound}
 use Rattle.steps.proofs.noting.note.Goals as goal
 
@@ -46,7 +46,7 @@ pub returns-in_default : goal.returns-in_default
 returns-in_default c = record {
   noted = λ effect values is.
       other_noted c.args.design.now (state_at c.args.machine.now) c.args.entry c.args.cells.now.items (account_of c.clear.new.told) c.in_default.not-Turn c.in_default.not-Update
-      c.requires.sound c.clear.ensures.deed c.clear.ensures.reads c.clear.ensures.changes c.clear.ensures.assigned effect is;
+      c.requires.sound c.clear.ensures.deed c.clear.ensures.cleared.reads c.clear.ensures.cleared.changes c.clear.ensures.cleared.assigned effect is;
   sound = λ effect is. other_sound c.args.design.now (state_at c.args.machine.now) c.args.entry c.in_default.not-Turn c.in_default.not-Update c.requires.sound effect is;
   registers = search rules;
   fault = search rules;

@@ -1,8 +1,8 @@
 -- The turn that an entry takes, where there is one.
-use Rattle.std.proofs.Common.{◌≡◌, ℕ, Option, subst}
+use Rattle.std.proofs.Common.{ℕ, Option, subst}
 use Rattle.regions.specs.Machine.{state_at}
-use Rattle.steps.specs.Told.{account_of}
-use Rattle.steps.specs.Standing.{IsLogged, IsProcessLogged}
+use Rattle.steps.specs.Accounts.{account_of}
+use Rattle.steps.specs.ExplainerStanding.{IsLogged, IsProcessLogged}
 use Rattle.steps.proofs.Notes.{turn_noted, turn_sound}
 use Rattle.steps.proofs.noting.note_turn.Goals as goal
 

@@ -1,14 +1,13 @@
 -- The update that an entry takes, where there is one.
-use Rattle.std.proofs.Common.{rules, ◌≡◌, ℕ, ◌<◌, List, [], ◌∷◌, length, Option, Some, None, sym, ◌∙◌, ap, subst, map, ◌++◌}
+use Rattle.std.proofs.Common.{rules, ◌≡◌, ℕ, ◌<◌, List, [], ◌∷◌, Some, None, sym, ◌∙◌, ap, subst, map, ◌++◌}
 use Rattle.logic4.specs.Vector.{Vector}
-use Rattle.model.specs.States.{Action, Event}
-use Rattle.model.specs.Runs.{Effect, action_in}
+use Rattle.model.specs.States.{Event}
+use Rattle.model.specs.Runs.{action_in}
 use Rattle.regions.specs.Queue.{Core, update_event, evaluation_event}
 use Rattle.regions.specs.Machine.{state_at}
-use Rattle.steps.specs.declared.told.Changed.{Changed}
-use Rattle.steps.specs.Told.{account_of}
+use Rattle.steps.specs.declared.entry_account.Changed.{Changed}
 use Rattle.steps.specs.Cells.{AreWritten}
-use Rattle.steps.specs.Standing.{update_of}
+use Rattle.steps.specs.ExplainerStanding.{update_of}
 use Rattle.steps.proofs.Effects.{update_fits}
 use Rattle.steps.proofs.Logged.{no_update_inactive}
 use Rattle.steps.proofs.Notes.{update_noted, update_sound, update_found, update_among}
@@ -35,8 +34,8 @@ returns-in_ok-change-in-Some-clause-noted c = λ effect values is.
     let found : update_of (action_in (map update_event us) c.args.number) ≡ Some (c.in-Some.update.now.register, c.in-Some.update.now.value) = c.in-Some.ensures in
     let action = update_found s us es c.args.number c.in-Some.update.now.register c.in-Some.update.now.value active found in
     let one : List (ℕ × Vector) = (c.in-Some.update.now.register, c.in-Some.update.now.value) ∷ [] in
-    update_noted code s c.args.number c.in-Some.update.now.register c.in-Some.update.now.value c.args.cells.now.items c.change.new.cells.items _ action (search rules) c.requires.reads c.requires.assigned
-    (subst (λ (l : List Changed). AreWritten c.args.cells.now.items one l c.change.new.cells.items c.change.new.changes.items) c.requires.changes c.in_ok-change-in-Some.ensures.written)
+    update_noted code s c.args.number c.in-Some.update.now.register c.in-Some.update.now.value c.args.cells.now.items c.change.new.cells.items _ action (search rules) c.requires.cleared.reads c.requires.cleared.assigned
+    (subst (λ (l : List Changed). AreWritten c.args.cells.now.items one l c.change.new.cells.items c.change.new.changes.items) c.requires.cleared.changes c.in_ok-change-in-Some.ensures.written)
     effect values is
 
 pub returns-in_ok-change-in-Some-clause-sound : goal.returns-in_ok-change-in-Some-clause-sound

@@ -1,5 +1,4 @@
 -- One read more.
-use Rattle.std.proofs.Common.{rules}
 use Rattle.turn.specs.Reads.{registers}
 use Rattle.steps.specs.Cells.{reading_in}
 use Rattle.steps.proofs.Logged.{read_more, declared_at}

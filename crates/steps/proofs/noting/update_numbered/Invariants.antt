@@ -1,7 +1,7 @@
 use Rattle.std.proofs.Common.{◌≡◌, map, drop}
 use Rattle.model.specs.Runs.{action_in}
 use Rattle.regions.specs.Queue.{update_event}
-use Rattle.steps.specs.Standing.{update_of}
+use Rattle.steps.specs.ExplainerStanding.{update_of}
 use Rattle.steps.proofs.noting.update_numbered.Given as goal
 
 abbrev pub invariant-loop-i : goal.invariant-loop-i

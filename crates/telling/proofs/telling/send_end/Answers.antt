@@ -1,6 +1,6 @@
 -- One part behind another.
 use Rattle.std.proofs.Common.{codes, List, ℕ, [], ◌∷◌, ◌++◌}
-use Rattle.telling.specs.Told.{end_of}
+use Rattle.telling.specs.FaultLines.{end_of}
 use Rattle.telling.proofs.Sent.{sends_then, sends_broken}
 use Rattle.telling.proofs.telling.send_end.Goals as goal
 

@@ -2,7 +2,7 @@
 use Rattle.std.proofs.Common.{length, take}
 use Rattle.std.specs.Char.{encode_utf8}
 use Rattle.std.specs.Char.Escape.{escape_default}
-use Rattle.telling.specs.Told.{IsWhole, spelled}
+use Rattle.telling.specs.FaultLines.{IsWhole, spelled}
 use Rattle.telling.proofs.telling.send_escape.Given as goal
 
 abbrev pub invariant-loop-part : goal.invariant-loop-part

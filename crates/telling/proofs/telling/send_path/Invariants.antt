@@ -1,7 +1,7 @@
 -- The characters so far were sent.
 use Rattle.std.proofs.Common.{length, take}
 use Rattle.std.specs.Str.{chars}
-use Rattle.telling.specs.Told.{IsWhole, shown_letter, spelled}
+use Rattle.telling.specs.FaultLines.{IsWhole, shown_letter, spelled}
 use Rattle.telling.proofs.telling.send_path.Given as goal
 
 abbrev pub invariant-loop-letter : goal.invariant-loop-letter

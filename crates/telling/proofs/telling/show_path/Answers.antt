@@ -1,5 +1,5 @@
 -- One part behind another.
-use Rattle.telling.specs.Told.{shown_path}
+use Rattle.telling.specs.FaultLines.{shown_path}
 use Rattle.telling.proofs.Sent.{sends_then, sends_broken}
 use Rattle.telling.proofs.telling.show_path.Goals as goal
 

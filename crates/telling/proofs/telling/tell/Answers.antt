@@ -1,6 +1,6 @@
 -- The line, up to its subject and from it on.
 use Rattle.std.proofs.Common.{◌≡◌, List, ℕ, codes, ◌++◌, append_assoc, subst}
-use Rattle.telling.specs.Told.{Tells, head_of, line_of, rest_of}
+use Rattle.telling.specs.FaultLines.{Tells, head_of, line_of, rest_of}
 use Rattle.telling.proofs.Sent.{sends_then, sends_broken, tells_sent}
 use Rattle.telling.proofs.telling.tell.Goals as goal
 

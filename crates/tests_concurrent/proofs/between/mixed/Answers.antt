@@ -1,6 +1,6 @@
 -- The turn is too long.
 use Rattle.std.proofs.Common.{subst}
-use Rattle.turn.specs.Answers.{IsNoTurn}
+use Rattle.turn.specs.TurnAnswers.{IsNoTurn}
 use Rattle.tests_concurrent.proofs.between.mixed.Goals as goal
 
 pub returns-clause-turn : goal.returns-clause-turn

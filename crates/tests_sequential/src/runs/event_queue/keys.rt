@@ -2,6 +2,7 @@
 
 use super::{Known, apply_all, assert_after};
 use crate::claims::holds;
+use fixtures::entries::{T0, T1};
 use model::entry::Entry;
 use regions::Machine;
 use statekeys::{Scratch, key};
@@ -9,13 +10,10 @@ use std::alloc::{AllocError, Global};
 use std::process::Abort;
 
 /// The turns of two processes, in either order.
-const ORDERS: [[Entry; 2]; 2] = [
-    [Entry::Turn(0), Entry::Turn(1)],
-    [Entry::Turn(1), Entry::Turn(0)],
-];
+const ORDERS: [[Entry; 2]; 2] = [[T0, T1], [T1, T0]];
 
 /// Two processes, and whether both orders of their turns lead to one key.
-const ROWS: [(&str, bool); 11] = [
+const ROWS: &[(&str, bool)] = &[
     // nothing is left, or evaluations that stand in another order
     (
         "module t; reg a, b; initial a = 1'b1; initial b = 1'b0; endmodule",
@@ -97,7 +95,7 @@ pub(super) fn assert_keys(rt: &impl Abort, alloc: Global, run: &mut Machine<'_>,
 
 #[test]
 fn keys_of_two_orders(rt: HostRuntime) {
-    for (source, wanted) in ROWS {
+    for &(source, wanted) in ROWS {
         assert_after(&rt, rt.alloc(), source, &[], Known::HasOneKey(wanted));
     }
 }

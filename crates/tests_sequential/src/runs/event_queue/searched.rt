@@ -3,6 +3,7 @@
 use super::super::compare::assert_text;
 use super::{apply, apply_all, assert_next_entries};
 use crate::claims::holds;
+use fixtures::entries::{A1, N, T0, T1, U2};
 use logic4::bits::Bits;
 use model::entry::Entry;
 use regions::Machine;
@@ -14,12 +15,7 @@ pub(super) const WOKEN: &str =
     "module t; reg a, b; initial begin a <= 1'b1; b <= 1'b1; end initial @(a) ; endmodule";
 
 /// The entries up to the first of them.
-pub(super) const WOKEN_JOURNAL: [Entry; 4] = [
-    Entry::Turn(0),
-    Entry::Turn(1),
-    Entry::ActivateNba,
-    Entry::Update(2),
-];
+pub(super) const WOKEN_JOURNAL: &[Entry] = &[T0, T1, N, U2];
 
 /// Two processes that give one register a value.
 pub(super) const RACE: &str = "module t; reg a, b; initial a = 1'b0; initial a = 1'b1; endmodule";
@@ -44,10 +40,10 @@ fn assert_both_orders(
     run: &mut Machine<'_>,
     copy: &mut Machine<'_>,
 ) {
-    apply_all(rt, run, &[Entry::Turn(0), Entry::Turn(1)]);
+    apply_all(rt, run, &[T0, T1]);
     assert_next_entries(rt, alloc, run, &[]);
-    assert_next_entries(rt, alloc, copy, &[Entry::Turn(0), Entry::Turn(1)]);
-    apply_all(rt, copy, &[Entry::Turn(1), Entry::Turn(0)]);
+    assert_next_entries(rt, alloc, copy, &[T0, T1]);
+    apply_all(rt, copy, &[T1, T0]);
     assert_value(rt, run, 1);
     assert_value(rt, copy, 0);
 }
@@ -66,11 +62,11 @@ fn assert_lines(rt: &impl Abort, run: &mut Machine<'_>, wanted: &str) {
 
 /// A run gives the lines of each entry, and its copy has those that weren't taken out.
 pub(super) fn assert_printed(rt: &impl Abort, alloc: Global, run: &mut Machine<'_>) {
-    apply(rt, run, Entry::Turn(0));
+    apply(rt, run, T0);
     let mut copy = run.copy(alloc).expect(rt, "memory");
     assert_lines(rt, run, "first\n");
     assert_lines(rt, run, "");
-    apply_all(rt, run, &[Entry::Advance(1), Entry::Turn(1)]);
+    apply_all(rt, run, &[A1, T1]);
     assert_lines(rt, run, "second\n");
     assert_lines(rt, &mut copy, "first\n");
 }
@@ -78,10 +74,10 @@ pub(super) fn assert_printed(rt: &impl Abort, alloc: Global, run: &mut Machine<'
 /// What is due, and the evaluations that were made, after some entries of the swap.
 pub(super) fn assert_due(rt: &impl Abort, run: &mut Machine<'_>) {
     holds(rt, run.due().is_none(), "nothing is due");
-    apply(rt, run, Entry::Turn(0));
-    holds(rt, run.due() == Some(Entry::Advance(1)), "time 1 is due");
+    apply(rt, run, T0);
+    holds(rt, run.due() == Some(A1), "time 1 is due");
     holds(rt, run.next_time() == Some(1), "time 1 is next");
-    apply(rt, run, Entry::Advance(1));
+    apply(rt, run, A1);
     holds(rt, run.time() == 1, "time 1");
     holds(rt, run.made().len() == 1, "one evaluation was made");
     holds(rt, !run.is_quiet(), "events are left");

@@ -1,24 +1,12 @@
--- Each return has one of the four kinds.
-use Rattle.std.proofs.Common.{sym, ◌∙◌}
+-- A system name of the table has its kind, and each other one is what is left.
+use Rattle.std.proofs.Common.{sym, ap, ◌∙◌}
+use Rattle.tokens.specs.declared.token.Kind.TheVariants.{System}
+use Rattle.tokens.specs.Lexing.{or_else}
 use Rattle.tokens.proofs.Firsts.{system_is}
 use Rattle.tokens.proofs.kinds.system_kind.Goals as goal
 
-pub returns-then-is_same : goal.returns-then-is_same
-returns-then-is_same c = let d = sym c.is_same.ensures ∙ c.if-is_same.true in rw (system_is c.args.text.now c.requires, d)
-
-pub returns-then-is_same-2 : goal.returns-then-is_same-2
-returns-then-is_same-2 c =
-    let d = sym c.is_same.ensures ∙ c.if-is_same.false in
-    let s = sym c.is_same-2.ensures ∙ c.if-is_same-2.true in rw (system_is c.args.text.now c.requires, d, s)
-
-pub returns-then-is_same-3 : goal.returns-then-is_same-3
-returns-then-is_same-3 c =
-    let d = sym c.is_same.ensures ∙ c.if-is_same.false in
-    let s = sym c.is_same-2.ensures ∙ c.if-is_same-2.false in
-    let f = sym c.is_same-3.ensures ∙ c.if-is_same-3.true in rw (system_is c.args.text.now c.requires, d, s, f)
+pub returns-in-Some : goal.returns-in-Some
+returns-in-Some c = sym (system_is c.args.text.now c.requires ∙ ap (λ o. or_else o System) (sym c.system_name.ensures ∙ c.in-Some.is))
 
 pub returns : goal.returns
-returns c =
-    let d = sym c.is_same.ensures ∙ c.if-is_same.false in
-    let s = sym c.is_same-2.ensures ∙ c.if-is_same-2.false in
-    let f = sym c.is_same-3.ensures ∙ c.if-is_same-3.false in rw (system_is c.args.text.now c.requires, d, s, f)
+returns c = sym (system_is c.args.text.now c.requires ∙ ap (λ o. or_else o System) (sym c.system_name.ensures ∙ c.in_default.is))

@@ -4,4 +4,4 @@ use Rattle.tokens.proofs.Firsts.{name_is}
 use Rattle.tokens.proofs.kinds.word_kind.Goals as goal
 
 pub returns : goal.returns
-returns c = name_is c.args.text.now c.requires (sym c.item_word.ensures ∙ c.in_default.is) (sym c.statement_word.ensures ∙ c.in_default-statement_word.is)
+returns c = name_is c.args.text.now c.requires (sym c.word.ensures ∙ c.in_default.is)

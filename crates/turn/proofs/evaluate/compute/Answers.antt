@@ -1,5 +1,5 @@
 use Rattle.std.proofs.Common.{[], ◌∷◌, reverse, refl, sym, ap}
-use Rattle.design.specs.Steps.{below}
+use Rattle.design.specs.ExpressionSteps.{below}
 use Rattle.turn.specs.Evaluate.{vectors}
 use Rattle.turn.proofs.Runs.{ran_first, ran_empty}
 use Rattle.turn.proofs.evaluate.compute.Goals as goal

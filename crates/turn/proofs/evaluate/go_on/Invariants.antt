@@ -1,6 +1,6 @@
 use Rattle.std.proofs.Common.{◌≡◌, take, length}
 use Rattle.std.specs.List.{All}
-use Rattle.design.specs.Steps.{IsOpOf}
+use Rattle.design.specs.ExpressionSteps.{IsOpOf}
 use Rattle.turn.specs.Evaluate.{Ran, vectors}
 use Rattle.turn.specs.Reads.{GaveAll, Keeps}
 use Rattle.turn.proofs.evaluate.go_on.Given as goal

@@ -1,7 +1,7 @@
 use Rattle.std.proofs.Common.{sym, subst}
 use Rattle.turn.specs.declared.log.FillFault.{FillFault}
 use Rattle.turn.specs.declared.log.FillFault.TheVariants.{TooLong}
-use Rattle.turn.specs.Answers.{IsNoTurn}
+use Rattle.turn.specs.TurnAnswers.{IsNoTurn}
 use Rattle.turn.proofs.owned.run_turn.Goals as goal
 
 pub returns-in-Err-TooLong-clause-turn : goal.returns-in-Err-TooLong-clause-turn

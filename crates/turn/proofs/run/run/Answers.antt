@@ -1,8 +1,8 @@
 use Rattle.std.proofs.Common.{rules, ◌≡◌, ◌+◌, ◌∙◌, length, ap, sym, false, true, refl, subst, arith}
-use Rattle.turn.specs.Progress.{status_of, fresh}
+use Rattle.turn.specs.RunningTurn.{status_of, fresh}
 use Rattle.turn.specs.Reads.{GaveAll}
 use Rattle.turn.specs.Evaluate.{NamesDeclared}
-use Rattle.turn.specs.Machine.{IsAtEnd}
+use Rattle.turn.specs.TurnSteps.{IsAtEnd}
 use Rattle.turn.specs.declared.log.Suspend.TheVariants as suspends
 use Rattle.turn.specs.declared.machine.Step.TheVariants as step
 use Rattle.turn.proofs.Values.{code_declared}
@@ -28,7 +28,7 @@ loop-count-init g c =
 
 pub returns-in-Over-clause-turn : goal.returns-in-Over-clause-turn
 returns-in-Over-clause-turn g c =
-    let s = status_of c.loop-count.progress in
+    let s = status_of c.loop-count.running in
     let t = status_of c.take.new.self in
     let takes = taken c.args.design.now c.nodes-nodes.result.now c.ops-ops.result.now c.shown-shown.result.now c.args.now s _ step.Over t c.nodes-nodes.ensures c.ops-ops.ensures c.shown-shown.ensures c.in-Over.is c.in_ok-take.ensures.takes in
     is_log c.args.design.now c.args.state.now c.args.now c.loop-count.count s t suspends.Ended false c.loop-count.count _
@@ -39,7 +39,7 @@ returns-in-Over-clause-turn g c =
 
 pub returns-in-Ends-clause-turn : goal.returns-in-Ends-clause-turn
 returns-in-Ends-clause-turn g c =
-    let s = status_of c.loop-count.progress in
+    let s = status_of c.loop-count.running in
     let t = status_of c.take.new.self in
     let takes = taken c.args.design.now c.nodes-nodes.result.now c.ops-ops.result.now c.shown-shown.result.now c.args.now s _ (step.Ends c.in-Ends.suspend c.in-Ends.finish) t c.nodes-nodes.ensures c.ops-ops.ensures c.shown-shown.ensures c.in-Ends.is c.in_ok-take.ensures.takes in
     is_log c.args.design.now c.args.state.now c.args.now c.loop-count.count s t c.in-Ends.suspend c.in-Ends.finish (c.loop-count.count + 1) _
@@ -50,17 +50,17 @@ returns-in-Ends-clause-turn g c =
 
 pub loop-count-preserved : goal.loop-count-preserved
 loop-count-preserved g c = record {
-  reached = reached_more c.args.design.now c.registers.ensures.compiled c.args.state.now c.args.now c.loop-count.count (status_of c.loop-count.progress) (status_of c.take.new.self)
+  reached = reached_more c.args.design.now c.registers.ensures.compiled c.args.state.now c.args.now c.loop-count.count (status_of c.loop-count.running) (status_of c.take.new.self)
       c.loop-count.invariant.reached
-      (taken c.args.design.now c.nodes-nodes.result.now c.ops-ops.result.now c.shown-shown.result.now c.args.now (status_of c.loop-count.progress) _ step.Goes (status_of c.take.new.self) c.nodes-nodes.ensures c.ops-ops.ensures c.shown-shown.ensures c.in-Goes.is c.in_ok-take.ensures.takes);
-  gave = c.in_ok-take.ensures.gave c.loop-count.invariant.gave;
-  keeps = λ r s h. c.in_ok-take.ensures.keeps r s (c.loop-count.invariant.keeps r s h);
-  lasting = c.in_ok-take.ensures.lasting ∙ c.loop-count.invariant.lasting;
+      (taken c.args.design.now c.nodes-nodes.result.now c.ops-ops.result.now c.shown-shown.result.now c.args.now (status_of c.loop-count.running) _ step.Goes (status_of c.take.new.self) c.nodes-nodes.ensures c.ops-ops.ensures c.shown-shown.ensures c.in-Goes.is c.in_ok-take.ensures.takes);
+  gave = c.in_ok-take.ensures.reads.gave c.loop-count.invariant.gave;
+  keeps = λ r s h. c.in_ok-take.ensures.reads.keeps r s (c.loop-count.invariant.keeps r s h);
+  lasting = c.in_ok-take.ensures.reads.lasting ∙ c.loop-count.invariant.lasting;
 }
 
 pub returns-then-is_over-clause-turn : goal.returns-then-is_over-clause-turn
 returns-then-is_over-clause-turn g c =
-    let s = status_of c.loop-count.progress in
+    let s = status_of c.loop-count.running in
     let there : IsAtEnd c.args.design.now.nodes s.state = subst (λ nodes. IsAtEnd nodes s.state) c.nodes-nodes.ensures (c.if-is_over.ensures.0 refl) in
     is_log c.args.design.now c.args.state.now c.args.now c.loop-count.count s s suspends.Ended false c.loop-count.count _
     c.loop-count.invariant.reached
@@ -70,7 +70,7 @@ returns-then-is_over-clause-turn g c =
 
 pub returns-else-is_over-clause-turn : goal.returns-else-is_over-clause-turn
 returns-else-is_over-clause-turn g c =
-    let s = status_of c.loop-count.progress in
+    let s = status_of c.loop-count.running in
     λ p start. (
       reads_declared c.args.design.now c.args.state.now c.args.now c.loop-count.count s c.loop-count.invariant.reached p start,
       too_long c.args.design.now c.registers.ensures.compiled c.args.state.now c.args.now c.loop-count.count s

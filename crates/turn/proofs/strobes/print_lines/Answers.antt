@@ -1,6 +1,6 @@
 use Rattle.std.proofs.Common.{rules, ◌≡◌, ◌∙◌, [], length, take, get_or, refl, ap, sym, subst}
 use Rattle.std.proofs.lemmas.List.{take_all}
-use Rattle.turn.specs.Progress.{status_of, fresh}
+use Rattle.turn.specs.RunningTurn.{status_of, fresh}
 use Rattle.turn.specs.Reads.{GaveAll}
 use Rattle.turn.specs.Evaluate.{NamesDeclared}
 use Rattle.turn.proofs.Values.{code_declared}
@@ -28,14 +28,14 @@ loop-place-preserved g c =
     let code = c.args.design.now in
     let places = c.args.places.now in
     let i = c.loop-place.place-index in
-    let s = status_of c.loop-place.progress in
+    let s = status_of c.loop-place.running in
     let t = status_of c.strobe_line.new.self in
     let prints = printed code c.nodes-nodes.result.now c.ops-ops.result.now c.shown-shown.result.now (get_or places i 0) s t c.nodes-nodes.ensures c.ops-ops.ensures c.shown-shown.ensures c.in_ok-strobe_line.ensures.prints in
     record {
       strobed = strobed_next code places i s t c.loop-place-test.true c.registers.ensures.compiled c.loop-place.invariant.strobed prints;
-      gave = c.in_ok-strobe_line.ensures.gave c.loop-place.invariant.gave;
-      keeps = λ r s h. c.in_ok-strobe_line.ensures.keeps r s (c.loop-place.invariant.keeps r s h);
-      lasting = c.in_ok-strobe_line.ensures.lasting ∙ c.loop-place.invariant.lasting;
+      gave = c.in_ok-strobe_line.ensures.reads.gave c.loop-place.invariant.gave;
+      keeps = λ r s h. c.in_ok-strobe_line.ensures.reads.keeps r s (c.loop-place.invariant.keeps r s h);
+      lasting = c.in_ok-strobe_line.ensures.reads.lasting ∙ c.loop-place.invariant.lasting;
     }
 
 pub returns-clause-lines : goal.returns-clause-lines
@@ -43,5 +43,5 @@ returns-clause-lines g c =
     let places = c.args.places.now in
     let i = c.loop-place.place-index in
     let all : take i places ≡ places = take_all i places c.loop-place-test.false in
-    strobed_all c.args.design.now places (status_of c.loop-place.progress) _ _
-    (subst (λ ps. Strobed c.args.design.now ps (status_of c.loop-place.progress)) all c.loop-place.invariant.strobed) refl refl
+    strobed_all c.args.design.now places (status_of c.loop-place.running) _ _
+    (subst (λ ps. Strobed c.args.design.now ps (status_of c.loop-place.running)) all c.loop-place.invariant.strobed) refl refl

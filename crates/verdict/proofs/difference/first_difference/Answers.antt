@@ -1,6 +1,6 @@
 -- Line by line.
 use Rattle.std.proofs.Common.{◌≡◌, ◌+◌, ◌≤◌, List, [], ℕ, length, take, drop, refl, sym, ◌∙◌, ap, subst, arith}
-use Rattle.verdict.specs.Lines.{first_line, behind_line, line_length, AgreeBefore}
+use Rattle.verdict.specs.VerdictLines.{first_line, behind_line, line_length, AgreeBefore}
 use Rattle.verdict.proofs.LineLaws.{agree_more, line_left, not_over}
 use Rattle.verdict.proofs.difference.first_difference.Goals.{then-is_empty, else-is_empty}
 use Rattle.verdict.proofs.difference.first_difference.Goals as goal

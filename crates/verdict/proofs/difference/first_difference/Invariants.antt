@@ -1,5 +1,5 @@
 use Rattle.std.proofs.Common.{◌+◌, ◌≤◌, length}
-use Rattle.verdict.specs.Lines.{AgreeBefore}
+use Rattle.verdict.specs.VerdictLines.{AgreeBefore}
 use Rattle.verdict.proofs.difference.first_difference.Given as goal
 
 abbrev pub invariant-loop-ones : goal.invariant-loop-ones

@@ -1,6 +1,6 @@
 -- Events were taken so far.
 use Rattle.std.proofs.Common.{◌≡◌}
-use Rattle.walks.specs.Passing.{TakesEvents}
+use Rattle.walks.specs.PhasePassing.{TakesEvents}
 use Rattle.walks.proofs.phase.take_active.Given as goal
 
 abbrev pub invariant-loop : goal.invariant-loop

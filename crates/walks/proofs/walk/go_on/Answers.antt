@@ -1,10 +1,28 @@
--- A walk goes on by the only entry, or else by a flat state.
-use Rattle.std.proofs.Common.{◌∙◌}
-use Rattle.walks.proofs.Walks.{on_ok_after}
+-- A walk goes on by the only entry, or else by the way ahead that stands for all.
+use Rattle.std.proofs.Common.{◌≡◌, Option, ap, subst, sym, ◌++◌, ◌∙◌}
+use Rattle.std.specs.Prelude.{IfSome}
+use Rattle.regions.specs.Machine.{Position}
+use Rattle.walks.specs.Walking.{IsSoleWay}
+use Rattle.walks.specs.declared.settle.Ahead.{Ahead}
+use Rattle.walks.proofs.Walks.{walked_ahead}
 use Rattle.walks.proofs.walk.go_on.Goals as goal
 
 pub returns-clause-walked : goal.returns-clause-walked
-returns-clause-walked c = on_ok_after c.take_sole.result _ _ (λ walked s before. walked s (c.in_ok-step.ensures.walked s before)) c.take_sole.ensures.walked
+returns-clause-walked c = λ s before.
+    let old = c.step.new.machine in
+    let ahead : Ahead = c.in-Some.ahead in
+    let new = c.swap.new.x in
+    let same : new ≡ ahead.machine.value = c.swap.ensures.x_after ∙ c.deref_mut.ensures.value in
+    let sole : IsSoleWay old ahead.machine.value ahead.moves.items =
+    subst (λ (o : Option Ahead). IfSome o (λ a. IsSoleWay old a.machine.value a.moves.items)) c.in-Some.is c.in_ok-ahead.ensures.sole in
+    let code : ahead.machine.value.code ≡ old.code = subst (λ (o : Option Ahead). IfSome o (λ a. a.machine.value.code ≡ old.code)) c.in-Some.is c.in_ok-ahead.ensures.code in
+    walked_ahead c.args.limits s old new c.step.new.moves.items c.extend_from_slice.new.self.items ahead.moves.items (c.in_ok-step.ensures.walked s before)
+    (subst (λ (p : Position). IsSoleWay old p ahead.moves.items) (sym same) sole) (ap (λ (p : Position). p.code) same ∙ code)
+    (c.in_ok-extend_from_slice.ensures.items ∙ ap (λ l. c.step.new.moves.items ++ l) c.deref-2.ensures.value)
 
 pub returns-clause-code : goal.returns-clause-code
-returns-clause-code c = c.take_sole.ensures.code ∙ c.in_ok-step.ensures.code
+returns-clause-code c =
+    let old = c.step.new.machine in
+    let ahead : Ahead = c.in-Some.ahead in
+    let code : ahead.machine.value.code ≡ old.code = subst (λ (o : Option Ahead). IfSome o (λ a. a.machine.value.code ≡ old.code)) c.in-Some.is c.in_ok-ahead.ensures.code in
+    ap (λ (p : Position). p.code) (c.swap.ensures.x_after ∙ c.deref_mut.ensures.value) ∙ (code ∙ c.in_ok-step.ensures.code)

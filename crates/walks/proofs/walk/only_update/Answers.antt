@@ -2,7 +2,7 @@
 use Rattle.std.proofs.Common.{◌≡◌, None, ap, subst, ◌∙◌}
 use Rattle.model.specs.declared.entry.Entry.TheVariants.{Update}
 use Rattle.model.specs.Runs.{refusal}
-use Rattle.design.specs.Standing.{remainder_of}
+use Rattle.design.specs.DesignInvariant.{remainder_of}
 use Rattle.regions.specs.Queue.{Core, state_of}
 use Rattle.regions.specs.Machine.{state_at}
 use Rattle.walks.proofs.OnlyEntries.{only_first}

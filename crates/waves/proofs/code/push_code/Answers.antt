@@ -1,6 +1,6 @@
 -- One character more, and the last one.
 use Rattle.std.proofs.Common.{◌+◌, ◌-◌, ◌/◌, ◌%◌, ℕ, List, [], ◌∷◌, ◌++◌, sym, ◌∙◌, ap, arith}
-use Rattle.waves.specs.Codes.{code}
+use Rattle.waves.specs.IdentifierCodes.{code}
 use Rattle.waves.proofs.CodeLaws.{code_short, code_long}
 use Rattle.waves.proofs.Pieces.{moved}
 use Rattle.waves.proofs.code.push_code.Goals as goal

@@ -1,6 +1,6 @@
 -- What is still to be put behind the text is the code of what is left.
 use Rattle.std.proofs.Common.{◌≡◌, ◌++◌}
-use Rattle.waves.specs.Codes.{code}
+use Rattle.waves.specs.IdentifierCodes.{code}
 use Rattle.waves.proofs.code.push_code.Given as goal
 
 abbrev pub invariant-loop-rest : goal.invariant-loop-rest

@@ -1,11 +1,11 @@
 -- The turn that was evaluated is offered behind the others, by what the seat has seen since.
 use Rattle.std.proofs.Common.{◌≡◌, ℕ, List, length, slice_set, arith, rules, subst, sym}
-use Rattle.turn.specs.Logs.{LogView}
+use Rattle.turn.specs.TurnLogs.{LogView}
 use Rattle.turn.specs.Reads.{GaveAll}
-use Rattle.turn.specs.Answers.{IsNoTurn}
+use Rattle.turn.specs.TurnAnswers.{IsNoTurn}
 use Rattle.turn.specs.declared.log.FillFault.{FillFault}
 use Rattle.turn.specs.declared.log.FillFault.TheVariants.{TooLong}
-use Rattle.gateparts.specs.Histories.{IsRead}
+use Rattle.runstate.specs.Histories.{IsRead}
 use Rattle.commitgate.specs.Tickets.{TicketView}
 use Rattle.commitgate.specs.Batches.{AreOffered}
 use Rattle.commitgate.proofs.Batches.{offered_later}

@@ -2,7 +2,7 @@ use Rattle.std.proofs.Common.{◌≡◌, ◌+◌, ◌≤◌, ◌++◌}
 use Rattle.std.specs.List.{All}
 use Rattle.std.specs.VecDeque.{deque_len}
 use Rattle.workers.specs.Batching.{HasRoom, most_turns}
-use Rattle.workers.specs.Working.{Goes, OnlyPuts, IsSettled, tickets_of}
+use Rattle.workers.specs.WorkerInvariant.{Goes, OnlyPuts, IsSettled, tickets_of}
 use Rattle.workers.proofs.batch.settle_all.Given as goal
 
 -- the answers that were taken are settled

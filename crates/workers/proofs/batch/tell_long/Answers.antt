@@ -1,10 +1,10 @@
 -- The turns of the batch are appended, and the one that is too long isn't.
 use Rattle.std.proofs.Common.{◌≡◌, [], ◌∷◌, length, ap, subst, sym, refl, arith, rules}
-use Rattle.turn.specs.Logs.{LogView}
+use Rattle.turn.specs.TurnLogs.{LogView}
 use Rattle.turn.specs.Reads.{GaveAll}
-use Rattle.turn.specs.Answers.{IsNoTurn}
+use Rattle.turn.specs.TurnAnswers.{IsNoTurn}
 use Rattle.turn.specs.declared.log.FillFault.TheVariants.{TooLong}
-use Rattle.gateparts.specs.Histories.{IsRead}
+use Rattle.runstate.specs.Histories.{IsRead}
 use Rattle.workers.proofs.Batching.{fills_goes, fills_more, log_found}
 use Rattle.workers.proofs.Seats.{goes_then}
 use Rattle.workers.proofs.Told.{gave_later, long_goes}
@@ -46,13 +46,13 @@ too_long-reply-requires-clause-recorded g c =
     let gave = log_found (λ (l : LogView). GaveAll (IsRead code fresh) l.reads) before after (length tickets) c.len-place.result log
     (ap (λ logs. logs.items) c.commit.ensures.logs) at (λ l is. (c.requires.long l is).1) c.index.ensures in
     subst (λ rs. GaveAll (IsRead code c.commit.new.worker.seat.fresh) rs) (sym c.reads-reads.ensures)
-    (gave_later code fresh c.commit.new.worker.seat.fresh log.reads (c.commit.ensures.rises c.if-not-commit.false) gave)
+    (gave_later code fresh c.commit.new.worker.seat.fresh log.reads (c.commit.ensures.rises c.in-GoesOn.is) gave)
 
 pub returns-clause-keeps : goal.returns-clause-keeps
 returns-clause-keeps g c on =
     let n = g.K.Naming.named in
     let worker = c.commit.new.worker in
-    keeps_behind n c.args.worker.now worker _ c.args.batch.now.tickets.items c.args.ticket (c.commit.ensures.keeps c.if-not-commit.false)
+    keeps_behind n c.args.worker.now worker _ c.args.batch.now.tickets.items c.args.ticket (c.commit.ensures.keeps c.in-GoesOn.is)
     (record {
       all = λ placed k.
           settled n placed worker.seat c.too_long-reply.new.seat c.finish.new.seat worker.owner c.finish.new.owner worker.row.items c.args.ticket [] _

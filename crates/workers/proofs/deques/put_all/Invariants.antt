@@ -1,6 +1,6 @@
 use Rattle.std.proofs.Common.{◌≡◌, ◌++◌}
 use Rattle.std.specs.Vec.Iter.{drain_items}
-use Rattle.workers.specs.Working.{Goes, OnlyPuts}
+use Rattle.workers.specs.WorkerInvariant.{Goes, OnlyPuts}
 use Rattle.workers.proofs.deques.put_all.Given as goal
 
 abbrev pub invariant-loop-ticket : goal.invariant-loop-ticket

@@ -1,6 +1,6 @@
 use Rattle.std.proofs.Common.{◌≡◌}
 use Rattle.workers.specs.Keeping.{GotNone}
-use Rattle.workers.specs.Working.{SameEnds, got_by_ends}
+use Rattle.workers.specs.WorkerInvariant.{SameEnds, got_by_ends}
 use Rattle.workers.proofs.deques.take_soon.Given as goal
 
 abbrev pub invariant-loop : goal.invariant-loop

@@ -1,6 +1,6 @@
 use Rattle.std.proofs.Common.{◌≡◌, ◌<◌, length}
 use Rattle.std.specs.Vec.Iter.{into_iter_items}
-use Rattle.workers.specs.Working.{IsFixed}
+use Rattle.workers.specs.WorkerInvariant.{IsFixed}
 use Rattle.workers.proofs.Placing.{Gets}
 use Rattle.workers.proofs.team.place.Given as goal
 

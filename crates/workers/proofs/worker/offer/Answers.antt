@@ -1,5 +1,5 @@
 use Rattle.std.proofs.Common.{[], ◌∷◌, sym, subst, arith}
-use Rattle.turn.specs.Answers.{IsNoTurn}
+use Rattle.turn.specs.TurnAnswers.{IsNoTurn}
 use Rattle.turn.specs.declared.log.FillFault.{FillFault}
 use Rattle.turn.specs.declared.log.FillFault.TheVariants.{TooLong}
 use Rattle.workers.proofs.Seats.{goes_read, told}

@@ -1,7 +1,7 @@
 use Rattle.std.proofs.Common.{◌≡◌, ◌++◌}
 use Rattle.std.specs.Vec.{vec_capacity}
 use Rattle.std.specs.Vec.Iter.{drain_items, drain_capacity}
-use Rattle.workers.specs.Working.{Goes, OnlyPuts, granted_by}
+use Rattle.workers.specs.WorkerInvariant.{Goes, OnlyPuts, granted_by}
 use Rattle.workers.proofs.worker.put_granted.Given as goal
 
 abbrev pub invariant-loop-grant : goal.invariant-loop-grant

@@ -20,18 +20,18 @@ pub loop-preserved : goal.loop-preserved
 loop-preserved g c = record {
   works = works_more _ _ _ c.loop.invariant.works c.step.ensures.works;
   later = later_more _ _ _ c.loop.invariant.later c.step.ensures.within.later;
-  keeps = keeps_more _ _ _ _ _ _ _ c.loop.invariant.keeps (c.step.ensures.keeps c.if-not-step.false);
+  keeps = keeps_more _ _ _ _ _ _ _ c.loop.invariant.keeps (c.step.ensures.keeps c.in-GoesOn.is);
   room = c.step.ensures.room;
   grants = c.step.ensures.grants;
-  empty = c.step.ensures.empty c.if-not-step.false;
+  empty = c.step.ensures.empty c.in-GoesOn.is;
 }
 
-pub returns-then-not-step : goal.returns-then-not-step
-returns-then-not-step g c = record {
+pub returns-in-Ends : goal.returns-in-Ends
+returns-in-Ends g c = record {
   works = works_more _ _ _ c.loop.invariant.works c.step.ensures.works;
   later = later_more _ _ _ c.loop.invariant.later c.step.ensures.within.later;
   kept = lost_none _ _ _ _ 16 16 c.loop.invariant.keeps (omega arith) (omega arith) c.step.ensures.within;
-  over = c.step.ensures.over c.if-not-step.true;
+  over = c.step.ensures.over c.in-Ends.is;
 }
 
 pub returns-in_default : goal.returns-in_default

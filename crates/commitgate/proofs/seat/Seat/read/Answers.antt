@@ -1,7 +1,7 @@
 use Rattle.std.proofs.Common.{refl, ap, subst}
 use Rattle.crossbeam_utils.specs.Seq.{cell_view}
-use Rattle.gateparts.specs.declared.mark.MarkView.{MarkView}
-use Rattle.regcells.specs.Seats as regs
+use Rattle.runstate.specs.declared.mark.MarkView.{MarkView}
+use Rattle.regcells.specs.CellSeats as regs
 use Rattle.regcells.specs.Meetings.{fresh_of}
 use Rattle.commitgate.specs.Seats.{SeatView, ReadsOn}
 use Rattle.commitgate.proofs.Meetings.{rises_set}

@@ -1,8 +1,8 @@
 -- What a seat says of its own items is so in what it has seen.
 use Rattle.std.proofs.Common.{◌≡◌, ◌∙◌, ap, subst}
 use Rattle.crossbeam_utils.specs.Seq.{cell_view}
-use Rattle.gateparts.specs.declared.mark.MarkView.{MarkView}
-use Rattle.gateparts.specs.Log.{positions_of, stored_of}
+use Rattle.runstate.specs.declared.mark.MarkView.{MarkView}
+use Rattle.runstate.specs.Log.{positions_of, stored_of}
 use Rattle.commitgate.specs.Seats.{SeatView}
 use Rattle.commitgate.proofs.seat.Seat.share.Goals as goal
 

@@ -1,16 +1,15 @@
 -- The seat has met what was read, and then the turn is accepted.
 use Rattle.std.proofs.Common.{◌≡◌, ℕ, length, sym, ap, ◌∙◌, subst}
 use mathlib.Core.List.{IsPrefix}
-use Rattle.turn.specs.Reads.{GaveAll}
-use Rattle.gateparts.specs.Log.{Log}
-use Rattle.gateparts.specs.GateState.{GateState}
-use Rattle.gateparts.specs.Histories.{IsRead}
+use Rattle.runstate.specs.Log.{Log}
+use Rattle.runstate.specs.GateState.{GateState}
 use Rattle.regcells.specs.Meetings.{AreReadsIn, HasMetReads}
 use Rattle.commitgate.specs.Seats.{SeatView}
-use Rattle.commitgate.specs.Answers.{MayCommit, AreCurrent}
+use Rattle.commitgate.specs.GateAnswers.{MayCommit}
+use Rattle.commitgate.specs.HeldTurns.{IsCurrentTurn}
 use Rattle.commitgate.specs.Replies.{Answered}
-use Rattle.commitgate.specs.Told.{CommitCauses, AnsweredTo}
-use Rattle.gateparts.proofs.Beginnings.{prefix_self}
+use Rattle.commitgate.specs.SeatAnswers.{CommitCauses, AnsweredTo}
+use Rattle.runstate.proofs.Beginnings.{prefix_self}
 use Rattle.commitgate.proofs.Tellings.{answered_first}
 use Rattle.commitgate.proofs.Validating.{reads_in}
 use Rattle.commitgate.proofs.state.GateState.accept_held.Goals as goal
@@ -18,7 +17,7 @@ use Rattle.commitgate.proofs.state.GateState.accept_held.Goals as goal
 pub show_reads-requires : goal.show_reads-requires
 show_reads-requires g c = record {
   reads = subst (λ rs. AreReadsIn (length g.K.Naming.named.cells) rs) (sym c.reads.ensures)
-      (reads_in g.K.Naming.named.code (length g.K.Naming.named.cells) c.args.ticket c.args.log.now c.known.ensures.widths c.known-2.ensures.own c.requires.turn);
+      (reads_in g.K.Naming.named.code (length g.K.Naming.named.cells) c.args.ticket c.args.log.now c.known.ensures.widths c.known-2.ensures.own c.requires.turn.turn);
 }
 
 pub accept-requires-clause-seen : goal.accept-requires-clause-seen
@@ -29,13 +28,9 @@ pub accept-requires-clause-may : goal.accept-requires-clause-may
 accept-requires-clause-may g c =
     subst (λ (h : GateState). MayCommit g.K.Naming.named.limits h c.args.ticket) (sym c.show_reads.ensures.same) c.requires.may
 
-pub accept-requires-clause-current : goal.accept-requires-clause-current
-accept-requires-clause-current g c =
-    subst (λ (h : GateState). AreCurrent g.K.Naming.named.code h c.args.log.now.reads) (sym c.show_reads.ensures.same) c.requires.current
-
-pub accept-requires-clause-read : goal.accept-requires-clause-read
-accept-requires-clause-read g c =
-    subst (λ (h : GateState). GaveAll (IsRead g.K.Naming.named.code h.histories) c.args.log.now.reads) (sym c.show_reads.ensures.same) c.requires.read
+pub accept-requires-clause-turn : goal.accept-requires-clause-turn
+accept-requires-clause-turn g c =
+    subst (λ (h : GateState). IsCurrentTurn g.K.Naming.named.code h c.args.ticket c.args.log.now) (sym c.show_reads.ensures.same) c.requires.turn
 
 pub accept-requires-clause-met : goal.accept-requires-clause-met
 accept-requires-clause-met g c =

@@ -2,7 +2,7 @@
 use Rattle.std.proofs.Common.{◌∙◌, ℕ, All, arith, refl, subst, sym}
 use Rattle.std.proofs.lemmas.Grind.{common_steps}
 use Rattle.std.proofs.lemmas.List.Elements.{All-push}
-use Rattle.commitgate.specs.Answers.{IsUpdated}
+use Rattle.commitgate.specs.GateAnswers.{IsUpdated}
 use Rattle.commitgate.specs.Batches.{AreUpdated, AreUpdatedTo, IsQuiet}
 use Rattle.commitgate.proofs.Batches.{updated_more, told_more}
 use Rattle.commitgate.proofs.state.GateState.apply_updates.Goals as goal

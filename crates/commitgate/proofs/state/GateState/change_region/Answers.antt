@@ -3,12 +3,12 @@ use Rattle.std.proofs.Common.{◌≡◌, ◌∙◌, ℕ, ap, refl, sym, subst, i
 use Rattle.model.specs.declared.end.Limits.{Limits}
 use Rattle.model.specs.declared.end.Why.TheVariants.{Entries, Finish}
 use Rattle.model.specs.Runs.{has_any, is_quiet, IsTimely}
-use Rattle.gateparts.specs.GateState.{GateState, state_in}
+use Rattle.runstate.specs.GateState.{GateState, state_in}
 use Rattle.regcells.specs.Meetings.{Rises}
 use Rattle.commitgate.specs.Seats.{SeatView}
-use Rattle.commitgate.specs.Answers.{IsResting, FullRest, IsRestStopped, IsGranted}
-use Rattle.commitgate.specs.Regions.{IsPassed}
-use Rattle.commitgate.specs.Told.{RestCauses}
+use Rattle.commitgate.specs.GateAnswers.{IsResting, FullRest, IsRestStopped, IsGranted}
+use Rattle.commitgate.specs.DueRegions.{IsPassed}
+use Rattle.commitgate.specs.SeatAnswers.{RestCauses}
 use Rattle.commitgate.proofs.Rests.{due_stops}
 use Rattle.commitgate.proofs.Resting.{tell_quiet, tell_stop, tell_busy, due_is_change, met_change, passed_cause}
 use Rattle.commitgate.proofs.Tellings.{tell_stopped, tell_appended}

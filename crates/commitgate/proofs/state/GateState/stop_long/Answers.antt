@@ -4,9 +4,9 @@ use Rattle.model.specs.declared.end.Why.TheVariants.{TooLong}
 use Rattle.model.specs.declared.end.End.TheVariants.{Stopped}
 use Rattle.model.specs.Runs.{EndsIn}
 use Rattle.design.specs.Compiled.{design_of}
-use Rattle.gateparts.specs.declared.log.Item.TheVariants.{Ended}
-use Rattle.gateparts.specs.Log.{Log}
-use Rattle.gateparts.specs.GateState.{GateState, state_in}
+use Rattle.runstate.specs.declared.log.Item.TheVariants.{Ended}
+use Rattle.runstate.specs.Log.{Log}
+use Rattle.runstate.specs.GateState.{GateState, state_in}
 use Rattle.regcells.specs.Meetings.{Rises}
 use Rattle.commitgate.specs.Seats.{SeatView}
 use Rattle.commitgate.proofs.AtLock.{long_ends}

@@ -3,13 +3,13 @@ use Rattle.std.proofs.Common.{◌≡◌, length, sym, ap, ◌∙◌, subst, inr,
 use Rattle.std.proofs.lemmas.List.{length-map}
 use Rattle.turn.specs.Reads.{GaveAll}
 use Rattle.design.specs.Compiled.{design_of}
-use Rattle.gateparts.specs.GateState.{GateState}
+use Rattle.runstate.specs.GateState.{GateState}
 use Rattle.regcells.specs.Meetings.{fresh_of, Rises}
 use Rattle.commitgate.specs.Seats.{SeatView}
-use Rattle.gateparts.specs.Histories.{hist, IsRead, IsFirstMovedIn}
-use Rattle.gateparts.specs.Evaluated.{turn_at}
-use Rattle.commitgate.specs.Answers.{IsRecorded, MayCommit, AreCurrent, stopped}
-use Rattle.commitgate.specs.Told as told
+use Rattle.runstate.specs.Histories.{hist, IsRead, IsFirstMovedIn}
+use Rattle.runstate.specs.Evaluated.{turn_at}
+use Rattle.commitgate.specs.GateAnswers.{IsRecorded, MayCommit, AreCurrent, stopped}
+use Rattle.commitgate.specs.SeatAnswers as told
 use Rattle.commitgate.proofs.Barring.{of_none, stopped_for, read_stopped, current_told, barred_long, barred_long_told, tell_stale, long_reads_in, long_by}
 use Rattle.commitgate.proofs.Tellings.{stopped_first}
 use Rattle.commitgate.proofs.state.GateState.too_long.Goals as goal

@@ -4,16 +4,16 @@ use Rattle.model.specs.declared.end.Why.TheVariants.{Entries, Finish}
 use Rattle.model.specs.declared.entry.Entry.TheVariants.{Update}
 use Rattle.model.specs.Runs.{after, least}
 use Rattle.design.specs.Compiled.{design_of}
-use Rattle.gateparts.specs.declared.log.Item.TheVariants.{Ended}
-use Rattle.gateparts.specs.Log.{entries_of}
-use Rattle.gateparts.specs.GateState.{GateState, state_in}
+use Rattle.runstate.specs.declared.log.Item.TheVariants.{Ended}
+use Rattle.runstate.specs.Log.{entries_of}
+use Rattle.runstate.specs.GateState.{GateState, state_in}
 use Rattle.regcells.specs.Meetings.{Rises}
 use Rattle.commitgate.specs.Seats.{SeatView}
-use Rattle.commitgate.specs.Answers.{HasNoUpdate, IsGranted}
-use Rattle.gateparts.specs.Working.{updated_register, HasMetLog}
-use Rattle.commitgate.specs.Told.{CommitCauses}
+use Rattle.commitgate.specs.GateAnswers.{HasNoUpdate, IsGranted}
+use Rattle.runstate.specs.SeatMeetings.{updated_register, HasMetLog}
+use Rattle.commitgate.specs.SeatAnswers.{CommitCauses}
 use Rattle.regions.specs.Find.{update_numbers}
-use Rattle.gateparts.proofs.Beginnings.{prefix_trans}
+use Rattle.runstate.proofs.Beginnings.{prefix_trans}
 use Rattle.commitgate.proofs.Meetings.{rises_self}
 use Rattle.commitgate.proofs.Waits.{none_least}
 use Rattle.commitgate.proofs.Tellings.{after_log, tell_refused, tell_stopped, tell_ended, tell_appended, no_updates}
@@ -28,7 +28,7 @@ returns-in-Some-clause-seat g c =
 pub returns-in_default-first_update-clause-state : goal.returns-in_default-first_update-clause-state
 returns-in_default-first_update-clause-state g c =
     let running = ap (λ (h : GateState). h.end) (sym c.greet_unless.ensures.same) ∙ (sym c.ended.ensures ∙ c.in_default.is) in
-    let none = none_least (update_numbers c.self.inside.parts.regions.active) (sym c.first_update.ensures.least ∙ c.in_default-first_update.is) in
+    let none = none_least (update_numbers c.self.inside.run_state.regions.active) (sym c.first_update.ensures.least ∙ c.in_default-first_update.is) in
     (running, subst (λ (h : GateState). HasNoUpdate h.core) (c.self.view_is ∙ c.greet_unless.ensures.same) none, c.greet_unless.ensures.same)
 
 pub returns-in_default-first_update-clause-seat : goal.returns-in_default-first_update-clause-seat
@@ -37,7 +37,7 @@ returns-in_default-first_update-clause-seat g c =
     let old = c.args.seat.now in
     let held = c.args.self.now in
     let running = ap (λ (h : GateState). h.end) (sym c.greet_unless.ensures.same) ∙ (sym c.ended.ensures ∙ c.in_default.is) in
-    let none = none_least (update_numbers c.self.inside.parts.regions.active) (sym c.first_update.ensures.least ∙ c.in_default-first_update.is) in (
+    let none = none_least (update_numbers c.self.inside.run_state.regions.active) (sym c.first_update.ensures.least ∙ c.in_default-first_update.is) in (
       tell_refused n old held c.known.ensures.guarded c.known.ensures.kept c.greet_unless.ensures.later c.greet_unless.new.seat old.fresh c.greet_unless.ensures.seat (rises_self old.fresh) running,
       (
         state_in n.code held,

@@ -1,14 +1,15 @@
 -- Each answer says what the lock keeps, and what the seat is told.
 use Rattle.std.proofs.Common.{◌≡◌, ℕ, length, sym, ap, ◌∙◌, subst}
 use Rattle.turn.specs.Reads.{GaveAll}
-use Rattle.gateparts.specs.GateState.{GateState}
+use Rattle.runstate.specs.GateState.{GateState}
 use Rattle.design.specs.Compiled.{design_of}
 use Rattle.regcells.specs.Meetings.{fresh_of, Rises, AreReadsIn, HasMetReads}
 use Rattle.commitgate.specs.Seats.{SeatView}
-use Rattle.gateparts.specs.Histories.{hist, IsRead, IsFirstMovedIn}
-use Rattle.commitgate.specs.Answers.{IsRecorded, MayCommit, AreCurrent}
+use Rattle.runstate.specs.Histories.{hist, IsRead, IsFirstMovedIn}
+use Rattle.commitgate.specs.GateAnswers.{IsRecorded, MayCommit, AreCurrent}
+use Rattle.commitgate.specs.HeldTurns.{IsCurrentTurn}
 use Rattle.commitgate.specs.Replies.{Answered}
-use Rattle.commitgate.specs.Told.{CommitCauses, AnsweredTo}
+use Rattle.commitgate.specs.SeatAnswers.{CommitCauses, AnsweredTo}
 use Rattle.commitgate.proofs.Barring.{of_none, barred_answered, barred_told, tell_stale}
 use Rattle.commitgate.proofs.Tellings.{answered_first}
 use Rattle.commitgate.proofs.Validating.{reads_in}
@@ -78,17 +79,14 @@ accept-requires-clause-may g c =
     let same = of_none c.barred.result _ c.barred.ensures.same c.in_default.is in
     subst (λ (h : GateState). MayCommit n.limits h c.args.ticket) (sym (c.stale.ensures.same ∙ same)) (of_none c.barred.result _ c.barred.ensures.may c.in_default.is)
 
-pub accept-requires-clause-current : goal.accept-requires-clause-current
-accept-requires-clause-current g c =
+pub accept-requires-clause-turn : goal.accept-requires-clause-turn
+accept-requires-clause-turn g c =
     let code = g.K.Naming.named.code in
-    subst (λ (h : GateState). AreCurrent code h c.args.log.now.reads) (sym c.stale.ensures.same)
-    (subst (λ rs. AreCurrent code c.barred.new.self rs) c.reads.ensures (of_none c.stale.result _ c.stale.ensures.none c.in_default-stale.is))
-
-pub accept-requires-clause-read : goal.accept-requires-clause-read
-accept-requires-clause-read g c =
-    let code = g.K.Naming.named.code in
-    subst (λ (h : GateState). GaveAll (IsRead code h.histories) c.args.log.now.reads) (sym c.stale.ensures.same)
-    (subst (λ rs. GaveAll (IsRead code c.barred.new.self.histories) rs) c.reads.ensures (of_none c.stale.result _ c.stale.ensures.read c.in_default-stale.is))
+    subst (λ (h : GateState). IsCurrentTurn code h c.args.ticket c.args.log.now) (sym c.stale.ensures.same) (record {
+      turn = c.requires.turn;
+      recorded = subst (λ rs. GaveAll (IsRead code c.barred.new.self.histories) rs) c.reads.ensures (of_none c.stale.result _ c.stale.ensures.read c.in_default-stale.is);
+      current = subst (λ rs. AreCurrent code c.barred.new.self rs) c.reads.ensures (of_none c.stale.result _ c.stale.ensures.none c.in_default-stale.is);
+    })
 
 pub accept-requires-clause-met : goal.accept-requires-clause-met
 accept-requires-clause-met g c =

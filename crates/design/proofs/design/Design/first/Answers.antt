@@ -4,7 +4,7 @@ use Rattle.std.proofs.lemmas.Option.{slice_get_read}
 use Rattle.model.specs.Turns.{whole}
 use Rattle.design.specs.Compiled.{Compiled, design_of}
 use Rattle.design.specs.Meaning.{IsCompiled}
-use Rattle.design.specs.Places.{IsPlaceOf, remainder_at}
+use Rattle.design.specs.CodePlaces.{IsPlaceOf, remainder_at}
 use Rattle.design.proofs.design.Design.first.Goals as goal
 
 begins : (inside code : Compiled) (p place : ℕ) → inside ≡ code → IsCompiled inside → p < length code.processes

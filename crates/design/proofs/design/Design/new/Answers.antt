@@ -2,8 +2,8 @@ use Rattle.std.proofs.Common.{◌∙◌, List, map, ap}
 use Rattle.std.proofs.lemmas.List.{length-map}
 use Rattle.std.specs.Prelude.{string_bytes}
 use Rattle.design.specs.declared.tree.Process.{Process}
-use Rattle.design.specs.Trees.{process_of, tree_design}
-use Rattle.design.specs.Places.{statement_count}
+use Rattle.design.specs.DesignTrees.{process_of, tree_design}
+use Rattle.design.specs.CodePlaces.{statement_count}
 use Rattle.design.specs.Emit.{starts_of, all_code}
 use Rattle.design.proofs.Made.{made}
 use Rattle.design.proofs.design.Design.new.Goals as goal

@@ -1,7 +1,7 @@
 use Rattle.std.proofs.Common.{◌≡◌, ◌+◌, length, drop}
 use Rattle.model.specs.Design.{size}
 use Rattle.design.specs.Sound.{AreSoundStatements}
-use Rattle.design.specs.Trees.{statements_of}
+use Rattle.design.specs.DesignTrees.{statements_of}
 use Rattle.design.specs.Extents.{AreMeasured}
 use Rattle.design.specs.Emit.{with_all}
 use Rattle.design.specs.Emitter.{emitted_of}

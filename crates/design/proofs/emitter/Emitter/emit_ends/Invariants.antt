@@ -1,5 +1,5 @@
 use Rattle.std.proofs.Common.{◌≡◌, ◌++◌, map, drop}
-use Rattle.design.specs.Trees.{process_of}
+use Rattle.design.specs.DesignTrees.{process_of}
 use Rattle.design.specs.Emit.{end_nodes}
 use Rattle.design.specs.Emitter.{emitted_of}
 use Rattle.design.proofs.emitter.Emitter.emit_ends.Given as goal

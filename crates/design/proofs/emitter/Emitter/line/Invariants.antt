@@ -1,6 +1,6 @@
 use Rattle.std.proofs.Common.{◌≡◌, ◌+◌, length, map, drop}
 use Rattle.model.specs.Elaboration.{argument_count}
-use Rattle.design.specs.Trees.{piece_of, expressions_of}
+use Rattle.design.specs.DesignTrees.{piece_of, expressions_of}
 use Rattle.design.specs.Emit.{with_line}
 use Rattle.design.specs.Emitter.{emitted_of}
 use Rattle.design.proofs.emitter.Emitter.line.Given as goal

@@ -1,7 +1,7 @@
 use Rattle.std.proofs.Common.{rules, ◌<◌, length, subst, sym}
 use Rattle.design.specs.declared.tree.Expression.{Expression}
 use Rattle.design.specs.Sound.{IsSoundExpression}
-use Rattle.design.specs.Trees.{expression_of}
+use Rattle.design.specs.DesignTrees.{expression_of}
 use Rattle.design.proofs.Lines.{sound_at}
 use Rattle.design.proofs.emitter.Emitter.piece.Goals as goal
 

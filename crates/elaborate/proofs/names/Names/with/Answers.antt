@@ -1,5 +1,5 @@
 use Rattle.std.proofs.Common.{◌≡◌, string_bytes, ◌∙◌, map, None}
-use Rattle.elaborate.specs.Findings.{found_name}
+use Rattle.elaborate.specs.FirstFindings.{found_name}
 use Rattle.elaborate.specs.Registers.{with_ranges}
 use Rattle.elaborate.proofs.Lookups.{inserted, registers_more, one_more}
 use Rattle.elaborate.proofs.names.Names.with.Goals as goal
@@ -17,8 +17,8 @@ invariant_of-result c =
     rw (c.in_ok-insert.ensures.keys ∙ e, c.in_ok-push.ensures.items)
     (registers_more string_bytes c.in_ok-from_str.field-0 c.args.range c.self.inside.names.keys c.self.inside.ranges.items c.self.invariant (new_name c))
 
-pub returns-clause-added : goal.returns-clause-added
-returns-clause-added c =
+pub returns : goal.returns
+returns c =
     let e = inserted string_bytes c.in_ok-from_str.field-0 c.args.range c.self.inside.names.keys c.self.inside.ranges.items c.self.invariant.paired (new_name c) in
     let m = one_more string_bytes c.self.inside.names.keys c.in_ok-from_str.field-0 c.self.inside.ranges.items c.args.range c.self.invariant.paired in
     let view = c.self.view_is in

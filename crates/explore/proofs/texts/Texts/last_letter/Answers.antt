@@ -1,5 +1,5 @@
 use Rattle.std.proofs.Common.{◌≡◌, ◌-◌, ◌+◌, ◌≤◌, arith, get_or, [], ap, ◌∙◌}
-use Rattle.explore.specs.Texts.{texts}
+use Rattle.explore.specs.NumberedTexts.{texts}
 use Rattle.explore.proofs.Letters.{length-told, told-letter}
 use Rattle.explore.proofs.texts.Texts.last_letter.Goals as goal
 

@@ -1,6 +1,6 @@
 use Rattle.std.proofs.Common.{◌≡◌, ◌<◌, ◌++◌, [], length, get_or, take}
 use Rattle.explore.specs.Grown.{Extends}
-use Rattle.explore.specs.Texts.{texts, IsTexts}
+use Rattle.explore.specs.NumberedTexts.{texts, IsTexts}
 use Rattle.explore.proofs.texts.Texts.longer.Given as goal
 
 abbrev pub invariant-loop-byte : goal.invariant-loop-byte

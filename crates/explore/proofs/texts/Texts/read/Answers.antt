@@ -1,5 +1,5 @@
 use Rattle.std.proofs.Common.{◌++◌, [], ◌<◌, length, get_or, ap, sym, ◌∙◌, arith, reverse}
-use Rattle.explore.specs.Texts.{texts}
+use Rattle.explore.specs.NumberedTexts.{texts}
 use Rattle.explore.proofs.Letters.{letter_back, told-none}
 use Rattle.explore.proofs.texts.Texts.read.Goals as goal
 

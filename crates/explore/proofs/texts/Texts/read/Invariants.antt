@@ -1,5 +1,5 @@
 use Rattle.std.proofs.Common.{◌≡◌, ◌<◌, ◌++◌, [], length, get_or, reverse}
-use Rattle.explore.specs.Texts.{texts}
+use Rattle.explore.specs.NumberedTexts.{texts}
 use Rattle.explore.proofs.texts.Texts.read.Given as goal
 
 abbrev pub invariant-loop-k : goal.invariant-loop-k

@@ -1,5 +1,5 @@
 use Rattle.std.proofs.Common.{◌∷◌, [], subst, sym, ap, ◌∙◌, refl}
-use Rattle.regcells.specs.Seats.{last_values, IsOf}
+use Rattle.regcells.specs.CellSeats.{last_values, IsOf}
 use Rattle.regcells.proofs.LastValues.{ready_given, values_given}
 use Rattle.regcells.proofs.held.HeldStoreStore.set.Goals as goal
 

@@ -3,7 +3,7 @@ use Rattle.logic4.specs.Operators.{same_vector}
 use Rattle.model.specs.Expressions.{value_of}
 use Rattle.model.specs.Runs.{values_in}
 use Rattle.regcells.specs.Values.{last_value}
-use Rattle.regcells.specs.Seats.{Fresh, seen_of, last_values, changes_left, IsOf}
+use Rattle.regcells.specs.CellSeats.{Fresh, seen_of, last_values, changes_left, IsOf}
 use Rattle.regcells.proofs.Lasts.{net_last, net_width, few_changes}
 use Rattle.regcells.proofs.LastValues.{ready_given, values_given, left_given}
 use Rattle.regcells.proofs.held.HeldStoreStore.set_net.Goals as goal

@@ -2,7 +2,7 @@ use Rattle.std.proofs.Common.{◌≡◌, ◌+◌, List, length, sym, ap, ◌∙�
 use Rattle.crossbeam_utils.specs.Seq.{cell_view}
 use Rattle.logic4.specs.Vector.{Vector}
 use Rattle.turn.specs.Nets.{altered}
-use Rattle.regcells.specs.Rules.{holder}
+use Rattle.regcells.specs.RegisterRule.{holder}
 use Rattle.regcells.specs.Values.{width_of, last_value, values_after}
 use Rattle.regcells.specs.Passes.{seen_by}
 use Rattle.regcells.proofs.Lasts.{last_at, none_given, net_last, last_given, length-given, width_given, net_width, given_holding}

@@ -1,5 +1,5 @@
 use Rattle.std.proofs.Common.{subst}
-use Rattle.design.specs.Standing.{remainder_of}
+use Rattle.design.specs.DesignInvariant.{remainder_of}
 use Rattle.regions.specs.Machine.{Position, state_at, IsDue}
 use Rattle.regions.proofs.machine.Machine.due.Goals as goal
 

@@ -3,7 +3,7 @@ use Rattle.std.proofs.Common.{◌∙◌, ◌++◌, ◌∷◌, [], map, length, S
 use Rattle.std.proofs.Common.{append-nil}
 use Rattle.regions.specs.Queue.{core_of, state_of}
 use Rattle.regions.specs.Order.{IsSound}
-use Rattle.regions.specs.Turns.{turn_of}
+use Rattle.regions.specs.EvaluationEntries.{turn_of}
 use Rattle.regions.proofs.Permitted.{all_permitted, in_order}
 use Rattle.regions.proofs.queue.Queue.next_entries.Goals as goal
 

@@ -4,7 +4,7 @@ use Rattle.std.proofs.lemmas.List.{length-map}
 use Rattle.model.specs.States.{State}
 use Rattle.steps.specs.declared.cells.Cell.{Cell}
 use Rattle.steps.specs.Cells.{first_cell}
-use Rattle.steps.specs.Standing.{standing_of, IsSoundState}
+use Rattle.steps.specs.ExplainerStanding.{standing_of, IsSoundState}
 use Rattle.steps.proofs.Writes.{values_start, versions_start}
 use Rattle.steps.proofs.Effects.{sound_start}
 use Rattle.steps.proofs.Notes.{behind_start}

@@ -1,9 +1,7 @@
 -- What was noted is told once the entry is taken.
-use Rattle.std.proofs.Common.{◌≡◌, List, refl, sym, ◌∙◌, ap, subst, length}
-use Rattle.model.specs.declared.entry.Entry.{Entry}
-use Rattle.regions.specs.Machine.{Position}
-use Rattle.steps.specs.Told.{account_of}
-use Rattle.steps.specs.Standing.{Standing, standing_of, IsBehind, IsExplained}
+use Rattle.std.proofs.Common.{refl, sym, ◌∙◌, subst}
+use Rattle.steps.specs.Accounts.{account_of}
+use Rattle.steps.specs.ExplainerStanding.{Standing, standing_of, IsBehind, IsExplained}
 use Rattle.steps.proofs.Stepped.{step_kept, step_told}
 use Rattle.steps.proofs.explainer.Explainer.step.Goals as goal
 

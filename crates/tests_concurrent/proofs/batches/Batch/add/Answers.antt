@@ -1,6 +1,6 @@
 -- The turn that was evaluated is offered behind the others, by what the seat has read since.
 use Rattle.std.proofs.Common.{◌≡◌, ◌<◌, List, [], ◌∷◌, ◌++◌, sym, subst, rules}
-use Rattle.turn.specs.Logs.{LogView}
+use Rattle.turn.specs.TurnLogs.{LogView}
 use Rattle.commitgate.specs.Tickets.{TicketView, most_tries}
 use Rattle.commitgate.specs.Batches.{AreOffered}
 use Rattle.tests_concurrent.proofs.Batching.{offered_more}

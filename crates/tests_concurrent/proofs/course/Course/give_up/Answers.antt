@@ -1,6 +1,6 @@
 -- A turn that is too long by its log is so by the log's reads.
 use Rattle.std.proofs.Common.{sym, subst}
-use Rattle.turn.specs.Answers.{IsNoTurn}
+use Rattle.turn.specs.TurnAnswers.{IsNoTurn}
 use Rattle.turn.specs.declared.log.FillFault.TheVariants.{TooLong}
 use Rattle.tests_concurrent.proofs.course.Course.give_up.Goals as goal
 

@@ -2,7 +2,7 @@
 use Rattle.std.proofs.Common.{List, sym, subst}
 use Rattle.logic4.specs.Vector.{Vector}
 use Rattle.turn.specs.Reads.{GaveAll}
-use Rattle.gateparts.specs.Histories.{IsRead}
+use Rattle.runstate.specs.Histories.{IsRead}
 use Rattle.tests_concurrent.proofs.course.Course.look_and_commit.Goals as goal
 
 pub commit-requires-clause-gave : goal.commit-requires-clause-gave

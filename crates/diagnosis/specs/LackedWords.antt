@@ -1,0 +1,76 @@
+-- The words of Verilog that the language lacks, and what is written instead.
+use Rattle.std.specs.Prelude.{ℕ, List, [], ◌∷◌, Bool, true, false, not, ◌&&◌, ◌||◌, ◌==◌, nat_le, if◌then◌else◌, Option, Some, None, codes}
+use Rattle.std.specs.Str.{bytes_eq}
+use Rattle.tokens.specs.ByteClasses.{is_letter}
+use Rattle.diagnosis.specs.Lexemes.{begins_number}
+use Rattle.diagnosis.specs.declared.words.Advice.{Advice}
+use Rattle.diagnosis.specs.declared.words.Advice.TheVariants as advice
+
+-- Words, each with what is written instead.
+abbrev pub Table : Type 0
+Table = List (List ℕ × Advice)
+
+-- The words that the language lacks.
+unfoldable pub words : Table
+words =
+    (codes "case", advice.Choice) ∷ (codes "casex", advice.Choice) ∷ (codes "casez", advice.Choice) ∷ (codes "endcase", advice.Choice) ∷ (codes "default", advice.Choice) ∷
+    (codes "for", advice.Loop) ∷ (codes "repeat", advice.Loop) ∷ (codes "forever", advice.Loop) ∷
+    (codes "input", advice.OneModule) ∷ (codes "output", advice.OneModule) ∷ (codes "inout", advice.OneModule) ∷ (codes "parameter", advice.OneModule) ∷ (codes "localparam", advice.OneModule) ∷
+    (codes "defparam", advice.OneModule) ∷ (codes "generate", advice.OneModule) ∷ (codes "endgenerate", advice.OneModule) ∷ (codes "genvar", advice.OneModule) ∷ (codes "macromodule", advice.OneModule) ∷
+    (codes "primitive", advice.OneModule) ∷ (codes "endprimitive", advice.OneModule) ∷ (codes "specify", advice.OneModule) ∷ (codes "endspecify", advice.OneModule) ∷
+    (codes "wire", advice.Net) ∷ (codes "wand", advice.Net) ∷ (codes "wor", advice.Net) ∷ (codes "tri", advice.Net) ∷ (codes "tri0", advice.Net) ∷
+    (codes "tri1", advice.Net) ∷ (codes "triand", advice.Net) ∷ (codes "trior", advice.Net) ∷ (codes "trireg", advice.Net) ∷ (codes "uwire", advice.Net) ∷
+    (codes "supply0", advice.Net) ∷ (codes "supply1", advice.Net) ∷ (codes "assign", advice.Net) ∷ (codes "deassign", advice.Net) ∷ (codes "force", advice.Net) ∷
+    (codes "release", advice.Net) ∷
+    (codes "and", advice.Gate) ∷ (codes "nand", advice.Gate) ∷ (codes "nor", advice.Gate) ∷ (codes "xor", advice.Gate) ∷ (codes "xnor", advice.Gate) ∷
+    (codes "not", advice.Gate) ∷ (codes "buf", advice.Gate) ∷
+    (codes "integer", advice.Register) ∷ (codes "real", advice.Register) ∷ (codes "realtime", advice.Register) ∷ (codes "time", advice.Register) ∷
+    (codes "task", advice.Subroutine) ∷ (codes "endtask", advice.Subroutine) ∷ (codes "function", advice.Subroutine) ∷ (codes "endfunction", advice.Subroutine) ∷ (codes "automatic", advice.Subroutine) ∷
+    (codes "event", advice.Subroutine) ∷
+    (codes "fork", advice.Parallel) ∷ (codes "join", advice.Parallel) ∷ (codes "wait", advice.Parallel) ∷ (codes "disable", advice.Parallel) ∷
+    (codes "signed", advice.Unsigned) ∷ []
+
+-- What a table has for a word.
+abbrev pub advice_in : Table → List ℕ → Option Advice
+advice_in [] w = None
+advice_in (row ∷ rows) w = if bytes_eq w row.0 then Some row.1 else advice_in rows w
+
+-- The first byte of a text, 0 where it has none.
+abbrev pub first : List ℕ → ℕ
+first [] = 0
+first (b ∷ bs) = b
+
+-- A system name that the language lacks: a `$`, and what is none of its three names.
+abbrev pub is_system_word : List ℕ → Bool
+is_system_word w = first w == 36 && not (bytes_eq w (codes "$display") || bytes_eq w (codes "$strobe") || bytes_eq w (codes "$finish"))
+
+-- What is written instead of a word that the language lacks, of another system name, or of a directive, which a backquote
+-- begins; none for every other text.
+unfoldable pub advice_of : List ℕ → Option Advice
+advice_of w = if first w == 96 then Some advice.Directive else (if is_system_word w then Some advice.SystemName else advice_in words w)
+
+-- A large letter, or _.
+abbrev pub is_large : ℕ → Bool
+is_large b = (nat_le 65 b && nat_le b 90) || b == 95
+
+-- A large letter or _ stands behind a base's `'`, which may stand before.
+abbrev pub has_large : Bool → List ℕ → Bool
+has_large based [] = false
+has_large based (b ∷ bs) = if based && is_large b then true else has_large (based || b == 39) bs
+
+-- What may have a note with an advice by what stands before it, and is no word of the table: any lexeme where a block lacks, a
+-- number, a string, a sign, a word or a `:` in square brackets, the word `module`, and no string where a format lacks.
+abbrev pub suits : Advice → List ℕ → Bool
+suits advice.Block text = true
+suits advice.Size text = begins_number (first text)
+suits advice.Digits text = begins_number (first text) && has_large false text
+suits advice.Conversion text = first text == 34
+suits advice.Format text = not (first text == 34)
+suits advice.Triggers text = first text == 42
+suits advice.Operator text = first text == 42 || first text == 47 || first text == 37
+suits advice.Index text = is_letter (first text) || first text == 58
+suits advice.BlockName text = first text == 58
+suits advice.Value text = first text == 61
+suits advice.Memory text = first text == 91
+suits advice.OneModule text = first text == 46 || (first text == 40 || bytes_eq text (codes "module"))
+suits _ text = false

@@ -1,0 +1,78 @@
+-- The line of an entry.
+use Rattle.std.specs.Prelude.{ℕ, ◌+◌, ◌==◌, ◌||◌, Bool, true, false, if◌then◌else◌, List, [], ◌∷◌, ◌++◌, codes, decimal}
+use Rattle.logic4.specs.Vector.{Vector}
+use Rattle.model.specs.declared.entry.Entry.{Entry}
+use Rattle.model.specs.declared.entry.Entry.TheVariants as entries
+use Rattle.model.specs.Runs.{has_any}
+use Rattle.turn.specs.declared.log.Nba.{Nba}
+use Rattle.explain.specs.declared.phrases.Names.{Names}
+use Rattle.steps.specs.declared.entry_account.Reading.{Reading}
+use Rattle.steps.specs.declared.entry_account.Changed.{Changed}
+use Rattle.steps.specs.declared.entry_account.Deed.{Deed}
+use Rattle.steps.specs.declared.entry_account.Deed.TheVariants as deeds
+use Rattle.steps.specs.Accounts.{Account}
+use Rattle.explain.specs.Phrases.{value_text, quoted_text, register_text, process_text}
+
+-- the mark before the first part of a kind: a semicolon behind another kind, else a colon
+abbrev pub mark : Bool → List ℕ
+mark true = codes "; "
+mark false = codes ": "
+
+-- what stands before a part: before the first of a kind its mark and its word, before others a comma
+abbrev pub lead : ℕ → Bool → List ℕ → List ℕ
+lead place behind word = if place == 0 then mark behind ++ word else codes ", "
+
+-- a register that is read
+abbrev pub reading_text : Names → Reading → List ℕ
+reading_text names r =
+    register_text names r.register ++ codes "=" ++ value_text r.value ++ codes " (version " ++ decimal r.version ++ codes ")"
+
+-- a change
+abbrev pub change_text : Names → Changed → List ℕ
+change_text names c = register_text names c.register ++ codes " " ++ value_text c.before ++ codes " -> " ++ value_text c.after
+
+-- a nonblocking assignment
+abbrev pub assignment_text : Names → Nba → List ℕ
+assignment_text names n = register_text names n.reg ++ codes " <= " ++ value_text n.value ++ codes " for time " ++ decimal n.due
+
+-- the parts of a kind, from a place on
+abbrev pub list_text : {A : Type 0} → (A → List ℕ) → List ℕ → Bool → ℕ → List A → List ℕ
+list_text part word behind place [] = []
+list_text part word behind place (x ∷ xs) = lead place behind word ++ (part x ++ list_text part word behind (place + 1) xs)
+
+-- the lines that are printed
+abbrev pub printed_text : Bool → List ℕ → List ℕ
+printed_text behind [] = []
+printed_text behind (byte ∷ bytes) = mark behind ++ codes "prints " ++ quoted_text (byte ∷ bytes)
+
+-- an update
+abbrev pub update_text : Names → ℕ → Vector → List ℕ
+update_text names r v = codes "update of " ++ register_text names r ++ codes " to " ++ value_text v
+
+-- a change of the regions
+abbrev pub region_text : Entry → List ℕ
+region_text entries.ActivateInactive = codes "activates the inactive events"
+region_text entries.ActivateNba = codes "activates the nonblocking updates"
+region_text entries.ActivateMonitor = codes "makes the lines of the monitor region"
+region_text (entries.Advance time) = codes "advances"
+region_text (entries.Turn number) = codes "turn"
+region_text (entries.Update number) = codes "update"
+
+-- the region of an entry, and who does it
+abbrev pub deed_text : Names → Entry → Deed → List ℕ
+deed_text names entry (deeds.Turn p) = codes "active  turn of " ++ process_text names p
+deed_text names entry (deeds.Update r v) = codes "active  " ++ update_text names r v
+deed_text names entry deeds.Regions = region_text entry
+
+-- what is read, changed, assigned and printed
+abbrev pub parts_text : Names → Account → List ℕ
+parts_text names a =
+    list_text (reading_text names) (codes "reads ") false 0 a.reads
+    ++ list_text (change_text names) (codes "writes ") (has_any a.reads) 0 a.changes
+    ++ list_text (assignment_text names) (codes "assigns ") (has_any a.reads || has_any a.changes) 0 a.assigned
+    ++ printed_text (has_any a.reads || has_any a.changes || has_any a.assigned) a.lines
+
+-- the line of an entry: its number, the time, who does it, and what it reads, changes, assigns and prints
+abbrev pub entry_text : Names → ℕ → Entry → Account → List ℕ
+entry_text names number entry a =
+    decimal number ++ codes "  time " ++ decimal a.time ++ codes "  " ++ deed_text names entry a.deed ++ parts_text names a ++ codes "\n"

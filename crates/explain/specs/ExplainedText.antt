@@ -1,0 +1,108 @@
+-- The text of a journal in words.
+use Rattle.std.specs.Prelude.{◌≡◌, ℕ, zero, suc, ◌+◌, ◌&&◌, Bool, true, false, nat_le, List, [], ◌++◌, length, take, slice_get, unwrap_or, Option, Some}
+use Rattle.std.specs.Io.KnownBytes.{Appends}
+use Rattle.model.specs.declared.entry.Entry.{Entry}
+use Rattle.model.specs.Design.{Design}
+use Rattle.model.specs.Runs.{Effect, run}
+use Rattle.design.specs.Compiled.{Compiled, design_of}
+use Rattle.places.specs.SourcePlaces.{AreProcesses}
+use Rattle.replay.specs.declared.fault.ReplayFault.{ReplayFault}
+use Rattle.replay.specs.ReplayBytes.{AreRead}
+use Rattle.replay.specs.JournalFaults.{IsFaultOf}
+use Rattle.explain.specs.declared.telling.Telling.{Telling}
+use Rattle.explain.specs.declared.telling.Window.{Window}
+use Rattle.steps.specs.Accounts.{Account, IsTold}
+use Rattle.explain.specs.EntryLines.{entry_text}
+use Rattle.explain.specs.ExplainedEnd.{IsEndText, refusal_text}
+
+-- the design that is told
+abbrev pub told_design : Telling → Design
+told_design t = design_of t.names.design.now
+
+-- which entries are told: from this one on, to this one or the last that there may be
+abbrev pub window_of : ℕ → Option ℕ → Window
+window_of from to = record { from = from; to = unwrap_or to 18446744073709551615 }
+
+-- whether a window has an entry with this number
+abbrev pub has : Window → ℕ → Bool
+has window number = nat_le window.from number && nat_le number window.to
+
+-- a line, where it is shown
+abbrev pub shown_text : Bool → List ℕ → List ℕ
+shown_text true line = line
+shown_text false line = []
+
+-- the line of an entry, where the window has it
+abbrev pub told_text : Telling → ℕ → Entry → Account → List ℕ
+told_text t number entry a = shown_text (has t.window number) (entry_text t.names number entry a)
+
+-- This is told of the entry at a place of a journal: by what comes of its step behind those before it.
+pub record IsEntryText (t : Telling) (journal : List Entry) (at : ℕ) (text : List ℕ) : Type 0 where
+  pub entry : Entry
+  pub there : slice_get journal at ≡ Some entry
+  pub before : Effect
+  pub is_run : run (told_design t) (take at journal) ≡ Some before
+  pub effect : Effect
+  pub account : Account
+  pub told : IsTold (told_design t) before entry effect account
+  pub text_is : text ≡ told_text t (at + 1) entry account
+
+-- These are the texts of so many entries of a journal, one after another.
+abbrev pub AreEntryTexts : Telling → List Entry → ℕ → List ℕ → Type 0
+AreEntryTexts t journal zero text = text ≡ []
+AreEntryTexts t journal (suc n) text =
+    (old : List ℕ) × (line : List ℕ) × AreEntryTexts t journal n old × IsEntryText t journal n line × (text ≡ old ++ line)
+
+-- A lawful journal was told to its end: what was written grew by the lines of its entries, and by how the run stands.
+pub record TellsAll (t : Telling) (journal : List Entry) (old new : Option (List ℕ)) : Type 0 where
+  pub effect : Effect
+  pub is_run : run (told_design t) journal ≡ Some effect
+  pub lines : List ℕ
+  pub are_lines : AreEntryTexts t journal (length journal) lines
+  pub ending : List ℕ
+  pub is_ending : IsEndText effect.state (length journal) ending
+  pub grown : Appends old new (lines ++ ending)
+
+-- A journal was told up to its fault: what was written grew by the lines of the entries before it, and by why it isn't taken.
+pub record TellsFault (t : Telling) (journal : List Entry) (old new : Option (List ℕ)) (fault : ReplayFault) : Type 0 where
+  pub is_fault : IsFaultOf t.names.design.now journal fault
+  pub before : ℕ
+  pub number_is : fault.entry ≡ before + 1
+  pub effect : Effect
+  pub is_run : run (told_design t) (take before journal) ≡ Some effect
+  pub lines : List ℕ
+  pub are_lines : AreEntryTexts t journal before lines
+  pub grown : Appends old new (lines ++ refusal_text t.names effect.state fault)
+
+-- what is told is of this design, by the processes of its source, and of this window
+pub record IsTelling (source : List ℕ) (code : Compiled) (window : Window) (t : Telling) : Type 0 where
+  pub source_is : t.names.source.now ≡ source
+  pub design_is : t.names.design.now ≡ code
+  pub are_processes : AreProcesses source t.names.processes.now
+  pub window_is : t.window ≡ window
+
+-- so a journal was told to its end
+pub record Explains (source : List ℕ) (code : Compiled) (window : Window) (journal : List Entry) (old new : Option (List ℕ)) : Type 0 where
+  pub telling : Telling
+  pub is_telling : IsTelling source code window telling
+  pub tells : TellsAll telling journal old new
+
+-- so it was told up to its fault
+pub record ExplainsFault (source : List ℕ) (code : Compiled) (window : Window) (journal : List Entry) (old new : Option (List ℕ)) (fault : ReplayFault) : Type 0 where
+  pub telling : Telling
+  pub is_telling : IsTelling source code window telling
+  pub tells : TellsFault telling journal old new fault
+
+-- the journal that was left to read was told to its end, on the design of the source
+pub record ExplainsText (source : List ℕ) (window : Window) (left old new : Option (List ℕ)) : Type 0 where
+  pub design : Compiled
+  pub journal : List Entry
+  pub are_read : AreRead source left design journal
+  pub explains : Explains source design window journal old new
+
+-- the journal that was left to read was told up to its fault, on the design of the source
+pub record ExplainsTextFault (source : List ℕ) (window : Window) (left old new : Option (List ℕ)) (fault : ReplayFault) : Type 0 where
+  pub design : Compiled
+  pub journal : List Entry
+  pub are_read : AreRead source left design journal
+  pub explains : ExplainsFault source design window journal old new fault

@@ -1,0 +1,112 @@
+-- The line on standard error of each fault and of each stop.
+use Rattle.std.specs.Prelude.{ℕ, List, [], codes, decimal, string_bytes}
+use Rattle.telling.specs.FaultLines.{line, shown_path}
+use Rattle.files.specs.declared.fault.FileFault.{FileFault}
+use Rattle.files.specs.declared.fault.FileFault.TheVariants as file
+use Rattle.model.specs.declared.entry.Refusal.{Refusal}
+use Rattle.model.specs.declared.entry.Refusal.TheVariants as refused
+use Rattle.vparse.specs.declared.parser.ParseFault.{ParseFault}
+use Rattle.vparse.specs.declared.parser.ParseFault.TheVariants as parsing
+use Rattle.elaborate.specs.declared.fault.ElabFault.{ElabFault}
+use Rattle.elaborate.specs.declared.fault.ElabFault.TheVariants as elaboration
+use Rattle.frontend.specs.declared.source.SourceFault.{SourceFault}
+use Rattle.frontend.specs.declared.source.SourceFault.TheVariants as source
+use Rattle.workers.specs.declared.fault.SimFault.{SimFault}
+use Rattle.workers.specs.declared.fault.SimFault.TheVariants as simulation
+use Rattle.journal.specs.declared.fault.ReadFault.{ReadFault}
+use Rattle.journal.specs.declared.fault.ReadFault.TheVariants as reading
+use Rattle.replay.specs.declared.fault.Cause.{Cause}
+use Rattle.replay.specs.declared.fault.Cause.TheVariants as cause
+use Rattle.replay.specs.declared.fault.BytesFault.{BytesFault}
+use Rattle.replay.specs.declared.fault.BytesFault.TheVariants as replaying
+use Rattle.program.specs.declared.fault.Fault.{Fault}
+use Rattle.program.specs.declared.fault.Fault.TheVariants as fault
+use Rattle.program.specs.declared.fault.Stop.{Stop}
+use Rattle.program.specs.declared.fault.Stop.TheVariants as stop
+
+-- a text that is no module: bytes are counted from 0 and tokens from 1
+abbrev pub parse_line : ParseFault → List ℕ
+parse_line (parsing.Byte place) = line (codes "P1 byte not allowed at ") (decimal place) []
+parse_line (parsing.Syntax token) = line (codes "P2 syntax at token ") (decimal token) []
+parse_line (parsing.Literal place) = line (codes "P3 literal at ") (decimal place) []
+parse_line (parsing.Deep token) = line (codes "P4 nesting at token ") (decimal token) []
+parse_line (parsing.Unsized token) = line (codes "P5 unsized number at token ") (decimal token) []
+parse_line parsing.Memory = line (codes "P6 memory") [] []
+
+-- a module with a fault
+abbrev pub module_line : ElabFault → List ℕ
+module_line (elaboration.Undeclared name) = line (codes "E1 undeclared ") (string_bytes name) []
+module_line (elaboration.DeclaredTwice name) = line (codes "E2 declared twice ") (string_bytes name) []
+module_line (elaboration.BadRange name) = line (codes "E3 range of ") (string_bytes name) []
+module_line elaboration.TooManyRegisters = line (codes "E4 more than 1024 registers") [] []
+module_line elaboration.TooManyProcesses = line (codes "E5 more than 256 processes") [] []
+module_line elaboration.BadFormat = line (codes "E6 format and arguments") [] []
+module_line elaboration.WideConcat = line (codes "E7 concatenation over 128 bits") [] []
+module_line (elaboration.BadIndex name) = line (codes "E8 bit index of ") (string_bytes name) []
+module_line elaboration.LongDelay = line (codes "E9 delay over 4294967295") [] []
+module_line elaboration.Memory = line (codes "E10 memory") [] []
+
+abbrev pub source_line : SourceFault → List ℕ
+source_line (source.Parse f) = parse_line f
+source_line (source.Elaborate f) = module_line f
+
+-- no memory for the workers, or no worker
+abbrev pub simulate_line : SimFault → List ℕ
+simulate_line simulation.Memory = line (codes "memory") [] []
+simulate_line simulation.NoWorker = line (codes "cannot start worker") [] []
+
+-- a journal that isn't read: lines are counted from 1
+abbrev pub read_line : ReadFault → List ℕ
+read_line reading.Header = line (codes "Q1 journal header") [] []
+read_line (reading.Line number) = line (codes "Q2 journal line ") (decimal number) []
+read_line reading.Cut = line (codes "Q3 journal ends without newline") [] []
+read_line reading.Read = line (codes "Q4 journal read error") [] []
+read_line reading.Memory = line (codes "Q5 memory") [] []
+read_line (reading.Count number) = line (codes "Q6 journal count at line ") (decimal number) []
+read_line reading.Uncounted = line (codes "Q7 journal cut") [] []
+
+-- the rule that an entry breaks (11.4)
+abbrev pub refusal_text : Refusal → List ℕ
+refusal_text refused.NotActive = codes ": J1 event not active"
+refusal_text refused.EarlierUpdate = codes ": J2 earlier update active"
+refusal_text refused.NotDue = codes ": J3 region change not due"
+refusal_text refused.WrongTime = codes ": J4 wrong time"
+refusal_text refused.PastLimit = codes ": J5 time limit"
+refusal_text refused.Finished = codes ": J6 finished"
+
+-- what stands behind the number of an entry that isn't taken
+abbrev pub cause_text : Cause → List ℕ
+cause_text (cause.Refused r) = refusal_text r
+cause_text cause.TooLong = codes ": turn too long"
+cause_text cause.TooMany = codes ": too many entries"
+cause_text cause.ApplyMemory = codes ": memory"
+cause_text cause.Memory = codes ": memory"
+
+-- a replay: entries are counted from 1
+abbrev pub replay_line : BytesFault → List ℕ
+replay_line (replaying.Source f) = source_line f
+replay_line (replaying.Read f) = read_line f
+replay_line (replaying.Replay f) = line (codes "entry ") (decimal f.entry) (cause_text f.cause)
+replay_line replaying.CannotWrite = line (codes "cannot write") [] []
+
+-- a file that isn't read, whose path is shown with its control characters escaped, or a file or output that isn't written
+abbrev pub file_line : FileFault → List ℕ
+file_line (file.CannotRead path) = line (codes "cannot read ") (shown_path path.now) []
+file_line file.CannotWrite = line (codes "cannot write") [] []
+file_line file.Memory = line (codes "memory") [] []
+
+-- the line of a fault
+abbrev pub fault_line : Fault → List ℕ
+fault_line (fault.Files f) = file_line f
+fault_line fault.Memory = line (codes "memory") [] []
+fault_line (fault.Source f) = source_line f
+fault_line (fault.Simulate f) = simulate_line f
+fault_line (fault.Replay f) = replay_line f
+
+-- the line of a stop: processes are counted from 0
+abbrev pub stop_line : Stop → List ℕ
+stop_line stop.Until = line (codes "stopped: until") [] []
+stop_line stop.Entries = line (codes "stopped: entries") [] []
+stop_line (stop.TooLong process) = line (codes "stopped: process ") (decimal process) (codes " too long")
+stop_line stop.Time = line (codes "stopped: time") [] []
+stop_line stop.Memory = line (codes "stopped: memory") [] []

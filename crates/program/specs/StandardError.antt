@@ -1,0 +1,60 @@
+-- What is told on standard error of how a command ended.
+use Rattle.std.specs.Prelude.{◌≡◌, ◌⊎◌, ℕ, List, Option, Some, Result, Ok, Err, codes, string_bytes}
+use Rattle.journal.specs.declared.counted.Counted.{Counted}
+use Rattle.telling.specs.FaultLines.{Tells}
+use Rattle.clap.specs.Words.{Text}
+use Rattle.arguments.specs.CommandWords.{AreWrong, Begins}
+use Rattle.program.specs.declared.ending.Ending.{Ending}
+use Rattle.program.specs.declared.ending.Ending.TheVariants as ending
+use Rattle.program.specs.declared.fault.Fault.{Fault}
+use Rattle.program.specs.declared.fault.Stop.{Stop}
+use Rattle.program.specs.ProgramLines.{fault_line, stop_line}
+use Rattle.program.specs.declared.finding.Finding.TheVariants as finding
+use Rattle.explain.specs.declared.telling.Window.{Window}
+use Rattle.program.specs.Printed.{HasExplainedSome, HasRun, HasSearched, IsLeft}
+use Rattle.program.specs.Program.{status_of, stop_status}
+use Rattle.files.specs.Saved.{Made}
+
+-- nothing of what was done or found, the line of a stop, and all that is said of a source with a fault
+abbrev pub IsEndingTold : {E : Type 0} → (E → Option (List ℕ)) → Counted E → Counted E → Ending → Type 0
+IsEndingTold contents old new ending.Done = new ≡ old
+IsEndingTold contents old new (ending.Stopped s) = Tells contents old new (stop_line s)
+IsEndingTold contents old new (ending.Found f) = new ≡ old
+IsEndingTold contents old new (ending.Wrong text) = Tells contents old new (string_bytes text)
+
+-- so it is of a command that came to its end, and of another the line of its fault
+abbrev pub IsEndTold : {E : Type 0} → (E → Option (List ℕ)) → Counted E → Counted E → Result Ending Fault → Type 0
+IsEndTold contents old new (Ok e) = IsEndingTold contents old new e
+IsEndTold contents old new (Err f) = Tells contents old new (fault_line f)
+
+-- What is told at a status: the line of a fault that has it, or of a stop; at 2 the text of wrong words; at 3, of a check, what is
+-- wrong with a source; and nothing at 0 and 7, and at 4 where a search met a limit.
+pub data IsTold {E : Type 0} (contents : E → Option (List ℕ)) (old new : Counted E) (words : List Text) (status : ℕ) : Type 0 where
+  of_fault : (f : Fault) → status ≡ status_of f → Tells contents old new (fault_line f) → IsTold contents old new words status
+  of_stop : (s : Stop) → status ≡ stop_status s → Tells contents old new (stop_line s) → IsTold contents old new words status
+  of_words : AreWrong words → status ≡ 2 → (text : List ℕ) → Tells contents old new text → IsTold contents old new words status
+  of_source : Begins words (codes "check") → status ≡ 3 → (text : List ℕ) → Tells contents old new text → IsTold contents old new words status
+  nothing : (status ≡ 0) ⊎ ((status ≡ 4) ⊎ (status ≡ 7)) → new ≡ old → IsTold contents old new words status
+
+-- a run was stopped, its stop has this status, and the line of its stop was told
+pub record HasStopped {E : Type 0} (words : List Text) (old new : Option (List ℕ)) (files files' : Option (List Made)) (contents : E → Option (List ℕ)) (err err' : Counted E) (status : ℕ) : Type 0 where
+  pub stop : Stop
+  pub status_is : stop_status stop ≡ status
+  pub has_run : HasRun words old new files files' (Some stop)
+  pub told : Tells contents err err' (stop_line stop)
+
+-- so it is, or a search met a limit and found no second text, and nothing was told
+abbrev pub IsUnfinished : {E : Type 0} → List Text → Option (List ℕ) → Option (List ℕ) → Option (List Made) → Option (List Made) → (E → Option (List ℕ)) → Counted E → Counted E → Type 0
+IsUnfinished words old new files files' contents err err' =
+    HasStopped words old new files files' contents err err' 4 ⊎ (HasSearched words old new files files' finding.Unfinished × (err' ≡ err))
+
+-- a run was stopped for want of memory, and the line of that was told; or a command didn't come so far
+abbrev pub IsWanting : {E : Type 0} → List Text → Option (List ℕ) → Option (List ℕ) → Option (List Made) → Option (List Made) → (E → Option (List ℕ)) → Counted E → Counted E → Type 0
+IsWanting words old new files files' contents err err' =
+    HasStopped words old new files files' contents err err' 6 ⊎ IsLeft words old new files files'
+
+-- no journal was read, or one was told up to its fault, and the line of this very fault was told
+pub record HasExplainedTold {E : Type 0} (window : Window) (old new : Option (List ℕ)) (contents : E → Option (List ℕ)) (err err' : Counted E) : Type 0 where
+  pub fault : Fault
+  pub explained : HasExplainedSome window old new fault
+  pub told : Tells contents err err' (fault_line fault)

@@ -1,0 +1,11 @@
+pub mod Log
+pub mod Marked
+pub mod GateState
+pub mod Guarded
+pub mod Storing
+pub mod SeatMeetings
+pub mod Histories
+pub mod Holding
+pub mod RunState
+pub mod Evaluated
+pub mod Entries

@@ -1,0 +1,96 @@
+-- Where an explainer stands, and what it comes to by an entry.
+use Rattle.std.specs.Prelude.{◌≡◌, ℕ, List, [], ◌∷◌, ◌++◌, length, Option, Some, None}
+use Rattle.logic4.specs.Vector.{Vector}
+use Rattle.model.specs.declared.entry.Entry.{Entry}
+use Rattle.model.specs.declared.entry.Entry.TheVariants as entries
+use Rattle.model.specs.States.{Action, Evaluate, Update, State}
+use Rattle.model.specs.Runs.{Effect, action_in, run, step}
+use Rattle.design.specs.Compiled.{Compiled, design_of}
+use Rattle.turn.specs.Evaluate.{written}
+use Rattle.turn.specs.TurnLogs.{LogView}
+use Rattle.turn.specs.Reads.{AreDeclared}
+use Rattle.regions.specs.StepLogs.{IsLogFor}
+use Rattle.regions.specs.Order.{IsOrdered}
+use Rattle.regions.specs.Machine.{Position, state_at, IsNotTaken}
+use Rattle.steps.specs.declared.cells.Cell.{Cell}
+use Rattle.steps.specs.declared.entry_account.EntryAccount.{EntryAccount}
+use Rattle.steps.specs.declared.fault.StepFault.{StepFault}
+use Rattle.steps.specs.declared.fault.StepFault.TheVariants.{NotTaken, Memory}
+use Rattle.steps.specs.Accounts.{Account, account_of, told_version, changed_from, IsDeedTold, IsTold}
+use Rattle.steps.specs.Cells.{values_at, version_at, reading_in, HasChanged}
+
+-- nothing is told of the entry before any more
+pub record IsCleared (told : EntryAccount) : Type 0 where
+  pub reads : told.reads.items ≡ []
+  pub changes : told.changes.items ≡ []
+  pub assigned : told.assigned.items ≡ []
+
+-- where an explainer stands: its machine, the registers with their versions, and what it tells of the last entry
+pub record Standing : Type 0 where
+  pub position : Position
+  pub cells : List Cell
+  pub account : Account
+
+-- its parts
+abbrev pub standing_of : Position → List Cell → EntryAccount → Standing
+standing_of position cells told = record { position = position; cells = cells; account = account_of told }
+
+-- the events of a state are in order, those of processes that there are, and updates of registers to values of their widths
+abbrev pub IsSoundState : Compiled → State → Type 0
+IsSoundState code s = IsOrdered code.widths (length s.processes) s
+
+-- The machine is one of this design, with sound events, and there is a cell of each register.
+pub record IsKept (code : Compiled) (position : Position) (cells : List Cell) : Type 0 where
+  pub code_is : position.code ≡ code
+  pub registers : length cells ≡ length code.widths
+  pub sound : IsSoundState code (state_at position)
+
+-- An explainer stands behind a lawful journal: its machine has come to the state after it, it knows each value and each
+-- version, and it keeps no line.
+pub record IsBehind (journal : List Entry) (x : Standing) : Type 0 where
+  pub effect : Effect
+  pub is_run : run (design_of x.position.code) journal ≡ Some effect
+  pub state_is : effect.state ≡ state_at x.position
+  pub values : values_at x.cells ≡ effect.state.store
+  pub versions : (r : ℕ) → version_at x.cells r ≡ told_version effect r
+  pub quiet : x.position.lines ≡ []
+
+-- Behind a lawful journal an entry is one step of the rules. It is told, and the explainer stands behind the journal with it.
+pub record IsExplained (journal : List Entry) (entry : Entry) (old new : Standing) : Type 0 where
+  pub before : Effect
+  pub is_run : run (design_of old.position.code) journal ≡ Some before
+  pub effect : Effect
+  pub told : IsTold (design_of old.position.code) before entry effect new.account
+  pub behind : IsBehind (journal ++ entry ∷ []) new
+
+-- why an entry isn't explained: the machine doesn't take it, or memory is refused to what is told
+abbrev pub IsNotExplained : Position → Entry → StepFault → Type 0
+IsNotExplained p entry (NotTaken fault) = IsNotTaken p entry fault
+IsNotExplained p entry Memory = Unit {0}
+
+-- the register and the value of an update
+abbrev pub update_of : Option Action → Option (ℕ × Vector)
+update_of (Some (Update r v)) = Some (r, v)
+update_of _ = None
+
+-- an active evaluation of a process, with the log of its turn
+pub record IsLogged (code : Compiled) (s : State) (number p : ℕ) (log : LogView) : Type 0 where
+  pub action : action_in s.active number ≡ Some (Evaluate p)
+  pub is_log : IsLogFor code s p log
+  pub declared : AreDeclared (length code.widths) log.reads
+
+-- the turn of an event has no step
+abbrev pub HasNoTurn : Compiled → State → ℕ → Type 0
+HasNoTurn code s number = step (design_of code) s (entries.Turn number) ≡ None
+
+-- the process whose turn was logged, or none where the event has no turn
+abbrev pub IsProcessLogged : Compiled → State → ℕ → LogView → Option ℕ → Type 0
+IsProcessLogged code s number log (Some p) = IsLogged code s number p log
+IsProcessLogged code s number log None = HasNoTurn code s number
+
+-- what is noted of an entry before it is taken: who does it, its changes, and the registers after them
+pub record IsNoted (code : Compiled) (s : State) (old : List Cell) (entry : Entry) (effect : Effect) (new : List Cell) (a : Account) : Type 0 where
+  pub deed : IsDeedTold (design_of code) s (reading_in old) entry a
+  pub changes : a.changes ≡ changed_from s.store effect.changes
+  pub changed : HasChanged old effect.changes new
+  pub store : effect.state.store ≡ written s.store effect.changes

@@ -1,0 +1,188 @@
+//! A turn under way.
+ghost use Rattle.std.specs.Prelude.{◌≡◌, ◌++◌, ◌∷◌, [], Some, None, slice_set, OnOk};
+ghost use Rattle.design.specs.ExpressionSteps.{piece};
+ghost use Rattle.turn.specs.Reads.{ReadsOn};
+ghost use Rattle.turn.specs.Evaluate.{NamesDeclared};
+ghost use Rattle.turn.specs.RunningTurn.{status_of, fresh, at, writing, holding, delaying, Valued};
+
+use crate::evaluate::compute;
+use crate::log::Nba;
+use crate::memory::{Memory, RegReader, Seen};
+use crate::stack::Stack;
+use crate::writes::Writes;
+use design::code::{Op, Span};
+use design::{ProcState, RegId};
+use indexmap::IndexMap;
+use logic4::bits::Bits;
+use std::alloc::{AllocError, Global};
+
+/// What a turn knows and has done so far, and the stack of its expressions, which is kept between them.
+#[derive(Drop)]
+pub(crate) struct RunningTurn {
+    pub alloc: Global,
+    pub state: ProcState,
+    pub memory: Memory,
+    pub writes: Writes,
+    pub nbas: Vec<Nba>,
+    pub lines: String,
+    pub strobes: Vec<usize>,
+    pub stack: Stack,
+}
+
+// The part of a list where it isn't there. It stands apart so that the part is found by tests, and not put together by them.
+#[inline(never)]
+fn no_part<T>(list: &[T]) -> &[T]
+    ensures { result.now ≡ [] }
+{
+    &list[0..0]
+}
+
+/// The part of a list, or none where it isn't there.
+pub(crate) fn part<T>(list: &[T], span: Span) -> &[T]
+    ensures { result.now ≡ piece list.entry.now span }
+{
+    if span.from <= span.to && span.to <= list.len() {
+        &list[span.from..span.to]
+    } else {
+        no_part(list)
+    }
+}
+
+// Knows the value that is written to a register, and lists the write.
+#[inline(always)]
+fn note_write(
+    memory: &mut Memory,
+    writes: &mut Writes,
+    register: RegId,
+    value: &Bits,
+) -> Result<(), AllocError>
+    ensures known { OnOk result (memory.new.known ≡ slice_set memory.old.known register (Some value.now)) }
+    ensures reads { memory.new.reads ≡ memory.old.reads }
+    ensures writes { OnOk result (writes.new ≡ writes.old ++ (register, value.now) ∷ []) }
+{
+    memory.set(register, value);
+    writes.push(register, value)
+}
+
+// Nothing is left over. Mostly nothing was, and then nothing is written.
+#[inline(always)]
+fn forget(pending: &mut Option<(RegId, Bits)>)
+    ensures { pending.new ≡ None }
+{
+    if pending.is_some() {
+        *pending = None;
+    }
+}
+
+impl RunningTurn {
+    /// Room that grows with the first turn.
+    pub fn new(alloc: Global) -> Self {
+        RunningTurn {
+            alloc,
+            state: ProcState {
+                place: 0,
+                pending: None,
+            },
+            memory: Memory::new(alloc),
+            writes: Writes::new(alloc),
+            nbas: Vec::new(alloc),
+            lines: String::new(alloc),
+            strobes: Vec::new(alloc),
+            stack: Stack::new(alloc),
+        }
+    }
+
+    /// The reads alone.
+    pub fn into_reads(self) -> IndexMap<RegId, Seen>
+        ensures { result ≡ self.memory.reads }
+    {
+        let RunningTurn { memory, .. } = self;
+        let Memory { reads, .. } = memory;
+        reads
+    }
+
+    /// A turn begins, over this many registers. What the room held counts for nothing.
+    pub fn begin(&mut self, state: ProcState, registers: u32) -> Result<(), AllocError>
+        ensures { OnOk result (status_of self.new ≡ fresh state registers) }
+    {
+        self.state = state;
+        self.memory.begin(registers)?;
+        self.writes.clear();
+        self.nbas.clear();
+        self.lines.clear();
+        self.strobes.clear();
+        self.stack.rest.clear();
+        Ok(())
+    }
+
+    /// The process goes on at this place.
+    pub fn go(&mut self, next: usize)
+        ensures { status_of self.new ≡ at (status_of self.old) next }
+    {
+        self.state.place = next;
+        forget(&mut self.state.pending);
+    }
+
+    /// Writes a register, which the rest of the turn sees. It stands apart, since few writes are left over by an earlier turn.
+    #[inline(never)]
+    pub fn write(&mut self, register: RegId, value: Bits, next: usize) -> Result<(), AllocError>
+        ensures { OnOk result (status_of self.new ≡ writing (status_of self.old) register value next) }
+    {
+        note_write(&mut self.memory, &mut self.writes, register, &value)?;
+        self.go(next);
+        Ok(())
+    }
+
+    /// Writes the topmost vector of the stack to a register.
+    #[inline(always)]
+    pub fn write_top(&mut self, register: RegId, next: usize) -> Result<(), AllocError>
+        ensures { OnOk result (status_of self.new ≡ writing (status_of self.old) register self.old.stack.top next) }
+    {
+        note_write(
+            &mut self.memory,
+            &mut self.writes,
+            register,
+            &self.stack.top,
+        )?;
+        self.go(next);
+        Ok(())
+    }
+
+    /// Leaves an assignment over for after the wait (9.7.7).
+    pub fn hold(&mut self, register: RegId, value: Bits, next: usize)
+        ensures { status_of self.new ≡ holding (status_of self.old) register value next }
+    {
+        self.state = ProcState {
+            place: next,
+            pending: Some((register, value)),
+        };
+    }
+
+    /// Makes a nonblocking assignment of the topmost vector of the stack, which is due at this time (9.2.2).
+    pub fn assign_later(&mut self, register: RegId, due: u64, next: usize) -> Result<(), AllocError>
+        ensures { OnOk result (status_of self.new ≡ delaying (status_of self.old) (record { reg = register; value = self.old.stack.top; due = due }) next) }
+    {
+        let nba = Nba {
+            reg: register,
+            value: self.stack.top,
+            due,
+        };
+        self.nbas.push(nba)?;
+        self.go(next);
+        Ok(())
+    }
+
+    /// The steps of an expression, which are this part. Its value is then the topmost vector of the stack.
+    pub fn compute<R: RegReader>(
+        &mut self,
+        ops: &[Op],
+        span: Span,
+        reader: &mut R,
+    ) -> Result<(), AllocError>
+        requires { NamesDeclared R.registers ops.now }
+        ensures value { OnOk result (Valued (piece ops.now span) (status_of self.old) self.new.stack.top (status_of self.new)) }
+        ensures reads { ReadsOn R.gave R.lasting result reader.old self.old.memory.reads.entries reader.new self.new.memory.reads.entries }
+    {
+        compute(part(ops, span), &mut self.memory, reader, &mut self.stack)
+    }
+}
