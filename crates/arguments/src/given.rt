@@ -24,8 +24,6 @@ const DEFAULT_MAX_TEXTS: u32 = 8;
 
 const DEFAULT_SEED: u64 = 0;
 
-const FIRST_ENTRY: u32 = 1;
-
 pub fn run_request<'a>(matches: &ArgMatches<'a>) -> RunRequest<'a>
     requires given { GivesRun (found_of matches.now) }
     requires one_order { has_two_orders (rows_of (found_of matches.now)) ≡ false }
@@ -43,10 +41,9 @@ pub fn replay_request<'a>(matches: &ArgMatches<'a>) -> ReplayRequest<'a>
     requires { GivesReplay (found_of matches.now) }
     ensures { IsReplayOf (rows_of (found_of matches.now)) result }
 {
-    ReplayRequest {
-        file: matches.get_str("FILE").unwrap(),
-        journal: matches.get_str("JOURNAL").unwrap(),
-    }
+    let file = matches.get_str("FILE").unwrap();
+    let journal = matches.get_str("JOURNAL").unwrap();
+    ReplayRequest { file, journal }
 }
 
 pub fn races_request<'a>(matches: &ArgMatches<'a>) -> RacesRequest<'a>
@@ -69,6 +66,9 @@ pub fn check_request<'a>(matches: &ArgMatches<'a>) -> CheckRequest<'a>
     }
 }
 
+/// Where a journal is told from its begin.
+const FIRST_ENTRY: u32 = 1;
+
 pub fn explain_request<'a>(matches: &ArgMatches<'a>) -> ExplainRequest<'a>
     requires { GivesExplain (found_of matches.now) }
     ensures { IsExplainOf (rows_of (found_of matches.now)) result }
@@ -85,11 +85,10 @@ pub fn waves_request<'a>(matches: &ArgMatches<'a>) -> WavesRequest<'a>
     requires { GivesWaves (found_of matches.now) }
     ensures { IsWavesOf (rows_of (found_of matches.now)) result }
 {
-    WavesRequest {
-        file: matches.get_str("FILE").unwrap(),
-        journal: matches.get_str("JOURNAL").unwrap(),
-        out: matches.get_str("out").unwrap(),
-    }
+    let file = matches.get_str("FILE").unwrap();
+    let journal = matches.get_str("JOURNAL").unwrap();
+    let out = matches.get_str("out").unwrap();
+    WavesRequest { file, journal, out }
 }
 
 /// Whether both a seed and a number of workers are given.
@@ -123,8 +122,8 @@ fn options(matches: &ArgMatches<'_>) -> Options
 
 fn extent(matches: &ArgMatches<'_>) -> Extent
     requires { GivesRaces (found_of matches.now) }
-    ensures fit { CanSearch result }
     ensures given { result ≡ extent_of (rows_of (found_of matches.now)) }
+    ensures fit { CanSearch result }
 {
     Extent {
         until: given_until(matches),

@@ -17,16 +17,6 @@ const MAX_TEXTS: &str = "Most different texts that are shown, 1 to 4294967295 [d
 
 const SAMPLES: &str = "Tries N random lawful orders in place of the search, 1 to 4294967295";
 
-const FROM: &str = "First entry that is told, 1 to 4294967295 [default: 1]";
-
-const TO: &str = "Last entry that is told, 1 to 4294967295 [default: the last]";
-
-const JOURNAL_TO: &str = "Where to write the journal";
-
-const JOURNALS_TO: &str = "Where to write a journal of each text: PREFIX.1.journal, ..";
-
-const OUT: &str = "Where to write the value change dump";
-
 /// A word or an option of a command.
 #[derive(Clone, Copy)]
 pub enum Parameter {
@@ -80,6 +70,16 @@ pub fn parameters(task: Task) -> &'static [Parameter]
         Task::Waves => &[Parameter::File, Parameter::Journal, Parameter::Out],
     }
 }
+
+const FROM: &str = "First entry that is told, 1 to 4294967295 [default: 1]";
+
+const TO: &str = "Last entry that is told, 1 to 4294967295 [default: the last]";
+
+const JOURNAL_TO: &str = "Where to write the journal";
+
+const JOURNALS_TO: &str = "Where to write a journal of each text: PREFIX.1.journal, ..";
+
+const OUT: &str = "Where to write the value change dump";
 
 /// The word or option as `clap` knows it.
 pub fn argument<'a>(alloc: Global, parameter: Parameter) -> Arg<'a>

@@ -16,14 +16,14 @@ use design::{Design, RegId, Trigger};
 use model::tree::Change;
 use std::alloc::{AllocError, Global};
 
-/// The logic of a combinational process: the place at which it goes on behind its wait, the number of the event control by which it
-/// waits, the registers that it waits for, and those that it gives values.
+/// The logic of a combinational process: the registers that it waits for, those that it gives values, the number of the event control by
+/// which it waits, and the place at which it goes on behind its wait.
 #[derive(Drop)]
 pub struct Logic {
-    pub place: usize,
-    pub control: usize,
     pub inputs: Vec<RegId>,
     pub outputs: Vec<RegId>,
+    pub control: usize,
+    pub place: usize,
 }
 
 /// Whether a register is among these.
@@ -170,9 +170,9 @@ pub(crate) fn logic_of(
         return Ok(None);
     }
     Ok(Some(Logic {
-        place,
-        control,
         inputs,
         outputs,
+        control,
+        place,
     }))
 }

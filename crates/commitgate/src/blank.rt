@@ -1,8 +1,7 @@
 //! A gate before it has a name, and its opening.
-ghost use Rattle.std.specs.Prelude.{◌≡◌, ℕ, ◌+◌, ◌<◌, ◌≤◌, ◌^◌, [], map, length, replicate, IfOk, IfSome};
 ghost use Rattle.std.specs.List.{range_with_len};
+ghost use Rattle.std.specs.Prelude.{◌≡◌, ℕ, ◌+◌, ◌<◌, ◌≤◌, ◌^◌, [], map, length, replicate, IfOk, IfSome};
 ghost use Rattle.crossbeam_utils.specs.Seq.{cell_view};
-ghost use Rattle.model.specs.Runs.{last_time};
 ghost use Rattle.model.specs.States.{start};
 ghost use Rattle.design.specs.Compiled.{design_of};
 ghost use Rattle.design.specs.DesignInvariant.{IsStateOf};
@@ -58,6 +57,8 @@ impl<'d> Model for Blank<'d> {
 }
 
 impl<'d> Gate<'d, Brand> {
+    ghost use Rattle.model.specs.Runs.{last_time};
+
     /// A gate without a name, for a design, with so many workers, 1 to 16, and with limits, whose last time is at most
     /// 2 to the 48.
     pub fn new<R: Wait>(

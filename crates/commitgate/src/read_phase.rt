@@ -23,12 +23,6 @@ pub trait Seating {
     ghost seat: { SeatView };
 }
 
-impl Seating for Brand {
-    ghost use Rattle.commitgate.specs.Nobody.{nobody};
-
-    ghost seat = { nobody };
-}
-
 /// Is told of the reads of an evaluation.
 pub trait ReadWatch {
     /// The evaluation is about to read a register.
@@ -41,6 +35,12 @@ pub struct Unwatched;
 
 impl ReadWatch for Unwatched {
     fn reads(&self, _register: RegId) {}
+}
+
+impl Seating for Brand {
+    ghost use Rattle.commitgate.specs.Nobody.{nobody};
+
+    ghost seat = { nobody };
 }
 
 /// What a turn is evaluated with: a gate, its design, and who is told of the reads.
@@ -101,12 +101,14 @@ impl<'g, K: Naming, S: Seating, W: ReadWatch, R: Wait> WatchedReader<'g, K, S, W
 }
 
 impl<'g, K: Naming, S: Seating, W: ReadWatch, R: Wait> RegReader for WatchedReader<'g, K, S, W, R> {
-    ghost use Rattle.std.specs.Prelude.{ℕ, length};
+    ghost use Rattle.std.specs.Prelude.{length};
     ghost use Rattle.runstate.specs.Histories.{IsRead};
 
     ghost registers = { length K.named.code.widths };
 
     ghost gave = { λ s r seen. IsRead K.named.code s.1.fresh r seen };
+
+    ghost use Rattle.std.specs.Prelude.{ℕ};
 
     ghost Lasting = { ℕ };
 

@@ -19,6 +19,7 @@
 #![tactic(auto)]
 
 mod conflicts;
+mod counts;
 mod exchange;
 mod follow;
 mod moves;

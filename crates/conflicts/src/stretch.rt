@@ -1,6 +1,7 @@
 //! What the entries between two changes of the regions did, and which of them conflict.
 
 use crate::conflicts::{Conflict, Conflicts};
+use crate::counts::Counts;
 use deeds::{Does, Pair, Role, Site};
 use design::RegId;
 use logic4::bits::Bits;
@@ -72,6 +73,11 @@ pub(crate) struct Stretch {
     steps: Vec<Step>,
     accesses: Vec<Access>,
     assigns: Vec<Assign>,
+    /// How many turns each process had, how many accesses each site, and how many assignments each register. Where there is just one, no
+    /// other is looked for.
+    turns_by: Counts,
+    accesses_to: Counts,
+    assigns_to: Counts,
     /// Whether there were too many to look at, or memory was refused to a note of them.
     is_cut: bool,
 }
@@ -85,6 +91,9 @@ impl Stretch {
             steps: Vec::new(alloc),
             accesses: Vec::new(alloc),
             assigns: Vec::new(alloc),
+            turns_by: Counts::new(alloc),
+            accesses_to: Counts::new(alloc),
+            assigns_to: Counts::new(alloc),
             is_cut: false,
         }
     }
@@ -96,7 +105,39 @@ impl Stretch {
         self.steps.clear();
         self.accesses.clear();
         self.assigns.clear();
+        self.turns_by.clear();
+        self.accesses_to.clear();
+        self.assigns_to.clear();
         self.is_cut = false;
+    }
+
+    // The last step that keeps its order with one of this actor in every run, if there is one.
+    fn last_ordered(&self, actor: Actor) -> Option<usize> {
+        match actor {
+            Actor::Turn(process) if self.turns_by.of(process as usize) == 0 => None,
+            _ => self.steps.iter().rposition(|s| s.actor.is_ordered(actor)),
+        }
+    }
+
+    // Counts the turns of each process.
+    fn count_turn(&mut self, actor: Actor) -> Result<(), AllocError> {
+        match actor {
+            Actor::Turn(process) => self.turns_by.add(process as usize),
+            Actor::Update(_) => Ok(()),
+        }
+    }
+
+    /// One more entry, whose event the entry at this place of the journal made.
+    pub(crate) fn step(&mut self, actor: Actor, maker: Option<usize>) {
+        let cause = maker.and_then(|place| place.checked_sub(self.begin));
+        let before = self.last_ordered(actor);
+        let step = Step {
+            actor,
+            cause,
+            before,
+        };
+        self.is_cut = self.is_cut | self.steps.push(step).is_err();
+        self.is_cut = self.is_cut | self.count_turn(actor).is_err();
     }
 
     /// Whether there is no room for one more entry. Then there is none until the next change of the regions.
@@ -105,18 +146,6 @@ impl Stretch {
             self.is_cut = true;
         }
         self.is_cut
-    }
-
-    /// One more entry, whose event the entry at this place of the journal made.
-    pub(crate) fn step(&mut self, actor: Actor, maker: Option<usize>) {
-        let cause = maker.and_then(|place| place.checked_sub(self.begin));
-        let before = self.steps.iter().rposition(|s| s.actor.is_ordered(actor));
-        let step = Step {
-            actor,
-            cause,
-            before,
-        };
-        self.is_cut = self.is_cut | self.steps.push(step).is_err();
     }
 
     /// What the last entry does at a site.
@@ -131,6 +160,7 @@ impl Stretch {
             changes,
         };
         self.is_cut = self.is_cut | self.accesses.push(access).is_err();
+        self.is_cut = self.is_cut | self.accesses_to.add(number_of(site)).is_err();
     }
 
     /// A nonblocking assignment of the last entry.
@@ -139,7 +169,9 @@ impl Stretch {
             return;
         }
         let step = self.steps.len().saturating_sub(1);
-        self.assigns.retain(|a| a.step != step || a.register != register || a.due != due);
+        if self.assigns_to.of(register as usize) > 0 {
+            self.assigns.retain(|a| a.step != step || a.register != register || a.due != due);
+        }
         let assign = Assign {
             step,
             register,
@@ -147,6 +179,7 @@ impl Stretch {
             due,
         };
         self.is_cut = self.is_cut | self.assigns.push(assign).is_err();
+        self.is_cut = self.is_cut | self.assigns_to.add(register as usize).is_err();
     }
 
     // The role of a step.
@@ -239,13 +272,24 @@ impl Stretch {
     pub(crate) fn find_conflicts(&self, conflicts: &mut Conflicts) {
         conflicts.complete = conflicts.complete & !self.is_cut;
         for one in self.accesses.iter() {
-            if one.changes {
+            if one.changes && self.accesses_to.of(number_of(one.site)) > 1 {
                 self.conflicts_of(conflicts, *one);
             }
         }
         for one in self.assigns.iter() {
-            self.conflicts_by(conflicts, *one);
+            if self.assigns_to.of(one.register as usize) > 1 {
+                self.conflicts_by(conflicts, *one);
+            }
         }
+    }
+}
+
+// The number of a site, by which its accesses are counted.
+fn number_of(site: Site) -> usize {
+    match site {
+        Site::Register(register) => (register as usize).saturating_add(2),
+        Site::Printing => 0,
+        Site::Strobing => 1,
     }
 }
 

@@ -217,27 +217,15 @@ impl Watch {
 }
 
 // The first entry that may be next.
-fn first_entry(alloc: Global, machine: &Machine<'_>) -> Option<Entry>
+fn first_entry(machine: &Machine<'_>) -> Option<Entry>
     ensures { IfSome result (λ entry. refusal (state_at machine.now) entry ≡ None) }
 {
-    let next = match machine.next_entries(alloc) {
-        Ok(next) => next,
-        Err(_) => return None,
-    };
-    match next.first() {
-        Some(first) => Some(*first),
-        None => None,
-    }
+    let choices = machine.choices();
+    choices.get(0)
 }
 
 // Takes the first entry that may be next, or else answers how the run ends here.
-fn watch_entry(
-    alloc: Global,
-    design: &Design,
-    run: &mut Run<'_>,
-    limits: Limits,
-    watch: &mut Watch,
-) -> Option<End>
+fn watch_entry(design: &Design, run: &mut Run<'_>, limits: Limits, watch: &mut Watch) -> Option<End>
     requires until { HasTimeLimit limits }
     requires come { HasComeTo limits run.old.journal.items run.old.machine }
     requires code { run.old.machine.code ≡ design.now }
@@ -248,7 +236,7 @@ fn watch_entry(
     if let Some(end) = run.end(limits) {
         return Some(end);
     }
-    let entry = match first_entry(alloc, &run.machine) {
+    let entry = match first_entry(&run.machine) {
         Some(entry) => entry,
         None => return Some(End::Stopped(Why::Memory)),
     };
@@ -279,7 +267,7 @@ pub(crate) fn watch_run<P: Progress>(
     ensures { IsRun design.now limits result }
 {
     for _ in 0..limits.max_entries {
-        if let Some(end) = watch_entry(alloc, design, run, limits, watch) {
+        if let Some(end) = watch_entry(design, run, limits, watch) {
             return run.told(alloc, limits, end);
         }
         tell_entries(progress, run.journal.len() as u64, run.machine.time());

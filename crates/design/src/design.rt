@@ -1,9 +1,9 @@
 //! Designs.
 ghost use Rattle.std.specs.Prelude.{◌≡◌, ◌<◌, ◌≤◌, length, map, string_bytes, Some, slice_get, slice_index, IfOk};
 ghost use Rattle.std.specs.List.{All};
-ghost use Rattle.logic4.specs.Vector.{AreWithin, greatest_width};
 ghost use Rattle.model.specs.Turns.{whole};
 ghost use Rattle.design.specs.DesignTrees.{tree_design};
+ghost use Rattle.logic4.specs.Vector.{AreWithin, greatest_width};
 ghost use Rattle.design.specs.Sound.{IsSound};
 ghost use Rattle.design.specs.Compiled.{design_of};
 ghost use Rattle.design.specs.Meaning.{IsCompiled};

@@ -8,9 +8,9 @@ ghost use Rattle.design.specs.DesignTrees.{expression_of, statement_of, statemen
 ghost use Rattle.design.specs.Generate.{own_code, assigned_code};
 ghost use Rattle.design.specs.Extents.{AreMeasured, AreMeasuredInside, extent_of};
 ghost use Rattle.design.specs.Emit.{with_node, with_control, with_valued, with_statement, with_all, first_of, next_of};
-ghost use Rattle.design.specs.Emitter.{emitted_of};
+ghost use Rattle.design.specs.Emitter.{emitted_of, assign_node};
 
-use crate::code::{Node, Op, Shown};
+use crate::code::{Node, Op, Shown, Span};
 use crate::control::{Control, RegId, Trigger};
 use crate::extents::Extent;
 use crate::tree::{Expression, Statement};
@@ -40,6 +40,39 @@ fn next_of(table: &[Extent], place: usize, statements: &[Statement], after: usiz
     ensures { result ≡ next_of place (statements_of statements.now) after }
 {
     first_of(table[place].whole, &statements[1..], after)
+}
+
+// How the value of an assignment comes into its register: at once (9.2.1), after a wait (9.7.7), or by an update event (9.2.2).
+#[derive(Clone, Copy)]
+pub(crate) enum Manner {
+    AtOnce,
+    After(u32),
+    Later(u32),
+}
+
+// The node of an assignment.
+fn assign_node(manner: Manner, register: RegId, value: Span, next: usize) -> Node
+    ensures { result ≡ assign_node manner register value next }
+{
+    match manner {
+        Manner::AtOnce => Node::Assign {
+            register,
+            value,
+            next,
+        },
+        Manner::After(delay) => Node::AssignAfter {
+            register,
+            delay,
+            value,
+            next,
+        },
+        Manner::Later(delay) => Node::AssignLater {
+            register,
+            delay,
+            value,
+            next,
+        },
+    }
 }
 
 // A choice between two bodies, as a statement has it (9.4).
@@ -143,71 +176,23 @@ impl Emitter {
         self.test(widths, choice.condition, taken, missed)
     }
 
+    // The node of an assignment, with the steps of its right side.
     fn assign(
         &mut self,
         widths: &[u32],
         register: RegId,
+        manner: Manner,
         value: &Expression,
         next: usize,
     ) -> Result<(), AllocError>
         requires declared { register < length widths.now }
         requires sound { IsSoundExpression widths.now (expression_of value.now) }
         requires widths { AreWidths widths.now }
-        ensures node { OnOk result (emitted_of self.new ≡ with_valued (emitted_of self.old) (assigned_code widths.now register (expression_of value.now)) (λ s. node.Assign register s next)) }
+        ensures node { OnOk result (emitted_of self.new ≡ with_valued (emitted_of self.old) (assigned_code widths.now register (expression_of value.now)) (λ s. assign_node manner register s next)) }
         ensures length { OnOk result (length self.new.nodes.items ≡ length self.old.nodes.items + 1) }
     {
         let value = self.assigned(widths, register, value)?;
-        self.put(Node::Assign {
-            register,
-            value,
-            next,
-        })
-    }
-
-    fn assign_after(
-        &mut self,
-        widths: &[u32],
-        register: RegId,
-        delay: u32,
-        value: &Expression,
-        next: usize,
-    ) -> Result<(), AllocError>
-        requires declared { register < length widths.now }
-        requires sound { IsSoundExpression widths.now (expression_of value.now) }
-        requires widths { AreWidths widths.now }
-        ensures node { OnOk result (emitted_of self.new ≡ with_valued (emitted_of self.old) (assigned_code widths.now register (expression_of value.now)) (λ s. node.AssignAfter register delay s next)) }
-        ensures length { OnOk result (length self.new.nodes.items ≡ length self.old.nodes.items + 1) }
-    {
-        let value = self.assigned(widths, register, value)?;
-        self.put(Node::AssignAfter {
-            register,
-            delay,
-            value,
-            next,
-        })
-    }
-
-    fn assign_later(
-        &mut self,
-        widths: &[u32],
-        register: RegId,
-        delay: u32,
-        value: &Expression,
-        next: usize,
-    ) -> Result<(), AllocError>
-        requires declared { register < length widths.now }
-        requires sound { IsSoundExpression widths.now (expression_of value.now) }
-        requires widths { AreWidths widths.now }
-        ensures node { OnOk result (emitted_of self.new ≡ with_valued (emitted_of self.old) (assigned_code widths.now register (expression_of value.now)) (λ s. node.AssignLater register delay s next)) }
-        ensures length { OnOk result (length self.new.nodes.items ≡ length self.old.nodes.items + 1) }
-    {
-        let value = self.assigned(widths, register, value)?;
-        self.put(Node::AssignLater {
-            register,
-            delay,
-            value,
-            next,
-        })
+        self.put(assign_node(manner, register, value, next))
     }
 
     // A statement and those inside it, which lead to the next place.
@@ -228,12 +213,14 @@ impl Emitter {
     {
         match statement {
             Statement::Empty => self.put(Node::Skip { next }),
-            Statement::Assign(register, value) => self.assign(widths, *register, value, next),
+            Statement::Assign(register, value) => {
+                self.assign(widths, *register, Manner::AtOnce, value, next)
+            }
             Statement::AssignAfter(register, delay, value) => {
-                self.assign_after(widths, *register, *delay, value, next)
+                self.assign(widths, *register, Manner::After(*delay), value, next)
             }
             Statement::AssignLater(register, delay, value) => {
-                self.assign_later(widths, *register, *delay, value, next)
+                self.assign(widths, *register, Manner::Later(*delay), value, next)
             }
             Statement::Delay(delay, body) => {
                 self.delay(*delay, body, next)?;

@@ -83,8 +83,7 @@ pub fn left_size(operator: BinaryOperator, asked: Size, left: Size, right: Size)
     ensures { result ≡ size.left_size (sizing_of operator) asked left right }
 {
     match sizing_of(operator) {
-        Sizing::BothAsked => asked,
-        Sizing::LeftAsked => asked,
+        Sizing::BothAsked | Sizing::LeftAsked => asked,
         Sizing::Greatest => greater(left, right),
         Sizing::EachOwn => left,
     }

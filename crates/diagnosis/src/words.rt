@@ -158,7 +158,7 @@ fn advice_in_table(text: &[u8]) -> Option<Advice>
 {
     let mut left = WORDS;
     while let [(word, advice), rest @ ..] = left {
-        if text == *word {
+        if is_same(text, word) {
             return Some(*advice);
         }
         left = rest;

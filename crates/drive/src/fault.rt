@@ -1,4 +1,6 @@
 //! Why a journal wasn't driven to its end.
+ghost use Rattle.std.specs.Prelude.{◌≡◌};
+ghost use Rattle.drive.specs.declared.fault.DriveFault.TheVariants.{Memory};
 
 use std::alloc::{AllocError, AllocFailed};
 use thiserror::Error;
@@ -13,9 +15,6 @@ pub enum DriveFault {
 }
 
 impl From<AllocError> for DriveFault {
-    ghost use Rattle.std.specs.Prelude.{◌≡◌};
-    ghost use Rattle.drive.specs.declared.fault.DriveFault.TheVariants.{Memory};
-
     ghost from_gives = { λ _ e. e ≡ Memory };
 
     fn from(_: AllocError) -> Self {
@@ -24,9 +23,6 @@ impl From<AllocError> for DriveFault {
 }
 
 impl<T: Drop> From<AllocFailed<T>> for DriveFault {
-    ghost use Rattle.std.specs.Prelude.{◌≡◌};
-    ghost use Rattle.drive.specs.declared.fault.DriveFault.TheVariants.{Memory};
-
     ghost from_gives = { λ _ e. e ≡ Memory };
 
     fn from(_: AllocFailed<T>) -> Self {

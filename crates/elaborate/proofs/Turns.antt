@@ -1,5 +1,7 @@
 -- What one turn of a loop does.
-use Rattle.std.proofs.Common.{◌≡◌, ℕ, suc, ◌+◌, ◌<◌, ◌≤◌, List, ◌∷◌, ◌++◌, map, length, get_or, drop, sym, ap, subst, ◌∙◌, add-one, append-nil, append_assoc, Option, Some, None, string_bytes, drop-cons}
+use Rattle.std.proofs.Common.{◌≡◌, ℕ, suc, ◌+◌, ◌<◌, ◌≤◌, List, [], ◌∷◌, ◌++◌, map, length, get_or, drop, sym, ap, subst, ◌∙◌, add-one, append-nil, append_assoc, Option, Some, None, string_bytes, drop-cons, refl, arith}
+use Rattle.std.specs.declared.vec.IntoIter.{IntoIter}
+use Rattle.std.specs.Vec.Iter.{into_iter_items, into_iter_len}
 use Rattle.std.proofs.lemmas.List.{drop_all}
 use Rattle.model.specs.Design.{Statements}
 use Rattle.model.specs.Elaboration as model
@@ -22,20 +24,39 @@ use Rattle.elaborate.proofs.Bodies.{followed_by_assoc, followed_by_end, resolved
 next_of : {A : Type 0} (xs : List A) (i : ℕ) (x : A) → i < length xs → x ≡ get_or xs i x → drop i xs ≡ x ∷ drop (i + 1) xs
 next_of xs i x h e = rw add-one (drop-cons xs i x h ∙ ap (λ y. y ∷ drop (suc i) xs) (sym e))
 
+module _ (ds : List Declared) (whole into : Statements) where
+  -- one statement of those that are left, and the others
+  pub one_left : (s : statement.Statement) (next : Statements) (left rest : List statement.Statement) → left ≡ s ∷ rest
+      → next ≡ followed_by into (model.statements_of ds (statement_of s))
+      → followed_by into (block_of ds (statements (map statement_of left))) ≡ whole
+      → followed_by next (block_of ds (statements (map statement_of rest))) ≡ whole
+  one_left s next left rest e n inv =
+      ap (λ a. followed_by a (block_of ds (statements (map statement_of rest)))) n
+      ∙ followed_by_assoc into (model.statements_of ds (statement_of s)) (block_of ds (statements (map statement_of rest)))
+      ∙ ap (λ xs. followed_by into (block_of ds (statements (map statement_of xs)))) (sym e)
+      ∙ inv
+
+  pub none_left : (left : List statement.Statement) → left ≡ [] → followed_by into (block_of ds (statements (map statement_of left))) ≡ whole → into ≡ whole
+  none_left left e inv =
+      sym (followed_by_end into) ∙ ap (λ xs. followed_by into (block_of ds (statements (map statement_of xs)))) (sym e) ∙ inv
+
 module _ (ds : List Declared) (body : List statement.Statement) (i : ℕ) (whole into : Statements) where
   pub one_statement : (s : statement.Statement) (next : Statements) → i < length body → s ≡ get_or body i s
       → next ≡ followed_by into (model.statements_of ds (statement_of s))
       → followed_by into (block_of ds (statements (map statement_of (drop i body)))) ≡ whole
       → followed_by next (block_of ds (statements (map statement_of (drop (i + 1) body)))) ≡ whole
-  one_statement s next h e n inv =
-      ap (λ a. followed_by a (block_of ds (statements (map statement_of (drop (i + 1) body))))) n
-      ∙ followed_by_assoc into (model.statements_of ds (statement_of s)) (block_of ds (statements (map statement_of (drop (i + 1) body))))
-      ∙ ap (λ xs. followed_by into (block_of ds (statements (map statement_of xs)))) (sym (next_of body i s h e))
-      ∙ inv
+  one_statement s next h e n inv = one_left ds whole into s next (drop i body) (drop (i + 1) body) (next_of body i s h e) n inv
 
   pub last_statement : length body ≤ i → followed_by into (block_of ds (statements (map statement_of (drop i body)))) ≡ whole → into ≡ whole
-  last_statement h inv =
-      sym (followed_by_end into) ∙ ap (λ xs. followed_by into (block_of ds (statements (map statement_of xs)))) (sym (drop_all i body h)) ∙ inv
+  last_statement h inv = none_left ds whole into (drop i body) (drop_all i body h) inv
+
+-- an iterator of no length has nothing left
+pub no_items : {X Z : Type 0} (it : IntoIter X Z) → into_iter_len it ≡ 0 → into_iter_items it ≡ []
+no_items it e = nothing (into_iter_items it) (omega (arith, e, it.rest.ok.0))
+  where
+    nothing : {Y : Type 0} (xs : List Y) → length xs ≡ 0 → xs ≡ []
+    nothing [] h = refl
+    nothing (x ∷ xs) h = absurd (omega (arith, h))
 
 -- what holds of statements from a place on holds of the first and of the others
 pub others_small : (body : List statement.Statement) (i : ℕ) (s : statement.Statement) → i < length body → s ≡ get_or body i s

@@ -38,13 +38,12 @@ module _ (m : Module) where
     pub small_processes : AreSmallProcesses m.processes
     small_processes = small_module m none clean
 
-    -- the design of the definitions, from what the program holds
-    pub same_design : (processes : List Process) → processes ≡ map (process_of names) m.processes
-        → ◌≡◌ {A = Design} (record { widths = widths_of names; processes = processes }) (design_of m)
-    same_design processes e =
-        let p : processes ≡ map (process_of (declared m)) m.processes = e ∙ ap (λ ds. map (process_of ds) m.processes) same in
-        λ j. record { widths = widths_of (same j); processes = p j }
+    pub sound_module : AreFormedProcesses m.processes → IsSound (design_of m)
+    sound_module formed = sound_design m formed none clean
 
-    pub sound_processes : AreFormedProcesses m.processes → (processes : List Process) → processes ≡ map (process_of names) m.processes
-        → IsSound (record { widths = widths_of names; processes = processes })
-    sound_processes formed processes e = subst IsSound (sym (same_design processes e)) (sound_design m formed none clean)
+  -- the design of the definitions, from what the program holds
+  pub same_design : (names : List Declared) → names ≡ declared m → (processes : List Process) → processes ≡ map (process_of names) m.processes
+      → ◌≡◌ {A = Design} (record { widths = widths_of names; processes = processes }) (design_of m)
+  same_design names same processes e =
+      let p : processes ≡ map (process_of (declared m)) m.processes = e ∙ ap (λ ds. map (process_of ds) m.processes) same in
+      λ j. record { widths = widths_of (same j); processes = p j }

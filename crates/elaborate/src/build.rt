@@ -11,7 +11,10 @@ use design::{RegId, Trigger};
 use model::tree::{BinaryOperator, Task, UnaryOperator};
 use std::alloc::{AllocError, Global};
 
-pub fn concat_of(first: Expression, others: Vec<Expression>) -> Result<Expression, AllocError>
+/// What a builder gives, unless memory is refused.
+pub type Built<T> = Result<T, AllocError>;
+
+pub fn concat_of(first: Expression, others: Vec<Expression>) -> Built<Expression>
     ensures { IfOk result
         (λ made. expression_of made ≡ syntax.Concat (syntax.Also (expression_of first) (expressions_of others.items))) }
 {
@@ -20,10 +23,19 @@ pub fn concat_of(first: Expression, others: Vec<Expression>) -> Result<Expressio
     Ok(Expression::Concat(parts))
 }
 
-pub fn unary_of(alloc: Global, op: UnaryOperator, e: Expression) -> Result<Expression, AllocError>
-    ensures { IfOk result (λ made. expression_of made ≡ syntax.Unary op (expression_of e)) }
+pub fn conditional_of(
+    alloc: Global,
+    test: Expression,
+    first: Expression,
+    second: Expression,
+) -> Built<Expression>
+    ensures { IfOk result (λ made. expression_of made ≡ syntax.Conditional (expression_of test) (expression_of first) (expression_of second)) }
 {
-    Ok(Expression::Unary(op, Box::new(alloc, e)?))
+    Ok(Expression::Conditional(
+        Box::new(alloc, test)?,
+        Box::new(alloc, first)?,
+        Box::new(alloc, second)?,
+    ))
 }
 
 pub fn binary_of(
@@ -31,26 +43,16 @@ pub fn binary_of(
     op: BinaryOperator,
     left: Expression,
     right: Expression,
-) -> Result<Expression, AllocError>
+) -> Built<Expression>
     ensures { IfOk result (λ made. expression_of made ≡ syntax.Binary op (expression_of left) (expression_of right)) }
 {
     Ok(Expression::Binary(op, Box::new(alloc, left)?, Box::new(alloc, right)?))
 }
 
-pub fn conditional_of(
-    alloc: Global,
-    test: Expression,
-    first: Expression,
-    second: Expression,
-) -> Result<Expression, AllocError>
-    ensures { IfOk result
-        (λ made. expression_of made ≡ syntax.Conditional (expression_of test) (expression_of first) (expression_of second)) }
+pub fn unary_of(alloc: Global, op: UnaryOperator, e: Expression) -> Built<Expression>
+    ensures { IfOk result (λ made. expression_of made ≡ syntax.Unary op (expression_of e)) }
 {
-    Ok(Expression::Conditional(
-        Box::new(alloc, test)?,
-        Box::new(alloc, first)?,
-        Box::new(alloc, second)?,
-    ))
+    Ok(Expression::Unary(op, Box::new(alloc, e)?))
 }
 
 pub fn assign_of(register: RegId, wait: Option<u64>, value: Expression) -> Statement
@@ -63,14 +65,21 @@ pub fn assign_of(register: RegId, wait: Option<u64>, value: Expression) -> State
     }
 }
 
-pub fn assign_later_of(register: RegId, wait: Option<u64>, value: Expression) -> Statement
+/// How long a nonblocking assignment waits.
+pub fn wait_of(wait: Option<u64>) -> u32
     requires { IsShort wait }
-    ensures { statement_of result ≡ model.AssignLater register (unwrap_or wait 0) (expression_of value) }
+    ensures { result ≡ unwrap_or wait 0 }
 {
     match wait {
-        Some(wait) => Statement::AssignLater(register, wait as u32, value),
-        None => Statement::AssignLater(register, 0, value),
+        Some(wait) => wait as u32,
+        None => 0,
     }
+}
+
+pub fn assign_later_of(register: RegId, wait: u32, value: Expression) -> Statement
+    ensures { statement_of result ≡ model.AssignLater register wait (expression_of value) }
+{
+    Statement::AssignLater(register, wait, value)
 }
 
 pub fn delay_of(wait: u32, body: Vec<Statement>) -> Statement
@@ -105,7 +114,7 @@ pub fn print_of(task: Task, format: Vec<Piece>, arguments: Vec<Expression>) -> S
 
 /// One statement more.
 #[tactic(auto, using(crate::proofs::Bodies::one_more))]
-pub fn push(into: &mut Vec<Statement>, s: Statement) -> Result<(), AllocError>
+pub fn push(into: &mut Vec<Statement>, s: Statement) -> Built<()>
     ensures { OnOk result (statements_of into.new.items ≡ followed_by (statements_of into.old.items) (alone (statement_of s))) }
 {
     into.push(s)?;

@@ -6,6 +6,7 @@ ghost use Rattle.design.specs.DesignTrees.{tree_design};
 ghost use Rattle.elaborate.specs.ModuleFaults.{IsFirstFault};
 ghost use Rattle.elaborate.specs.FirstFindings.{verdict, found_among, found_few};
 ghost use Rattle.elaborate.specs.Formed.{AreFormedProcesses};
+ghost use Rattle.elaborate.specs.Small.{AreSmallProcesses};
 ghost use Rattle.model.specs.Elaboration as model;
 ghost use Rattle.model.specs.Elaboration.{declared, faults, widths_of};
 ghost use Rattle.model.specs.SourceTrees.{module_of, process_of};
@@ -14,17 +15,11 @@ use crate::fault::ElabFault;
 use crate::finding::Finding;
 use crate::names::Names;
 use crate::{check, registers, resolve, uses};
-use design::{Design, tree};
+use design::Design;
 use model::tree::{Module, Process};
 use std::alloc::Global;
 
 const MAX_PROCESSES: usize = 256;
-
-/// The registers and the processes of a module without faults, the processes over the numbers of registers.
-struct NumberedModule {
-    names: Names,
-    processes: Vec<tree::Process>,
-}
 
 /// The design of a module without faults: its registers by number, in the order of their declarations, and its
 /// processes over those numbers.
@@ -40,12 +35,13 @@ pub fn elaborate(alloc: Global, source: &Module) -> Result<Design, ElabFault>
     ensures names { IfOk result (λ d. d.names ≡ map (λ x. x.0) (declared (module_of source.now))) }
     ensures fault { IfErr result (λ f. IsFirstFault f (faults (module_of source.now))) }
 {
-    let NumberedModule { names, processes } = resolved(alloc, source)?;
+    let names = registers_of(alloc, source)?;
+    let processes = resolve::processes(alloc, &names, source.procs.as_slice())?;
     Ok(names.design(alloc, processes)?)
 }
 
-/// As `elaborate`, of a module that is given up before the code of its design is made, so that its tree and that code
-/// never take memory at once.
+/// As `elaborate`, of a module that is given up piece by piece while its design is made, so that the two never take memory at
+/// once.
 ///
 /// # Errors
 ///
@@ -56,25 +52,25 @@ pub fn elaborate_owned(alloc: Global, source: Module) -> Result<Design, ElabFaul
     ensures names { IfOk result (λ d. d.names ≡ map (λ x. x.0) (declared (module_of source))) }
     ensures fault { IfErr result (λ f. IsFirstFault f (faults (module_of source))) }
 {
-    let NumberedModule { names, processes } = resolved(alloc, &source)?;
-    drop(source);
+    let names = registers_of(alloc, &source)?;
+    let Module { procs, .. } = source;
+    let processes = resolve::processes_given_up(alloc, &names, procs)?;
     Ok(names.design(alloc, processes)?)
 }
 
-// What a design is made of, or the first fault of its module.
-fn resolved(alloc: Global, source: &Module) -> Result<NumberedModule, ElabFault>
-    ensures faultless { IfOk result (λ r. faults (module_of source.now) ≡ []) }
-    ensures sound { IfOk result (λ r. IsSound (tree_design (widths_of r.names) r.processes.items)) }
-    ensures design { IfOk result (λ r. tree_design (widths_of r.names) r.processes.items ≡ model.design_of (module_of source.now)) }
-    ensures names { IfOk result (λ r. r.names ≡ declared (module_of source.now)) }
+// The registers of a module without faults, or the first fault of the module.
+fn registers_of(alloc: Global, source: &Module) -> Result<Names, ElabFault>
+    ensures faultless { IfOk result (λ names. faults (module_of source.now) ≡ []) }
+    ensures small { IfOk result (λ names. AreSmallProcesses (module_of source.now).processes) }
+    ensures sound { IfOk result (λ names. IsSound (model.design_of (module_of source.now))) }
+    ensures names { IfOk result (λ names. names ≡ declared (module_of source.now)) }
     ensures fault { IfErr result (λ f. IsFirstFault f (faults (module_of source.now))) }
 {
     let names = registers::registers(alloc, source.regs.as_slice())?;
     if let Err(finding) = allowed(&names, source.procs.as_slice()) {
         return Err(finding.fault(alloc));
     }
-    let processes = resolve::processes(alloc, &names, source.procs.as_slice())?;
-    Ok(NumberedModule { names, processes })
+    Ok(names)
 }
 
 /// Refuses the first thing that is wrong with the processes of a module.

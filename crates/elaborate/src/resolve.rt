@@ -7,20 +7,17 @@ ghost use Rattle.model.specs.Elaboration.{all_resolved, assignment, block_of, fo
 ghost use Rattle.model.specs.SourceTrees.{expression_of, expressions, process_of, statement_of, statements, trigger_of};
 ghost use Rattle.elaborate.specs.Small.{IsSmall, AreSmall, IsShort, IsSmallStatement, AreSmallStatements, AreSmallProcesses};
 
+use crate::build::{self, Built};
+use crate::format;
 use crate::names::Names;
-use crate::{build, format};
 use design::Trigger;
 use design::tree::{Expression, Process, Statement};
 use model::tree as source;
 use model::tree::Task;
-use std::alloc::{AllocError, Global};
+use std::alloc::Global;
 
 /// The processes of a design, from those of a module.
-pub fn processes(
-    alloc: Global,
-    names: &Names,
-    processes: &[source::Process],
-) -> Result<Vec<Process>, AllocError>
+pub fn processes(alloc: Global, names: &Names, processes: &[source::Process]) -> Built<Vec<Process>>
     requires { AreSmallProcesses (map process_of processes.now) }
     ensures { IfOk result
         (λ made. map tree.process_of made.items ≡ map (model.process_of names.now) (map process_of processes.now)) }
@@ -35,9 +32,90 @@ pub fn processes(
     Ok(made)
 }
 
+/// As `processes`, of processes whose statements are given up one after another, so that what is made of the next ones takes
+/// their memory.
+pub fn processes_given_up(
+    alloc: Global,
+    names: &Names,
+    processes: Vec<source::Process>,
+) -> Built<Vec<Process>>
+    requires { AreSmallProcesses (map process_of processes.items) }
+    ensures { IfOk result
+        (λ made. map tree.process_of made.items ≡ map (model.process_of names.now) (map process_of processes.items)) }
+{
+    let mut made = Vec::new(alloc);
+    for process in processes {
+        made.push(process_given_up(alloc, names, process)?)?;
+    }
+    Ok(made)
+}
+
+fn process_given_up(alloc: Global, names: &Names, process: source::Process) -> Built<Process>
+    requires { IsSmallStatement (statement_of process.body) }
+    ensures { IfOk result (λ made. tree.process_of made ≡ model.process_of names.now (process_of process)) }
+{
+    let source::Process { repeats, body } = process;
+    let body = given_up(alloc, names, body)?;
+    Ok(Process { repeats, body })
+}
+
+// The statements of the body of a process: of a block, or of an event control before one.
+fn given_up(alloc: Global, names: &Names, s: source::Statement) -> Built<Vec<Statement>>
+    requires { IsSmallStatement (statement_of s) }
+    ensures { IfOk result (λ made. tree.statements_of made.items ≡ model.statements_of names.now (statement_of s)) }
+{
+    match s {
+        source::Statement::Await(events, s) => {
+            let triggers = triggers(alloc, names, events.as_slice())?;
+            let body = block_given_up(alloc, names, Box::into_inner(s))?;
+            let mut made = Vec::new(alloc);
+            await_one(&mut made, triggers, body)?;
+            Ok(made)
+        }
+        s => block_given_up(alloc, names, s),
+    }
+}
+
+fn block_given_up(alloc: Global, names: &Names, s: source::Statement) -> Built<Vec<Statement>>
+    requires { IsSmallStatement (statement_of s) }
+    ensures { IfOk result (λ made. tree.statements_of made.items ≡ model.statements_of names.now (statement_of s)) }
+{
+    match s {
+        source::Statement::Block(body) => each_given_up(alloc, names, body),
+        s => alone(alloc, names, &s),
+    }
+}
+
+fn each_given_up(
+    alloc: Global,
+    names: &Names,
+    body: Vec<source::Statement>,
+) -> Built<Vec<Statement>>
+    requires { AreSmallStatements (statements (map statement_of body.items)) }
+    ensures { IfOk result (λ made. tree.statements_of made.items ≡ block_of names.now (statements (map statement_of body.items))) }
+{
+    let mut made = Vec::new(alloc);
+    for one in body {
+        one_given_up(alloc, names, one, &mut made)?;
+    }
+    Ok(made)
+}
+
+fn one_given_up(
+    alloc: Global,
+    names: &Names,
+    s: source::Statement,
+    into: &mut Vec<Statement>,
+) -> Built<()>
+    requires { IsSmallStatement (statement_of s) }
+    ensures { OnOk result (tree.statements_of into.new.items ≡ followed_by (tree.statements_of into.old.items) (model.statements_of names.now (statement_of s))) }
+{
+    statement(alloc, names, &s, into)
+}
+
 // The statements of one statement.
 #[cycle(resolved_in)]
-fn alone(alloc: Global, names: &Names, s: &source::Statement) -> Result<Vec<Statement>, AllocError>
+fn alone(alloc: Global, names: &Names, s: &source::Statement) -> Built<Vec<Statement>>
     requires { IsSmallStatement (statement_of s.now) }
     ensures { IfOk result (λ made. tree.statements_of made.items ≡ model.statements_of names.now (statement_of s.now)) }
 {
@@ -48,14 +126,9 @@ fn alone(alloc: Global, names: &Names, s: &source::Statement) -> Result<Vec<Stat
 
 // The statements of a block.
 #[cycle(resolved_in)]
-fn block(
-    alloc: Global,
-    names: &Names,
-    body: &[source::Statement],
-) -> Result<Vec<Statement>, AllocError>
+fn block(alloc: Global, names: &Names, body: &[source::Statement]) -> Built<Vec<Statement>>
     requires { AreSmallStatements (statements (map statement_of body.now)) }
-    ensures { IfOk result
-        (λ made. tree.statements_of made.items ≡ block_of names.now (statements (map statement_of body.now))) }
+    ensures { IfOk result (λ made. tree.statements_of made.items ≡ block_of names.now (statements (map statement_of body.now))) }
 {
     let mut made = Vec::new(alloc);
     all(alloc, names, body, &mut made)?;
@@ -68,7 +141,7 @@ fn all(
     names: &Names,
     body: &[source::Statement],
     into: &mut Vec<Statement>,
-) -> Result<(), AllocError>
+) -> Built<()>
     requires { AreSmallStatements (statements (map statement_of body.now)) }
     ensures { OnOk result (tree.statements_of into.new.items
         ≡ followed_by (tree.statements_of into.old.items) (block_of names.now (statements (map statement_of body.now)))) }
@@ -88,7 +161,7 @@ fn statement(
     names: &Names,
     s: &source::Statement,
     into: &mut Vec<Statement>,
-) -> Result<(), AllocError>
+) -> Built<()>
     requires { IsSmallStatement (statement_of s.now) }
     ensures { OnOk result (tree.statements_of into.new.items
         ≡ followed_by (tree.statements_of into.old.items) (model.statements_of names.now (statement_of s.now))) }
@@ -100,7 +173,8 @@ fn statement(
             assign(alloc, names, name.as_str(), *wait, e, into)
         }
         source::Statement::AssignLater(name, wait, e) => {
-            assign_later(alloc, names, name.as_str(), *wait, e, into)
+            let wait = build::wait_of(*wait);
+            assign_later(alloc, names, name.as_str(), wait, e, into)
         }
         source::Statement::Delay(wait, s) => {
             let body = alone(alloc, names, s)?;
@@ -138,7 +212,7 @@ fn statement(
 
 // The empty statement, behind others.
 #[inline(never)]
-fn empty(into: &mut Vec<Statement>) -> Result<(), AllocError>
+fn empty(into: &mut Vec<Statement>) -> Built<()>
     ensures { OnOk result (tree.statements_of into.new.items ≡ followed_by (tree.statements_of into.old.items) (model.alone designs.Empty)) }
 {
     build::push(into, Statement::Empty)
@@ -146,7 +220,7 @@ fn empty(into: &mut Vec<Statement>) -> Result<(), AllocError>
 
 // `$finish`, behind others.
 #[inline(never)]
-fn finish(into: &mut Vec<Statement>) -> Result<(), AllocError>
+fn finish(into: &mut Vec<Statement>) -> Built<()>
     ensures { OnOk result (tree.statements_of into.new.items ≡ followed_by (tree.statements_of into.old.items) (model.alone designs.Finish)) }
 {
     build::push(into, Statement::Finish)
@@ -161,7 +235,7 @@ fn assign(
     wait: Option<u64>,
     e: &source::Expression,
     into: &mut Vec<Statement>,
-) -> Result<(), AllocError>
+) -> Built<()>
     requires short { IsShort wait }
     requires small { IsSmall (expression_of e.now) }
     ensures { OnOk result (tree.statements_of into.new.items
@@ -177,14 +251,13 @@ fn assign_later(
     alloc: Global,
     names: &Names,
     name: &str,
-    wait: Option<u64>,
+    wait: u32,
     e: &source::Expression,
     into: &mut Vec<Statement>,
-) -> Result<(), AllocError>
-    requires short { IsShort wait }
-    requires small { IsSmall (expression_of e.now) }
+) -> Built<()>
+    requires { IsSmall (expression_of e.now) }
     ensures { OnOk result (tree.statements_of into.new.items
-        ≡ followed_by (tree.statements_of into.old.items) (model.alone (designs.AssignLater (number_of names.now name.now) (unwrap_or wait 0) (resolved names.now (expression_of e.now))))) }
+        ≡ followed_by (tree.statements_of into.old.items) (model.alone (designs.AssignLater (number_of names.now name.now) wait (resolved names.now (expression_of e.now))))) }
 {
     let value = expression(alloc, names, e)?;
     build::push(
@@ -195,7 +268,7 @@ fn assign_later(
 
 // A delay before statements, behind others.
 #[inline(never)]
-fn delay(into: &mut Vec<Statement>, wait: u32, body: Vec<Statement>) -> Result<(), AllocError>
+fn delay(into: &mut Vec<Statement>, wait: u32, body: Vec<Statement>) -> Built<()>
     ensures { OnOk result (tree.statements_of into.new.items
         ≡ followed_by (tree.statements_of into.old.items) (model.alone (designs.Delay wait (tree.statements_of body.items)))) }
 {
@@ -204,11 +277,7 @@ fn delay(into: &mut Vec<Statement>, wait: u32, body: Vec<Statement>) -> Result<(
 
 // An event control before statements, behind others.
 #[inline(never)]
-fn await_one(
-    into: &mut Vec<Statement>,
-    triggers: Vec<Trigger>,
-    body: Vec<Statement>,
-) -> Result<(), AllocError>
+fn await_one(into: &mut Vec<Statement>, triggers: Vec<Trigger>, body: Vec<Statement>) -> Built<()>
     ensures { OnOk result (tree.statements_of into.new.items
         ≡ followed_by (tree.statements_of into.old.items) (model.alone (designs.Await triggers.items (tree.statements_of body.items)))) }
 {
@@ -224,7 +293,7 @@ fn choice(
     body: Vec<Statement>,
     otherwise: Vec<Statement>,
     into: &mut Vec<Statement>,
-) -> Result<(), AllocError>
+) -> Built<()>
     requires { IsSmall (expression_of c.now) }
     ensures { OnOk result (tree.statements_of into.new.items
         ≡ followed_by (tree.statements_of into.old.items) (model.alone (designs.If (resolved names.now (expression_of c.now)) (tree.statements_of body.items) (tree.statements_of otherwise.items)))) }
@@ -241,7 +310,7 @@ fn repetition(
     c: &source::Expression,
     body: Vec<Statement>,
     into: &mut Vec<Statement>,
-) -> Result<(), AllocError>
+) -> Built<()>
     requires { IsSmall (expression_of c.now) }
     ensures { OnOk result (tree.statements_of into.new.items
         ≡ followed_by (tree.statements_of into.old.items) (model.alone (designs.While (resolved names.now (expression_of c.now)) (tree.statements_of body.items)))) }
@@ -259,7 +328,7 @@ fn print(
     format: &[u8],
     arguments: &[source::Expression],
     into: &mut Vec<Statement>,
-) -> Result<(), AllocError>
+) -> Built<()>
     requires { AreSmall (expressions (map expression_of arguments.now)) }
     ensures { OnOk result (tree.statements_of into.new.items
         ≡ followed_by (tree.statements_of into.old.items) (model.alone (designs.Print task (unwrap_or (pieces_of format.now) []) (all_resolved names.now (expressions (map expression_of arguments.now)))))) }
@@ -269,11 +338,7 @@ fn print(
     build::push(into, build::print_of(task, pieces, arguments))
 }
 
-fn triggers(
-    alloc: Global,
-    names: &Names,
-    events: &[source::Event],
-) -> Result<Vec<Trigger>, AllocError>
+fn triggers(alloc: Global, names: &Names, events: &[source::Event]) -> Built<Vec<Trigger>>
     ensures { IfOk result (λ made. made.items ≡ map (model.trigger_of names.now) (map trigger_of events.now)) }
 {
     let mut made = Vec::new(alloc);
@@ -284,11 +349,7 @@ fn triggers(
 }
 
 #[cycle(resolved)]
-fn expression(
-    alloc: Global,
-    names: &Names,
-    e: &source::Expression,
-) -> Result<Expression, AllocError>
+fn expression(alloc: Global, names: &Names, e: &source::Expression) -> Built<Expression>
     requires { IsSmall (expression_of e.now) }
     ensures { IfOk result (λ made. tree.expression_of made ≡ resolved names.now (expression_of e.now)) }
 {
@@ -323,11 +384,7 @@ fn expression(
 }
 
 #[cycle(resolved)]
-fn expressions(
-    alloc: Global,
-    names: &Names,
-    parts: &[source::Expression],
-) -> Result<Vec<Expression>, AllocError>
+fn expressions(alloc: Global, names: &Names, parts: &[source::Expression]) -> Built<Vec<Expression>>
     requires { AreSmall (expressions (map expression_of parts.now)) }
     ensures { IfOk result
         (λ made. tree.expressions_of made.items ≡ all_resolved names.now (expressions (map expression_of parts.now))) }

@@ -48,7 +48,8 @@ fn statement<'a>(names: &Names, s: &'a Statement) -> Result<(), Finding<'a>>
 
 #[cycle(used_in)]
 fn block<'a>(names: &Names, body: &'a [Statement]) -> Result<(), Finding<'a>>
-    ensures { verdict result ≡ all_used_in names.now (statements (map statement_of body.now)) }
+    ensures { verdict result
+        ≡ all_used_in names.now (statements (map statement_of body.now)) }
 {
     for s in body {
         statement(names, s)?;

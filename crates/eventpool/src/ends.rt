@@ -77,9 +77,11 @@ impl<T> Model for Thief<T> {
 
     ghost Value = { Stealing T };
 
-    ghost use Rattle.eventpool.specs.Views.{stealing, IsThief};
+    ghost use Rattle.eventpool.specs.Views.{stealing};
 
     ghost view = { stealing };
+
+    ghost use Rattle.eventpool.specs.Views.{IsThief};
 
     ghost invariant = { IsThief };
 }

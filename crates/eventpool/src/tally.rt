@@ -48,21 +48,21 @@ impl Tally {
 
     /// How many the owners took.
     pub fn takes(&self) -> u128
-        ensures { result ≡ self.now.takes }
+        ensures value { result ≡ self.now.takes }
     {
         self.takes
     }
 
     /// How many the thieves stole.
     pub fn steals(&self) -> u128
-        ensures { result ≡ self.now.steals }
+        ensures value { result ≡ self.now.steals }
     {
         self.steals
     }
 
     /// How many were in the deques at the end.
     pub fn left(&self) -> u128
-        ensures { result ≡ self.now.left }
+        ensures value { result ≡ self.now.left }
     {
         self.left
     }

@@ -42,27 +42,22 @@ fn refusal_code(refusal: Refusal) -> &'static str
     }
 }
 
-/// The rule that an entry breaks, or what else is the cause, in words.
+/// The rule that an entry breaks, or what else is the cause, in words: of events that are taken, of changes of the regions, and of
+/// any entry.
 pub(crate) fn cause_rule(cause: Cause) -> &'static str
     ensures { result.now ≡ rule_text cause }
 {
     match cause {
-        Cause::Refused(refusal) => refusal_rule(refusal),
+        Cause::Refused(Refusal::NotActive) => "an entry takes an event that is active",
+        Cause::Refused(Refusal::EarlierUpdate) =>
+            "active updates are taken in the order of their numbers",
         Cause::TooLong => "a turn has at most 65536 counted steps",
+        Cause::Refused(Refusal::NotDue) =>
+            "a region changes once each earlier one is empty and it has an event",
+        Cause::Refused(Refusal::WrongTime) => "time advances to the least time of a future event",
+        Cause::Refused(Refusal::PastLimit) => "no time goes past 281474976710656",
         Cause::TooMany => "a machine takes at most 4294967295 entries",
+        Cause::Refused(Refusal::Finished) => "nothing follows $finish",
         Cause::ApplyMemory | Cause::Memory => "memory was refused",
-    }
-}
-
-fn refusal_rule(refusal: Refusal) -> &'static str
-    ensures { result.now ≡ rule_text (Refused refusal) }
-{
-    match refusal {
-        Refusal::NotActive => "an entry takes an event that is active",
-        Refusal::EarlierUpdate => "active updates are taken in the order of their numbers",
-        Refusal::NotDue => "a region changes once each earlier one is empty and it has an event",
-        Refusal::WrongTime => "time advances to the least time of a future event",
-        Refusal::PastLimit => "no time goes past 281474976710656",
-        Refusal::Finished => "nothing follows $finish",
     }
 }

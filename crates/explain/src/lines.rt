@@ -2,7 +2,7 @@
 
 ghost use Rattle.std.specs.Prelude.{◌≡◌, ◌++◌, OnOk, codes};
 ghost use Rattle.model.specs.Runs.{has_any};
-ghost use Rattle.explain.specs.Phrases.{quoted_text};
+ghost use Rattle.explain.specs.Phrases.{quoted_text, register_text, value_text};
 ghost use Rattle.steps.specs.Accounts.{account_of};
 ghost use Rattle.explain.specs.EntryLines.{assignment_text, change_text, deed_text, entry_text, lead, list_text, mark, parts_text, printed_text, reading_text, region_text, update_text};
 
@@ -37,6 +37,21 @@ fn push_lead(text: &mut Vec<u8>, place: usize, behind: bool, word: &str) -> Resu
     text.extend_from_slice(word.as_bytes())
 }
 
+// Puts a register and a value behind a text, with a mark between them.
+fn push_valued(
+    text: &mut Vec<u8>,
+    names: &Names<'_>,
+    register: RegId,
+    mark: &[u8],
+    value: Bits,
+) -> Result<(), AllocError>
+    ensures { OnOk result (text.new.items ≡ text.old.items ++ (register_text names.entry.now register ++ (mark.now ++ value_text value))) }
+{
+    push_register(text, names, register)?;
+    text.extend_from_slice(mark)?;
+    push_value(text, value)
+}
+
 /// What a line has a list of.
 trait Part {
     ghost use Rattle.std.specs.Prelude.{ℕ, List};
@@ -54,9 +69,7 @@ impl Part for Reading {
     ghost part_text = { reading_text };
 
     fn push(&self, text: &mut Vec<u8>, names: &Names<'_>) -> Result<(), AllocError> {
-        push_register(text, names, self.register)?;
-        text.extend_from_slice(b"=")?;
-        push_value(text, self.value)?;
+        push_valued(text, names, self.register, b"=", self.value)?;
         push_labelled(text, b" (version ", self.version)?;
         text.extend_from_slice(b")")
     }
@@ -66,9 +79,7 @@ impl Part for Changed {
     ghost part_text = { change_text };
 
     fn push(&self, text: &mut Vec<u8>, names: &Names<'_>) -> Result<(), AllocError> {
-        push_register(text, names, self.register)?;
-        text.extend_from_slice(b" ")?;
-        push_value(text, self.before)?;
+        push_valued(text, names, self.register, b" ", self.before)?;
         text.extend_from_slice(b" -> ")?;
         push_value(text, self.after)
     }
@@ -78,9 +89,7 @@ impl Part for Nba {
     ghost part_text = { assignment_text };
 
     fn push(&self, text: &mut Vec<u8>, names: &Names<'_>) -> Result<(), AllocError> {
-        push_register(text, names, self.reg)?;
-        text.extend_from_slice(b" <= ")?;
-        push_value(text, self.value)?;
+        push_valued(text, names, self.reg, b" <= ", self.value)?;
         push_labelled(text, b" for time ", self.due)
     }
 }
@@ -129,9 +138,7 @@ pub(crate) fn push_update(
     ensures { OnOk result (text.new.items ≡ text.old.items ++ update_text names.entry.now register value) }
 {
     text.extend_from_slice(b"update of ")?;
-    push_register(text, names, register)?;
-    text.extend_from_slice(b" to ")?;
-    push_value(text, value)
+    push_valued(text, names, register, b" to ", value)
 }
 
 // What an entry is called that is a change of the regions (11.3).
@@ -139,12 +146,12 @@ fn region_change(entry: Entry) -> &'static str
     ensures { result.now ≡ region_text entry }
 {
     match entry {
+        Entry::Turn(_) => "turn",
+        Entry::Update(_) => "update",
         Entry::ActivateInactive => "activates the inactive events",
         Entry::ActivateNba => "activates the nonblocking updates",
         Entry::ActivateMonitor => "makes the lines of the monitor region",
         Entry::Advance(_) => "advances",
-        Entry::Turn(_) => "turn",
-        Entry::Update(_) => "update",
     }
 }
 
@@ -154,7 +161,7 @@ fn push_deed(
     entry: Entry,
     deed: Deed,
 ) -> Result<(), AllocError>
-    ensures { OnOk result (text.new.items ≡ text.old.items ++ deed_text names.entry.now entry deed) }
+    ensures put { OnOk result (text.new.items ≡ text.old.items ++ deed_text names.entry.now entry deed) }
 {
     match deed {
         Deed::Turn(process) => {

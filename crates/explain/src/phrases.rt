@@ -160,7 +160,7 @@ pub(crate) fn push_process(
     names: &Names<'_>,
     process: u32,
 ) -> Result<(), AllocError>
-    ensures { OnOk result (text.new.items ≡ text.old.items ++ process_text names.entry.now process) }
+    ensures put { OnOk result (text.new.items ≡ text.old.items ++ process_text names.entry.now process) }
 {
     push_labelled(text, b"process ", u64::from(process))?;
     push_begin(text, names, process)

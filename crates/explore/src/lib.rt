@@ -51,14 +51,6 @@ pub struct Expanded<N, M, E> {
     pub whole: bool,
 }
 
-/// What a run showed: its text, how it ended, and its moves.
-#[derive(Drop)]
-pub struct Shown<M, E> {
-    pub text: Vec<u8>,
-    pub end: E,
-    pub moves: Vec<M>,
-}
-
 /// What came of a search.
 #[derive(Drop)]
 pub struct Explored<M, E> {
@@ -68,6 +60,14 @@ pub struct Explored<M, E> {
     pub covered: bool,
     /// How many nodes were reached, the first one among them, when the last of them was expanded.
     pub nodes: usize,
+}
+
+/// What a run showed: its text, how it ended, and its moves.
+#[derive(Drop)]
+pub struct Shown<M, E> {
+    pub text: Vec<u8>,
+    pub end: E,
+    pub moves: Vec<M>,
 }
 
 /// How far a search goes.

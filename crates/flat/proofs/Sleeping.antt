@@ -1,10 +1,12 @@
 -- Why a process that waits sleeps through writes.
-use Rattle.std.proofs.Common.{◌≡◌, ◌<◌, ◌+◌, ⊎_elim, ℕ, zero, suc, Bool, true, false, List, [], ◌∷◌, ◌++◌, Option, Some, map, length, take, refl, sym, ap, subst, ◌∙◌, arith}
+use Rattle.std.proofs.Common.{◌≡◌, ◌<◌, ◌+◌, ⊎_elim, ℕ, zero, suc, Bool, true, false, List, [], ◌∷◌, ◌++◌, Option, Some, map, length, take, refl, sym, ap, subst, ◌∙◌, arith, eq-eqb}
 use Rattle.std.specs.Prelude.{◌&&◌, ◌||◌, ◌==◌, slice_get, slice_index_or}
-use Rattle.std.proofs.lemmas.Bool.{cases_lt}
+use Rattle.std.proofs.lemmas.Bool.{cases_lt, eqb-true}
 use Rattle.std.proofs.lemmas.List.{get_or_default}
+use Rattle.std.proofs.lemmas.List.Elements.{All-head, All-tail}
 use Rattle.logic4.specs.declared.digit.Edge.{Edge}
 use Rattle.logic4.specs.declared.digit.Edge.TheVariants.{Same, Pos, Neg, Other}
+use Rattle.logic4.specs.Edges.{edge}
 use Rattle.logic4.specs.Vector.{Vector}
 use Rattle.model.specs.declared.tree.Change.{Change}
 use Rattle.model.specs.declared.tree.Change.TheVariants.{Any, Posedge, Negedge}
@@ -13,9 +15,9 @@ use Rattle.model.specs.Expressions.{Store, value_of}
 use Rattle.model.specs.States.{Continuation, edge_matches, wakes, is_woken}
 use Rattle.orders.specs.Apart.{given, all_given, wakes_any, WakesNone}
 use Rattle.design.specs.ControlWaking.{wakes_by}
-use Rattle.std.specs.List.{list_any}
+use Rattle.std.specs.List.{All, list_any}
 use Rattle.orders.proofs.Stores.{all_other}
-use Rattle.flat.specs.Tests.{waiting}
+use Rattle.flat.specs.Tests.{waiting, IsNotWritten}
 
 pub and_false : (b : Bool) → (b && false) ≡ false
 and_false true = refl
@@ -110,3 +112,25 @@ any_register (w ∷ ws) r = ap (λ b. (w.0 == r) || b) (any_register ws r)
 -- the value of a register behind writes of others
 pub value_behind : (a : Store) (ws : List (ℕ × Vector)) (r : ℕ) (v : Vector) → list_any (λ w. w.0 == r) ws ≡ false → slice_get a r ≡ Some v → value_of (all_given a ws) r ≡ v
 value_behind a ws r v none is = all_other a ws r (any_register ws r ∙ none) ∙ element_at a r v [] is
+
+-- a change of a register that no trigger is for wakes nobody
+unawaited : (triggers : List Trigger) (w : ℕ × Vector) (ws : List (ℕ × Vector)) (e : Edge) → All (λ t. IsNotWritten (w ∷ ws) t.1) triggers → wakes_by triggers w.0 e ≡ false
+unawaited [] w ws e none = refl
+unawaited (t ∷ ts) w ws e none =
+    let (here, behind) = neither_of (w.0 == t.1) (list_any (λ v. v.0 == t.1) ws) (All-head (λ u. IsNotWritten (w ∷ ws) u.1) t ts none) in
+    both_off ((t.1 == w.0) && edge_matches t.0 e) (wakes_by ts w.0 e) (off (t.1 == w.0) refl here) (unawaited ts w ws e (All-tail (λ u. IsNotWritten (w ∷ ws) u.1) t ts none))
+  where
+    off : (b : Bool) → (t.1 == w.0) ≡ b → (w.0 == t.1) ≡ false → (b && edge_matches t.0 e) ≡ false
+    off true is none' =
+        let on : (w.0 == t.1) ≡ true = eq-eqb w.0 t.1 (sym (eqb-true t.1 w.0 is)) in
+        let clash : true ≡ false = sym on ∙ none' in
+        cc
+    off false is none' = refl
+
+-- whoever waits for no register that is written sleeps
+pub sleeps_unwritten : (triggers : List Trigger) (a : Store) (ws : List (ℕ × Vector)) → All (λ t. IsNotWritten ws t.1) triggers → WakesNone a ws (waiting triggers ∷ [])
+sleeps_unwritten triggers a [] none = tt
+sleeps_unwritten triggers a (w ∷ ws) none = (
+  alone (wakes triggers w.0 (value_of a w.0) w.1) (unawaited triggers w ws (edge (value_of a w.0) w.1) none),
+  sleeps_unwritten triggers (given a w) ws (λ k d within. (neither_of (w.0 == (slice_index_or triggers k d).1) (list_any (λ v. v.0 == (slice_index_or triggers k d).1) ws) (none k d within)).1),
+)

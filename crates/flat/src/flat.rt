@@ -10,11 +10,11 @@ ghost use Rattle.flat.specs.Plain.{ArePlain};
 
 use crate::pairs::are_apart;
 use crate::plain::Plain;
-use crate::turned::{Turned, evaluate};
+use crate::turned::{Logs, Turned, evaluate};
 use crate::waits::all_sleep;
 use design::{Control, Design};
 use regions::{Evaluation, Machine};
-use std::alloc::{AllocError, Global};
+use std::alloc::AllocError;
 use turn::Nba;
 
 // Whether a turn keeps off each of these.
@@ -55,10 +55,10 @@ fn is_apart_from(
 
 // The turn of an active evaluation, where it is short, doesn't finish, and wakes nobody who waits.
 fn quiet_turn(
-    alloc: Global,
     design: &Design,
     machine: &Machine<'_>,
     controls: &[Control],
+    logs: &mut Logs,
     evaluation: Evaluation,
 ) -> Result<Option<Turned>, AllocError>
     requires code { machine.now.code ≡ design.now }
@@ -66,7 +66,7 @@ fn quiet_turn(
     ensures event { IfOk result (λ found. IfSome found (λ turned. event_of turned ≡ evaluation_event evaluation)) }
     ensures quiet { IfOk result (λ found. IfSome found (IsQuietTurn machine.now.code (state_at machine.now))) }
 {
-    let turned = match evaluate(alloc, design, machine, evaluation)? {
+    let turned = match evaluate(logs.take(), design, machine, evaluation)? {
         Some(turned) => turned,
         None => return Ok(None),
     };
@@ -81,6 +81,7 @@ fn quiet_turn(
         machine.store(),
         writes,
     ) {
+        logs.keep(turned)?;
         return Ok(None);
     }
     Ok(Some(turned))
@@ -88,9 +89,9 @@ fn quiet_turn(
 
 // Adds the turn of an active evaluation to others, where it is quiet and keeps off them. Answers whether it is so.
 fn add_turn(
-    alloc: Global,
     design: &Design,
     machine: &Machine<'_>,
+    logs: &mut Logs,
     plain: &mut Plain,
     turns: &mut Vec<Turned>,
     evaluation: Evaluation,
@@ -103,11 +104,12 @@ fn add_turn(
     ensures plain { OnOk result (result ≡ Ok true → plain.new.holds ≡ true → ArePlain machine.now.core.time plain.new.processes.items plain.new.registers.items turns.new.items) }
 {
     let controls = design.event_controls();
-    let turned = match quiet_turn(alloc, design, machine, controls, evaluation)? {
+    let turned = match quiet_turn(design, machine, controls, logs, evaluation)? {
         Some(turned) => turned,
         None => return Ok(false),
     };
     if !is_apart_from(machine, controls, turns.as_slice(), &turned, plain) {
+        logs.keep(turned)?;
         return Ok(false);
     }
     turns.push(turned)?;
@@ -118,9 +120,9 @@ fn add_turn(
 /// short, doesn't finish and wakes nobody who waits, and any two are apart. A state that is flat may be refused where a turn changes a
 /// register for which a process waits more than once.
 pub fn flat_turns(
-    alloc: Global,
     design: &Design,
     machine: &Machine<'_>,
+    logs: &mut Logs,
 ) -> Result<Option<Vec<Turned>>, AllocError>
     requires code { machine.now.code ≡ design.now }
     ensures flat { IfOk result (λ found. IfSome found (λ turns. IsFlatState machine.now.code (state_at machine.now))) }
@@ -134,17 +136,18 @@ pub fn flat_turns(
         return Ok(None);
     }
     let processes = machine.state().processes().len();
-    let mut plain = Plain::new(alloc, processes, design.widths().len())?;
-    let mut turns = Vec::new(alloc);
+    let mut plain = Plain::new(logs.alloc, processes, design.widths().len())?;
+    let mut turns = Vec::with_capacity(logs.alloc, evaluations.len())?;
     for at in 0..evaluations.len() {
         if !add_turn(
-            alloc,
             design,
             machine,
+            logs,
             &mut plain,
             &mut turns,
             evaluations[at],
         )? {
+            logs.keep_all(turns)?;
             return Ok(None);
         }
     }

@@ -17,4 +17,4 @@ mod waits;
 
 pub use flat::{flat_turns, one_maker};
 pub use silent::is_silent;
-pub use turned::{Turned, evaluate};
+pub use turned::{Logs, Turned, evaluate};

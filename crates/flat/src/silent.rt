@@ -17,7 +17,7 @@ use std::collections::VecDeque;
 fn writes_of(alloc: Global, updates: &VecDeque<Update>) -> Result<Vec<(RegId, Bits)>, AllocError>
     ensures { IfOk result (λ writes. writes.items ≡ updates_in (map update_event updates.now.items)) }
 {
-    let mut writes = Vec::new(alloc);
+    let mut writes = Vec::with_capacity(alloc, updates.len())?;
     for at in 0..updates.len() {
         let update = updates[at];
         writes.push((update.register, update.value))?;

@@ -26,9 +26,48 @@ fn place_of(machine: &Machine<'_>, process: u32) -> Option<ProcState>
     }
 }
 
-/// The turn of an active evaluation, where it is short.
+/// Logs of earlier turns, to be filled anew: most turns take no memory then.
+#[derive(Drop)]
+pub struct Logs {
+    pub(crate) alloc: Global,
+    spare: Vec<TurnLog>,
+}
+
+impl Logs {
+    /// None yet.
+    pub fn new(alloc: Global) -> Logs {
+        Logs {
+            alloc,
+            spare: Vec::new(alloc),
+        }
+    }
+
+    // A log that may be filled.
+    pub(crate) fn take(&mut self) -> TurnLog {
+        match self.spare.pop() {
+            Some(log) => log,
+            None => TurnLog::new(self.alloc),
+        }
+    }
+
+    // Keeps the log of a turn that is done with.
+    pub(crate) fn keep(&mut self, turned: Turned) -> Result<(), AllocError> {
+        self.spare.push(turned.log)?;
+        Ok(())
+    }
+
+    /// Keeps the logs of turns that are done with.
+    pub fn keep_all(&mut self, turns: Vec<Turned>) -> Result<(), AllocError> {
+        for turned in turns {
+            self.keep(turned)?;
+        }
+        Ok(())
+    }
+}
+
+/// The turn of an active evaluation, where it is short, filled into a log, whatever that held.
 pub fn evaluate(
-    alloc: Global,
+    log: TurnLog,
     design: &Design,
     machine: &Machine<'_>,
     evaluation: Evaluation,
@@ -38,12 +77,12 @@ pub fn evaluate(
     ensures process { IfOk result (λ found. IfSome found (λ turned. turned.process ≡ evaluation.process)) }
     ensures turn { IfOk result (λ found. IfSome found (IsTurned machine.now.code (state_at machine.now))) }
 {
+    let mut log = log;
     let place = match place_of(machine, evaluation.process) {
         Some(place) => place,
         None => return Ok(None),
     };
     machine.stands();
-    let mut log = TurnLog::new(alloc);
     match turn_on(&mut log, design, &place, machine.time(), machine.store()) {
         Ok(()) => Ok(Some(Turned {
             number: evaluation.number,

@@ -1,9 +1,10 @@
 //! Whether processes that wait sleep through writes.
 ghost use Rattle.std.specs.Prelude.{◌≡◌, ◌≤◌, true, false, ◌==◌, length};
-ghost use Rattle.std.specs.List.{list_any};
+ghost use Rattle.std.specs.List.{All, list_any};
 ghost use Rattle.model.specs.States.{wakes};
 ghost use Rattle.regions.specs.ProcessWaking.{triggers_at};
 ghost use Rattle.flat.specs.Sleeping.{AllSleep, IsNotAwaited, SleepsAt, SleepsBehind, SleepsThrough};
+ghost use Rattle.flat.specs.Tests.{IsNotWritten};
 
 use design::{Control, RegId};
 use logic4::bits::Bits;
@@ -70,10 +71,26 @@ fn sleeps_at(control: &Control, store: &PlainStore, writes: &[(RegId, Bits)], pl
     }
 }
 
+// Whether an event control waits for a register of one of these writes. Mostly it doesn't, and then no write is looked at further.
+fn awaits_any(control: &Control, writes: &[(RegId, Bits)]) -> bool
+    ensures { result ≡ false → All (λ t. IsNotWritten writes.now t.1) control.now }
+{
+    let triggers = control.triggers();
+    for trigger in triggers {
+        if is_written(writes, trigger.1) {
+            return true;
+        }
+    }
+    false
+}
+
 // Whether whoever waits at an event control sleeps through writes that are made in order.
 fn sleeps_through(control: &Control, store: &PlainStore, writes: &[(RegId, Bits)]) -> bool
     ensures { result ≡ true → SleepsThrough control.now store.now writes.now }
 {
+    if !awaits_any(control, writes) {
+        return true;
+    }
     for place in 0..writes.len() {
         if !sleeps_at(control, store, writes, place) {
             return false;

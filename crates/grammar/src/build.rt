@@ -1,6 +1,6 @@
 //! The nodes of a tree, with what each stands for.
 
-ghost use Rattle.std.specs.Prelude.{◌≡◌, IfOk};
+ghost use Rattle.std.specs.Prelude.{◌≡◌, string_bytes, IfOk};
 ghost use Rattle.model.specs.SourceTrees.{expression_of, statement_of};
 ghost use Rattle.model.specs.SourceTrees.{expressions, statements};
 ghost use Rattle.grammar.specs.Nodes.{expressions_view, statements_view, triggers_view};
@@ -79,26 +79,16 @@ pub fn block_of(body: Vec<Statement>) -> Statement
     Statement::Block(body)
 }
 
-pub fn assign_of(
-    alloc: Global,
-    name: &str,
-    delay: Option<u64>,
-    value: Expression,
-) -> Result<Statement, AllocError>
-    ensures { IfOk result (λ made. statement_of made ≡ tree.Assign name.now delay (expression_of value)) }
+pub fn assign_of(name: String, delay: Option<u64>, value: Expression) -> Statement
+    ensures { statement_of result ≡ tree.Assign (string_bytes name) delay (expression_of value) }
 {
-    Ok(Statement::Assign(String::from_str(alloc, name)?, delay, value))
+    Statement::Assign(name, delay, value)
 }
 
-pub fn assign_later_of(
-    alloc: Global,
-    name: &str,
-    delay: Option<u64>,
-    value: Expression,
-) -> Result<Statement, AllocError>
-    ensures { IfOk result (λ made. statement_of made ≡ tree.AssignLater name.now delay (expression_of value)) }
+pub fn assign_later_of(name: String, delay: Option<u64>, value: Expression) -> Statement
+    ensures { statement_of result ≡ tree.AssignLater (string_bytes name) delay (expression_of value) }
 {
-    Ok(Statement::AssignLater(String::from_str(alloc, name)?, delay, value))
+    Statement::AssignLater(name, delay, value)
 }
 
 pub fn delay_of(alloc: Global, delay: u64, body: Statement) -> Result<Statement, AllocError>

@@ -4,7 +4,7 @@ ghost use Rattle.std.specs.Prelude.{◌≡◌, map, length};
 ghost use Rattle.tokens.specs.Tokens.{plain_token};
 ghost use Rattle.grammar.specs.Cursor.{left_of, kind, sees, done, take, expect, Reads};
 
-use crate::fault::Fault;
+use crate::fault::{Fault, Read};
 use tokens::token::{Kind, Token, is_kind};
 
 /// The tokens that are left.
@@ -49,7 +49,7 @@ impl<'t, 'a> Cursor<'t, 'a> {
     }
 
     /// Takes the next token, unless it is the one at which nesting ends.
-    pub fn take(&mut self, stop: Option<usize>) -> Result<&'t Token<'a>, Fault>
+    pub fn take(&mut self, stop: Option<usize>) -> Read<&'t Token<'a>>
         ensures { Reads (λ t. plain_token t.now) stop (take (left_of self.old)) result (left_of self.new) }
     {
         if stop == Some(self.left.len()) {
@@ -66,7 +66,7 @@ impl<'t, 'a> Cursor<'t, 'a> {
 
     /// Takes a token of this kind.
     #[tactic(auto, unfolding(crate::specs::Cursor::expect))]
-    pub fn expect(&mut self, stop: Option<usize>, wanted: Kind) -> Result<&'t Token<'a>, Fault>
+    pub fn expect(&mut self, stop: Option<usize>, wanted: Kind) -> Read<&'t Token<'a>>
         ensures { Reads (λ t. plain_token t.now) stop (expect wanted (left_of self.old)) result (left_of self.new) }
     {
         if !self.sees(wanted) {

@@ -11,7 +11,7 @@ use crate::build::{
     binary_of, concat_of, conditional_of, literal_of, name_of, select_of, unary_of,
 };
 use crate::cursor::Cursor;
-use crate::fault::Fault;
+use crate::fault::{Fault, Read};
 use model::tree::{BinaryOperator, Expression, UnaryOperator};
 use std::alloc::Global;
 use tokens::token::Kind;
@@ -79,7 +79,7 @@ fn continues(level: u8, kind: Kind) -> Option<(u8, BinaryOperator)>
 
 /// Reads `[ decimal ]` after a name.
 #[tactic(auto, unfolding(crate::specs::Reading::parse_select))]
-fn parse_select(rules: Rules, tokens: &mut Cursor<'_, '_>, name: &str) -> Result<Expression, Fault>
+fn parse_select(rules: Rules, tokens: &mut Cursor<'_, '_>, name: &str) -> Read<Expression>
     ensures { Reads expression_of rules.stop (spec.parse_select name.now (left_of tokens.old)) result (left_of tokens.new) }
 {
     tokens.take(rules.stop)?;
@@ -90,7 +90,7 @@ fn parse_select(rules: Rules, tokens: &mut Cursor<'_, '_>, name: &str) -> Result
 
 /// Reads a name, and `[ decimal ]` where it follows.
 #[tactic(auto, unfolding(crate::specs::Reading::parse_name))]
-fn parse_name(rules: Rules, tokens: &mut Cursor<'_, '_>) -> Result<Expression, Fault>
+fn parse_name(rules: Rules, tokens: &mut Cursor<'_, '_>) -> Read<Expression>
     ensures { Reads expression_of rules.stop (spec.parse_name (left_of tokens.old)) result (left_of tokens.new) }
 {
     let token = tokens.take(rules.stop)?;
@@ -101,7 +101,7 @@ fn parse_name(rules: Rules, tokens: &mut Cursor<'_, '_>) -> Result<Expression, F
 }
 
 #[tactic(auto, unfolding(crate::specs::Reading::parse_literal))]
-fn parse_literal(rules: Rules, tokens: &mut Cursor<'_, '_>) -> Result<Expression, Fault>
+fn parse_literal(rules: Rules, tokens: &mut Cursor<'_, '_>) -> Read<Expression>
     ensures { Reads expression_of rules.stop (spec.parse_literal (left_of tokens.old)) result (left_of tokens.new) }
 {
     let token = tokens.take(rules.stop)?;
@@ -118,7 +118,7 @@ pub fn parse_parenthesized(
     rules: Rules,
     tokens: &mut Cursor<'_, '_>,
     budget: usize,
-) -> Result<Expression, Fault>
+) -> Read<Expression>
     ensures { Reads expression_of rules.stop (spec.parse_parenthesized (spec.parse_expression budget) (left_of tokens.old)) result (left_of tokens.new) }
 {
     tokens.expect(rules.stop, Kind::Open)?;
@@ -136,7 +136,7 @@ pub fn parse_list(
     budget: usize,
     bracket: Kind,
     mut found: Vec<Expression>,
-) -> Result<Vec<Expression>, Fault>
+) -> Read<Vec<Expression>>
     ensures { Reads expressions_view rules.stop (spec.parse_list (spec.parse_expression budget) bracket budget (expressions_view found) (left_of tokens.old)) result (left_of tokens.new) }
 {
     for _turn in 0..budget {
@@ -154,11 +154,7 @@ pub fn parse_list(
 /// Reads `{`, an expression, and those that follow it.
 #[cycle(expression)]
 #[tactic(auto, unfolding(crate::specs::Reading::parse_concat))]
-fn parse_concat(
-    rules: Rules,
-    tokens: &mut Cursor<'_, '_>,
-    budget: usize,
-) -> Result<Expression, Fault>
+fn parse_concat(rules: Rules, tokens: &mut Cursor<'_, '_>, budget: usize) -> Read<Expression>
     ensures { Reads expression_of rules.stop (spec.parse_concat (spec.parse_expression budget) budget (left_of tokens.old)) result (left_of tokens.new) }
 {
     tokens.take(rules.stop)?;
@@ -170,11 +166,7 @@ fn parse_concat(
 
 #[cycle(expression)]
 #[tactic(auto, unfolding(crate::specs::Reading::parse_primary))]
-fn parse_primary(
-    rules: Rules,
-    tokens: &mut Cursor<'_, '_>,
-    budget: usize,
-) -> Result<Expression, Fault>
+fn parse_primary(rules: Rules, tokens: &mut Cursor<'_, '_>, budget: usize) -> Read<Expression>
     ensures { Reads expression_of rules.stop (spec.parse_primary (spec.parse_expression budget) budget (left_of tokens.old)) result (left_of tokens.new) }
 {
     match tokens.kind() {
@@ -189,11 +181,7 @@ fn parse_primary(
 
 #[cycle(expression)]
 #[tactic(auto, unfolding(crate::specs::Reading::parse_operand))]
-fn parse_operand(
-    rules: Rules,
-    tokens: &mut Cursor<'_, '_>,
-    budget: usize,
-) -> Result<Expression, Fault>
+fn parse_operand(rules: Rules, tokens: &mut Cursor<'_, '_>, budget: usize) -> Read<Expression>
     ensures { Reads expression_of rules.stop (spec.parse_operand (spec.parse_expression budget) budget (left_of tokens.old)) result (left_of tokens.new) }
 {
     match prefix(tokens.kind()) {
@@ -215,7 +203,7 @@ fn parse_operators(
     budget: usize,
     level: u8,
     mut left: Expression,
-) -> Result<Expression, Fault>
+) -> Read<Expression>
     ensures { Reads expression_of rules.stop (spec.parse_operators (spec.parse_expression budget) budget level (expression_of left) (left_of tokens.old)) result (left_of tokens.new) }
 {
     for _turn in 0..budget {
@@ -237,7 +225,7 @@ fn parse_conditional(
     tokens: &mut Cursor<'_, '_>,
     budget: usize,
     test: Expression,
-) -> Result<Expression, Fault>
+) -> Read<Expression>
     ensures { Reads expression_of rules.stop (spec.parse_conditional (spec.parse_expression budget) (expression_of test) (left_of tokens.old)) result (left_of tokens.new) }
 {
     tokens.take(rules.stop)?;
@@ -255,7 +243,7 @@ pub fn parse_expression(
     tokens: &mut Cursor<'_, '_>,
     budget: usize,
     level: u8,
-) -> Result<Expression, Fault>
+) -> Read<Expression>
     ensures { Reads expression_of rules.stop (spec.parse_expression budget level (left_of tokens.old)) result (left_of tokens.new) }
 {
     if budget == 0 {

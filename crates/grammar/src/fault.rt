@@ -13,11 +13,14 @@ pub enum Fault {
     Memory,
 }
 
+/// What is read, or why the next token isn't.
+pub type Read<T> = Result<T, Fault>;
+
 impl From<AllocError> for Fault {
-    ghost use Rattle.grammar.specs.declared.fault.Fault.TheVariants.{Memory};
+    ghost use Rattle.grammar.specs.declared.fault.Fault.TheVariants as fault;
     ghost use Rattle.std.specs.Prelude.{◌≡◌};
 
-    ghost from_gives = { λ _ e. e ≡ Memory };
+    ghost from_gives = { λ _ e. e ≡ fault.Memory };
 
     fn from(_: AllocError) -> Fault {
         Fault::Memory
@@ -25,10 +28,10 @@ impl From<AllocError> for Fault {
 }
 
 impl<T: Drop> From<AllocFailed<T>> for Fault {
-    ghost use Rattle.grammar.specs.declared.fault.Fault.TheVariants.{Memory};
+    ghost use Rattle.grammar.specs.declared.fault.Fault.TheVariants as fault;
     ghost use Rattle.std.specs.Prelude.{◌≡◌};
 
-    ghost from_gives = { λ _ e. e ≡ Memory };
+    ghost from_gives = { λ _ e. e ≡ fault.Memory };
 
     fn from(_: AllocFailed<T>) -> Fault {
         Fault::Memory

@@ -9,14 +9,14 @@ ghost use Rattle.grammar.specs.Reading as spec;
 
 use crate::cursor::Cursor;
 use crate::expression::Rules;
-use crate::fault::Fault;
+use crate::fault::{Fault, Read};
 use crate::statement::parse_statement;
 use model::tree::{Declaration, Module, Process};
 use tokens::token::Kind;
 
 /// Reads `[ decimal : decimal ]`.
 #[tactic(auto, unfolding(crate::specs::Reading::parse_bounds))]
-fn parse_bounds(rules: Rules, tokens: &mut Cursor<'_, '_>) -> Result<(u64, u64), Fault>
+fn parse_bounds(rules: Rules, tokens: &mut Cursor<'_, '_>) -> Read<(u64, u64)>
     ensures { Reads (λ r. r) rules.stop (spec.parse_bounds (left_of tokens.old)) result (left_of tokens.new) }
 {
     tokens.take(rules.stop)?;
@@ -29,7 +29,7 @@ fn parse_bounds(rules: Rules, tokens: &mut Cursor<'_, '_>) -> Result<(u64, u64),
 
 /// Reads a range where it comes next.
 #[tactic(auto, unfolding(crate::specs::Reading::parse_range))]
-fn parse_range(rules: Rules, tokens: &mut Cursor<'_, '_>) -> Result<Option<(u64, u64)>, Fault>
+fn parse_range(rules: Rules, tokens: &mut Cursor<'_, '_>) -> Read<Option<(u64, u64)>>
     ensures { Reads (λ r. r) rules.stop (spec.parse_range (left_of tokens.old)) result (left_of tokens.new) }
 {
     if !tokens.sees(Kind::OpenSquare) {
@@ -38,16 +38,12 @@ fn parse_range(rules: Rules, tokens: &mut Cursor<'_, '_>) -> Result<Option<(u64,
     Ok(Some(parse_bounds(rules, tokens)?))
 }
 
-/// Reads names with commas between and `;` at the end, and adds them to those found.
+/// Reads names with commas between, and `;`.
 #[tactic(auto, unfolding(crate::specs::Reading::parse_names))]
-fn parse_names(
-    rules: Rules,
-    tokens: &mut Cursor<'_, '_>,
-    budget: usize,
-    mut found: Vec<String>,
-) -> Result<Vec<String>, Fault>
-    ensures { Reads names_view rules.stop (spec.parse_names budget (names_view found) (left_of tokens.old)) result (left_of tokens.new) }
+fn parse_names(rules: Rules, tokens: &mut Cursor<'_, '_>, budget: usize) -> Read<Vec<String>>
+    ensures { Reads names_view rules.stop (spec.parse_names budget [] (left_of tokens.old)) result (left_of tokens.new) }
 {
+    let mut found = Vec::new(rules.alloc);
     for _turn in 0..budget {
         let name = tokens.expect(rules.stop, Kind::Name)?;
         found.push(String::from_str(rules.alloc, name.text)?)?;
@@ -60,18 +56,24 @@ fn parse_names(
     Err(Fault::Syntax)
 }
 
+fn repeats_of(kind: Kind) -> Option<bool>
+    ensures { result ≡ grammar.repeats_of kind }
+{
+    match kind {
+        Kind::Initial => Some(false),
+        Kind::Always => Some(true),
+        _ => None,
+    }
+}
+
 /// Reads a `reg` item.
 #[tactic(auto, unfolding(crate::specs::Reading::parse_declaration))]
-fn parse_declaration(
-    rules: Rules,
-    tokens: &mut Cursor<'_, '_>,
-    budget: usize,
-) -> Result<Declaration, Fault>
+fn parse_declaration(rules: Rules, tokens: &mut Cursor<'_, '_>, budget: usize) -> Read<Declaration>
     ensures { Reads declaration_of rules.stop (spec.parse_declaration budget (left_of tokens.old)) result (left_of tokens.new) }
 {
     tokens.take(rules.stop)?;
     let found = parse_range(rules, tokens)?;
-    let names = parse_names(rules, tokens, budget, Vec::new(rules.alloc))?;
+    let names = parse_names(rules, tokens, budget)?;
     Ok(Declaration {
         range: found,
         names,
@@ -85,22 +87,13 @@ fn parse_process(
     tokens: &mut Cursor<'_, '_>,
     budget: usize,
     repeats: bool,
-) -> Result<Process, Fault>
-    ensures { Reads process_of rules.stop (spec.parse_process budget repeats (left_of tokens.old)) result (left_of tokens.new) }
+) -> Read<Process>
+    ensures { Reads process_of rules.stop (spec.parse_process budget repeats (left_of tokens.old))
+        result (left_of tokens.new) }
 {
     tokens.take(rules.stop)?;
     let body = parse_statement(rules, tokens, budget)?;
     Ok(Process { repeats, body })
-}
-
-fn repeats_of(kind: Kind) -> Option<bool>
-    ensures { result ≡ grammar.repeats_of kind }
-{
-    match kind {
-        Kind::Initial => Some(false),
-        Kind::Always => Some(true),
-        _ => None,
-    }
 }
 
 /// Reads an item, and adds it to those found.
@@ -110,7 +103,7 @@ fn parse_item(
     tokens: &mut Cursor<'_, '_>,
     budget: usize,
     mut found: Module,
-) -> Result<Module, Fault>
+) -> Read<Module>
     ensures { Reads module_of rules.stop (spec.parse_item budget (module_of found) (left_of tokens.old)) result (left_of tokens.new) }
 {
     match repeats_of(tokens.kind()) {
@@ -137,7 +130,7 @@ fn parse_items(
     tokens: &mut Cursor<'_, '_>,
     budget: usize,
     mut found: Module,
-) -> Result<Module, Fault>
+) -> Read<Module>
     ensures { Reads module_of rules.stop (spec.parse_items budget budget (module_of found) (left_of tokens.old)) result (left_of tokens.new) }
 {
     for _turn in 0..budget {
@@ -152,11 +145,7 @@ fn parse_items(
 
 /// Reads a module that is all there is.
 #[tactic(auto, unfolding(crate::specs::Reading::parse_source))]
-pub fn parse_source(
-    rules: Rules,
-    tokens: &mut Cursor<'_, '_>,
-    budget: usize,
-) -> Result<Module, Fault>
+pub fn parse_source(rules: Rules, tokens: &mut Cursor<'_, '_>, budget: usize) -> Read<Module>
     ensures { Reads module_of rules.stop (spec.parse_source budget (left_of tokens.old)) result (left_of tokens.new) }
 {
     tokens.expect(rules.stop, Kind::Module)?;

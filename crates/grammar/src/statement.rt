@@ -12,7 +12,7 @@ use crate::build::{
 };
 use crate::cursor::Cursor;
 use crate::expression::{Rules, parse_expression, parse_list, parse_parenthesized};
-use crate::fault::Fault;
+use crate::fault::{Fault, Read};
 use crate::strings::string_text;
 use model::tree::{Change, Event, Expression, Statement, Task};
 use std::alloc::{AllocError, Global};
@@ -20,7 +20,7 @@ use tokens::token::Kind;
 
 /// Reads `# decimal` where it comes next.
 #[tactic(auto, unfolding(crate::specs::Reading::parse_delay))]
-fn parse_delay(rules: Rules, tokens: &mut Cursor<'_, '_>) -> Result<Option<u64>, Fault>
+fn parse_delay(rules: Rules, tokens: &mut Cursor<'_, '_>) -> Read<Option<u64>>
     ensures { Reads (λ d. d) rules.stop (spec.parse_delay (left_of tokens.old)) result (left_of tokens.new) }
 {
     if !tokens.sees(Kind::Hash) {
@@ -37,7 +37,7 @@ fn parse_value(
     rules: Rules,
     tokens: &mut Cursor<'_, '_>,
     budget: usize,
-) -> Result<(Option<u64>, Expression), Fault>
+) -> Read<(Option<u64>, Expression)>
     ensures { Reads (λ p. (p.0, expression_of p.1)) rules.stop (spec.parse_value budget (left_of tokens.old)) result (left_of tokens.new) }
 {
     let found = parse_delay(rules, tokens)?;
@@ -48,22 +48,18 @@ fn parse_value(
 
 /// Reads an assignment.
 #[tactic(auto, unfolding(crate::specs::Reading::parse_assign))]
-fn parse_assign(
-    rules: Rules,
-    tokens: &mut Cursor<'_, '_>,
-    budget: usize,
-) -> Result<Statement, Fault>
+fn parse_assign(rules: Rules, tokens: &mut Cursor<'_, '_>, budget: usize) -> Read<Statement>
     ensures { Reads statement_of rules.stop (spec.parse_assign budget (left_of tokens.old)) result (left_of tokens.new) }
 {
     let name = tokens.take(rules.stop)?;
     if tokens.sees(Kind::AtMost) {
         tokens.take(rules.stop)?;
         let found = parse_value(rules, tokens, budget)?;
-        return Ok(assign_later_of(rules.alloc, name.text, found.0, found.1)?);
+        return Ok(assign_later_of(String::from_str(rules.alloc, name.text)?, found.0, found.1));
     }
     tokens.expect(rules.stop, Kind::Assign)?;
     let found = parse_value(rules, tokens, budget)?;
-    Ok(assign_of(rules.alloc, name.text, found.0, found.1)?)
+    Ok(assign_of(String::from_str(rules.alloc, name.text)?, found.0, found.1))
 }
 
 fn change_of(kind: Kind) -> Option<Change>
@@ -96,7 +92,7 @@ fn event_of(alloc: Global, change: Change, name: &str) -> Result<Event, AllocErr
 
 /// Reads an event.
 #[tactic(auto, unfolding(crate::specs::Reading::parse_event))]
-fn parse_event(rules: Rules, tokens: &mut Cursor<'_, '_>) -> Result<Event, Fault>
+fn parse_event(rules: Rules, tokens: &mut Cursor<'_, '_>) -> Read<Event>
     ensures { Reads trigger_of rules.stop (spec.parse_event (left_of tokens.old)) result (left_of tokens.new) }
 {
     match change_of(tokens.kind()) {
@@ -114,14 +110,10 @@ fn parse_event(rules: Rules, tokens: &mut Cursor<'_, '_>) -> Result<Event, Fault
 
 /// Reads events with `or` or commas between, and `)`.
 #[tactic(auto, unfolding(crate::specs::Reading::parse_events))]
-fn parse_events(
-    rules: Rules,
-    tokens: &mut Cursor<'_, '_>,
-    budget: usize,
-    mut found: Vec<Event>,
-) -> Result<Vec<Event>, Fault>
-    ensures { Reads triggers_view rules.stop (spec.parse_events budget (triggers_view found) (left_of tokens.old)) result (left_of tokens.new) }
+fn parse_events(rules: Rules, tokens: &mut Cursor<'_, '_>, budget: usize) -> Read<Vec<Event>>
+    ensures { Reads triggers_view rules.stop (spec.parse_events budget [] (left_of tokens.old)) result (left_of tokens.new) }
 {
+    let mut found = Vec::new(rules.alloc);
     for _turn in 0..budget {
         let one = parse_event(rules, tokens)?;
         found.push(one)?;
@@ -136,16 +128,12 @@ fn parse_events(
 
 /// Reads `@ ( events )`.
 #[tactic(auto, unfolding(crate::specs::Reading::parse_event_control))]
-fn parse_event_control(
-    rules: Rules,
-    tokens: &mut Cursor<'_, '_>,
-    budget: usize,
-) -> Result<Vec<Event>, Fault>
+fn parse_event_control(rules: Rules, tokens: &mut Cursor<'_, '_>, budget: usize) -> Read<Vec<Event>>
     ensures { Reads triggers_view rules.stop (spec.parse_event_control budget (left_of tokens.old)) result (left_of tokens.new) }
 {
     tokens.take(rules.stop)?;
     tokens.expect(rules.stop, Kind::Open)?;
-    parse_events(rules, tokens, budget, Vec::new(rules.alloc))
+    parse_events(rules, tokens, budget)
 }
 
 /// Reads a `$display` or a `$strobe`.
@@ -155,8 +143,9 @@ fn parse_print(
     tokens: &mut Cursor<'_, '_>,
     task: Task,
     budget: usize,
-) -> Result<Statement, Fault>
-    ensures { Reads statement_of rules.stop (spec.parse_print task budget (left_of tokens.old)) result (left_of tokens.new) }
+) -> Read<Statement>
+    ensures { Reads statement_of rules.stop
+        (spec.parse_print task budget (left_of tokens.old)) result (left_of tokens.new) }
 {
     tokens.take(rules.stop)?;
     tokens.expect(rules.stop, Kind::Open)?;
@@ -172,7 +161,7 @@ fn parse_print(
 
 /// Reads `$finish ;`.
 #[tactic(auto, unfolding(crate::specs::Reading::parse_finish))]
-fn parse_finish(rules: Rules, tokens: &mut Cursor<'_, '_>) -> Result<Statement, Fault>
+fn parse_finish(rules: Rules, tokens: &mut Cursor<'_, '_>) -> Read<Statement>
     ensures { Reads statement_of rules.stop (spec.parse_finish (left_of tokens.old)) result (left_of tokens.new) }
 {
     tokens.take(rules.stop)?;
@@ -183,11 +172,7 @@ fn parse_finish(rules: Rules, tokens: &mut Cursor<'_, '_>) -> Result<Statement, 
 /// Reads `# decimal` and a statement.
 #[cycle(statement)]
 #[tactic(auto, unfolding(crate::specs::Reading::parse_delayed))]
-fn parse_delayed(
-    rules: Rules,
-    tokens: &mut Cursor<'_, '_>,
-    budget: usize,
-) -> Result<Statement, Fault>
+fn parse_delayed(rules: Rules, tokens: &mut Cursor<'_, '_>, budget: usize) -> Read<Statement>
     ensures { Reads statement_of rules.stop (spec.parse_delayed (spec.parse_statement budget) (left_of tokens.old)) result (left_of tokens.new) }
 {
     tokens.take(rules.stop)?;
@@ -199,11 +184,7 @@ fn parse_delayed(
 /// Reads `@ ( events )` and a statement.
 #[cycle(statement)]
 #[tactic(auto, unfolding(crate::specs::Reading::parse_awaited))]
-fn parse_awaited(
-    rules: Rules,
-    tokens: &mut Cursor<'_, '_>,
-    budget: usize,
-) -> Result<Statement, Fault>
+fn parse_awaited(rules: Rules, tokens: &mut Cursor<'_, '_>, budget: usize) -> Read<Statement>
     ensures { Reads statement_of rules.stop (spec.parse_awaited (spec.parse_statement budget) budget (left_of tokens.old)) result (left_of tokens.new) }
 {
     let found = parse_event_control(rules, tokens, budget)?;
@@ -214,11 +195,7 @@ fn parse_awaited(
 /// Reads a block, and answers its statements.
 #[cycle(statement)]
 #[tactic(auto, unfolding(crate::specs::Reading::parse_block, crate::specs::Reading::parse_statements))]
-fn parse_block(
-    rules: Rules,
-    tokens: &mut Cursor<'_, '_>,
-    budget: usize,
-) -> Result<Vec<Statement>, Fault>
+fn parse_block(rules: Rules, tokens: &mut Cursor<'_, '_>, budget: usize) -> Read<Vec<Statement>>
     ensures { Reads statements_view rules.stop (spec.parse_block (spec.parse_statement budget) budget (left_of tokens.old)) result (left_of tokens.new) }
 {
     tokens.expect(rules.stop, Kind::Begin)?;
@@ -242,7 +219,7 @@ fn parse_else(
     budget: usize,
     test: Expression,
     body: Vec<Statement>,
-) -> Result<Statement, Fault>
+) -> Read<Statement>
     ensures { Reads statement_of rules.stop (spec.parse_else (spec.parse_statement budget) budget (expression_of test) (statements_view body) (left_of tokens.old)) result (left_of tokens.new) }
 {
     if !tokens.sees(Kind::Else) {
@@ -260,7 +237,7 @@ fn parse_guarded(
     rules: Rules,
     tokens: &mut Cursor<'_, '_>,
     budget: usize,
-) -> Result<(Expression, Vec<Statement>), Fault>
+) -> Read<(Expression, Vec<Statement>)>
     ensures { Reads (λ p. (expression_of p.0, statements_view p.1)) rules.stop (spec.parse_guarded (spec.parse_statement budget) budget (left_of tokens.old)) result (left_of tokens.new) }
 {
     tokens.take(rules.stop)?;
@@ -272,7 +249,7 @@ fn parse_guarded(
 /// Reads `if ( expression ) block`, and `else block` where it follows.
 #[cycle(statement)]
 #[tactic(auto, unfolding(crate::specs::Reading::parse_if))]
-fn parse_if(rules: Rules, tokens: &mut Cursor<'_, '_>, budget: usize) -> Result<Statement, Fault>
+fn parse_if(rules: Rules, tokens: &mut Cursor<'_, '_>, budget: usize) -> Read<Statement>
     ensures { Reads statement_of rules.stop (spec.parse_if (spec.parse_statement budget) budget (left_of tokens.old)) result (left_of tokens.new) }
 {
     let found = parse_guarded(rules, tokens, budget)?;
@@ -282,7 +259,7 @@ fn parse_if(rules: Rules, tokens: &mut Cursor<'_, '_>, budget: usize) -> Result<
 /// Reads `while ( expression ) block`.
 #[cycle(statement)]
 #[tactic(auto, unfolding(crate::specs::Reading::parse_while))]
-fn parse_while(rules: Rules, tokens: &mut Cursor<'_, '_>, budget: usize) -> Result<Statement, Fault>
+fn parse_while(rules: Rules, tokens: &mut Cursor<'_, '_>, budget: usize) -> Read<Statement>
     ensures { Reads statement_of rules.stop (spec.parse_while (spec.parse_statement budget) budget (left_of tokens.old)) result (left_of tokens.new) }
 {
     let found = parse_guarded(rules, tokens, budget)?;
@@ -291,7 +268,7 @@ fn parse_while(rules: Rules, tokens: &mut Cursor<'_, '_>, budget: usize) -> Resu
 
 #[cycle(statement)]
 #[tactic(auto, unfolding(crate::specs::Reading::parse_form))]
-fn parse_form(rules: Rules, tokens: &mut Cursor<'_, '_>, budget: usize) -> Result<Statement, Fault>
+fn parse_form(rules: Rules, tokens: &mut Cursor<'_, '_>, budget: usize) -> Read<Statement>
     ensures { Reads statement_of rules.stop (spec.parse_form (spec.parse_statement budget) budget (left_of tokens.old)) result (left_of tokens.new) }
 {
     match tokens.kind() {
@@ -316,11 +293,7 @@ fn parse_form(rules: Rules, tokens: &mut Cursor<'_, '_>, budget: usize) -> Resul
 }
 
 #[cycle(statement)]
-pub fn parse_statement(
-    rules: Rules,
-    tokens: &mut Cursor<'_, '_>,
-    budget: usize,
-) -> Result<Statement, Fault>
+pub fn parse_statement(rules: Rules, tokens: &mut Cursor<'_, '_>, budget: usize) -> Read<Statement>
     ensures { Reads statement_of rules.stop (spec.parse_statement budget (left_of tokens.old)) result (left_of tokens.new) }
 {
     if budget == 0 {

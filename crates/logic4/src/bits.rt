@@ -125,27 +125,12 @@ impl Bits {
         ensures value { result ≡ digit ∷ [] }
         ensures width { length result ≡ 1 }
     {
+        let width = 1;
         match digit {
-            Digit::Zero => Bits {
-                width: 1,
-                a: 0,
-                b: 0,
-            },
-            Digit::One => Bits {
-                width: 1,
-                a: 1,
-                b: 0,
-            },
-            Digit::X => Bits {
-                width: 1,
-                a: 1,
-                b: 1,
-            },
-            Digit::Z => Bits {
-                width: 1,
-                a: 0,
-                b: 1,
-            },
+            Digit::Zero => Bits { width, a: 0, b: 0 },
+            Digit::One => Bits { width, a: 1, b: 0 },
+            Digit::X => Bits { width, a: 1, b: 1 },
+            Digit::Z => Bits { width, a: 0, b: 1 },
         }
     }
 

@@ -1,18 +1,18 @@
 -- What the requests of the words, the files and the statuses tell of a command that ended.
-use Rattle.std.proofs.Common.{◌≡◌, ◌≢◌, ◌⊎◌, ◌==◌, ◌||◌, Bool, true, false, string_bytes, ◌++◌, ◌∙◌, ap, append_assoc, sym, subst, inl, inr, refl, ℕ, List, [], Option, Some, None, IfOk, IfErr, OnOk, Result, Ok, Err, map, option_map, codes, drop, arith}
+use Rattle.std.proofs.Common.{◌≡◌, ◌≢◌, ◌⊎◌, ◌==◌, ◌||◌, Bool, true, false, string_bytes, ◌++◌, ◌∙◌, ap, append_assoc, sym, subst, inl, inr, refl, ℕ, List, [], Option, Some, None, IfOk, IfErr, OnOk, OnErr, Result, Ok, Err, map, option_map, codes, drop, arith}
 use Rattle.std.specs.Io.KnownBytes.{Appends, Keeps}
 use Rattle.model.specs.declared.entry.Entry.{Entry}
 use Rattle.arguments.specs.declared.options.Options.{Options}
 use Rattle.clap.specs.Words.{Text, first_of}
 use Rattle.explain.specs.declared.telling.Window.{Window}
 use Rattle.program.specs.declared.fault.Stop.{Stop}
+use Rattle.program.specs.declared.running.LeftByRun.{LeftByRun}
 use Rattle.arguments.specs.declared.request.Refusal.{Refusal}
 use Rattle.arguments.specs.declared.request.Refusal.TheVariants as refusal
 use Rattle.arguments.specs.declared.request.Request.{Request}
 use Rattle.arguments.specs.declared.request.Request.TheVariants as request
 use Rattle.arguments.specs.declared.request.RunRequest.{RunRequest}
 use Rattle.arguments.proofs.SecondWord.{unlike}
-use Rattle.arguments.specs.declared.request.CheckRequest.{CheckRequest}
 use Rattle.arguments.specs.declared.request.RacesRequest.{RacesRequest}
 use Rattle.arguments.specs.declared.request.WavesRequest.{WavesRequest}
 use Rattle.arguments.specs.declared.extent.Extent.{Extent}
@@ -22,13 +22,13 @@ use Rattle.arguments.specs.Options.{CanRun, CanSearch}
 use Rattle.program.specs.declared.ending.Ending.{Ending}
 use Rattle.program.specs.declared.ending.Ending.TheVariants as ending
 use Rattle.program.specs.declared.finding.Finding.TheVariants as finding
-use Rattle.program.specs.Program.{IsRefusalStatus, ended_status, ending_of, finding_status, help_text, right_text, status_of, stop_status, version_text}
-use Rattle.program.specs.Printed.{HasBegun, HasEnded, HasLeft, HasPrintedBy, HasRefused, HasRun, HasSearched, HasChecked, HasDumped, HasExplainedSome, HasShown, HasWaves, IsDone, IsLeft, IsRight, IsUnprinted, IsWrong, begun, checked, helped, interrupted, ran, searched, untouched, versioned}
+use Rattle.program.specs.Program.{IsRefusalStatus, ended_status, ending_of, finding_status, help_text, right_text, status_of, stop_of, stop_status, version_text}
+use Rattle.program.specs.Printed.{AsksCheckOf, HasBegun, HasEnded, HasLeft, HasPrintedBy, HasRefused, HasRun, HasSearched, HasChecked, HasDumped, HasExplainedSome, HasShown, HasWaves, IsDone, IsLeft, IsLeftByRun, IsRight, IsUnprinted, IsWrong, begun, checked, helped, interrupted, ran, searched, untouched, versioned}
 use Rattle.program.specs.StandardError.{HasExplainedTold, IsEndTold, IsTold, IsUnfinished, IsWanting, nothing, of_fault, of_source, of_stop}
 use Rattle.program.proofs.Statuses.{not_of_fault, not_of_stop}
 use Rattle.journal.specs.declared.counted.Counted.{Counted}
 use Rattle.files.specs.Saved.{AddsFile, SavesAllWhereAsked, KeepsFiles, Made, SavesSomeWhereAsked, SavesWhereAsked}
-use Rattle.arguments.specs.CommandWords.{AreWrong, Asks, Begins, AsksCheck, AsksRaces, AsksRun, AsksWaves, IsRefusal, extent_of, options_of, races_rows, run_rows}
+use Rattle.arguments.specs.CommandWords.{AreWrong, Asks, Begins, AsksRaces, AsksRun, AsksWaves, IsRefusal, extent_of, options_of, races_rows, run_rows}
 
 -- files
 
@@ -48,6 +48,25 @@ pub saved_on : (a b c : Option (List Made)) (path : Option (List ℕ)) (entries 
     → SavesWhereAsked b c path entries → SavesWhereAsked a c path entries
 saved_on a b c None entries h k = kept_on a b c h k
 saved_on a b c (Some p) entries h k = added_on a b c _ h k
+
+-- what was printed and saved is what the run left
+pub printed_by : (seed : Option ℕ) (options : Options) (path : Option (List ℕ)) (old new : Option (List ℕ)) (files files' : Option (List Made)) (left : LeftByRun) (told : Option Stop)
+    → IsLeftByRun seed options left → Appends old new (string_bytes left.lines) → SavesWhereAsked files files' path left.journal.items → told ≡ stop_of left.end
+    → HasPrintedBy seed options path old new files files' told
+printed_by None options path old new files files' left told made lines saved end = record {
+  closed = made.closed;
+  is_run = made.is_run;
+  lines = subst (λ (text : List ℕ). Appends old new text) made.lines lines;
+  saved = subst (λ (entries : List Entry). SavesWhereAsked files files' path entries) made.journal saved;
+  end = end ∙ ap stop_of made.end;
+}
+printed_by (Some seed) options path old new files files' left told made lines saved end = record {
+  run = made.run;
+  is_run = made.is_run;
+  lines = subst (λ (text : List ℕ). Appends old new text) made.lines lines;
+  saved = subst (λ (entries : List Entry). SavesWhereAsked files files' path entries) made.journal saved;
+  end = end ∙ ap stop_of made.end;
+}
 
 pub all_saved_on : (a b c : Option (List Made)) (prefix : Option (List ℕ)) (journals : List (List Entry)) → KeepsFiles a b
     → SavesAllWhereAsked b c prefix journals → SavesAllWhereAsked a c prefix journals
@@ -388,7 +407,12 @@ pub left_unless_one : (words : List Text) (old new : Option (List ℕ)) (files f
 left_unless_one words old new files files' (Ok e) h k = tt
 left_unless_one words old new files files' (Err f) h k = λ six. untouched (h (six_not_one (status_of f) six)) (k (six_not_one (status_of f) six))
 
-pub left_of_dump : (words : List Text) (known : Option (List ℕ)) (files files' : Option (List Made)) (r : Result Ending Fault) → IfErr r (λ f. KeepsFiles files files')
+-- what holds at any fault holds at one of these statuses
+pub at_any_fault : (P : Type 0) (r : Result Ending Fault) → OnErr r P → IfErr r (λ f. (status_of f ≡ 3) ⊎ (status_of f ≡ 5) → P)
+at_any_fault P (Ok e) h = tt
+at_any_fault P (Err f) h = λ source. h
+
+pub left_of_dump : (words : List Text) (known : Option (List ℕ)) (files files' : Option (List Made)) (r : Result Ending Fault) → OnErr r (KeepsFiles files files')
     → IfErr r (λ f. status_of f ≡ 6 → IsLeft words known known files files')
 left_of_dump words known files files' (Ok e) h = tt
 left_of_dump words known files files' (Err f) h = λ six. untouched (output_same known) h
@@ -422,21 +446,21 @@ pub one_only : (K : Type 0) (r : Result Ending Fault) → IfErr r (λ f. status_
 one_only K (Ok e) h = tt
 one_only K (Err f) h = λ other. absurd (other h)
 
-pub check_performed : (words : List Text) (check : CheckRequest) (old new : Option (List ℕ)) (files files' : Option (List Made)) (r : Result Ending Fault)
-    → AsksCheck words check → IsRight → KeepsFiles files files' → OnOk r (Appends old new (right_text check.file.now)) → IfOk r (λ e. e ≡ ending.Done)
+pub check_performed : (words : List Text) (path : List ℕ) (old new : Option (List ℕ)) (files files' : Option (List Made)) (r : Result Ending Fault)
+    → AsksCheckOf words path → IsRight → KeepsFiles files files' → OnOk r (Appends old new (right_text path)) → IfOk r (λ e. e ≡ ending.Done)
     → IfOk r (HasEnded words old new files files')
-check_performed words check old new files files' (Ok ending.Done) asks right keeps shown is = checked (record {
+check_performed words path old new files files' (Ok ending.Done) asks right keeps shown is = checked (record {
   begins = asks.begins;
   is_right = right;
-  path = check.file.now;
-  file = asks.is_check.file;
+  path = path;
+  file = asks.file;
   shown = shown;
   unsaved = keeps;
 })
-check_performed words check old new files files' (Ok (ending.Stopped s)) asks right keeps shown is = cc
-check_performed words check old new files files' (Ok (ending.Found found)) asks right keeps shown is = cc
-check_performed words check old new files files' (Ok (ending.Wrong text)) asks right keeps shown is = cc
-check_performed words check old new files files' (Err f) asks right keeps shown is = tt
+check_performed words path old new files files' (Ok (ending.Stopped s)) asks right keeps shown is = cc
+check_performed words path old new files files' (Ok (ending.Found found)) asks right keeps shown is = cc
+check_performed words path old new files files' (Ok (ending.Wrong text)) asks right keeps shown is = cc
+check_performed words path old new files files' (Err f) asks right keeps shown is = tt
 
 pub waves_performed : (words : List Text) (waves : WavesRequest) (known : Option (List ℕ)) (files files' : Option (List Made)) → AsksWaves words waves
     → HasDumped waves.out.now files files' → HasWaves words known known files files'

@@ -8,9 +8,9 @@ use Rattle.explain.specs.declared.failure.ExplainFault.{ExplainFault}
 use Rattle.explain.specs.declared.failure.ExplainFault.TheVariants as explaining
 use Rattle.explain.specs.declared.telling.Window.{Window}
 use Rattle.explain.specs.Explained.{IfReplay, IsLawfulText, UnlessBegun}
-use Rattle.explain.specs.ExplainedText.{ExplainsText, ExplainsTextFault}
+use Rattle.explain.specs.ExplainedText.{ExplainsText, ExplainsTextFault, window_of}
 use Rattle.program.specs.declared.fault.Fault.{Fault}
-use Rattle.program.specs.Printed.{HasExplained, HasExplainedSome, HasTold, window_in, window_of}
+use Rattle.program.specs.Printed.{HasExplained, HasExplainedSome, HasTold, window_in}
 use Rattle.program.specs.Program.{explain_fault, status_of}
 use Rattle.files.specs.Saved.{KeepsFiles, Made}
 

@@ -80,16 +80,6 @@ if_ok P Q (Err e) step h = tt
 
 -- what is told before the search, and what is told behind it, where journals are saved and where they aren't
 
-pub first_of_none : {X : Type 0} (source : List ℕ) (code : Compiled) (limits : Limits) (shown : List (Shown Entry End)) (prefix : Option X) (path : X → List ℕ) (lines : List ℕ) → prefix ≡ None
-    → shown ≡ [] → TellsRaces source code limits shown (option_map path prefix) lines → IsToldFirst source code limits (option_map path prefix) lines
-first_of_none source code limits shown None path lines none empty h = subst (λ ss. TellsRaces source code limits ss None lines) empty h
-first_of_none source code limits shown (Some p) path lines none empty h = cc
-
-pub first_of_some : {X : Type 0} (source : List ℕ) (code : Compiled) (limits : Limits) (prefix : Option X) (path : X → List ℕ) (p : X) (lines : List ℕ) → prefix ≡ Some p → lines ≡ []
-    → IsToldFirst source code limits (option_map path prefix) lines
-first_of_some source code limits None path p lines some h = cc
-first_of_some source code limits (Some q) path p lines some h = h
-
 pub others_of_none : {X : Type 0} (source : List ℕ) (code : Compiled) (limits : Limits) (shown : List (Shown Entry End)) (prefix : Option X) (path : X → List ℕ) (lines : List ℕ) → prefix ≡ None
     → lines ≡ [] → TellsOtherRaces source code limits shown (option_map path prefix) lines
 others_of_none source code limits shown None path lines none empty = λ first h.

@@ -4,7 +4,7 @@ use Rattle.std.specs.Io.KnownBytes.{Appends, Keeps}
 use Rattle.design.specs.Compiled.{Compiled, design_of}
 use Rattle.model.specs.Syntax.{Module}
 use Rattle.explain.specs.Explained.{IsLawfulText}
-use Rattle.explain.specs.ExplainedText.{ExplainsText, ExplainsTextFault}
+use Rattle.explain.specs.ExplainedText.{ExplainsText, ExplainsTextFault, window_of}
 use Rattle.explain.specs.declared.failure.ExplainFault.TheVariants as explaining
 use Rattle.explain.specs.declared.telling.Window.{Window}
 use Rattle.replay.specs.declared.fault.ReplayFault.{ReplayFault}
@@ -35,6 +35,7 @@ use Rattle.program.specs.declared.finding.Finding.TheVariants as finding
 use Rattle.program.specs.Findings.{AreFound, HaveSomeEnds, finding_of, first_text, limits_in}
 use Rattle.program.specs.declared.fault.Fault.{Fault}
 use Rattle.program.specs.declared.fault.Stop.{Stop}
+use Rattle.program.specs.declared.running.LeftByRun.{LeftByRun}
 use Rattle.clap.specs.Words.{Text, first_of}
 use Rattle.arguments.specs.Options.{CanRun, CanSearch}
 use Rattle.program.specs.declared.ending.Ending.{Ending}
@@ -79,6 +80,27 @@ pub record HasPrintedSeeded (options : Options) (path : Option (List ℕ)) (old 
   pub lines : Appends old new (string_bytes run.lines)
   pub saved : SavesWhereAsked files files' path run.journal.items
   pub end : told ≡ stop_of run.end
+
+-- what a run on workers leaves that has these options
+pub record IsLeftOnWorkers (options : Options) (left : LeftByRun) : Type 0 where
+  pub closed : ClosedView
+  pub is_run : IsRun options closed
+  pub journal : left.journal.items ≡ closed.entries
+  pub lines : string_bytes left.lines ≡ closed.lines
+  pub end : left.end ≡ closed.end
+
+-- what a run by a seed leaves that has these options
+pub record IsLeftBySeed (options : Options) (left : LeftByRun) : Type 0 where
+  pub run : SeededRun
+  pub is_run : IsSeeded options run
+  pub journal : left.journal.items ≡ run.journal.items
+  pub lines : string_bytes left.lines ≡ string_bytes run.lines
+  pub end : left.end ≡ run.end
+
+-- what a run leaves, by a seed where one is given and else on workers
+abbrev pub IsLeftByRun : Option ℕ → Options → LeftByRun → Type 0
+IsLeftByRun None options left = IsLeftOnWorkers options left
+IsLeftByRun (Some seed) options left = IsLeftBySeed options left
 
 -- so it is where a seed is given, and else the run was one on workers
 abbrev pub HasPrintedBy : Option ℕ → Options → Option (List ℕ) → Option (List ℕ) → Option (List ℕ) → Option (List Made) → Option (List Made) → Option Stop → Type 0
@@ -177,10 +199,6 @@ pub record HasReplayed (old new : Option (List ℕ)) : Type 0 where
   pub left : Option (List ℕ)
   pub prints : Prints source left old new
 
--- which entries are told: from the first, or this one, to the last that there may be, or this one
-abbrev pub window_of : ℕ → Option ℕ → Window
-window_of from to = record { from = from; to = unwrap_or to 18446744073709551615 }
-
 -- Output grew by a journal in words, in this window: by a line for each entry that it has, and how the run stands behind them. The
 -- journal is lawful for the design that some source describes, and what was left to read, where that is known, is its text.
 pub record HasExplained (window : Window) (old new : Option (List ℕ)) : Type 0 where
@@ -257,6 +275,11 @@ pub record IsWrong : Type 0 where
 abbrev pub HasChecked : {T : Type 0} → Option T → Type 0
 HasChecked None = IsRight
 HasChecked (Some text) = IsWrong
+
+-- the words ask for a check of this FILE
+pub record AsksCheckOf (words : List Text) (path : List ℕ) : Type 0 where
+  pub begins : Begins words (codes "check")
+  pub file : first_of (codes "FILE") (check_rows (drop 1 words)) ≡ Some path
 
 -- The words ask for a check of a source, which is right, and output grew by a line that says so of the FILE of these words.
 pub record HasConfirmed (words : List Text) (old new : Option (List ℕ)) (files files' : Option (List Made)) : Type 0 where

@@ -3,8 +3,6 @@ use Rattle.std.specs.Prelude.{ℕ, List, [], codes, decimal, string_bytes}
 use Rattle.telling.specs.FaultLines.{line, shown_path}
 use Rattle.files.specs.declared.fault.FileFault.{FileFault}
 use Rattle.files.specs.declared.fault.FileFault.TheVariants as file
-use Rattle.model.specs.declared.entry.Refusal.{Refusal}
-use Rattle.model.specs.declared.entry.Refusal.TheVariants as refused
 use Rattle.vparse.specs.declared.parser.ParseFault.{ParseFault}
 use Rattle.vparse.specs.declared.parser.ParseFault.TheVariants as parsing
 use Rattle.elaborate.specs.declared.fault.ElabFault.{ElabFault}
@@ -15,8 +13,7 @@ use Rattle.workers.specs.declared.fault.SimFault.{SimFault}
 use Rattle.workers.specs.declared.fault.SimFault.TheVariants as simulation
 use Rattle.journal.specs.declared.fault.ReadFault.{ReadFault}
 use Rattle.journal.specs.declared.fault.ReadFault.TheVariants as reading
-use Rattle.replay.specs.declared.fault.Cause.{Cause}
-use Rattle.replay.specs.declared.fault.Cause.TheVariants as cause
+use Rattle.explain.specs.ExplainedEnd.{code_text}
 use Rattle.replay.specs.declared.fault.BytesFault.{BytesFault}
 use Rattle.replay.specs.declared.fault.BytesFault.TheVariants as replaying
 use Rattle.program.specs.declared.fault.Fault.{Fault}
@@ -65,28 +62,11 @@ read_line reading.Memory = line (codes "Q5 memory") [] []
 read_line (reading.Count number) = line (codes "Q6 journal count at line ") (decimal number) []
 read_line reading.Uncounted = line (codes "Q7 journal cut") [] []
 
--- the rule that an entry breaks (11.4)
-abbrev pub refusal_text : Refusal → List ℕ
-refusal_text refused.NotActive = codes ": J1 event not active"
-refusal_text refused.EarlierUpdate = codes ": J2 earlier update active"
-refusal_text refused.NotDue = codes ": J3 region change not due"
-refusal_text refused.WrongTime = codes ": J4 wrong time"
-refusal_text refused.PastLimit = codes ": J5 time limit"
-refusal_text refused.Finished = codes ": J6 finished"
-
--- what stands behind the number of an entry that isn't taken
-abbrev pub cause_text : Cause → List ℕ
-cause_text (cause.Refused r) = refusal_text r
-cause_text cause.TooLong = codes ": turn too long"
-cause_text cause.TooMany = codes ": too many entries"
-cause_text cause.ApplyMemory = codes ": memory"
-cause_text cause.Memory = codes ": memory"
-
 -- a replay: entries are counted from 1
 abbrev pub replay_line : BytesFault → List ℕ
 replay_line (replaying.Source f) = source_line f
 replay_line (replaying.Read f) = read_line f
-replay_line (replaying.Replay f) = line (codes "entry ") (decimal f.entry) (cause_text f.cause)
+replay_line (replaying.Replay f) = line (codes "entry ") (decimal f.entry) (code_text f.cause)
 replay_line replaying.CannotWrite = line (codes "cannot write") [] []
 
 -- a file that isn't read, whose path is shown with its control characters escaped, or a file or output that isn't written

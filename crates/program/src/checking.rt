@@ -6,7 +6,6 @@ ghost use Rattle.program.specs.Printed.{HasChecked};
 ghost use Rattle.files.specs.Saved.{KeepsFiles};
 
 use crate::fault::{Fault, source_status};
-use arguments::CheckRequest;
 use diagnosis::diagnose::diagnose;
 use diagnosis::render::render;
 use files::{Files, read_file};
@@ -15,15 +14,15 @@ use std::alloc::Global;
 /// What is wrong with FILE, as it is told, or nothing. Want of memory is a fault.
 pub fn check<'a, F: Files>(
     alloc: Global,
-    request: &CheckRequest<'a>,
+    file: &'a str,
     files: &mut F,
 ) -> Result<Option<String>, Fault<'a>>
     ensures checked { IfOk result HasChecked }
     ensures kept { KeepsFiles (F.made files.old) (F.made files.new) }
     ensures fault { IfErr result (λ fault. (status_of fault ≡ 1) ⊎ (status_of fault ≡ 6)) }
 {
-    let source = read_file(alloc, request.file, files)?;
-    check_source(alloc, request.file, source.as_slice())
+    let source = read_file(alloc, file, files)?;
+    check_source(alloc, file, source.as_slice())
 }
 
 /// What is wrong with a source.

@@ -1,9 +1,10 @@
 //! `explain FILE JOURNAL`: FILE is read and JOURNAL opened. Then the journal is told in words, entry by entry, as it is taken.
 
-ghost use Rattle.std.specs.Prelude.{◌≡◌, IfErr, OnOk, unwrap_or};
+ghost use Rattle.std.specs.Prelude.{◌≡◌, IfErr, OnOk};
 ghost use Rattle.std.specs.Io.KnownBytes.{Keeps};
 ghost use Rattle.files.specs.Saved.{KeepsFiles};
-ghost use Rattle.program.specs.Printed.{HasExplained, HasExplainedSome, window_of};
+ghost use Rattle.explain.specs.ExplainedText.{window_of};
+ghost use Rattle.program.specs.Printed.{HasExplained, HasExplainedSome};
 ghost use Rattle.program.specs.Program.{explain_fault, status_of};
 
 use crate::fault::Fault;
@@ -34,7 +35,7 @@ pub fn explain_journal<'a, F: Files, O: Write>(
         alloc,
         source.as_slice(),
         &mut journal,
-        window_of(request.from, request.to),
+        Window::between(request.from, request.to),
         out,
         &files.progress_beside_output(),
     )
@@ -61,26 +62,6 @@ fn explain_bytes<R: Read, O: Write, P: Progress>(
             Ok(())
         }
         Err(fault) => Err(told_fault(fault)),
-    }
-}
-
-/// The entries that are told.
-fn window_of(from: u32, to: Option<u32>) -> Window
-    ensures { result ≡ window_of from to }
-{
-    Window {
-        from: u64::from(from),
-        to: last_of(to),
-    }
-}
-
-/// The last entry that is told.
-fn last_of(to: Option<u32>) -> u64
-    ensures { result ≡ unwrap_or to 18446744073709551615 }
-{
-    match to {
-        Some(to) => u64::from(to),
-        None => u64::MAX,
     }
 }
 

@@ -53,16 +53,6 @@ impl From<SourceFault> for Fault<'_> {
     }
 }
 
-impl From<SimFault> for Fault<'_> {
-    ghost use Rattle.program.specs.declared.fault.Fault.TheVariants.{Simulate};
-
-    ghost from_gives = { λ found fault. fault ≡ Simulate found };
-
-    fn from(found: SimFault) -> Self {
-        Fault::Simulate(found)
-    }
-}
-
 /// The reason of a stop, as it is told.
 #[derive(Clone, Copy, Drop)]
 pub enum Stop {

@@ -7,7 +7,7 @@ ghost use Rattle.program.specs.Program.{finding_status};
 use verdict::Claim;
 
 /// What was found: one text and no other is possible, no or one text and others may be possible, or several texts.
-#[derive(Clone, Copy, PartialEq, Eq, Debug)]
+#[derive(Clone, Copy)]
 pub enum Finding {
     One,
     Unfinished,

@@ -5,13 +5,13 @@
 //! What is told goes through the writer of standard error, and of that the clauses speak. How far long work is goes past it: the files
 //! show it (`Files::progress`), and the line is gone before anything is written or told.
 
-ghost use Rattle.std.specs.Prelude.{◌≡◌, ◌≢◌, ◌⊎◌, ◌≤◌, ℕ, List, [], Option, IfErr, IfOk, OnOk, codes};
+ghost use Rattle.std.specs.Prelude.{◌≡◌, ◌≢◌, ◌⊎◌, ◌≤◌, List, [], IfErr, IfOk, OnOk, codes};
 ghost use Rattle.clap.specs.Words.{Text};
 ghost use Rattle.std.specs.Io.KnownBytes.{Appends, Keeps};
 ghost use Rattle.journal.specs.Counted.{held};
-ghost use Rattle.arguments.specs.CommandWords.{AreWrong, Asks, AsksCheck, AsksExplain, AsksRaces, AsksReplay, AsksRun, AsksWaves, Begins, IsRefusal, texts_of};
+ghost use Rattle.arguments.specs.CommandWords.{AreWrong, Asks, AsksExplain, AsksRaces, AsksRun, Begins, IsRefusal, texts_of};
 ghost use Rattle.program.specs.declared.finding.Finding.TheVariants as finding;
-ghost use Rattle.program.specs.Printed.{HasEnded, HasExplainedSome, HasRefused, HasSearched, IsDone, IsLeft, IsUnprinted, window_in};
+ghost use Rattle.program.specs.Printed.{AsksCheckOf, HasEnded, HasExplainedSome, HasRefused, HasSearched, IsDone, IsLeft, IsUnprinted, window_in};
 ghost use Rattle.program.specs.Program.{IsRefusalStatus, ended_status, help_text, right_text, status_of, version_text};
 ghost use Rattle.files.specs.Saved.{KeepsFiles};
 ghost use Rattle.program.specs.StandardError.{HasExplainedTold, IsTold, IsUnfinished, IsWanting};
@@ -26,8 +26,7 @@ use crate::running::run;
 use crate::searching::search_races;
 use crate::waving::dump_waves;
 use arguments::{
-    CheckRequest, ExplainRequest, RacesRequest, Refusal, ReplayRequest, Request, RunRequest,
-    VERSION, WavesRequest, read_request,
+    ExplainRequest, RacesRequest, Refusal, Request, RunRequest, VERSION, read_request,
 };
 use files::{FileFault, Files, send_off, show};
 use journal::Counted;
@@ -86,11 +85,11 @@ fn perform<'a, R: Threads + Wait + Sync, F: Files, O: Write>(
 {
     match request {
         Request::Run(request) => perform_run(rt, alloc, request, files, out),
-        Request::Replay(request) => perform_replay(alloc, request, files, out),
+        Request::Replay(request) => replay_journal(alloc, request, files, out),
         Request::Races(request) => perform_races(alloc, request, files, out),
-        Request::Check(request) => perform_check(alloc, request, files, out),
+        Request::Check(request) => perform_check(alloc, request.file, files, out),
         Request::Explain(request) => perform_explain(alloc, request, files, out),
-        Request::Waves(request) => perform_waves(alloc, request, files),
+        Request::Waves(request) => dump_waves(alloc, request, files),
         Request::Version => perform_version(out),
     }
 }
@@ -100,30 +99,14 @@ fn perform_run<'a, R: Threads + Wait + Sync, F: Files, O: Write>(
     alloc: Global,
     request: &RunRequest<'a>,
     files: &mut F,
-    out: &mut Counted<O>,
+    out: &mut O,
 ) -> Result<Ending, Fault<'a>>
-    ensures ended { (words : List Text) → AsksRun words request.now → IfOk result (HasEnded words (O.contents (held out.old)) (O.contents (held out.new)) (F.made files.old) (F.made files.new)) }
-    ensures nothing { IfErr result (λ fault. status_of fault ≢ 1 → Keeps (O.contents (held out.old)) (O.contents (held out.new))) }
+    ensures nothing { IfErr result (λ fault. status_of fault ≢ 1 → Keeps (O.contents out.old) (O.contents out.new)) }
     ensures unsaved { IfErr result (λ fault. status_of fault ≢ 1 → KeepsFiles (F.made files.old) (F.made files.new)) }
+    ensures ended { (words : List Text) → AsksRun words request.now → IfOk result (HasEnded words (O.contents out.old) (O.contents out.new) (F.made files.old) (F.made files.new)) }
 {
     match run(rt, alloc, request, files, out) {
         Ok(told) => Ok(Ending::of_run(told)),
-        Err(fault) => Err(fault),
-    }
-}
-
-fn perform_replay<'a, F: Files, O: Write>(
-    alloc: Global,
-    request: &ReplayRequest<'a>,
-    files: &mut F,
-    out: &mut Counted<O>,
-) -> Result<Ending, Fault<'a>>
-    ensures ended { (words : List Text) → AsksReplay words request.now → IfOk result (HasEnded words (O.contents (held out.old)) (O.contents (held out.new)) (F.made files.old) (F.made files.new)) }
-    ensures nothing { IfErr result (λ fault. status_of fault ≢ 1 → Keeps (O.contents (held out.old)) (O.contents (held out.new))) }
-    ensures unsaved { KeepsFiles (F.made files.old) (F.made files.new) }
-{
-    match replay_journal(alloc, request, files, out) {
-        Ok(()) => Ok(Ending::Done),
         Err(fault) => Err(fault),
     }
 }
@@ -132,12 +115,12 @@ fn perform_races<'a, F: Files, O: Write>(
     alloc: Global,
     request: &RacesRequest<'a>,
     files: &mut F,
-    out: &mut Counted<O>,
+    out: &mut O,
 ) -> Result<Ending, Fault<'a>>
-    ensures ended { (words : List Text) → AsksRaces words request.now → IfOk result (HasEnded words (O.contents (held out.old)) (O.contents (held out.new)) (F.made files.old) (F.made files.new)) }
-    ensures nothing { IfErr result (λ fault. (status_of fault ≡ 3) ⊎ (status_of fault ≡ 5) → Keeps (O.contents (held out.old)) (O.contents (held out.new))) }
+    ensures ended { (words : List Text) → AsksRaces words request.now → IfOk result (HasEnded words (O.contents out.old) (O.contents out.new) (F.made files.old) (F.made files.new)) }
+    ensures nothing { IfErr result (λ fault. (status_of fault ≡ 3) ⊎ (status_of fault ≡ 5) → Keeps (O.contents out.old) (O.contents out.new)) }
     ensures unsaved { IfErr result (λ fault. (status_of fault ≡ 3) ⊎ (status_of fault ≡ 5) → KeepsFiles (F.made files.old) (F.made files.new)) }
-    ensures wanting { (words : List Text) → AsksRaces words request.now → IfErr result (λ fault. status_of fault ≡ 6 → IsLeft words (O.contents (held out.old)) (O.contents (held out.new)) (F.made files.old) (F.made files.new)) }
+    ensures wanting { (words : List Text) → AsksRaces words request.now → IfErr result (λ fault. status_of fault ≡ 6 → IsLeft words (O.contents out.old) (O.contents out.new) (F.made files.old) (F.made files.new)) }
 {
     match search_races(alloc, request, files, out) {
         Ok(found) => Ok(Ending::Found(found)),
@@ -147,17 +130,17 @@ fn perform_races<'a, F: Files, O: Write>(
 
 fn perform_check<'a, F: Files, O: Write>(
     alloc: Global,
-    request: &CheckRequest<'a>,
+    file: &'a str,
     files: &mut F,
     out: &mut Counted<O>,
 ) -> Result<Ending, Fault<'a>>
-    ensures ended { (words : List Text) → AsksCheck words request.now → IfOk result (HasEnded words (O.contents (held out.old)) (O.contents (held out.new)) (F.made files.old) (F.made files.new)) }
     ensures fault { IfErr result (λ fault. (status_of fault ≡ 1) ⊎ (status_of fault ≡ 6)) }
     ensures nothing { IfErr result (λ fault. status_of fault ≢ 1 → Keeps (O.contents (held out.old)) (O.contents (held out.new))) }
     ensures unsaved { KeepsFiles (F.made files.old) (F.made files.new) }
+    ensures ended { (words : List Text) → AsksCheckOf words file.now → IfOk result (HasEnded words (O.contents (held out.old)) (O.contents (held out.new)) (F.made files.old) (F.made files.new)) }
 {
-    match check(alloc, request, files) {
-        Ok(None) => show_right(request.file, out),
+    match check(alloc, file, files) {
+        Ok(None) => show_right(file, out),
         Ok(Some(text)) => Ok(Ending::Wrong(text)),
         Err(fault) => Err(fault),
     }
@@ -182,27 +165,12 @@ fn perform_explain<'a, F: Files, O: Write>(
     files: &mut F,
     out: &mut Counted<O>,
 ) -> Result<Ending, Fault<'a>>
-    ensures ended { (words : List Text) → AsksExplain words request.now → IfOk result (HasEnded words (O.contents (held out.old)) (O.contents (held out.new)) (F.made files.old) (F.made files.new)) }
-    ensures refused { (words : List Text) → AsksExplain words request.now → IfErr result (λ fault. status_of fault ≡ 5 → HasExplainedSome (window_in words) (O.contents (held out.old)) (O.contents (held out.new)) fault) }
     ensures nothing { IfErr result (λ fault. status_of fault ≡ 3 → Keeps (O.contents (held out.old)) (O.contents (held out.new))) }
     ensures unsaved { KeepsFiles (F.made files.old) (F.made files.new) }
+    ensures refused { (words : List Text) → AsksExplain words request.now → IfErr result (λ fault. status_of fault ≡ 5 → HasExplainedSome (window_in words) (O.contents (held out.old)) (O.contents (held out.new)) fault) }
+    ensures ended { (words : List Text) → AsksExplain words request.now → IfOk result (HasEnded words (O.contents (held out.old)) (O.contents (held out.new)) (F.made files.old) (F.made files.new)) }
 {
     match explain_journal(alloc, request, files, out) {
-        Ok(()) => Ok(Ending::Done),
-        Err(fault) => Err(fault),
-    }
-}
-
-/// Writes a value change dump; standard output is left as it is, whatever it holds.
-fn perform_waves<'a, F: Files>(
-    alloc: Global,
-    request: &WavesRequest<'a>,
-    files: &mut F,
-) -> Result<Ending, Fault<'a>>
-    ensures ended { (words : List Text) (known : Option (List ℕ)) → AsksWaves words request.now → IfOk result (HasEnded words known known (F.made files.old) (F.made files.new)) }
-    ensures unsaved { IfErr result (λ fault. KeepsFiles (F.made files.old) (F.made files.new)) }
-{
-    match dump_waves(alloc, request, files) {
         Ok(()) => Ok(Ending::Done),
         Err(fault) => Err(fault),
     }
@@ -229,13 +197,13 @@ pub fn without_words<R: Threads + Wait + Sync, F: Files, O: Write, E: Write>(
     out: &mut Counted<O>,
     err: &mut Counted<E>,
 ) -> u8
+    ensures told { IsTold E.contents err.old err.new [] result }
     ensures range { result ≤ 7 }
     ensures done { result ≡ 0 → IsDone [] (O.contents (held out.old)) (O.contents (held out.new)) (F.made files.old) (F.made files.new) }
     ensures wanting { result ≡ 6 → IsWanting [] (O.contents (held out.old)) (O.contents (held out.new)) (F.made files.old) (F.made files.new) E.contents err.old err.new }
     ensures nothing { (result ≡ 2) ⊎ ((result ≡ 3) ⊎ (result ≡ 5)) → Keeps (O.contents (held out.old)) (O.contents (held out.new)) }
     ensures unsaved { (result ≡ 2) ⊎ ((result ≡ 3) ⊎ (result ≡ 5)) → KeepsFiles (F.made files.old) (F.made files.new) }
     ensures silent { (result ≡ 0) ⊎ (result ≡ 7) → err.new ≡ err.old }
-    ensures told { IsTold E.contents err.old err.new [] result }
 {
     match error.kind() {
         ErrorKind::OutOfMemory => tell_fault(Fault::Memory, err),

@@ -1,13 +1,16 @@
 //! `replay FILE JOURNAL`: the file is read and the journal opened. Then the journal is replayed on the
 //! design of the file, and its lines are written.
 
-ghost use Rattle.std.specs.Prelude.{◌≢◌, IfErr, OnOk};
+ghost use Rattle.std.specs.Prelude.{◌≢◌, IfErr, IfOk, List, OnOk};
+ghost use Rattle.clap.specs.Words.{Text};
 ghost use Rattle.std.specs.Io.KnownBytes.{Keeps};
 ghost use Rattle.journal.specs.Counted.{held};
+ghost use Rattle.arguments.specs.CommandWords.{AsksReplay};
 ghost use Rattle.program.specs.Program.{status_of};
-ghost use Rattle.program.specs.Printed.{HasReplayed};
+ghost use Rattle.program.specs.Printed.{HasEnded, HasReplayed};
 ghost use Rattle.files.specs.Saved.{KeepsFiles};
 
+use crate::ending::Ending;
 use crate::fault::Fault;
 use arguments::ReplayRequest;
 use files::{Files, open_file, read_file, send_off};
@@ -23,10 +26,11 @@ pub fn replay_journal<'a, F: Files, O: Write>(
     request: &ReplayRequest<'a>,
     files: &mut F,
     out: &mut Counted<O>,
-) -> Result<(), Fault<'a>>
+) -> Result<Ending, Fault<'a>>
     ensures printed { OnOk result (HasReplayed (O.contents (held out.old)) (O.contents (held out.new))) }
     ensures nothing { IfErr result (λ fault. status_of fault ≢ 1 → Keeps (O.contents (held out.old)) (O.contents (held out.new))) }
     ensures unsaved { KeepsFiles (F.made files.old) (F.made files.new) }
+    ensures ended { (words : List Text) → AsksReplay words request.now → IfOk result (HasEnded words (O.contents (held out.old)) (O.contents (held out.new)) (F.made files.old) (F.made files.new)) }
 {
     let source = read_file(alloc, request.file, files)?;
     let mut journal = Counted::new(open_file(request.journal, files)?);
@@ -38,5 +42,5 @@ pub fn replay_journal<'a, F: Files, O: Write>(
         Err(fault) => return Err(Fault::Replay(fault)),
     }
     send_off(out)?;
-    Ok(())
+    Ok(Ending::Done)
 }

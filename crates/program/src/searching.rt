@@ -134,8 +134,8 @@ fn first_lines<P: Progress>(
     names: &Names<'_>,
     progress: &P,
 ) -> Result<Vec<u8>, AllocError>
-    requires until { IfSome names.now.limits.until (λ until. until ≤ last_time) }
     requires none { names.now.shown.now ≡ [] }
+    requires until { IfSome names.now.limits.until (λ until. until ≤ last_time) }
     ensures { IfOk result (λ first. IsToldFirst names.entry.now.source.now names.entry.now.design.now names.entry.now.limits (option_map (λ path. path.now) names.entry.now.prefix) first.items) }
 {
     match names.prefix {
@@ -165,7 +165,7 @@ fn race_lines<P: Progress>(
     names: &Names<'_>,
     progress: &P,
 ) -> Result<Vec<u8>, AllocError>
-    requires { IfSome names.now.limits.until (λ until. until ≤ last_time) }
+    requires until { IfSome names.now.limits.until (λ until. until ≤ last_time) }
     ensures { IfOk result (λ lines. TellsRaces names.entry.now.source.now names.entry.now.design.now names.entry.now.limits names.entry.now.shown.now (option_map (λ path. path.now) names.entry.now.prefix) lines.items) }
 {
     let mut lines = Vec::new(alloc);

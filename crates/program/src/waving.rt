@@ -1,16 +1,19 @@
 //! `waves FILE JOURNAL --out OUT`: an OUT that is FILE or JOURNAL is refused. FILE is read, JOURNAL is opened and read, and OUT is begun.
 //! Then the registers over time are written to OUT as a value change dump, and OUT stands in its place.
 
-ghost use Rattle.std.specs.Prelude.{Some, IfOk, IfSome, OnErr, OnOk};
-ghost use Rattle.files.specs.Saved.{AddsFile, HoldsNothing, KeepsFiles, LeadsElsewhere};
+ghost use Rattle.std.specs.Prelude.{Some, IfOk, IfSome, List, OnErr, OnOk, Option, ℕ};
+ghost use Rattle.clap.specs.Words.{Text};
+ghost use Rattle.arguments.specs.CommandWords.{AsksWaves};
 ghost use Rattle.journal.specs.Counted.{held};
+ghost use Rattle.files.specs.Saved.{KeepsFiles, LeadsElsewhere};
 ghost use Rattle.model.specs.Journal.{IsJournal};
-ghost use Rattle.program.specs.Printed.{HasDumped, IsDumpOf};
+ghost use Rattle.program.specs.Printed.{HasDumped, HasEnded, IsDumpOf};
 
+use crate::ending::Ending;
 use crate::fault::Fault;
 use arguments::WavesRequest;
 use design::Design;
-use files::{Files, begin_at, finish_at, open_file, read_file, show_bytes, spare_source};
+use files::{Files, begin_at, open_file, read_file, save_text, spare_source};
 use frontend::{SourceFault, read_design};
 use journal::{Counted, read_journal};
 use model::entry::Entry;
@@ -21,16 +24,17 @@ use std::io::Read;
 use vparse::parse;
 use waves::{WaveFault, value_change_dump, waves};
 
-/// Writes the value change dump of JOURNAL on FILE to OUT.
+/// Writes the value change dump of JOURNAL on FILE to OUT. Standard output is left as it is, whatever it holds.
 pub fn dump_waves<'a, F: Files>(
     alloc: Global,
     request: &WavesRequest<'a>,
     files: &mut F,
-) -> Result<(), Fault<'a>>
+) -> Result<Ending, Fault<'a>>
     ensures dumped { OnOk result (HasDumped request.now.out.now (F.made files.old) (F.made files.new)) }
     ensures unsaved { OnErr result (KeepsFiles (F.made files.old) (F.made files.new)) }
     ensures source_spared { OnOk result (LeadsElsewhere (F.alike files.old) request.now.file.now (Some request.now.out.now)) }
     ensures journal_spared { OnOk result (LeadsElsewhere (F.alike files.old) request.now.journal.now (Some request.now.out.now)) }
+    ensures ended { (words : List Text) (known : Option (List ℕ)) → AsksWaves words request.now → IfOk result (HasEnded words known known (F.made files.old) (F.made files.new)) }
 {
     spare_source(request.file, Some(request.out), files)?;
     spare_source(request.journal, Some(request.out), files)?;
@@ -46,8 +50,8 @@ pub fn dump_waves<'a, F: Files>(
         entries.as_slice(),
         &files.progress(),
     )?;
-    put(text.as_slice(), request.out, target, files)?;
-    Ok(())
+    save_text(text.as_slice(), request.out, target, files)?;
+    Ok(Ending::Done)
 }
 
 /// The entries of a journal that is left to read.
@@ -84,21 +88,4 @@ fn dump_of<P: Progress>(
         Ok(module) => Ok(value_change_dump(alloc, module.name.as_str(), design, &wave)?),
         Err(fault) => Err(Fault::Source(SourceFault::Parse(fault))),
     }
-}
-
-/// Writes a text to a file that was begun for its path, and puts it there.
-fn put<F: Files>(
-    text: &[u8],
-    path: &str,
-    target: F::Target,
-    files: &mut F,
-) -> Result<(), Fault<'static>>
-    requires { HoldsNothing (F.made files.old) (F.Target.contents target) }
-    ensures put { OnOk result (AddsFile (F.made files.old) (F.made files.new) (record { path = path.now; bytes = text.now })) }
-    ensures unput { OnErr result (KeepsFiles (F.made files.old) (F.made files.new)) }
-{
-    let mut target = target;
-    show_bytes(&mut target, text)?;
-    finish_at(path, target, files)?;
-    Ok(())
 }

@@ -15,7 +15,7 @@ ghost use Rattle.walks.specs.Walking.{HasWalked};
 ghost use Rattle.races.specs.Following.{IsAdded, IsArrived, IsTurnOf, IsWayBy, TellsLong};
 ghost use Rattle.races.specs.SearchPlaces.{AreAllWays, AreBounded, AreWaysFor, IsReady, IsWayOn, IsWayToEnd};
 
-use crate::place::Place;
+use crate::place::{Place, Room};
 use explore::{Ended, Expanded, Next};
 use model::end::{End, Limits, Why};
 use model::entry::Entry;
@@ -195,10 +195,10 @@ fn follow_all<'d>(
     machine: Box<Machine<'d>>,
     entries: &[Entry],
 ) -> Result<Ways<'d>, AllocError>
-    requires silent { machine.value.lines ≡ [] }
-    requires some_entry { 0 < limits.max_entries }
-    requires few { machine.value.core.entries < most_entries }
     requires permitted { All (λ entry. refusal (state_at machine.value) entry ≡ None) entries.now }
+    requires few { machine.value.core.entries < most_entries }
+    requires some_entry { 0 < limits.max_entries }
+    requires silent { machine.value.lines ≡ [] }
     ensures { IfOk result (λ ways. AreWaysFor machine.entry.value.code limits (state_at machine.entry.value) entries.now ways.successors.items ways.ended.items) }
 {
     match entries.split_last() {
@@ -279,22 +279,22 @@ fn arrive<'d>(
     })
 }
 
-// Goes on from where a machine stands as long as one order stands for all, with a log that the machine is lent.
+// Goes on from where a machine stands as long as one order stands for all, with logs that are kept.
 fn walk_with(
     alloc: Global,
     networked: &Networked<'_>,
     limits: Limits,
-    log: &mut TurnLog,
     machine: &mut Machine<'_>,
+    room: &mut Room,
 ) -> Result<Vec<Entry>, AllocError>
-    requires silent { machine.old.lines ≡ [] }
     requires code { machine.old.code ≡ networked.now }
-    ensures walked { IfOk result (λ moves. HasWalked limits (state_at machine.old) machine.new moves.items) }
+    requires silent { machine.old.lines ≡ [] }
     ensures code { machine.new.code ≡ machine.old.code }
+    ensures walked { IfOk result (λ moves. HasWalked limits (state_at machine.old) machine.new moves.items) }
 {
-    machine.exchange_log(log);
-    let walked = walk_on(alloc, networked, limits, machine);
-    machine.exchange_log(log);
+    machine.exchange_log(&mut room.log);
+    let walked = walk_on(alloc, networked, limits, &mut room.logs, machine);
+    machine.exchange_log(&mut room.log);
     walked
 }
 
@@ -304,7 +304,7 @@ pub(crate) fn expand<'d>(
     alloc: Global,
     networked: &Networked<'_>,
     limits: Limits,
-    log: &mut TurnLog,
+    room: &mut Room,
     machine: Box<Machine<'d>>,
 ) -> Result<Expanded<Place<'d>, Entry, End>, AllocError>
     requires code { machine.value.code ≡ networked.now }
@@ -319,9 +319,9 @@ pub(crate) fn expand<'d>(
         None => {}
     }
     let mut machine = machine;
-    let moves = walk_with(alloc, networked, limits, log, &mut machine)?;
+    let moves = walk_with(alloc, networked, limits, &mut machine, room)?;
     if moves.is_empty() {
-        branch(alloc, limits, log, machine)
+        branch(alloc, limits, &mut room.log, machine)
     } else {
         arrive(alloc, machine, moves)
     }

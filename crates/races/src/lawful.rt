@@ -3,9 +3,9 @@ ghost use Rattle.std.specs.Prelude.{◌≡◌, ◌<◌, ◌≤◌, [], IfOk, IfS
 ghost use Rattle.std.specs.List.{All, AllPairs};
 ghost use Rattle.model.specs.States.{start};
 ghost use Rattle.model.specs.Runs.{last_time};
+ghost use Rattle.explore.specs.Search.{AreDistinct, IsShown};
 ghost use Rattle.regions.specs.Machine.{state_at};
 ghost use Rattle.design.specs.Compiled.{design_of};
-ghost use Rattle.explore.specs.Search.{AreDistinct, IsShown};
 ghost use Rattle.walks.specs.JournalsInTime.{AreAllTexts, IsLawfulText};
 ghost use Rattle.races.specs.SearchPlaces.{AreBounded};
 
@@ -73,13 +73,7 @@ impl<'d> Orders for Lawful<'d> {
         room: &mut Room,
         node: Place<'d>,
     ) -> Result<Expanded<Place<'d>, Entry, End>, AllocError> {
-        let expanded = expand(
-            alloc,
-            &self.networked,
-            self.limits,
-            &mut room.log,
-            node.machine,
-        )?;
+        let expanded = expand(alloc, &self.networked, self.limits, room, node.machine)?;
         Ok(expanded)
     }
 

@@ -2,6 +2,7 @@
 ghost use Rattle.std.specs.Prelude.{◌≡◌, OnOk};
 ghost use Rattle.statekeys.specs.Keys.{IsKey};
 
+use flat::Logs;
 use regions::Machine;
 use statekeys::{Scratch, key};
 use std::alloc::{AllocError, Global};
@@ -14,10 +15,12 @@ pub struct Place<'d> {
     pub machine: Box<Machine<'d>>,
 }
 
-/// What is kept from one place to the next: a log that machines are lent for their turns, and room in which keys are made.
+/// What is kept from one place to the next: a log that machines are lent for their turns, the logs of turns that are evaluated before
+/// they are taken, and room in which keys are made.
 #[derive(Drop)]
 pub(crate) struct Room {
     pub(crate) log: TurnLog,
+    pub(crate) logs: Logs,
     scratch: Scratch,
 }
 
@@ -26,6 +29,7 @@ impl Room {
     pub(crate) fn new(alloc: Global) -> Room {
         Room {
             log: TurnLog::new(alloc),
+            logs: Logs::new(alloc),
             scratch: Scratch::new(alloc),
         }
     }

@@ -16,7 +16,7 @@ impl Queue {
     ghost use Rattle.regions.specs.Order.{IsOrderedQueue};
 
     // The place of the evaluation that a turn takes, or the first reason for which the turn isn't permitted.
-    fn permit_turn(&self, number: u64) -> Result<usize, Refusal>
+    fn permit_turn(&self, number: u64, near: usize) -> Result<usize, Refusal>
         requires ordered { IsOrderedQueue self.now }
         ensures refused { MatchResult result (λ at. (rem : ProcState → Remainder) (values : List Vector) → refusal (state_of rem values (core_of self.now)) (entries.Turn number) ≡ None) (λ r. (rem : ProcState → Remainder) (values : List Vector) → refusal (state_of rem values (core_of self.now)) (entries.Turn number) ≡ Some r) }
         ensures place { IfOk result (IsAt self.now.evaluations.items number) }
@@ -24,20 +24,21 @@ impl Queue {
         if self.finished {
             return Err(Refusal::Finished);
         }
-        match find_evaluation(&self.evaluations, number) {
+        match find_evaluation(&self.evaluations, number, near) {
             Some(at) => Ok(at),
             None => Err(Refusal::NotActive),
         }
     }
 
-    // The place of the evaluation that an entry takes, if it is a turn, or the first reason for which the entry isn't permitted.
-    pub fn permit(&self, entry: &Entry) -> Result<usize, Refusal>
+    // The place of the evaluation that an entry takes, if it is a turn, or the first reason for which the entry isn't permitted. The
+    // evaluation is looked for first where it may be.
+    pub fn permit(&self, entry: &Entry, near: usize) -> Result<usize, Refusal>
         requires ordered { IsOrderedQueue self.now }
         ensures refused { MatchResult result (λ at. (rem : ProcState → Remainder) (values : List Vector) → refusal (state_of rem values (core_of self.now)) entry.now ≡ None) (λ r. (rem : ProcState → Remainder) (values : List Vector) → refusal (state_of rem values (core_of self.now)) entry.now ≡ Some r) }
         ensures place { IfOk result (λ at. (number : ℕ) → entry.now ≡ entries.Turn number → IsAt self.now.evaluations.items number at) }
     {
         match *entry {
-            Entry::Turn(number) => self.permit_turn(number),
+            Entry::Turn(number) => self.permit_turn(number, near),
             _ => match self.refusal(entry) {
                 None => Ok(0),
                 Some(refusal) => Err(refusal),

@@ -17,13 +17,15 @@ use design::Design;
 use model::entry::Entry;
 use turn::{FillFault, TurnLog};
 
-// Fills a log with the turn that takes an event, where the rules permit it. Answers whether they do.
+// Fills a log with the turn that takes an event, which is looked for first at a place among the active evaluations, where the
+// rules permit it. Answers whether they do.
 fn log_event(
     log: &mut TurnLog,
+    number: u64,
+    near: usize,
     design: &Design,
     state: &State,
     store: &PlainStore,
-    number: u64,
 ) -> Result<bool, TakeFault>
     requires stands { Stands design.now state.now store.now }
     ensures { MatchResult result (λ has. IsTurnGiven design.now (state_of (remainder_of design.now) store.now state.now) (entries.Turn number) (if has then Some log.new else None)) (IsStop design.now (state_of (remainder_of design.now) store.now state.now) (entries.Turn number)) }
@@ -31,7 +33,7 @@ fn log_event(
     if state.is_finished() {
         return Ok(false);
     }
-    match state.evaluation(number) {
+    match state.evaluation_near(number, near) {
         Some((_, place)) => {
             let now = state.time();
             match turn_on(log, design, &place, now, store) {
@@ -44,19 +46,21 @@ fn log_event(
     }
 }
 
-/// Fills a log with the turn of an entry, where it is a turn that the rules permit. Answers whether it is one.
+/// Fills a log with the turn of an entry, where it is a turn that the rules permit. Answers whether it is one. Its event is looked
+/// for first at a place among the active evaluations.
 pub fn log_entry(
     log: &mut TurnLog,
     design: &Design,
     state: &State,
     store: &PlainStore,
     entry: Entry,
+    near: usize,
 ) -> Result<bool, TakeFault>
     requires stands { Stands design.now state.now store.now }
     ensures { MatchResult result (λ has. IsTurnGiven design.now (state_of (remainder_of design.now) store.now state.now) entry (if has then Some log.new else None)) (IsStop design.now (state_of (remainder_of design.now) store.now state.now) entry) }
 {
     match entry {
-        Entry::Turn(number) => log_event(log, design, state, store, number),
+        Entry::Turn(number) => log_event(log, number, near, design, state, store),
         _ => Ok(false),
     }
 }

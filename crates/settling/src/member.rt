@@ -17,6 +17,7 @@ use flat::evaluate;
 use regions::{Continuation, Evaluation, Machine};
 use std::alloc::{AllocError, Global};
 use std::collections::VecDeque;
+use turn::TurnLog;
 
 /// The logic of a process, where it has some.
 pub(crate) fn logic_at(network: &Network, process: u32) -> Option<&Logic>
@@ -70,7 +71,7 @@ fn is_consistent(
     ensures { IfOk result (λ consistent. consistent ≡ true → HasLeft (design_of machine.now.code) (state_at machine.now) process) }
 {
     let evaluation = Evaluation { number: 0, process };
-    match evaluate(alloc, design, machine, evaluation)? {
+    match evaluate(TurnLog::new(alloc), design, machine, evaluation)? {
         Some(turned) => Ok(leaves_values(machine.store(), turned.log.writes())),
         None => Ok(false),
     }

@@ -33,16 +33,16 @@ pub enum Deed {
     Regions,
 }
 
-/// What is told of an entry: the time after it, who does it, the registers that its turn read, in the order of their first use,
-/// its changes, its nonblocking assignments (9.2.2), and its lines (17.1). The lists keep their room for the next entry.
+/// What is told of an entry: the time after it, who does it, its lines (17.1), the registers that its turn read, in the order of
+/// their first use, its changes, and its nonblocking assignments (9.2.2). The lists keep their room for the next entry.
 #[derive(Drop)]
 pub struct EntryAccount {
     pub time: u64,
     pub deed: Deed,
+    pub lines: String,
     pub reads: Vec<Reading>,
     pub changes: Vec<Changed>,
     pub assigned: Vec<Nba>,
-    pub lines: String,
 }
 
 impl EntryAccount {
@@ -51,10 +51,10 @@ impl EntryAccount {
         EntryAccount {
             time: 0,
             deed: Deed::Regions,
+            lines: String::new(alloc),
             reads: Vec::new(alloc),
             changes: Vec::new(alloc),
             assigned: Vec::new(alloc),
-            lines: String::new(alloc),
         }
     }
 }

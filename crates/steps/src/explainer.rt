@@ -32,14 +32,14 @@ impl<'d> Model for Explainer<'d> {
 
     ghost Value = { Standing };
 
+    ghost view = { λ e. standing_of e.machine e.cells.items e.told };
+
+    ghost invariant = { λ e. IsKept e.design.now e.machine e.cells.items };
+
     ghost use Rattle.std.specs.Coded.{codes};
     ghost use Rattle.design.specs.contracts.tree.Statement as statements;
 
     ghost coded = { Prim.hlevel (codes, statements.the_row.coded) };
-
-    ghost view = { λ e. standing_of e.machine e.cells.items e.told };
-
-    ghost invariant = { λ e. IsKept e.design.now e.machine e.cells.items };
 }
 
 impl<'d> Explainer<'d> {
@@ -74,10 +74,10 @@ impl<'d> Explainer<'d> {
         note(
             self.design,
             &self.machine,
+            entry,
             &mut self.log,
             &mut self.cells,
             &mut self.told,
-            entry,
         )?;
         match self.machine.take(entry) {
             Ok(()) => {}

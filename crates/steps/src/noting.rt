@@ -177,10 +177,10 @@ fn clear(told: &mut EntryAccount)
 pub fn note(
     design: &Design,
     machine: &Machine<'_>,
+    entry: Entry,
     log: &mut TurnLog,
     cells: &mut Vec<Cell>,
     told: &mut EntryAccount,
-    entry: Entry,
 ) -> Result<(), StepFault>
     requires code { machine.now.code ≡ design.now }
     requires sound { IsSoundState design.now (state_at machine.now) }

@@ -20,9 +20,9 @@ pub struct Line<'a> {
     pub tail: &'static str,
 }
 
-impl<'a> Line<'a> {
+impl Line<'static> {
     /// The line of a text alone.
-    pub fn plain(head: &'static str) -> Line<'a>
+    pub fn plain(head: &'static str) -> Line<'static>
         ensures { line_of result ≡ line head.entry.now [] [] }
     {
         Line {
@@ -33,7 +33,7 @@ impl<'a> Line<'a> {
     }
 
     /// The line of a text with a number behind it.
-    pub fn numbered(head: &'static str, number: u64) -> Line<'a>
+    pub fn numbered(head: &'static str, number: u64) -> Line<'static>
         ensures { line_of result ≡ line head.entry.now (decimal number) [] }
     {
         Line {
@@ -42,7 +42,9 @@ impl<'a> Line<'a> {
             tail: "",
         }
     }
+}
 
+impl<'a> Line<'a> {
     /// The line of a text with a name behind it.
     pub fn named(head: &'static str, name: &'a str) -> Line<'a>
         ensures { line_of result ≡ line head.entry.now name.entry.now [] }

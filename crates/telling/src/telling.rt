@@ -80,16 +80,6 @@ fn send_path<E: Write>(err: &mut Counted<E>, path: &str) -> bool
     true
 }
 
-fn send_shown<E: Write>(err: &mut Counted<E>, letter: char) -> bool
-    ensures { Sends result E.contents err.old err.new (shown_letter letter) }
-{
-    if letter.is_control() {
-        send_escape(err, letter)
-    } else {
-        send_letter(err, letter)
-    }
-}
-
 fn send_escape<E: Write>(err: &mut Counted<E>, letter: char) -> bool
     ensures { Sends result E.contents err.old err.new (spelled encode_utf8 (escape_default letter)) }
 {
@@ -99,6 +89,16 @@ fn send_escape<E: Write>(err: &mut Counted<E>, letter: char) -> bool
         }
     }
     true
+}
+
+fn send_shown<E: Write>(err: &mut Counted<E>, letter: char) -> bool
+    ensures { Sends result E.contents err.old err.new (shown_letter letter) }
+{
+    if letter.is_control() {
+        send_escape(err, letter)
+    } else {
+        send_letter(err, letter)
+    }
 }
 
 fn send_letter<E: Write>(err: &mut Counted<E>, letter: char) -> bool

@@ -4,14 +4,14 @@ ghost use Rattle.std.specs.Prelude.{◌≡◌, length};
 ghost use Rattle.commitgate.specs.Batches.{AreOffered};
 
 use crate::claims::{fail, holds};
-use crate::course::{Course, accepted, assert_journal, assert_turn};
-use crate::examples::APART;
-use crate::pair::{Pair, play_source};
+use crate::course::{Course, Seats, accepted, assert_journal, assert_turn};
+use crate::examples::{APART, APART_JOURNAL};
+use crate::hoards::{leave, open, take_all};
+use crate::pair::{Opened, Pair, play_source};
 use crate::refused::granted;
 use commitgate::{Closed, Naming, Reply, Seat, Ticket};
 use hoard::{Hoard, LARGEST_PIECE};
 use model::end::End;
-use model::entry::Entry;
 use std::alloc::Global;
 use std::collections::VecDeque;
 use std::ops::Range;
@@ -19,10 +19,8 @@ use std::process::Abort;
 use std::sync::Wait;
 use turn::TurnLog;
 
-// The turns of the design, and its journal.
+// The turns of the design.
 const TURNS: u64 = 3;
-
-const JOURNAL: [Entry; 3] = [Entry::Turn(0), Entry::Turn(1), Entry::Turn(2)];
 
 // The bytes of its lines: each has a digit for each bit of a register, and an end.
 const LINES: usize = 9 + 33 + 129;
@@ -163,10 +161,9 @@ fn commit_in<K: Naming, R: Wait + Abort>(
 )
     requires { AreOffered K.named.code seat.old.fresh batch.old.tickets.items batch.old.logs.items }
 {
-    hoard.shut();
-    holds(course.rt, hoard.leave(bytes), "a piece of memory");
+    leave(course.rt, hoard, bytes);
     commit(course, seat, batch, replies);
-    holds(course.rt, hoard.open(), "a piece of memory");
+    open(course.rt, hoard);
 }
 
 // How many turns were accepted, at the positions from 0 on. Where memory was refused for the next one, its ticket comes back
@@ -235,18 +232,14 @@ struct Starving<'h> {
 }
 
 impl<'h> Pair for Starving<'h> {
-    fn lead<K: Naming, R: Wait + Abort>(
-        &mut self,
-        course: &Course<'_, '_, K, R>,
-        seat: &mut Seat<K>,
-        _other: &mut Seat<K>,
-        tickets: Vec<Ticket<K>>,
-    ) {
-        let mut batch = evaluated(course, seat, tickets);
-        self.accepted = commit_starved(course, seat, &mut batch, self.hoard, self.bytes);
+    fn lead<K: Naming, R: Wait + Abort>(&mut self, opened: Opened<'_, '_, '_, K, R>) -> Seats<K> {
+        let (course, (mut one, two), tickets) = opened;
+        let mut batch = evaluated(course, &mut one, tickets);
+        self.accepted = commit_starved(course, &mut one, &mut batch, self.hoard, self.bytes);
         let left = batch.tickets.into_vec();
-        accept_all(course, seat, left, self.accepted..TURNS);
-        assert_journal(course, seat, &JOURNAL);
+        accept_all(course, &mut one, left, self.accepted..TURNS);
+        assert_journal(course, &mut one, APART_JOURNAL);
+        (one, two)
     }
 }
 
@@ -258,7 +251,7 @@ fn assert_quiet(rt: &impl Abort, closed: &Closed) {
 
 // How many of the three turns so many bytes were enough for.
 fn play_starving<R: Wait + Abort>(rt: &R, alloc: Global, hoard: &mut Hoard, bytes: usize) -> u64 {
-    holds(rt, hoard.open(), "a piece of memory");
+    open(rt, hoard);
     let mut starving = Starving {
         hoard,
         bytes,
@@ -271,7 +264,7 @@ fn play_starving<R: Wait + Abort>(rt: &R, alloc: Global, hoard: &mut Hoard, byte
 
 #[test]
 fn turns_behind_one_that_is_refused_memory_are_left(rt: HostRuntime) {
-    let mut hoard = Hoard::new(rt.alloc(), PIECES, LARGEST_PIECE).expect(&rt, "memory");
+    let mut hoard = take_all(&rt, rt.alloc(), PIECES, LARGEST_PIECE);
     let mut refused = [false; ANSWERS];
     for count in 0..ROOMS {
         let accepted = play_starving(&rt, rt.alloc(), &mut hoard, count * STEP);

@@ -71,13 +71,8 @@ fn fill<K: Naming, R: Wait + Abort>(
         other,
         waits,
     };
-    let turn = fill_turn(
-        log,
-        course.design,
-        ticket.state(),
-        ticket.time(),
-        &mut reader,
-    );
+    let design = course.design;
+    let turn = fill_turn(log, design, ticket.state(), ticket.time(), &mut reader);
     let Between {
         course: _,
         reader,

@@ -26,7 +26,27 @@ pub struct Course<'g, 'd, K: Naming, R: Wait + Abort> {
     ghost design_is: { design.now ≡ K.named.code },
 }
 
+/// The seats of two workers, in order.
+pub type Seats<K> = (Seat<K>, Seat<K>);
+
 impl<'g, 'd, K: Naming, R: Wait + Abort> Course<'g, 'd, K, R> {
+    /// The open gate of a design.
+    pub fn new(
+        rt: &'g R,
+        alloc: Global,
+        gate: &'g Gate<'d, K>,
+        design: &'d Design,
+    ) -> Course<'g, 'd, K, R>
+        requires { design.now ≡ K.named.code }
+    {
+        Course {
+            rt,
+            alloc,
+            gate,
+            design,
+        }
+    }
+
     /// The turn of a ticket, evaluated without the lock. What the seat read before stays read.
     pub fn evaluate(&self, seat: &mut Seat<K>, ticket: &Ticket<K>) -> TurnLog
         ensures turn { IsTurnLog K.named.code ticket.now.state ticket.now.time result }
@@ -223,6 +243,13 @@ pub fn keep<K: Naming>(rt: &impl Abort, tickets: &mut Vec<Ticket<K>>, more: Vec<
     for ticket in more {
         tickets.push(ticket).expect(rt, "room for a ticket");
     }
+}
+
+/// The seats that a gate of two workers is opened with.
+pub fn two_of<K: Naming>(rt: &impl Abort, mut seats: Vec<Seat<K>>) -> Seats<K> {
+    let two = seats.pop().expect(rt, "a seat");
+    let one = seats.pop().expect(rt, "a seat");
+    (one, two)
 }
 
 // Two seats, in this order.

@@ -4,9 +4,9 @@ ghost use Rattle.eventpool.specs.Ends.{owner_card, thief_card};
 ghost use Rattle.eventpool.specs.Pools.{cards_of, IsPool};
 
 use crate::claims::{fail, holds};
-use crate::course::{Course, design_of, last};
-use crate::pair::{Pair, play_source};
-use commitgate::{Blank, Gate, Naming, Seat, Ticket};
+use crate::course::{Seats, design_of, last};
+use crate::pair::{Opened, Pair, play_source};
+use commitgate::{Blank, Gate, Naming, Ticket};
 use eventpool::{Owner, Pool, PutFault, Stolen, Tally, Thief, close};
 use hoard::Hoard;
 use model::end::{End, Limits};
@@ -135,18 +135,14 @@ enum Pooled {
 }
 
 impl Pair for Pooled {
-    fn lead<K: Naming, R: Wait + Abort>(
-        &mut self,
-        course: &Course<'_, '_, K, R>,
-        _one: &mut Seat<K>,
-        _two: &mut Seat<K>,
-        tickets: Vec<Ticket<K>>,
-    ) {
+    fn lead<K: Naming, R: Wait + Abort>(&mut self, opened: Opened<'_, '_, '_, K, R>) -> Seats<K> {
+        let (course, seats, tickets) = opened;
         let rt = course.rt;
         match *self {
             Pooled::Two => share_two(rt, course.alloc, tickets).expect(rt, "memory"),
             Pooled::Refused => put_more(rt, course.alloc, tickets),
         }
+        seats
     }
 }
 
@@ -167,23 +163,17 @@ fn play_pooled<R: Wait + Abort>(rt: &R, alloc: Global, count: u32, mut pooled: P
     holds(rt, closed.end() == End::Running, "another end");
 }
 
-#[test]
-fn a_pool_of_two(rt: HostRuntime) {
-    play_pooled(&rt, rt.alloc(), 2, Pooled::Two);
-}
-
-// Takes from the deque d until it is empty.
+// Takes from the deque 0 until it is empty.
 fn take_all<K: Naming, R: Wait>(
     rt: &R,
     alloc: Global,
     mut owners: Vec<Owner<Ticket<K>>>,
-    d: usize,
 ) -> (Vec<Owner<Ticket<K>>>, Vec<u64>)
     ensures { map owner_card result.0.items ≡ map owner_card owners.items }
 {
     let mut got = Vec::new(alloc);
     for _ in rt.forever() {
-        let taken = take_at(&mut owners, d);
+        let taken = take_at(&mut owners, 0);
         let Some(event) = taken else {
             break;
         };
@@ -219,8 +209,13 @@ fn put_more<K: Naming, R: Wait + Abort>(rt: &R, alloc: Global, mut tickets: Vec<
         put_at(&mut owners, 0, back).is_none(),
         "a put with more memory",
     );
-    let (_owners, got) = take_all(rt, alloc, owners, 0);
+    let (_owners, got) = take_all(rt, alloc, owners);
     assert_rising(rt, &got, 65);
+}
+
+#[test]
+fn a_pool_of_two(rt: HostRuntime) {
+    play_pooled(&rt, rt.alloc(), 2, Pooled::Two);
 }
 
 #[test]
@@ -312,7 +307,7 @@ fn race<K: Naming + Send, R: Threads + Wait + Sync>(
         rt,
         move || -> (Vec<Owner<Ticket<K>>>, Vec<u64>)
             ensures { map owner_card result.0.items ≡ map owner_card owners.items }
-        { take_all(rt, alloc, owners, 0) },
+        { take_all(rt, alloc, owners) },
         move || -> (Robbed<K>, (Robbed<K>, Robbed<K>))
             ensures { (map thief_card result.0.0.items ≡ map thief_card one.items) × (map thief_card result.1.0.0.items ≡ map thief_card two.items) × (map thief_card result.1.1.0.items ≡ map thief_card three.items) }
         { steal_by_three(rt, alloc, one, two, three) },

@@ -14,7 +14,7 @@ use std::process::Abort;
 use std::sync::Wait;
 
 mod generated;
-mod worked;
+pub mod worked;
 
 /// The lines of a lawful journal.
 pub fn assert_lines(

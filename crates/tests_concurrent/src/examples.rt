@@ -1,11 +1,13 @@
 // Worked examples of one seat and of two: what each call answers, what the gate leaves, and what a stop changes.
 
 use crate::claims::holds;
-use crate::course::{Course, assert_closed, assert_journal, assert_left, design_of};
+use crate::course::{Seats, assert_closed, assert_journal, assert_left, design_of};
 use crate::driven::assert_lines;
-use crate::pair::{Pair, play_pair};
-use crate::steps::{Act, Ended, Led, Meanwhile, Side, Step, Told, lead};
-use commitgate::{Naming, Seat, Ticket};
+use crate::pair::{Opened, Pair, play_pair};
+use crate::steps::{Act, Ended, Led, Other, Side, Step, Told};
+use commitgate::Naming;
+use fixtures::entries::{A1, I, M, N, T0, T1, T2, T3, T4, T7, U1, U2, U3, U4, U5, U6};
+use fixtures::{COPY, GLITCH, GLITCH_JOURNAL};
 use model::end::{End, Why};
 use model::entry::Entry;
 use std::alloc::Global;
@@ -33,30 +35,28 @@ const PLAIN: Row<'static> = Row {
     glitches: 0,
     steps: &[],
     tickets: 0,
-    journal: &[],
-    committed: [0; 2],
+    journal: &[T0, T1],
+    committed: [1, 1],
     end: End::Quiet,
     lines: "",
 };
 
-/// The other seat does nothing meanwhile.
-const ALONE: Meanwhile<'static> = Meanwhile::Turns(&[]);
+const ONE: Side = Side::One;
 
-/// The first seat stops the run.
-const STEP: Step<'static> = Step {
-    side: Side::One,
-    act: Act::Stop,
-    told: Told::Nothing,
-    read: &[],
-    sees: &[],
-};
+const TWO: Side = Side::Two;
 
-/// One process gives a register a value, and another reads it.
-pub const COPY: &str = "module t; reg a, b; initial a=1'b1; initial b=a; endmodule";
+/// The run was stopped by one of its seats.
+const STOPPED: Told = Told::Stopped(Why::Memory);
+
+/// The run was stopped since its journal is full.
+const FULL: Told = Told::Stopped(Why::Entries);
 
 /// A fourth process reads what three others write.
 pub const WRITERS: &str =
     "module t; reg [1:0] a, b; initial a=2'd1; initial a=2'd2; initial a=2'd3; initial b=a; endmodule";
+
+/// The turns of four processes, in order.
+pub const FOUR_TURNS: &[Entry] = &[T0, T1, T2, T3];
 
 /// A loop until two registers are the same, which another process makes so.
 const MOMENTS: &str =
@@ -66,205 +66,98 @@ const MOMENTS: &str =
 const BACK: &str =
     "module t; reg r, b; initial r=1'b0; initial r=1'b1; initial r=1'b0; initial b=r; endmodule";
 
-/// Four processes that give a register two values each.
-const NETS: &str =
-    "module t; reg [7:0] a; initial begin a=8'd2; a=8'd3; end initial begin a=8'd3; a=8'd2; end initial begin a=8'd3; a=8'd2; end initial begin a=8'd2; a=8'd2; end endmodule";
-
-/// The turns of four processes, in order.
-const JOURNAL_OF_FOUR: [Entry; 4] = [
-    Entry::Turn(0),
-    Entry::Turn(1),
-    Entry::Turn(2),
-    Entry::Turn(3),
-];
-
-/// Five updates, of which the second wakes a process.
-const UPDATES: &str =
-    "module t; reg a, b; initial begin a<=1'b0; b<=1'b1; a<=1'b1; a<=1'b0; a<=1'b1; end initial @(b) $display(\"b is %b\",b); endmodule";
-
 /// Three turns, of which none reads what another one writes. Each prints more than all before it, so each needs more memory.
 pub const APART: &str =
     "module t; reg [7:0] a; reg [31:0] b; reg [127:0] c; initial begin a=8'd1; $display(\"%b\",a); end initial begin b=32'd2; $display(\"%b\",b); end initial begin c=128'd3; $display(\"%b\",c); end endmodule";
 
-/// A strobe before a nonblocking assignment of the register that it shows, and another at the next time.
-const STROBES: &str =
-    "module t; reg a; initial begin a=1'b0; $strobe(\"s %b\",a); a<=1'b1; $display(\"d %b\",a); #1 $strobe(\"t %b\",a); end endmodule";
-
-/// A register goes down and up again within one turn, and what waits for it wakes.
-const GLITCH: &str =
-    "module t; reg a; initial begin a=1'b1; #1 a=1'b0; a=1'b1; end initial #0 @(posedge a) $display(\"glitch\"); endmodule";
+/// Its journal.
+pub const APART_JOURNAL: &[Entry] = &[T0, T1, T2];
 
 /// Three turns overtake the fourth, one after each of its evaluations.
 pub const THRICE: &[Step<'static>] = &[
-    Step {
-        side: Side::Two,
-        act: Act::Turn(3, Meanwhile::Turns(&[0])),
-        told: Told::Stale(1),
-        ..STEP
-    },
-    Step {
-        side: Side::Two,
-        act: Act::Turn(3, Meanwhile::Turns(&[1])),
-        told: Told::Stale(2),
-        ..STEP
-    },
-    Step {
-        side: Side::Two,
-        act: Act::Turn(3, Meanwhile::Turns(&[2])),
-        told: Told::Stale(3),
-        ..STEP
-    },
+    (TWO, Act::Late(3, &[], Other::Takes(&[0])), Told::Stale(1)),
+    (TWO, Act::Late(3, &[], Other::Takes(&[1])), Told::Stale(2)),
+    (TWO, Act::Late(3, &[], Other::Takes(&[2])), Told::Stale(3)),
 ];
 
 const EXAMPLES: &[Row<'static>] = &[
     // a turn alone stands
     Row {
         source: "module t; reg [3:0] r; initial r=4'd9; endmodule",
-        steps: &[&[Step {
-            act: Act::Turn(0, ALONE),
-            told: Told::Entry(Entry::Turn(0)),
-            sees: &[(0, 1, Some(9))],
-            ..STEP
-        }]],
-        journal: &[Entry::Turn(0)],
+        steps: &[&[
+            (ONE, Act::Turn(0), Told::Entry(T0)),
+            (ONE, Act::Read(&[(0, 1, Some(9))]), Told::Nothing),
+        ]],
+        journal: &[T0],
         committed: [1, 0],
         ..PLAIN
     },
-    // of the values that a turn gives a register each one that differs from the one before is a version
+    // four processes give a register two values each: of the values that a turn gives it each one that differs from the one before
+    // is a version
     Row {
-        source: NETS,
+        source: "module t; reg [7:0] a; initial begin a=8'd2; a=8'd3; end initial begin a=8'd3; a=8'd2; end initial begin a=8'd3; a=8'd2; end initial begin a=8'd2; a=8'd2; end endmodule",
         steps: &[&[
-            Step {
-                act: Act::Turn(0, ALONE),
-                told: Told::Entry(Entry::Turn(0)),
-                sees: &[(0, 2, Some(3))],
-                ..STEP
-            },
-            Step {
-                act: Act::Turn(1, ALONE),
-                told: Told::Entry(Entry::Turn(1)),
-                sees: &[(0, 3, Some(2))],
-                ..STEP
-            },
-            Step {
-                act: Act::Turn(2, ALONE),
-                told: Told::Entry(Entry::Turn(2)),
-                sees: &[(0, 5, Some(2))],
-                ..STEP
-            },
-            Step {
-                act: Act::Turn(3, ALONE),
-                told: Told::Entry(Entry::Turn(3)),
-                sees: &[(0, 5, Some(2))],
-                ..STEP
-            },
+            (ONE, Act::Turn(0), Told::Entry(T0)),
+            (ONE, Act::Read(&[(0, 2, Some(3))]), Told::Nothing),
+            (ONE, Act::Turn(1), Told::Entry(T1)),
+            (ONE, Act::Read(&[(0, 3, Some(2))]), Told::Nothing),
+            (ONE, Act::Turn(2), Told::Entry(T2)),
+            (ONE, Act::Read(&[(0, 5, Some(2))]), Told::Nothing),
+            (ONE, Act::Turn(3), Told::Entry(T3)),
+            (ONE, Act::Read(&[(0, 5, Some(2))]), Told::Nothing),
         ]],
-        journal: &JOURNAL_OF_FOUR,
+        journal: FOUR_TURNS,
         committed: [4, 0],
         ..PLAIN
     },
-    // updates are made in order, up to one that wakes a process and as far as there is room for them
+    // five updates, of which the second wakes a process: they are made in order, up to one that does so and as far as there is room
     Row {
-        source: UPDATES,
+        source: "module t; reg a, b; initial begin a<=1'b0; b<=1'b1; a<=1'b1; a<=1'b0; a<=1'b1; end initial @(b) $display(\"b is %b\",b); endmodule",
         steps: &[&[
-            Step {
-                act: Act::Turn(1, ALONE),
-                told: Told::Entry(Entry::Turn(1)),
-                ..STEP
-            },
-            Step {
-                act: Act::Turn(0, ALONE),
-                told: Told::Entry(Entry::Turn(0)),
-                ..STEP
-            },
-            Step {
-                act: Act::Rest,
-                told: Told::Entry(Entry::ActivateNba),
-                ..STEP
-            },
-            Step {
-                act: Act::Updates(&[(2, 0), (3, 1)], Ended::Woke),
-                ..STEP
-            },
-            Step {
-                act: Act::Updates(&[(4, 0), (5, 0)], Ended::NoRoom),
-                ..STEP
-            },
-            Step {
-                act: Act::Updates(&[(6, 0)], Ended::Nothing),
-                ..STEP
-            },
-            Step {
-                act: Act::Updates(&[], Ended::Nothing),
-                ..STEP
-            },
-            Step {
-                act: Act::Turn(7, ALONE),
-                told: Told::Entry(Entry::Turn(7)),
-                ..STEP
-            },
-            Step {
-                act: Act::Rest,
-                ..STEP
-            },
+            (ONE, Act::Turn(1), Told::Entry(T1)),
+            (ONE, Act::Turn(0), Told::Entry(T0)),
+            (ONE, Act::Rest, Told::Entry(N)),
+            (
+                ONE,
+                Act::Updates(&[(2, 0), (3, 1)], Ended::Woke),
+                Told::Nothing,
+            ),
+            (
+                ONE,
+                Act::Updates(&[(4, 0), (5, 0)], Ended::NoRoom),
+                Told::Nothing,
+            ),
+            (ONE, Act::Updates(&[(6, 0)], Ended::Nothing), Told::Nothing),
+            (ONE, Act::Updates(&[], Ended::Nothing), Told::Nothing),
+            (ONE, Act::Turn(7), Told::Entry(T7)),
+            (ONE, Act::Rest, Told::Nothing),
         ]],
-        journal: &[
-            Entry::Turn(1),
-            Entry::Turn(0),
-            Entry::ActivateNba,
-            Entry::Update(2),
-            Entry::Update(3),
-            Entry::Update(4),
-            Entry::Update(5),
-            Entry::Update(6),
-            Entry::Turn(7),
-        ],
+        journal: &[T1, T0, N, U2, U3, U4, U5, U6, T7],
         committed: [9, 0],
         lines: "b is 1\n",
         ..PLAIN
     },
     // a turn that reads a register before another turn writes it is refused, and evaluated again it stands
     Row {
-        source: COPY,
         steps: &[&[
-            Step {
-                side: Side::Two,
-                act: Act::Turn(1, Meanwhile::Turns(&[0])),
-                told: Told::Stale(1),
-                read: &[(0, 0, None)],
-                ..STEP
-            },
-            Step {
-                side: Side::Two,
-                act: Act::Turn(1, ALONE),
-                told: Told::Entry(Entry::Turn(1)),
-                sees: &[(1, 1, Some(1))],
-                ..STEP
-            },
+            (
+                TWO,
+                Act::Late(1, &[(0, 0, None)], Other::Takes(&[0])),
+                Told::Stale(1),
+            ),
+            (TWO, Act::Turn(1), Told::Entry(T1)),
+            (TWO, Act::Read(&[(1, 1, Some(1))]), Told::Nothing),
         ]],
-        journal: &[Entry::Turn(0), Entry::Turn(1)],
-        committed: [1, 1],
         ..PLAIN
     },
     // the same turn is committed first: it gives x to a register that is x, which is no change
     Row {
-        source: COPY,
         steps: &[&[
-            Step {
-                side: Side::Two,
-                act: Act::Turn(1, ALONE),
-                told: Told::Entry(Entry::Turn(1)),
-                sees: &[(1, 0, None)],
-                ..STEP
-            },
-            Step {
-                act: Act::Turn(0, ALONE),
-                told: Told::Entry(Entry::Turn(0)),
-                ..STEP
-            },
+            (TWO, Act::Turn(1), Told::Entry(T1)),
+            (TWO, Act::Read(&[(1, 0, None)]), Told::Nothing),
+            (ONE, Act::Turn(0), Told::Entry(T0)),
         ]],
-        journal: &[Entry::Turn(1), Entry::Turn(0)],
-        committed: [1, 1],
+        journal: &[T1, T0],
         ..PLAIN
     },
     // a turn that is refused three times is evaluated under the lock
@@ -272,15 +165,12 @@ const EXAMPLES: &[Row<'static>] = &[
         source: WRITERS,
         steps: &[
             THRICE,
-            &[Step {
-                side: Side::Two,
-                act: Act::Held(3),
-                told: Told::Entry(Entry::Turn(3)),
-                sees: &[(1, 1, Some(3))],
-                ..STEP
-            }],
+            &[
+                (TWO, Act::Held(3), Told::Entry(T3)),
+                (TWO, Act::Read(&[(1, 1, Some(3))]), Told::Nothing),
+            ],
         ],
-        journal: &JOURNAL_OF_FOUR,
+        journal: FOUR_TURNS,
         committed: [3, 1],
         ..PLAIN
     },
@@ -288,49 +178,30 @@ const EXAMPLES: &[Row<'static>] = &[
     Row {
         source: MOMENTS,
         steps: &[&[
-            Step {
-                side: Side::Two,
-                act: Act::Across(1, 0, ALONE),
-                told: Told::Stale(1),
-                read: &[(0, 0, None), (1, 1, Some(0))],
-                ..STEP
-            },
-            Step {
-                side: Side::Two,
-                act: Act::Turn(1, ALONE),
-                told: Told::Entry(Entry::Turn(1)),
-                sees: &[(0, 1, Some(0))],
-                ..STEP
-            },
+            (
+                TWO,
+                Act::Across((1, 0), &[(0, 0, None), (1, 1, Some(0))], Other::Takes(&[])),
+                Told::Stale(1),
+            ),
+            (TWO, Act::Turn(1), Told::Entry(T1)),
+            (TWO, Act::Read(&[(0, 1, Some(0))]), Told::Nothing),
         ]],
-        journal: &[Entry::Turn(0), Entry::Turn(1)],
-        committed: [1, 1],
         ..PLAIN
     },
     // a register that came back has changed
     Row {
         source: BACK,
         steps: &[&[
-            Step {
-                act: Act::Turn(0, ALONE),
-                told: Told::Entry(Entry::Turn(0)),
-                ..STEP
-            },
-            Step {
-                side: Side::Two,
-                act: Act::Turn(3, Meanwhile::Turns(&[1, 2])),
-                told: Told::Stale(1),
-                ..STEP
-            },
-            Step {
-                side: Side::Two,
-                act: Act::Turn(3, ALONE),
-                told: Told::Entry(Entry::Turn(3)),
-                sees: &[(1, 1, Some(0))],
-                ..STEP
-            },
+            (ONE, Act::Turn(0), Told::Entry(T0)),
+            (
+                TWO,
+                Act::Late(3, &[], Other::Takes(&[1, 2])),
+                Told::Stale(1),
+            ),
+            (TWO, Act::Turn(3), Told::Entry(T3)),
+            (TWO, Act::Read(&[(1, 1, Some(0))]), Told::Nothing),
         ]],
-        journal: &JOURNAL_OF_FOUR,
+        journal: FOUR_TURNS,
         committed: [3, 1],
         ..PLAIN
     },
@@ -338,73 +209,29 @@ const EXAMPLES: &[Row<'static>] = &[
     Row {
         source: BACK,
         steps: &[&[
-            Step {
-                act: Act::Turn(0, ALONE),
-                told: Told::Entry(Entry::Turn(0)),
-                ..STEP
-            },
-            Step {
-                side: Side::Two,
-                act: Act::Turn(3, Meanwhile::Turns(&[2])),
-                told: Told::Entry(Entry::Turn(3)),
-                ..STEP
-            },
+            (ONE, Act::Turn(0), Told::Entry(T0)),
+            (TWO, Act::Late(3, &[], Other::Takes(&[2])), Told::Entry(T3)),
         ]],
         tickets: 1,
-        journal: &[Entry::Turn(0), Entry::Turn(2), Entry::Turn(3)],
+        journal: &[T0, T2, T3],
         committed: [2, 1],
         end: End::Running,
         ..PLAIN
     },
-    // the monitor region is emptied before an advance
+    // a strobe before a nonblocking assignment of the register that it shows, and another at the next time: the monitor region is
+    // emptied before an advance
     Row {
-        source: STROBES,
+        source: "module t; reg a; initial begin a=1'b0; $strobe(\"s %b\",a); a<=1'b1; $display(\"d %b\",a); #1 $strobe(\"t %b\",a); end endmodule",
         steps: &[&[
-            Step {
-                act: Act::Turn(0, ALONE),
-                told: Told::Entry(Entry::Turn(0)),
-                ..STEP
-            },
-            Step {
-                act: Act::Rest,
-                told: Told::Entry(Entry::ActivateNba),
-                ..STEP
-            },
-            Step {
-                act: Act::Update,
-                told: Told::Entry(Entry::Update(1)),
-                ..STEP
-            },
-            Step {
-                act: Act::Rest,
-                told: Told::Entry(Entry::ActivateMonitor),
-                ..STEP
-            },
-            Step {
-                act: Act::Rest,
-                told: Told::Entry(Entry::Advance(1)),
-                ..STEP
-            },
-            Step {
-                act: Act::Turn(2, ALONE),
-                told: Told::Entry(Entry::Turn(2)),
-                ..STEP
-            },
-            Step {
-                act: Act::Rest,
-                told: Told::Entry(Entry::ActivateMonitor),
-                ..STEP
-            },
+            (ONE, Act::Turn(0), Told::Entry(T0)),
+            (ONE, Act::Rest, Told::Entry(N)),
+            (ONE, Act::Update, Told::Entry(U1)),
+            (ONE, Act::Rest, Told::Entry(M)),
+            (ONE, Act::Rest, Told::Entry(A1)),
+            (ONE, Act::Turn(2), Told::Entry(T2)),
+            (ONE, Act::Rest, Told::Entry(M)),
         ]],
-        journal: &[
-            Entry::Turn(0),
-            Entry::ActivateNba,
-            Entry::Update(1),
-            Entry::ActivateMonitor,
-            Entry::Advance(1),
-            Entry::Turn(2),
-            Entry::ActivateMonitor,
-        ],
+        journal: &[T0, N, U1, M, A1, T2, M],
         committed: [7, 0],
         lines: "d 0\ns 1\nt 1\n",
         ..PLAIN
@@ -415,16 +242,11 @@ const EXAMPLES: &[Row<'static>] = &[
         steps: &[
             THRICE,
             &[
-                STEP,
-                Step {
-                    side: Side::Two,
-                    act: Act::Held(3),
-                    told: Told::Stopped(Why::Memory),
-                    ..STEP
-                },
+                (ONE, Act::Stop, Told::Nothing),
+                (TWO, Act::Held(3), STOPPED),
             ],
         ],
-        journal: &[Entry::Turn(0), Entry::Turn(1), Entry::Turn(2)],
+        journal: &[T0, T1, T2],
         committed: [3, 0],
         end: End::Stopped(Why::Memory),
         ..PLAIN
@@ -432,13 +254,8 @@ const EXAMPLES: &[Row<'static>] = &[
     // a stop comes before a turn that is too long is given up
     Row {
         source: MOMENTS,
-        steps: &[&[Step {
-            side: Side::Two,
-            act: Act::Across(1, 0, Meanwhile::Stop),
-            told: Told::Stopped(Why::Memory),
-            ..STEP
-        }]],
-        journal: &[Entry::Turn(0)],
+        steps: &[&[(TWO, Act::Across((1, 0), &[], Other::Stops), STOPPED)]],
+        journal: &[T0],
         committed: [1, 0],
         end: End::Stopped(Why::Memory),
         ..PLAIN
@@ -447,57 +264,17 @@ const EXAMPLES: &[Row<'static>] = &[
     Row {
         source: GLITCH,
         max_entries: 3,
+        glitches: 3,
         steps: &[&[
-            Step {
-                act: Act::Turn(0, ALONE),
-                told: Told::Entry(Entry::Turn(0)),
-                ..STEP
-            },
-            Step {
-                side: Side::Two,
-                act: Act::Turn(1, ALONE),
-                told: Told::Entry(Entry::Turn(1)),
-                ..STEP
-            },
-            Step {
-                act: Act::Rest,
-                told: Told::Entry(Entry::ActivateInactive),
-                ..STEP
-            },
-            Step {
-                act: Act::Turn(3, ALONE),
-                told: Told::Stopped(Why::Entries),
-                ..STEP
-            },
-            Step {
-                act: Act::Update,
-                told: Told::Stopped(Why::Entries),
-                ..STEP
-            },
-            Step {
-                act: Act::Rest,
-                told: Told::Stopped(Why::Entries),
-                ..STEP
-            },
-            Step {
-                side: Side::Two,
-                ..STEP
-            },
-            STEP,
-            Step {
-                side: Side::Two,
-                act: Act::Update,
-                told: Told::Stopped(Why::Entries),
-                ..STEP
-            },
-            Step {
-                side: Side::Two,
-                act: Act::Rest,
-                told: Told::Stopped(Why::Entries),
-                ..STEP
-            },
+            (ONE, Act::Turn(3), FULL),
+            (ONE, Act::Update, FULL),
+            (ONE, Act::Rest, FULL),
+            (TWO, Act::Stop, Told::Nothing),
+            (ONE, Act::Stop, Told::Nothing),
+            (TWO, Act::Update, FULL),
+            (TWO, Act::Rest, FULL),
         ]],
-        journal: &[Entry::Turn(0), Entry::Turn(1), Entry::ActivateInactive],
+        journal: &[T0, T1, I],
         committed: [2, 1],
         end: End::Stopped(Why::Entries),
         ..PLAIN
@@ -506,8 +283,15 @@ const EXAMPLES: &[Row<'static>] = &[
     Row {
         source: GLITCH,
         glitches: 7,
-        steps: QUIET,
-        journal: &JOURNAL,
+        steps: &[&[
+            (TWO, Act::Stop, Told::Nothing),
+            (ONE, Act::Stop, Told::Nothing),
+            (ONE, Act::Update, Told::Nothing),
+            (ONE, Act::Rest, Told::Nothing),
+            (TWO, Act::Update, Told::Nothing),
+            (TWO, Act::Rest, Told::Nothing),
+        ]],
+        journal: GLITCH_JOURNAL,
         committed: [4, 3],
         lines: "glitch\n",
         ..PLAIN
@@ -518,233 +302,95 @@ const EXAMPLES: &[Row<'static>] = &[
 const AT_ONCE: &[Row<'static>] = &[
     // of two turns that are committed at once the one that read what the other changed is refused, and evaluated again it stands
     Row {
-        source: COPY,
         steps: &[&[
-            Step {
-                act: Act::Batch(&[0, 1], &[Told::Entry(Entry::Turn(0)), Told::Stale(1)]),
-                read: &[(0, 0, None)],
-                ..STEP
-            },
-            Step {
-                act: Act::Batch(&[1], &[Told::Entry(Entry::Turn(1))]),
-                sees: &[(1, 1, Some(1))],
-                ..STEP
-            },
+            (
+                ONE,
+                Act::Batch(&[0, 1], &[(0, 0, None)], &[Told::Entry(T0), Told::Stale(1)]),
+                Told::Nothing,
+            ),
+            (
+                ONE,
+                Act::Batch(&[1], &[], &[Told::Entry(T1)]),
+                Told::Nothing,
+            ),
+            (ONE, Act::Read(&[(1, 1, Some(1))]), Told::Nothing),
         ]],
-        journal: &[Entry::Turn(0), Entry::Turn(1)],
         committed: [2, 0],
         ..PLAIN
     },
     // turns that read nothing of each other stand in their order
     Row {
         source: APART,
-        steps: &[&[Step {
-            act: Act::Batch(
+        steps: &[&[(
+            ONE,
+            Act::Batch(
                 &[0, 1, 2],
-                &[
-                    Told::Entry(Entry::Turn(0)),
-                    Told::Entry(Entry::Turn(1)),
-                    Told::Entry(Entry::Turn(2)),
-                ],
+                &[],
+                &[Told::Entry(T0), Told::Entry(T1), Told::Entry(T2)],
             ),
-            ..STEP
-        }]],
-        journal: &[Entry::Turn(0), Entry::Turn(1), Entry::Turn(2)],
+            Told::Nothing,
+        )]],
+        journal: APART_JOURNAL,
         committed: [3, 0],
         lines: "00000001\n00000000000000000000000000000010\n00000000000000000000000000000000000000000000000000000000000000000000000000000000000000000000000000000000000000000000000000000011\n",
         ..PLAIN
     },
 ];
 
-/// The steps of the glitch, of which the seats take turns, and its journal.
-const GLITCHES: [Step<'static>; 7] = [
-    Step {
-        act: Act::Turn(0, ALONE),
-        told: Told::Entry(Entry::Turn(0)),
-        ..STEP
-    },
-    Step {
-        side: Side::Two,
-        act: Act::Turn(1, ALONE),
-        told: Told::Entry(Entry::Turn(1)),
-        ..STEP
-    },
-    Step {
-        act: Act::Rest,
-        told: Told::Entry(Entry::ActivateInactive),
-        ..STEP
-    },
-    Step {
-        side: Side::Two,
-        act: Act::Turn(3, ALONE),
-        told: Told::Entry(Entry::Turn(3)),
-        ..STEP
-    },
-    Step {
-        act: Act::Rest,
-        told: Told::Entry(Entry::Advance(1)),
-        ..STEP
-    },
-    Step {
-        side: Side::Two,
-        act: Act::Turn(2, ALONE),
-        told: Told::Entry(Entry::Turn(2)),
-        ..STEP
-    },
-    Step {
-        act: Act::Turn(4, ALONE),
-        told: Told::Entry(Entry::Turn(4)),
-        ..STEP
-    },
-];
-
-const JOURNAL: [Entry; 7] = [
-    Entry::Turn(0),
-    Entry::Turn(1),
-    Entry::ActivateInactive,
-    Entry::Turn(3),
-    Entry::Advance(1),
-    Entry::Turn(2),
-    Entry::Turn(4),
+/// The steps of the glitch, of which the seats take turns.
+const GLITCHES: &[Step<'static>] = &[
+    (ONE, Act::Turn(0), Told::Entry(T0)),
+    (TWO, Act::Turn(1), Told::Entry(T1)),
+    (ONE, Act::Rest, Told::Entry(I)),
+    (TWO, Act::Turn(3), Told::Entry(T3)),
+    (ONE, Act::Rest, Told::Entry(A1)),
+    (TWO, Act::Turn(2), Told::Entry(T2)),
+    (ONE, Act::Turn(4), Told::Entry(T4)),
 ];
 
 /// Either seat is told that the run was stopped, after a stop by the first one too.
 const OVER: &[Step<'static>] = &[
-    STEP,
-    Step {
-        act: Act::Update,
-        told: Told::Stopped(Why::Memory),
-        ..STEP
-    },
-    Step {
-        act: Act::Rest,
-        told: Told::Stopped(Why::Memory),
-        ..STEP
-    },
-    Step {
-        side: Side::Two,
-        act: Act::Update,
-        told: Told::Stopped(Why::Memory),
-        ..STEP
-    },
-    Step {
-        side: Side::Two,
-        act: Act::Rest,
-        told: Told::Stopped(Why::Memory),
-        ..STEP
-    },
+    (ONE, Act::Stop, Told::Nothing),
+    (ONE, Act::Update, STOPPED),
+    (ONE, Act::Rest, STOPPED),
+    (TWO, Act::Update, STOPPED),
+    (TWO, Act::Rest, STOPPED),
 ];
 
 /// The second seat stops the run.
-const STOP: &[Step<'static>] = &[Step {
-    side: Side::Two,
-    ..STEP
-}];
-
-/// The first seat is told of a stop.
-const STOPPED: Step<'static> = Step {
-    told: Told::Stopped(Why::Memory),
-    ..STEP
-};
+const STOP: &[Step<'static>] = &[(TWO, Act::Stop, Told::Nothing)];
 
 /// After 0, 1, .. entries of the glitch: how the second seat stops the run, between the evaluation of the first seat's turn and its
 /// commit where there is a ticket; the tickets that are left are refused.
 const STOPS: [&[&[Step<'static>]]; 7] = [
     &[
         &[
-            Step {
-                act: Act::Turn(0, Meanwhile::Stop),
-                ..STOPPED
-            },
-            Step {
-                act: Act::Turn(1, ALONE),
-                ..STOPPED
-            },
+            (ONE, Act::Late(0, &[], Other::Stops), STOPPED),
+            (ONE, Act::Turn(1), STOPPED),
         ],
         OVER,
     ],
-    &[
-        &[Step {
-            act: Act::Turn(1, Meanwhile::Stop),
-            ..STOPPED
-        }],
-        OVER,
-    ],
+    &[&[(ONE, Act::Late(1, &[], Other::Stops), STOPPED)], OVER],
     &[STOP, OVER],
-    &[
-        &[Step {
-            act: Act::Turn(3, Meanwhile::Stop),
-            ..STOPPED
-        }],
-        OVER,
-    ],
+    &[&[(ONE, Act::Late(3, &[], Other::Stops), STOPPED)], OVER],
     &[STOP, OVER],
-    &[
-        &[Step {
-            act: Act::Turn(2, Meanwhile::Stop),
-            ..STOPPED
-        }],
-        OVER,
-    ],
-    &[
-        &[Step {
-            act: Act::Turn(4, Meanwhile::Stop),
-            ..STOPPED
-        }],
-        OVER,
-    ],
+    &[&[(ONE, Act::Late(2, &[], Other::Stops), STOPPED)], OVER],
+    &[&[(ONE, Act::Late(4, &[], Other::Stops), STOPPED)], OVER],
 ];
 
-/// A stop of the run when it is quiet.
-const QUIET: &[&[Step<'static>]] = &[&[
-    Step {
-        side: Side::Two,
-        ..STEP
-    },
-    STEP,
-    Step {
-        act: Act::Update,
-        ..STEP
-    },
-    Step {
-        act: Act::Rest,
-        ..STEP
-    },
-    Step {
-        side: Side::Two,
-        act: Act::Update,
-        ..STEP
-    },
-    Step {
-        side: Side::Two,
-        act: Act::Rest,
-        ..STEP
-    },
-]];
-
 impl Pair for Row<'_> {
-    fn lead<K: Naming, R: Wait + Abort>(
-        &mut self,
-        course: &Course<'_, '_, K, R>,
-        one: &mut Seat<K>,
-        two: &mut Seat<K>,
-        tickets: Vec<Ticket<K>>,
-    ) {
-        let mut led = Led {
-            tickets,
-            entries: 0,
-        };
+    fn lead<K: Naming, R: Wait + Abort>(&mut self, opened: Opened<'_, '_, '_, K, R>) -> Seats<K> {
+        let (course, (mut one, mut two), tickets) = opened;
+        let mut led = Led::new(course, tickets);
         let glitches = GLITCHES.get(..self.glitches).expect(course.rt, "steps");
-        lead(course, one, two, &mut led, glitches);
+        led.lead(&mut one, &mut two, glitches);
         for steps in self.steps {
-            lead(course, one, two, &mut led, steps);
+            led.lead(&mut one, &mut two, steps);
         }
-        holds(
-            course.rt,
-            led.tickets.len() == self.tickets,
-            "other tickets",
-        );
-        assert_journal(course, one, self.journal);
+        let is_left = led.tickets.len() == self.tickets;
+        holds(course.rt, is_left, "other tickets");
+        assert_journal(course, &mut one, self.journal);
+        (one, two)
     }
 }
 
@@ -779,7 +425,7 @@ fn a_stop_after_any_entry_leaves_what_was_committed(rt: HostRuntime) {
             source: GLITCH,
             glitches: entries,
             steps: stop,
-            journal: JOURNAL.get(..entries).expect(&rt, "entries"),
+            journal: GLITCH_JOURNAL.get(..entries).expect(&rt, "entries"),
             committed: [entries.div_ceil(2) as u64, entries as u64 / 2],
             end: End::Stopped(Why::Memory),
             ..PLAIN

@@ -4,7 +4,7 @@ ghost use Rattle.std.specs.Thread.{IsSend, IsSync};
 ghost use Rattle.design.specs.contracts.design.Design as design_rows;
 
 use crate::claims::{fail, holds};
-use crate::course::{Course, design_of, last};
+use crate::course::{Course, design_of, last, two_of};
 use commitgate::{Blank, Gate, Naming, Rest, Seat, Ticket, UpdatesEnd};
 use design::Design;
 use model::end::Limits;
@@ -33,9 +33,6 @@ const HOLDINGS: u32 = 100;
 
 const MOST_HOLDINGS: u32 = 1_000;
 
-// How often a thread looks before it gives up.
-const LOOKS: u32 = 1_000_000;
-
 // The only turn, and the change of the regions that makes its updates active.
 fn begin<K: Naming, R: Wait + Abort>(
     course: &Course<'_, '_, K, R>,
@@ -51,6 +48,9 @@ fn begin<K: Naming, R: Wait + Abort>(
         "no change of the regions",
     );
 }
+
+// How often a thread looks before it gives up.
+const LOOKS: u32 = 1_000_000;
 
 // Waits until the other thread looks.
 fn wait_for(rt: &impl Abort, looks: &AtomicBool) {
@@ -170,15 +170,9 @@ fn run<K: Naming + Send + Sync, R: Threads + Wait + Abort + Sync>(
     requires name { blank ≡ K.named }
     requires design { design.now ≡ K.named.code }
 {
-    let (gate, mut seats, tickets) = blank.open::<K>(alloc).expect(rt, "memory");
-    let two = seats.pop().expect(rt, "a seat");
-    let mut one = seats.pop().expect(rt, "a seat");
-    let course = Course {
-        rt,
-        alloc,
-        gate: &gate,
-        design,
-    };
+    let (gate, seats, tickets) = blank.open::<K>(alloc).expect(rt, "memory");
+    let (mut one, two) = two_of(rt, seats);
+    let course = Course::new(rt, alloc, &gate, design);
     begin(&course, &mut one, tickets);
     design_is_shared();
     race(&course, one, two)

@@ -1,9 +1,25 @@
-// A hoard leaves as much memory as was asked for.
+// All memory but some pieces is held. A hoard leaves as much of them as was asked for.
 
 use crate::claims::holds;
 use hoard::{Hoard, LARGEST_PIECE};
 use std::alloc::Global;
 use std::process::Abort;
+
+/// Takes all memory but so many pieces, of so many bytes each.
+pub fn take_all(rt: &impl Abort, alloc: Global, pieces: usize, piece: usize) -> Hoard {
+    Hoard::new(alloc, pieces, piece).expect(rt, "memory")
+}
+
+/// Takes what was given back before, and leaves so many bytes.
+pub fn leave(rt: &impl Abort, hoard: &mut Hoard, bytes: usize) {
+    hoard.shut();
+    holds(rt, hoard.leave(bytes), "a piece of memory");
+}
+
+/// Leaves a whole piece more.
+pub fn open(rt: &impl Abort, hoard: &mut Hoard) {
+    holds(rt, hoard.open(), "a piece of memory");
+}
 
 // The most bytes that can be had in one piece, in steps of 16.
 fn most(alloc: Global) -> usize {
@@ -36,7 +52,7 @@ fn assert_shut(rt: &impl Abort, alloc: Global, hoard: &mut Hoard) {
 
 #[test]
 fn leaves_what_it_says(rt: HostRuntime) {
-    let mut hoard = Hoard::new(rt.alloc(), 5, LARGEST_PIECE).expect(&rt, "memory");
+    let mut hoard = take_all(&rt, rt.alloc(), 5, LARGEST_PIECE);
     for room in [1536, 4096, 61440, 2048] {
         assert_left(&rt, rt.alloc(), &mut hoard, room);
     }

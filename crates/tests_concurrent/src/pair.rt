@@ -2,8 +2,8 @@
 ghost use Rattle.std.specs.Prelude.{◌≡◌};
 
 use crate::claims::holds;
-use crate::course::{Course, close_two, design_of};
-use commitgate::{Blank, Closed, Gate, Naming, Seat, Ticket};
+use crate::course::{Course, Seats, close_two, design_of, two_of};
+use commitgate::{Blank, Closed, Gate, Naming, Ticket};
 use design::Design;
 use model::end::Limits;
 use std::alloc::Global;
@@ -11,16 +11,23 @@ use std::marker::Brand;
 use std::process::Abort;
 use std::sync::Wait;
 
+/// An open gate, the seats of its two workers, and a ticket for each process.
+pub type Opened<'c, 'g, 'd, K, R> = (&'c Course<'g, 'd, K, R>, Seats<K>, Vec<Ticket<K>>);
+
 /// What the two workers of a gate do.
 pub trait Pair {
-    /// Leads the run, with a ticket for each process.
-    fn lead<K: Naming, R: Wait + Abort>(
-        &mut self,
-        course: &Course<'_, '_, K, R>,
-        one: &mut Seat<K>,
-        two: &mut Seat<K>,
-        tickets: Vec<Ticket<K>>,
-    );
+    /// Leads the run, and gives the seats back.
+    fn lead<K: Naming, R: Wait + Abort>(&mut self, opened: Opened<'_, '_, '_, K, R>) -> Seats<K>;
+}
+
+// Two workers lead the run at an open gate.
+fn lead<K: Naming, R: Wait + Abort, W: Pair>(
+    course: &Course<'_, '_, K, R>,
+    seats: Seats<K>,
+    tickets: Vec<Ticket<K>>,
+    work: &mut W,
+) -> Seats<K> {
+    work.lead((course, seats, tickets))
 }
 
 // Opens a gate for two workers, which lead the run, and closes it.
@@ -35,16 +42,10 @@ fn run<K: Naming, R: Wait + Abort, W: Pair>(
     requires design { design.now ≡ K.named.code }
     requires workers { K.named.workers ≡ 2 }
 {
-    let (gate, mut seats, tickets) = blank.open::<K>(alloc).expect(rt, "memory");
-    let mut two = seats.pop().expect(rt, "a seat");
-    let mut one = seats.pop().expect(rt, "a seat");
-    let course = Course {
-        rt,
-        alloc,
-        gate: &gate,
-        design,
-    };
-    work.lead(&course, &mut one, &mut two, tickets);
+    let (gate, seats, tickets) = blank.open::<K>(alloc).expect(rt, "memory");
+    let seats = two_of(rt, seats);
+    let course = Course::new(rt, alloc, &gate, design);
+    let (one, two) = lead(&course, seats, tickets, work);
     drop(course);
     close_two(rt, alloc, gate, one, two)
 }

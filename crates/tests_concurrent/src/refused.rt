@@ -4,10 +4,12 @@ ghost use Rattle.turn.specs.Reads.{GaveAll};
 ghost use Rattle.runstate.specs.Histories.{IsRead};
 
 use crate::claims::{fail, holds};
-use crate::course::{Course, first, keep};
-use crate::examples::COPY;
-use crate::pair::{Pair, play_source};
+use crate::course::{Course, Seats, first, keep};
+use crate::driven::worked::UPDATES;
+use crate::hoards::{leave, open, take_all};
+use crate::pair::{Opened, Pair, play_source};
 use commitgate::{Closed, Grant, Naming, Reply, Rest, Seat, Ticket, UpdateReply};
+use fixtures::{COPY, GLITCH, SWAP};
 use hoard::Hoard;
 use model::end::End;
 use std::alloc::Global;
@@ -98,9 +100,7 @@ pub fn granted<K: Naming>(
 impl<'c, 'h, 'g, 'd, K: Naming, R: Wait + Abort> Starved<'c, 'h, 'g, 'd, K, R> {
     // Takes what was given back since the last call, and leaves so much for the next one.
     fn leave(&mut self, count: usize) {
-        self.hoard.shut();
-        let is_left = self.hoard.leave(count.saturating_mul(STEP));
-        holds(self.course.rt, is_left, "a piece of memory");
+        leave(self.course.rt, self.hoard, count.saturating_mul(STEP));
     }
 
     // The turn of a ticket, evaluated with more and more memory.
@@ -122,7 +122,7 @@ impl<'c, 'h, 'g, 'd, K: Naming, R: Wait + Abort> Starved<'c, 'h, 'g, 'd, K, R> {
         ensures turn { IsTurnLog K.named.code ticket.now.state ticket.now.time result }
         ensures gave { GaveAll (IsRead K.named.code seat.new.fresh) result.reads }
     {
-        holds(self.course.rt, self.hoard.open(), "a piece of memory");
+        open(self.course.rt, self.hoard);
         let log = self.course.evaluate(seat, ticket);
         self.hoard.shut();
         log
@@ -241,11 +241,6 @@ fn roomy<K: Naming>(rt: &impl Abort, alloc: Global, tickets: Vec<Ticket<K>>) -> 
     held
 }
 
-// All memory but so many pieces is taken.
-fn take_all(rt: &impl Abort, alloc: Global) -> Hoard {
-    Hoard::new(alloc, PIECES, PIECE).expect(rt, "memory")
-}
-
 // The first worker leads the run in too little memory. This is how often it was refused.
 #[derive(Drop)]
 struct Starving {
@@ -253,22 +248,18 @@ struct Starving {
 }
 
 impl Pair for Starving {
-    fn lead<K: Naming, R: Wait + Abort>(
-        &mut self,
-        course: &Course<'_, '_, K, R>,
-        seat: &mut Seat<K>,
-        _other: &mut Seat<K>,
-        tickets: Vec<Ticket<K>>,
-    ) {
+    fn lead<K: Naming, R: Wait + Abort>(&mut self, opened: Opened<'_, '_, '_, K, R>) -> Seats<K> {
+        let (course, (mut one, two), tickets) = opened;
         let held = roomy(course.rt, course.alloc, tickets);
-        let mut hoard = take_all(course.rt, course.alloc);
+        let mut hoard = take_all(course.rt, course.alloc, PIECES, PIECE);
         let mut starved = Starved {
             course,
             hoard: &mut hoard,
             refused: self.refused,
         };
-        starved.lead(seat, held);
+        starved.lead(&mut one, held);
         self.refused = starved.refused;
+        (one, two)
     }
 }
 
@@ -305,20 +296,20 @@ const PLAIN: Row<'static> = Row {
 const ROWS: &[Row<'static>] = &[
     PLAIN,
     Row {
-        source: "module t; reg a, b; initial begin a=1'b0; b=1'b1; #1 a<=b; b<=a; #1 $display(\"%b %b\",a,b); end endmodule",
+        source: SWAP,
         entries: 8,
         lines: "1 0\n",
         ..PLAIN
     },
     Row {
-        source: "module t; reg a; initial begin a=1'b1; #1 a=1'b0; a=1'b1; end initial #0 @(posedge a) $display(\"glitch\"); endmodule",
+        source: GLITCH,
         entries: 7,
         lines: "glitch\n",
         rests: true,
         ..PLAIN
     },
     Row {
-        source: "module t; reg a; initial begin a<=1'b0; a<=1'b1; end initial @(posedge a) $display(\"up %b\",a); endmodule",
+        source: UPDATES,
         entries: 6,
         lines: "up 1\n",
         updates: true,

@@ -2,12 +2,15 @@
 // that is led through a gate. What was refused changes nothing.
 
 use crate::claims::{fail, holds};
-use crate::course::{Course, assert_closed, assert_left, design_of, is_copied};
-use crate::examples::{COPY, THRICE, WRITERS};
-use crate::pair::{Pair, play_source};
-use crate::steps::{Led, lead, ticket_of};
+use crate::course::{Course, Seats, assert_closed, assert_left, design_of, is_copied};
+use crate::examples::{FOUR_TURNS, THRICE, WRITERS};
+use crate::hoards::{leave, take_all};
+use crate::pair::{Opened, Pair, play_source};
+use crate::steps::{Led, ticket_of};
 use commitgate::{Naming, Reply, Seat, Ticket};
 use drive::{DriveFault, drive};
+use fixtures::entries::{T0, T1};
+use fixtures::{COPY, GLITCH, GLITCH_JOURNAL, SWAP, SWAP_JOURNAL};
 use hoard::{Hoard, LARGEST_PIECE};
 use model::end::End;
 use model::entry::Entry;
@@ -20,24 +23,8 @@ const STEP: usize = 48;
 
 const ROOMS: usize = 512;
 
-const JOURNAL: [Entry; 4] = [
-    Entry::Turn(0),
-    Entry::Turn(1),
-    Entry::Turn(2),
-    Entry::Turn(3),
-];
-
-// Takes all memory but so many pieces.
-fn take_all(rt: &impl Abort, alloc: Global) -> Hoard {
-    Hoard::new(alloc, 2 * ROOMS, LARGEST_PIECE).expect(rt, "memory")
-}
-
-// Leaves memory for a call that is made again and again.
-fn leave(rt: &impl Abort, hoard: &mut Hoard, count: usize) {
-    hoard.shut();
-    let is_left = hoard.leave(count.saturating_mul(STEP));
-    holds(rt, is_left, "a piece of memory");
-}
+// The pieces of memory that a run may need.
+const PIECES: usize = 2 * ROOMS;
 
 // The ticket of a turn that was refused memory under the lock, with as many tries as before, or nothing where it was accepted.
 fn refused<K: Naming>(rt: &impl Abort, reply: Reply<K>) -> Option<Ticket<K>> {
@@ -64,7 +51,7 @@ fn commit_held<K: Naming, R: Wait + Abort>(
 ) {
     let mut late = ticket;
     for count in 0..ROOMS {
-        leave(course.rt, hoard, count);
+        leave(course.rt, hoard, count.saturating_mul(STEP));
         let reply = course.commit_held(seat, late);
         match refused(course.rt, reply) {
             Some(back) => late = back,
@@ -84,8 +71,8 @@ fn copy<K: Naming, R: Wait + Abort>(
     seat: &mut Seat<K>,
 ) {
     for count in 0..ROOMS {
-        leave(course.rt, hoard, count);
-        if is_copied(course, seat, &JOURNAL) {
+        leave(course.rt, hoard, count.saturating_mul(STEP));
+        if is_copied(course, seat, FOUR_TURNS) {
             holds(course.rt, count > 0, "memory was refused");
             return;
         }
@@ -98,22 +85,15 @@ fn copy<K: Naming, R: Wait + Abort>(
 struct Starved;
 
 impl Pair for Starved {
-    fn lead<K: Naming, R: Wait + Abort>(
-        &mut self,
-        course: &Course<'_, '_, K, R>,
-        one: &mut Seat<K>,
-        two: &mut Seat<K>,
-        tickets: Vec<Ticket<K>>,
-    ) {
-        let mut led = Led {
-            tickets,
-            entries: 0,
-        };
-        lead(course, one, two, &mut led, THRICE);
+    fn lead<K: Naming, R: Wait + Abort>(&mut self, opened: Opened<'_, '_, '_, K, R>) -> Seats<K> {
+        let (course, (mut one, mut two), tickets) = opened;
+        let mut led = Led::new(course, tickets);
+        led.lead(&mut one, &mut two, THRICE);
         let late = ticket_of(course.rt, &mut led.tickets, 3);
-        let mut hoard = take_all(course.rt, course.alloc);
-        commit_held(course, &mut hoard, two, late);
-        copy(course, &mut hoard, one);
+        let mut hoard = take_all(course.rt, course.alloc, PIECES, LARGEST_PIECE);
+        commit_held(course, &mut hoard, &mut two, late);
+        copy(course, &mut hoard, &mut one);
+        (one, two)
     }
 }
 
@@ -133,9 +113,9 @@ fn assert_driven<R: Wait + Abort>(
 ) {
     holds(rt, entries.len() < 1_000, "a short journal");
     let design = design_of(rt, alloc, source);
-    let mut hoard = take_all(rt, alloc);
+    let mut hoard = take_all(rt, alloc, PIECES, LARGEST_PIECE);
     for count in 0..ROOMS {
-        leave(rt, &mut hoard, count);
+        leave(rt, &mut hoard, count.saturating_mul(STEP));
         match drive(rt, alloc, &design, entries) {
             Ok(closed) => {
                 assert_left(rt, &closed, entries, lines);
@@ -150,35 +130,10 @@ fn assert_driven<R: Wait + Abort>(
 
 // Sources, the journal of a run of each, and its lines.
 const LED: &[(&str, &[Entry], &str)] = &[
-    (
-        "module t; reg a, b; initial begin a=1'b0; b=1'b1; #1 a<=b; b<=a; #1 $display(\"%b %b\",a,b); end endmodule",
-        &[
-            Entry::Turn(0),
-            Entry::Advance(1),
-            Entry::Turn(1),
-            Entry::ActivateNba,
-            Entry::Update(2),
-            Entry::Update(3),
-            Entry::Advance(2),
-            Entry::Turn(4),
-        ],
-        "1 0\n",
-    ),
-    (
-        "module t; reg a; initial begin a=1'b1; #1 a=1'b0; a=1'b1; end initial #0 @(posedge a) $display(\"glitch\"); endmodule",
-        &[
-            Entry::Turn(0),
-            Entry::Turn(1),
-            Entry::ActivateInactive,
-            Entry::Turn(3),
-            Entry::Advance(1),
-            Entry::Turn(2),
-            Entry::Turn(4),
-        ],
-        "glitch\n",
-    ),
-    (COPY, &[Entry::Turn(1), Entry::Turn(0)], ""),
-    (WRITERS, &JOURNAL, ""),
+    (SWAP, SWAP_JOURNAL, "1 0\n"),
+    (GLITCH, GLITCH_JOURNAL, "glitch\n"),
+    (COPY, &[T1, T0], ""),
+    (WRITERS, FOUR_TURNS, ""),
 ];
 
 #[test]

@@ -42,6 +42,9 @@ const SAVE: &str = "vsimtx run t.v --journal OUT";
 /// The same on one worker.
 const ONE_WORKER: &str = "vsimtx run t.v --workers 1 --journal OUT";
 
+/// What stands in OUT before a command.
+const OLD: &[u8] = b"an old OUT\n";
+
 const REPLAY: &str = "vsimtx replay t.v JOURNAL";
 
 const EXPLAIN: &str = "vsimtx explain t.v JOURNAL";
@@ -49,9 +52,6 @@ const EXPLAIN: &str = "vsimtx explain t.v JOURNAL";
 const WAVES: &str = "vsimtx waves t.v JOURNAL --out OUT";
 
 const CANNOT_WRITE: &str = "vsimtx: cannot write\n";
-
-/// What stands in OUT before a command.
-const OLD: &[u8] = b"an old OUT\n";
 
 /// Bytes that a writer puts there, and that stay once it is gone.
 type Shared = Rc<RefCell<Vec<u8>>>;
@@ -74,6 +74,34 @@ impl Read for Source<'_> {
             Some(kind) => Err(io::Error::from(kind)),
             None => Ok(0),
         }
+    }
+}
+
+/// A writer that takes one byte a call, and fails after its room.
+#[derive(Drop)]
+struct Target {
+    room: usize,
+    written: Shared,
+}
+
+impl Write for Target {
+    fn write(&mut self, buf: &[u8]) -> io::Result<usize> {
+        let Some(byte) = buf.first() else {
+            return Ok(0);
+        };
+        if self.room == 0 {
+            return Err(io::Error::from(ErrorKind::Other));
+        }
+        self.room -= 1;
+        match self.written.try_borrow_mut() {
+            Ok(mut written) => written.push(*byte)?,
+            Err(_) => return Err(io::Error::from(ErrorKind::Other)),
+        }
+        Ok(1)
+    }
+
+    fn flush(&mut self) -> io::Result<()> {
+        Ok(())
     }
 }
 
@@ -142,34 +170,6 @@ impl<'a> Files for Memory<'a> {
 
     fn progress_beside_output(&self) -> Untold {
         Untold
-    }
-}
-
-/// A writer that takes one byte a call, and fails after its room.
-#[derive(Drop)]
-struct Target {
-    room: usize,
-    written: Shared,
-}
-
-impl Write for Target {
-    fn write(&mut self, buf: &[u8]) -> io::Result<usize> {
-        let Some(byte) = buf.first() else {
-            return Ok(0);
-        };
-        if self.room == 0 {
-            return Err(io::Error::from(ErrorKind::Other));
-        }
-        self.room -= 1;
-        match self.written.try_borrow_mut() {
-            Ok(mut written) => written.push(*byte)?,
-            Err(_) => return Err(io::Error::from(ErrorKind::Other)),
-        }
-        Ok(1)
-    }
-
-    fn flush(&mut self) -> io::Result<()> {
-        Ok(())
     }
 }
 
@@ -353,8 +353,8 @@ fn output(rt: &impl Abort, room: usize, shown: &Shared) -> Counted<Target> {
 fn status_of<R: Threads + Wait + Sync, F: Files, O: Write, E: Write>(
     rt: &R,
     alloc: Global,
-    words: &[String],
     files: &mut F,
+    words: &[String],
     out: &mut Counted<O>,
     err: &mut Counted<E>,
 ) -> u8 {
@@ -374,7 +374,7 @@ fn run_in<R: Abort + Threads + Wait + Sync>(
     let mut files = files_in(rt, alloc, setting, &made);
     let mut out = output(rt, setting.out_room, &shown);
     let mut err = Counted::new(Vec::new(alloc));
-    let status = status_of(rt, alloc, words.as_slice(), &mut files, &mut out, &mut err);
+    let status = status_of(rt, alloc, &mut files, words.as_slice(), &mut out, &mut err);
     Left {
         status,
         out: copy(rt, alloc, &shown),

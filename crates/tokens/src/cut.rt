@@ -56,16 +56,16 @@ fn add<'a>(alloc: Global, found: &mut Vec<Token<'a>>, piece: &'a [u8]) -> Result
 /// Why a text isn't cut into tokens. Places are bytes, counted from 0.
 #[derive(Clone, Copy, Debug, PartialEq, Eq)]
 pub enum CutFault {
+    /// Memory is refused.
+    Memory,
     /// No token, space or comment begins at this byte.
     Stray(usize),
     /// A number that is malformed or too wide begins at this byte.
     BadNumber(usize),
-    Memory,
 }
 
 impl From<AllocError> for CutFault {
     ghost use Rattle.tokens.specs.declared.cut.CutFault.TheVariants.{Memory};
-    ghost use Rattle.std.specs.Prelude.{◌≡◌};
 
     ghost from_gives = { λ _ e. e ≡ Memory };
 

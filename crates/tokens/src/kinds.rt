@@ -7,8 +7,11 @@ ghost use Rattle.tokens.specs.Lexing as spec;
 use crate::spans::{all_digits, is_digit, is_letter};
 use crate::token::Kind;
 
+/// A text, and the kind of a token that is spelled so.
+type Row = (&'static [u8], Kind);
+
 /// The reserved words (3.7.2).
-const WORDS: &[(&[u8], Kind)] = &[
+const WORDS: &[Row] = &[
     (b"module", Kind::Module),
     (b"endmodule", Kind::EndModule),
     (b"reg", Kind::Reg),
@@ -25,7 +28,7 @@ const WORDS: &[(&[u8], Kind)] = &[
 ];
 
 /// The system names (3.7.3) that the grammar has.
-const SYSTEM_NAMES: &[(&[u8], Kind)] = &[
+const SYSTEM_NAMES: &[Row] = &[
     (b"$display", Kind::Display),
     (b"$strobe", Kind::Strobe),
     (b"$finish", Kind::Finish),
@@ -33,7 +36,7 @@ const SYSTEM_NAMES: &[(&[u8], Kind)] = &[
 
 /// The brackets, the comma and the semicolon, which stand most often; the operators, from the level that binds most to the one
 /// that binds least (5.1.2); and the marks of assignments, delays and events.
-const SIGNS: &[(&[u8], Kind)] = &[
+const SIGNS: &[Row] = &[
     (b"(", Kind::Open),
     (b")", Kind::Close),
     (b"[", Kind::OpenSquare),
@@ -69,7 +72,7 @@ const SIGNS: &[(&[u8], Kind)] = &[
 ];
 
 /// The kind that a table has for a text.
-fn kind_in(table: &[(&[u8], Kind)], text: &[u8]) -> Option<Kind>
+fn kind_in(table: &[Row], text: &[u8]) -> Option<Kind>
     ensures { result ≡ spec.kind_in (map (λ row. (row.0.now, row.1)) table.now) text.now }
 {
     let mut left = table;

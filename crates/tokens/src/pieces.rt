@@ -45,7 +45,7 @@ fn block_len(text: &[u8]) -> usize
     ensures within { result ≤ length text.now }
 {
     let mut left = text;
-    let mut n = 0;
+    let mut n: usize = 0;
     let mut star = false;
     while let [b, rest @ ..] = left {
         if star && *b == b'/' {

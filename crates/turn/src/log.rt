@@ -1,5 +1,6 @@
 //! What a turn did.
 ghost use Rattle.std.specs.Prelude.{◌≡◌};
+ghost use Rattle.turn.specs.declared.log.FillFault.TheVariants as fault;
 ghost use Rattle.turn.specs.Nets.{nets_of};
 
 use crate::memory::Seen;
@@ -113,18 +114,18 @@ impl TurnLog {
         self.running.lines.as_str()
     }
 
+    /// Whether `$finish` was met.
+    pub fn is_finish(&self) -> bool
+        ensures { result ≡ self.now.finish }
+    {
+        self.finish
+    }
+
     /// The places of the `$strobe` statements that were met, in order.
     pub fn strobes(&self) -> &[usize]
         ensures { result.now ≡ self.entry.now.strobes }
     {
         self.running.strobes.as_slice()
-    }
-
-    /// Where the process goes on.
-    pub fn next(&self) -> ProcState
-        ensures { result ≡ self.now.next }
-    {
-        self.running.state
     }
 
     /// What the process waits for.
@@ -134,11 +135,11 @@ impl TurnLog {
         self.suspend
     }
 
-    /// Whether `$finish` was met.
-    pub fn is_finish(&self) -> bool
-        ensures { result ≡ self.now.finish }
+    /// Where the process goes on.
+    pub fn next(&self) -> ProcState
+        ensures { result ≡ self.now.next }
     {
-        self.finish
+        self.running.state
     }
 
     /// The number of counted steps.
@@ -166,8 +167,6 @@ pub enum FillFault {
 }
 
 impl From<AllocError> for FillFault {
-    ghost use Rattle.turn.specs.declared.log.FillFault.TheVariants as fault;
-
     ghost from_gives = { λ _ e. e ≡ fault.Memory };
 
     fn from(_: AllocError) -> Self {

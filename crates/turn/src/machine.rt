@@ -87,11 +87,12 @@ impl RunningTurn {
             } => self.assign(ops, *value, *register, *next, reader)?,
             Node::AssignAfter {
                 register,
-                delay,
                 value,
                 next,
+                delay,
             } => {
-                self.assign_after(ops, *value, *register, *next, reader)?;
+                self.compute(ops, *value, reader)?;
+                self.hold(*register, *next);
                 return Ok(Step::Ends {
                     suspend: wait_until(now, *delay),
                     finish: false,
@@ -112,7 +113,7 @@ impl RunningTurn {
                 condition,
                 taken,
                 missed,
-            } => self.branch(ops, *condition, *taken, *missed, reader)?,
+            } => self.branch(ops, reader, *condition, *taken, *missed)?,
             Node::Print { task, pieces, next } => match task {
                 Task::Display => self.display(ops, shown, *pieces, *next, reader)?,
                 Task::Strobe => self.strobe(*next)?,

@@ -94,14 +94,8 @@ fn put_value(
     }
 }
 
-/// A binary operator's value, in the place of its left operand.
-pub(crate) fn combine(
-    operator: BinaryOperator,
-    size: Size,
-    asked: Size,
-    place: &mut Bits,
-    right: &Bits,
-)
+// A binary operator's value, in the place of its left operand.
+fn combine(place: &mut Bits, right: &Bits, operator: BinaryOperator, size: Size, asked: Size)
     ensures { place.new ≡ combined operator size asked place.old right.now }
 {
     let left = *place;
@@ -129,7 +123,7 @@ pub(crate) fn combine_alike(
         let right = *right;
         put_value(operator, size, asked, place, left, right, left, right);
     } else {
-        combine(operator, size, asked, place, right);
+        combine(place, right, operator, size, asked);
     }
 }
 

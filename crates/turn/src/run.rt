@@ -31,8 +31,8 @@ fn run<R: RegReader>(
     now: u64,
     reader: &mut R,
 ) -> Result<Ending, FillFault>
-    requires now { now ≤ last_time }
     requires registers { length design.now.widths ≤ R.registers }
+    requires now { now ≤ last_time }
     ensures turn { MatchResult result (λ e. IsTurnLog design.now state.now now (log_of running.new e.suspend e.finish e.count)) (IsNoTurn design.now state.now now running.new.memory.reads.entries) }
     ensures gave { MatchResult result (λ _. GaveAll (R.gave reader.new) running.new.memory.reads.entries) (λ fault. fault ≡ fault_of.TooLong → GaveAll (R.gave reader.new) running.new.memory.reads.entries) }
     ensures keeps { Keeps (R.gave reader.old) (R.gave reader.new) }

@@ -25,8 +25,8 @@ pub(crate) struct RunningTurn {
     pub writes: Writes,
     pub nbas: Vec<Nba>,
     pub lines: String,
-    pub strobes: Vec<usize>,
     pub stack: Stack,
+    pub strobes: Vec<usize>,
 }
 
 // The part of a list where it isn't there. It stands apart so that the part is found by tests, and not put together by them.
@@ -148,13 +148,13 @@ impl RunningTurn {
         Ok(())
     }
 
-    /// Leaves an assignment over for after the wait (9.7.7).
-    pub fn hold(&mut self, register: RegId, value: Bits, next: usize)
-        ensures { status_of self.new ≡ holding (status_of self.old) register value next }
+    /// Leaves the assignment of the topmost vector of the stack over for after the wait (9.7.7).
+    pub fn hold(&mut self, register: RegId, next: usize)
+        ensures { status_of self.new ≡ holding (status_of self.old) register self.old.stack.top next }
     {
         self.state = ProcState {
             place: next,
-            pending: Some((register, value)),
+            pending: Some((register, self.stack.top)),
         };
     }
 

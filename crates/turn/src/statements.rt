@@ -3,7 +3,7 @@ ghost use Rattle.std.specs.Prelude.{◌≡◌, OnOk};
 ghost use Rattle.turn.specs.Reads.{ReadsOn};
 ghost use Rattle.turn.specs.Evaluate.{NamesDeclared};
 ghost use Rattle.turn.specs.RunningTurn.{status_of, chosen_place, strobing};
-ghost use Rattle.turn.specs.TurnSteps.{Assigns, AssignsAfter, Branches, Displays};
+ghost use Rattle.turn.specs.TurnSteps.{Assigns, Branches, Displays};
 
 use crate::memory::RegReader;
 use crate::running_turn::{RunningTurn, part};
@@ -42,32 +42,14 @@ impl RunningTurn {
         Ok(())
     }
 
-    /// A blocking assignment with a delay inside it: the value is computed before the wait (9.7.7).
-    pub fn assign_after<R: RegReader>(
-        &mut self,
-        ops: &[Op],
-        value: Span,
-        register: RegId,
-        next: usize,
-        reader: &mut R,
-    ) -> Result<(), AllocError>
-        requires { NamesDeclared R.registers ops.now }
-        ensures takes { OnOk result (AssignsAfter ops.now value register next (status_of self.old) (status_of self.new)) }
-        ensures reads { ReadsOn R.gave R.lasting result reader.old self.old.memory.reads.entries reader.new self.new.memory.reads.entries }
-    {
-        self.compute(ops, value, reader)?;
-        self.hold(register, self.stack.top, next);
-        Ok(())
-    }
-
     /// The test of a choice or of a loop (9.4, 9.6).
     pub fn branch<R: RegReader>(
         &mut self,
         ops: &[Op],
+        reader: &mut R,
         condition: Span,
         taken: usize,
         missed: usize,
-        reader: &mut R,
     ) -> Result<(), AllocError>
         requires { NamesDeclared R.registers ops.now }
         ensures takes { OnOk result (Branches ops.now condition taken missed (status_of self.old) (status_of self.new)) }

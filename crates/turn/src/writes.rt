@@ -101,10 +101,10 @@ fn make_place(places: &mut Vec<usize>, register: RegId) -> Result<(), AllocError
 // a net.
 #[inline(never)]
 fn note_first(
-    nets: &mut Vec<Net>,
-    places: &mut Vec<usize>,
     register: RegId,
     value: &Bits,
+    nets: &mut Vec<Net>,
+    places: &mut Vec<usize>,
 ) -> Result<(), AllocError>
     requires placed { IsPlaced nets.old.items places.old.items }
     requires none { HasNoNet nets.old.items register }
@@ -142,7 +142,7 @@ fn note(
             nets[place].write(value);
             Ok(())
         }
-        None => note_first(nets, places, register, value),
+        None => note_first(register, value, nets, places),
     }
 }
 

@@ -8,7 +8,7 @@ ghost use Rattle.walks.specs.PhasePassing.{HasGoneBehind};
 ghost use Rattle.walks.specs.Walking.{HasTaken, IsSoleWay, turns_of, updates_of};
 
 use crate::phase::{phase_way, take_phase};
-use flat::{Turned, flat_turns, is_silent, one_maker};
+use flat::{Logs, Turned, flat_turns, is_silent, one_maker};
 use model::entry::Entry;
 use regions::{Machine, TakeFault, Update};
 use settling::Networked;
@@ -51,7 +51,7 @@ pub(crate) fn take_all(machine: &mut Machine<'_>, entries: &[Entry]) -> Result<b
 fn turn_entries(alloc: Global, turns: &[Turned]) -> Result<Vec<Entry>, AllocError>
     ensures { IfOk result (λ entries. entries.items ≡ turns_of (map event_of turns.now)) }
 {
-    let mut entries = Vec::new(alloc);
+    let mut entries = Vec::with_capacity(alloc, turns.len())?;
     for turned in turns {
         entries.push(Entry::Turn(turned.number))?;
     }
@@ -75,13 +75,13 @@ fn update_entries(alloc: Global, updates: &VecDeque<Update>) -> Result<Vec<Entry
 // begin, where they begin one. Answers whether it did.
 fn take_behind(
     alloc: Global,
-    networked: &Networked<'_>,
     machine: &mut Machine<'_>,
+    networked: &Networked<'_>,
     moves: &mut Vec<Entry>,
 ) -> Result<bool, AllocError>
     requires code { machine.old.code ≡ networked.now }
-    ensures behind { IfOk result (λ all. all ≡ true → HasGoneBehind machine.old machine.new moves.old.items moves.new.items) }
     ensures code { machine.new.code ≡ machine.old.code }
+    ensures behind { IfOk result (λ all. all ≡ true → HasGoneBehind machine.old machine.new moves.old.items moves.new.items) }
 {
     if !is_silent(alloc, networked.design(), machine)? {
         return take_phase(alloc, networked, machine, moves);
@@ -115,7 +115,7 @@ fn go_ahead(
     }
     match one_maker(machine, turns) {
         Some(_) => Ok(true),
-        None => take_behind(alloc, networked, ahead, moves),
+        None => take_behind(alloc, ahead, networked, moves),
     }
 }
 
@@ -148,20 +148,23 @@ fn sole_way<'d>(
 pub(crate) fn way_ahead<'d>(
     alloc: Global,
     networked: &Networked<'_>,
+    logs: &mut Logs,
     machine: &Machine<'d>,
 ) -> Result<Option<Ahead<'d>>, AllocError>
     requires code { machine.now.code ≡ networked.now }
-    ensures sole { IfOk result (λ found. IfSome found (λ ahead. IsSoleWay machine.now ahead.machine.value ahead.moves.items)) }
     ensures code { IfOk result (λ found. IfSome found (λ ahead. ahead.machine.value.code ≡ machine.now.code)) }
+    ensures sole { IfOk result (λ found. IfSome found (λ ahead. IsSoleWay machine.now ahead.machine.value ahead.moves.items)) }
 {
-    let turns = match flat_turns(alloc, networked.design(), machine)? {
+    let turns = match flat_turns(networked.design(), machine, logs)? {
         Some(turns) => turns,
         None => return phase_way(alloc, networked, machine),
     };
     if turns.is_empty() {
         return Ok(None);
     }
-    match sole_way(alloc, networked, machine, &turns)? {
+    let found = sole_way(alloc, networked, machine, &turns)?;
+    logs.keep_all(turns)?;
+    match found {
         Some(ahead) => Ok(Some(ahead)),
         None => phase_way(alloc, networked, machine),
     }

@@ -8,6 +8,7 @@ ghost use Rattle.regions.specs.Machine.{most_entries, state_at, IsNotTaken};
 ghost use Rattle.walks.specs.Walking.{HasWalked, IsOnlyEntry, IsWithoutTurns};
 
 use crate::settle::way_ahead;
+use flat::Logs;
 use model::end::Limits;
 use model::entry::Entry;
 use regions::{Machine, TakeFault};
@@ -119,6 +120,7 @@ fn go_on(
     alloc: Global,
     networked: &Networked<'_>,
     limits: Limits,
+    logs: &mut Logs,
     machine: &mut Machine<'_>,
     moves: &mut Vec<Entry>,
 ) -> Result<bool, AllocError>
@@ -129,7 +131,7 @@ fn go_on(
     if step(limits, machine, moves)? {
         return Ok(true);
     }
-    let mut ahead = match way_ahead(alloc, networked, machine)? {
+    let mut ahead = match way_ahead(alloc, networked, logs, machine)? {
         Some(ahead) => ahead,
         None => return Ok(false),
     };
@@ -142,11 +144,12 @@ fn go_on(
 }
 
 /// Goes on from where a machine stands as long as one order stands for all, for some hundred steps at most. Answers the entries that
-/// the machine took.
+/// the machine took. The logs are kept for the next walk.
 pub fn walk_on(
     alloc: Global,
     networked: &Networked<'_>,
     limits: Limits,
+    logs: &mut Logs,
     machine: &mut Machine<'_>,
 ) -> Result<Vec<Entry>, AllocError>
     requires silent { machine.old.lines ≡ [] }
@@ -156,7 +159,7 @@ pub fn walk_on(
 {
     let mut moves = Vec::new(alloc);
     for _ in 0..MOST_STEPS {
-        if !go_on(alloc, networked, limits, machine, &mut moves)? {
+        if !go_on(alloc, networked, limits, logs, machine, &mut moves)? {
             return Ok(moves);
         }
     }

@@ -45,6 +45,23 @@ impl<'d, K: Naming> GateState<'d, K> {
             & (self.entries() <= seen)
     }
 
+    /// Makes the change of the regions that is due, or tells a worker without a ticket to wait, and then changes nothing.
+    pub fn rest<R: Wait>(
+        &mut self,
+        context: &Context<'_, K, R>,
+        seat: &mut Seat<K>,
+    ) -> Option<Rest<K>>
+        ensures state { IfSome result (λ rest. RestAnswered K.named.code K.named.limits seat.old.worker self.old self.new rest) }
+        ensures some { IfSome result (λ rest. RestAnsweredTo K.named seat.old seat.new rest) }
+        ensures none { IfNone result ((seat.new ≡ seat.old) × (self.new ≡ self.old)) }
+        ensures waits { IfNone result (MustWait self.old (length (entries_of seat.old.seen))) }
+    {
+        if self.must_wait(seat.seen()) {
+            return None;
+        }
+        Some(self.change_region(context, seat))
+    }
+
     /// How the run ended, if it did: by the stored end, or else quiet where no event is left.
     pub(crate) fn end(&self) -> End
         ensures { IsEndOf K.named.code self.now result }
@@ -93,7 +110,7 @@ impl<'d, K: Naming> GateState<'d, K> {
         ensures state { RestAnswered K.named.code K.named.limits seat.old.worker self.old self.new result }
         ensures seat { (MustWait self.old (length (entries_of seat.old.seen)) → ⊥) → RestAnsweredTo K.named seat.old seat.new result }
     {
-        self.known();
+        self.invariant_holds();
         self.greet(context, seat);
         match self.end() {
             End::Stopped(why) => return Rest::Stopped(why),
@@ -105,39 +122,22 @@ impl<'d, K: Naming> GateState<'d, K> {
         }
         if self.is_full() {
             self.stop(context, seat, Why::Entries);
-            self.known();
+            self.invariant_holds();
             return Rest::Stopped(Why::Entries);
         }
         let change = self.due_change();
         if let Some(why) = passed_limit(self.run_state.limits, change) {
             self.stop(context, seat, why);
-            self.known();
+            self.invariant_holds();
             return Rest::Stopped(why);
         }
         match self.append(context, seat, change, None) {
             Ok(grant) => {
-                self.known();
+                self.invariant_holds();
                 Rest::Changed(grant)
             }
             Err(_) => Rest::NoMemory,
         }
-    }
-
-    /// Makes the change of the regions that is due, or tells a worker without a ticket to wait, and then changes nothing.
-    pub fn rest<R: Wait>(
-        &mut self,
-        context: &Context<'_, K, R>,
-        seat: &mut Seat<K>,
-    ) -> Option<Rest<K>>
-        ensures state { IfSome result (λ rest. RestAnswered K.named.code K.named.limits seat.old.worker self.old self.new rest) }
-        ensures some { IfSome result (λ rest. RestAnsweredTo K.named seat.old seat.new rest) }
-        ensures none { IfNone result ((seat.new ≡ seat.old) × (self.new ≡ self.old)) }
-        ensures waits { IfNone result (MustWait self.old (length (entries_of seat.old.seen))) }
-    {
-        if self.must_wait(seat.seen()) {
-            return None;
-        }
-        Some(self.change_region(context, seat))
     }
 
     /// Stops a run that goes on and has events left, for want of memory.
@@ -145,12 +145,12 @@ impl<'d, K: Naming> GateState<'d, K> {
         ensures state { self.new ≡ stopped_for_memory K.named.code seat.old.worker self.old }
         ensures seat { StoppedTo K.named seat.old seat.new }
     {
-        self.known();
+        self.invariant_holds();
         self.greet(context, seat);
         match self.end() {
             End::Running => {
                 self.stop(context, seat, Why::Memory);
-                self.known();
+                self.invariant_holds();
             }
             End::Quiet => {}
             End::Stopped(_) => {}

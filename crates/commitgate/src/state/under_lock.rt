@@ -37,8 +37,6 @@ impl<'d, K: Naming> GateState<'d, K> {
         ensures same { self.new ≡ self.old }
         ensures turn { MatchResult result (λ _. IsCurrentTurn K.named.code self.old ticket.now log.new) (IsNoHeldTurn K.named.code self.old ticket.now) }
     {
-        self.known();
-        ticket.known();
         let state = ticket.state();
         let now = ticket.time();
         let (rt, cells) = (context.rt, context.cells);
@@ -49,9 +47,9 @@ impl<'d, K: Naming> GateState<'d, K> {
     fn accept_held<R: Wait>(
         &mut self,
         context: &Context<'_, K, R>,
+        log: &TurnLog,
         seat: &mut Seat<K>,
         ticket: Ticket<K>,
-        log: &TurnLog,
     ) -> Reply<K>
         requires seen { seat.old.seen ≡ self.old.log }
         requires may { MayCommit K.named.limits self.old ticket }
@@ -59,8 +57,8 @@ impl<'d, K: Naming> GateState<'d, K> {
         ensures state { Answered K.named.code K.named.limits seat.old.worker self.old ticket log.now.reads self.new result }
         ensures seat { AnsweredTo K.named CommitCauses seat.old ticket log.now.reads seat.new result }
     {
-        self.known();
-        ticket.known();
+        self.invariant_holds();
+        ticket.invariant_holds();
         self.show_reads(context, seat, log.reads());
         self.accept(context, seat, ticket, log)
     }
@@ -79,13 +77,12 @@ impl<'d, K: Naming> GateState<'d, K> {
         ensures state { HeldAnswered K.named.code K.named.limits seat.old.worker self.old ticket self.new result }
         ensures seat { HeldAnsweredTo K.named seat.old ticket seat.new result }
     {
-        self.known();
-        ticket.known();
-        if let Some(reply) = self.barred(context, seat, &ticket, false) {
+        self.invariant_holds();
+        if let Some(reply) = self.barred(context, seat, false, &ticket) {
             return reply;
         }
         match self.evaluate(context, log, &ticket) {
-            Ok(()) => self.accept_held(context, seat, ticket, log),
+            Ok(()) => self.accept_held(context, log, seat, ticket),
             Err(fault) => {
                 if is_memory(&fault) {
                     return Reply::NoMemory(ticket);

@@ -28,7 +28,7 @@ impl<'d, K: Naming> GateState<'d, K> {
         ensures seat { UpdateAnsweredTo K.named seat.old seat.new result }
         ensures seen { seat.new.seen ≡ self.new.log }
     {
-        self.known();
+        self.invariant_holds();
         self.greet_unless(context, seat, greeted);
         if let Some(why) = self.ended() {
             return UpdateReply::Stopped(why);
@@ -38,12 +38,12 @@ impl<'d, K: Naming> GateState<'d, K> {
         };
         if self.is_full() {
             self.stop(context, seat, Why::Entries);
-            self.known();
+            self.invariant_holds();
             return UpdateReply::Stopped(Why::Entries);
         }
         match self.append(context, seat, Entry::Update(number), None) {
             Ok(grant) => {
-                self.known();
+                self.invariant_holds();
                 UpdateReply::Accepted(grant)
             }
             Err(_) => UpdateReply::NoMemory,

@@ -31,9 +31,10 @@ impl Bits {
         ensures width { length result ≡ length self }
     {
         if self.b | other.b == 0 {
+            let ones = mask(self.width);
             Bits {
                 width: self.width,
-                a: self.a.wrapping_sub(other.a) & mask(self.width),
+                a: self.a.wrapping_sub(other.a) & ones,
                 b: 0,
             }
         } else {
@@ -68,8 +69,8 @@ impl Bits {
     /// The digits moved `by` places down, filled with 0, or all x where `by` has a digit x or z (5.1.12). A digit z stays z.
     /// `by` has any width.
     pub fn shr(self, by: Self) -> Self
-        ensures value { result ≡ shr_vector self by }
         ensures width { length result ≡ length self }
+        ensures value { result ≡ shr_vector self by }
     {
         if by.b != 0 {
             Bits::unknown(self.width)

@@ -2,9 +2,11 @@
 ghost use Rattle.std.specs.Prelude.{◌<◌};
 
 use super::entry_refused;
+use super::worked::{COPIES, WAITERS};
 use crate::claims::holds;
 use crate::course::design_of;
 use design::Design;
+use fixtures::RACE;
 use model::end::Limits;
 use model::entry::Entry;
 use progress::Untold;
@@ -15,9 +17,9 @@ use std::sync::Wait;
 
 /// Designs with races, waits of each kind, updates, and strobes.
 const SOURCES: &[&str] = &[
-    "module t; reg a; initial a=1'b0; initial a=1'b1; initial #0 $display(\"%b\",a); endmodule",
-    "module t; reg a, b; initial begin a=1'b0; b=1'b1; end initial #1 a=b; initial #1 b=a; initial #2 $display(\"%b %b\",a,b); endmodule",
-    "module t; reg a; initial #0 a=1'b1; initial @(a) $display(\"p1\"); initial @(posedge a) $display(\"p2\"); endmodule",
+    RACE,
+    COPIES,
+    WAITERS,
     "module t; reg a, b; initial begin #0 a=1'b1; b<=1'b1; #5 b<= #2 1'b0; end always @(a or b) $display(\"%b %b\",a,b); always begin #3 a<=b; #1 ; end endmodule",
     "module t; reg a; initial begin a=1'b0; #4 $finish; end always begin #1 a<=1'b1; a<=1'b0; end always @(posedge a) $display(\"up\"); endmodule",
     "module t; reg a; initial begin a=1'b0; $strobe(\"s %b\",a); a<=1'b1; #1 $strobe(\"t %b\",a); end always begin #1 $strobe(\"u %b\",a); a=~a; end endmodule",

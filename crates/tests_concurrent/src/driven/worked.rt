@@ -3,88 +3,33 @@
 use super::{answer, entry_refused, fault_of};
 use crate::claims::holds;
 use crate::course::design_of;
+use fixtures::entries::{A1, A2, A3, A5, I, M, N, T0, T1, T2, T3, T4, T5, T6, U0, U1, U2, U3, U4};
+use fixtures::{GLITCH, GLITCH_JOURNAL, HI, NUMBERED, NUMBERED_JOURNAL, RACE, SWAP, SWAP_JOURNAL};
 use model::entry::{Entry, Refusal};
 use replay::{Cause, ReplayFault};
 use std::alloc::Global;
 use std::process::Abort;
 use std::sync::Wait;
 
-const I: Entry = Entry::ActivateInactive;
-
-const N: Entry = Entry::ActivateNba;
-
-const M: Entry = Entry::ActivateMonitor;
-
-const T0: Entry = Entry::Turn(0);
-
-const T1: Entry = Entry::Turn(1);
-
-const T2: Entry = Entry::Turn(2);
-
-const T3: Entry = Entry::Turn(3);
-
-const T4: Entry = Entry::Turn(4);
-
-const T5: Entry = Entry::Turn(5);
-
-const T6: Entry = Entry::Turn(6);
-
-const U0: Entry = Entry::Update(0);
-
-const U1: Entry = Entry::Update(1);
-
-const U2: Entry = Entry::Update(2);
-
-const U3: Entry = Entry::Update(3);
-
-const U4: Entry = Entry::Update(4);
-
-const A1: Entry = Entry::Advance(1);
-
-const A2: Entry = Entry::Advance(2);
-
-const A3: Entry = Entry::Advance(3);
-
-const A5: Entry = Entry::Advance(5);
-
-/// One process, which prints a line.
-const HI: &str = "module t; initial $display(\"hi\"); endmodule";
-
-/// Two processes write a register, and a third shows it once both are over.
-const RACE: &str =
-    "module t; reg a; initial a=1'b0; initial a=1'b1; initial #0 $display(\"%b\",a); endmodule";
-
 /// Two processes copy two registers into each other at one time.
-const COPIES: &str =
+pub const COPIES: &str =
     "module t; reg a, b; initial begin a=1'b0; b=1'b1; end initial #1 a=b; initial #1 b=a; initial #2 $display(\"%b %b\",a,b); endmodule";
 
 /// A process that finishes the simulation, and another.
 const FINISH: &str =
     "module t; initial begin $display(\"a\"); $finish; $display(\"b\"); end initial $display(\"c\"); endmodule";
 
-/// A register goes down and up again within one turn.
-const GLITCH: &str =
-    "module t; reg a; initial begin a=1'b1; #1 a=1'b0; a=1'b1; end initial #0 @(posedge a) $display(\"glitch\"); endmodule";
-
 /// One change wakes two processes.
-const WAITERS: &str =
+pub const WAITERS: &str =
     "module t; reg a; initial #0 a=1'b1; initial @(a) $display(\"p1\"); initial @(posedge a) $display(\"p2\"); endmodule";
 
 /// Two updates of one register.
-const UPDATES: &str =
+pub const UPDATES: &str =
     "module t; reg a; initial begin a<=1'b0; a<=1'b1; end initial @(posedge a) $display(\"up %b\",a); endmodule";
 
 /// A nonblocking assignment and a delay that are due at the same time.
 const DUE: &str =
     "module t; reg a; initial begin a=1'b0; a <= #2 1'b1; #2 $display(\"%b\",a); #1 $display(\"%b\",a); end endmodule";
-
-/// A process that swaps the values of its registers at time 1.
-const SWAP: &str =
-    "module t; reg a, b; initial begin a=1'b0; b=1'b1; #1 a<=b; b<=a; #1 $display(\"%b %b\",a,b); end endmodule";
-
-/// A process with a wait of each kind, and one that waits for a change.
-const NUMBERED: &str =
-    "module t; reg a, b; initial begin #0 a = 1'b1; b <= 1'b1; #5 ; end initial @(a) ; endmodule";
 
 /// A line every ten units of time.
 const CLOCK: &str = "module t; always #10 $display(\"t\"); endmodule";
@@ -113,13 +58,13 @@ const LAWFUL: &[(&str, &[Entry], &str)] = &[
     (COPIES, &[T0, T1, T2, T3, A1, T4, T5, A2, T6], "1 1\n"),
     (COPIES, &[T0, T1, T2, T3, A1, T5, T4, A2, T6], "0 0\n"),
     (FINISH, &[T1, T0], "c\na\n"),
-    (GLITCH, &[T0, T1, I, T3, A1, T2, T4], "glitch\n"),
+    (GLITCH, GLITCH_JOURNAL, "glitch\n"),
     (WAITERS, &[T0, T1, T2, I, T3, T4, T5], "p1\np2\n"),
     (WAITERS, &[T0, T1, T2, I, T3, T5, T4], "p2\np1\n"),
     (UPDATES, &[T0, T1, N, U2, U3, T4], "up 1\n"),
     (DUE, &[T0, A2, T2, N, U1, A3, T3], "0\n1\n"),
-    (SWAP, &[T0, A1, T1, N, U2, U3, A2, T4], "1 0\n"),
-    (NUMBERED, &[T0, T1, I, T2, T3, N, U4, A5, T5], ""),
+    (SWAP, SWAP_JOURNAL, "1 0\n"),
+    (NUMBERED, NUMBERED_JOURNAL, ""),
     (CLOCK, &[T0, Entry::Advance(10), T1], "t\n"),
     // two writers in either order
     (RACE, &[T0, T1, T2, I, T3], "1\n"),

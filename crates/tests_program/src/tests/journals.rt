@@ -12,14 +12,14 @@ use std::process::Abort;
 use std::sync::Wait;
 use std::thread::Threads;
 
-/// A run leaves this and this journal, and a replay of it prints the same lines.
+/// A run leaves this journal and this, and a replay of it prints the same lines.
 fn assert_journal<R: Abort + Threads + Wait + Sync>(
     rt: &R,
     alloc: Global,
     line: &str,
     source: &str,
-    wanted: Wanted<'_>,
     journal: &[u8],
+    wanted: Wanted<'_>,
 ) {
     assert_made(rt, alloc, line, &over(source), wanted, journal);
     let kept = over_journal(source, journal);
@@ -112,7 +112,7 @@ const JOURNALS: &[(&str, &str, u8, &str, &str, &[u8])] = &[
 fn a_journal_is_written_and_replayed(rt: HostRuntime) {
     for &(line, source, status, out, err, journal) in JOURNALS {
         let wanted = Wanted { status, out, err };
-        assert_journal(&rt, rt.alloc(), line, source, wanted, journal);
+        assert_journal(&rt, rt.alloc(), line, source, journal, wanted);
     }
 }
 

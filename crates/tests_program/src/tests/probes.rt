@@ -103,6 +103,13 @@ fn assert_all_overlap<R: Abort + Threads + Wait + Sync>(rt: &R, alloc: Global, r
     }
 }
 
+#[test]
+fn evaluations_overlap(rt: HostRuntime) {
+    for raced in OVERLAPS {
+        assert_all_overlap(&rt, rt.alloc(), raced);
+    }
+}
+
 const OVERLAPS: &[Raced<'static>] = &[
     // two processes print a line each
     Raced {
@@ -125,13 +132,6 @@ const OVERLAPS: &[Raced<'static>] = &[
         },
     },
 ];
-
-#[test]
-fn evaluations_overlap(rt: HostRuntime) {
-    for raced in OVERLAPS {
-        assert_all_overlap(&rt, rt.alloc(), raced);
-    }
-}
 
 /// Keeps the evaluation of event 0 open until the second read has begun, and that read until the gate has answered to
 /// event 0. So event 1 reads its second register after event 0's turn.

@@ -12,29 +12,34 @@ use std::process::Abort;
 use std::sync::Wait;
 use std::thread::Threads;
 
+/// A source, and the two texts that it may print.
+#[derive(Clone, Copy)]
+struct Race<'a> {
+    source: &'a str,
+    texts: Texts<'a>,
+}
+
 /// A run by this line prints one of the texts, and its journal replays to the same.
 fn assert_run_by<R: Abort + Threads + Wait + Sync>(
     rt: &R,
     alloc: Global,
+    race: Race<'_>,
     line: &str,
-    source: &str,
-    texts: Texts<'_>,
 ) {
-    let left = run_line(rt, alloc, line, source);
-    assert_texts(rt, source, &left, texts);
-    assert_replayed(rt, alloc, source, &left);
+    let left = run_line(rt, alloc, line, race.source);
+    assert_texts(rt, race.source, &left, race.texts);
+    assert_replayed(rt, alloc, race.source, &left);
 }
 
 /// So many runs of a source print one of two texts each.
 fn assert_race<R: Abort + Threads + Wait + Sync>(
     rt: &R,
     alloc: Global,
-    source: &str,
-    texts: Texts<'_>,
+    race: Race<'_>,
     times: u32,
 ) {
     for _ in 0..times {
-        assert_run_by(rt, alloc, SAVE, source, texts);
+        assert_run_by(rt, alloc, race, SAVE);
     }
 }
 
@@ -58,7 +63,8 @@ const RACES: &[(&str, &str, &str, u32)] = &[
 #[test]
 fn prints_a_race_in_one_of_its_orders(rt: HostRuntime) {
     for &(source, one, other, times) in RACES {
-        assert_race(&rt, rt.alloc(), source, either(one, other), times);
+        let texts = either(one, other);
+        assert_race(&rt, rt.alloc(), Race { source, texts }, times);
     }
 }
 
@@ -117,10 +123,11 @@ const EVERY_NUMBER: &[&str] = &[
 /// The source of the folder `examples` that may print two texts.
 #[test]
 fn two_writers_end_on_every_number_of_workers(rt: HostRuntime) {
-    let source =
-        "module two_writers; reg a; initial begin a = 1'b1; $display(\"x\"); end initial begin a = 1'b0; $display(\"y\"); end endmodule";
-    let texts = either("x\ny\n", "y\nx\n");
+    let race = Race {
+        source: "module two_writers; reg a; initial begin a = 1'b1; $display(\"x\"); end initial begin a = 1'b0; $display(\"y\"); end endmodule",
+        texts: either("x\ny\n", "y\nx\n"),
+    };
     for &line in EVERY_NUMBER {
-        assert_run_by(&rt, rt.alloc(), line, source, texts);
+        assert_run_by(&rt, rt.alloc(), race, line);
     }
 }

@@ -20,6 +20,9 @@ pub(super) const DISPLAYS: &str =
 pub(super) const WRITERS: &str =
     "module t; reg a; initial a=1'b0; initial a=1'b1; initial #0 $display(\"%b\",a); endmodule";
 
+/// A process prints a line again and again.
+pub(super) const CLOCK: &str = "module t; always #10 $display(\"t\"); endmodule";
+
 /// Two processes wait for one register.
 pub(super) const WAITERS: &str =
     "module t; reg a; initial #0 a=1'b1; initial @(a) $display(\"p1\"); initial @(posedge a) $display(\"p2\"); endmodule";
@@ -35,9 +38,6 @@ pub(super) const COPIES: &str =
 /// Two registers are swapped.
 pub(super) const SWAP: &str =
     "module t; reg a, b; initial begin a=1'b0; b=1'b1; #1 a<=b; b<=a; #1 $display(\"%b %b\",a,b); end endmodule";
-
-/// A process prints a line again and again.
-pub(super) const CLOCK: &str = "module t; always #10 $display(\"t\"); endmodule";
 
 /// A process waits again and again, as long as it may.
 pub(super) const LONGEST_WAITS: &str = "module t; always #4294967295 ; endmodule";

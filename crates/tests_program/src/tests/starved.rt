@@ -309,7 +309,7 @@ fn status_at<R: Abort + Threads + Wait + Sync>(
     });
     let mut err = Counted::new(target(rt, &places.err));
     marks.pass(b's');
-    status_of(rt, alloc, words, &mut files, &mut out, &mut err)
+    status_of(rt, alloc, &mut files, words, &mut out, &mut err)
 }
 
 /// The status of a command in the memory that it has.

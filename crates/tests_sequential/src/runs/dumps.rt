@@ -35,29 +35,15 @@ const LAST: Scope<'static> = Scope {
     head: "$timescale 1 ns $end\n$scope module last $end\n$var reg 1 ! a $end\n$var reg 2 \" b $end\n$var reg 1 # c $end\n$upscope $end\n$enddefinitions $end\n#0\n$dumpvars\nx!\nbxx \"\nx#\n$end\n",
 };
 
+/// A design, a journal, and what its dump has behind the beginning.
+pub type Row<'a> = (Scope<'a>, &'a [Entry], &'a str);
+
 /// Two processes that change one register at time 5, in either order.
 const ORDER: Scope<'static> = Scope {
     name: "order",
     source: b"module order; reg a; initial #5 a=1'b1; initial #5 a=1'b0; endmodule",
     head: "$timescale 1 ns $end\n$scope module order $end\n$var reg 1 ! a $end\n$upscope $end\n$enddefinitions $end\n#0\n$dumpvars\nx!\n$end\n",
 };
-
-/// A register of 128 digits, which has each digit, and is all z for the longest delay.
-const WIDE: Scope<'static> = Scope {
-    name: "wide",
-    source: b"module wide; reg [127:0] w; initial begin w=128'h8000000000000000000000000000zx01; #1 w=128'bz; #4294967295 w=128'd1; end endmodule",
-    head: "$timescale 1 ns $end\n$scope module wide $end\n$var reg 128 ! w $end\n$upscope $end\n$enddefinitions $end\n#0\n$dumpvars\nbxxxxxxxxxxxxxxxxxxxxxxxxxxxxxxxxxxxxxxxxxxxxxxxxxxxxxxxxxxxxxxxxxxxxxxxxxxxxxxxxxxxxxxxxxxxxxxxxxxxxxxxxxxxxxxxxxxxxxxxxxxxxxxxx !\n$end\n",
-};
-
-/// No register.
-const EMPTY: Scope<'static> = Scope {
-    name: "none",
-    source: b"module none; initial ; endmodule",
-    head: "$timescale 1 ns $end\n$scope module none $end\n$upscope $end\n$enddefinitions $end\n#0\n$dumpvars\n$end\n",
-};
-
-/// A design, a journal, and what its dump has behind the beginning.
-pub type Row<'a> = (Scope<'a>, &'a [Entry], &'a str);
 
 /// Journals that go to the end, journals that stop before it, and a design without registers.
 pub const DUMPS: &[Row<'static>] = &[
@@ -72,12 +58,26 @@ pub const DUMPS: &[Row<'static>] = &[
     (LAST, &[T0, N], "1!\nbx1 \"\n"),
     (ORDER, &[T0, T1, A5, T2, T3], "#5\n0!\n"),
     (ORDER, &[T0, T1, A5, T3, T2], "#5\n1!\n"),
+    // a register of 128 digits, which has each digit, and is all z for the longest delay
     (
-        WIDE,
+        Scope {
+            name: "wide",
+            source: b"module wide; reg [127:0] w; initial begin w=128'h8000000000000000000000000000zx01; #1 w=128'bz; #4294967295 w=128'd1; end endmodule",
+            head: "$timescale 1 ns $end\n$scope module wide $end\n$var reg 128 ! w $end\n$upscope $end\n$enddefinitions $end\n#0\n$dumpvars\nbxxxxxxxxxxxxxxxxxxxxxxxxxxxxxxxxxxxxxxxxxxxxxxxxxxxxxxxxxxxxxxxxxxxxxxxxxxxxxxxxxxxxxxxxxxxxxxxxxxxxxxxxxxxxxxxxxxxxxxxxxxxxxxxx !\n$end\n",
+        },
         &[T0, A1, T1, Entry::Advance(4294967296), T2],
         "b1000000000000000000000000000000000000000000000000000000000000000000000000000000000000000000000000000000000000000zzzzxxxx00000001 !\n#1\nbzzzzzzzzzzzzzzzzzzzzzzzzzzzzzzzzzzzzzzzzzzzzzzzzzzzzzzzzzzzzzzzzzzzzzzzzzzzzzzzzzzzzzzzzzzzzzzzzzzzzzzzzzzzzzzzzzzzzzzzzzzzzzzzz !\n#4294967296\nb00000000000000000000000000000000000000000000000000000000000000000000000000000000000000000000000000000000000000000000000000000001 !\n",
     ),
-    (EMPTY, &[T0], ""),
+    // no register
+    (
+        Scope {
+            name: "none",
+            source: b"module none; initial ; endmodule",
+            head: "$timescale 1 ns $end\n$scope module none $end\n$upscope $end\n$enddefinitions $end\n#0\n$dumpvars\n$end\n",
+        },
+        &[T0],
+        "",
+    ),
 ];
 
 // The dump of a journal.

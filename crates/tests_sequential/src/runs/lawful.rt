@@ -3,10 +3,10 @@
 
 use super::compare::assert_length;
 use super::held::design_of;
+use super::scarce::Scarce;
 use crate::claims::{fail, holds};
 use design::Design;
 use explore::{Bounds, Explored, Shown};
-use hoard::Hoard;
 use model::end::{End, Limits};
 use model::entry::Entry;
 use progress::Untold;
@@ -25,34 +25,6 @@ const PIECE: usize = 64 << 10;
 /// Two processes that give one register a value, and one that shows it when both have: the value of the later one.
 const RACE: &[u8] =
     b"module t; reg a; initial a=1'b0; initial a=1'b1; initial #1 $display(\"%b\",a); endmodule";
-
-/// Two processes at one clock that take each other's value: no order of theirs shows.
-const CLOCKED: &[u8] =
-    b"module t; reg clk; reg [7:0] q0, q1; initial #1 clk=1'b0; always #5 clk=~clk; initial q0=8'd1; initial q1=8'd2; always @(posedge clk) q0<=q0+q1; always @(posedge clk) q1<=q1+q0; always @(negedge clk) $display(\"%0d %0d\",q0,q1); endmodule";
-
-/// The same where the clock's first edge races with the first values, and with the process that waits for it.
-const AT_ONCE: &[u8] =
-    b"module t; reg clk; reg [7:0] q0, q1; initial clk=1'b0; always #5 clk=~clk; initial q0=8'd1; initial q1=8'd2; always @(posedge clk) q0<=q0+q1; always @(posedge clk) q1<=q1+q0; always @(negedge clk) $display(\"%0d %0d\",q0,q1); endmodule";
-
-/// Two processes at one clock that show a line each.
-const PRINTS: &[u8] =
-    b"module t; reg clk; initial clk=1'b0; always #5 clk=~clk; always @(posedge clk) $display(\"a\"); always @(posedge clk) $display(\"b\"); endmodule";
-
-/// Three processes that show a line each, two of them the same one.
-const SAME: &[u8] =
-    b"module t; initial $display(\"a\"); initial $display(\"b\"); initial $display(\"b\"); endmodule";
-
-/// A register goes up and down by turns, until another process looks while it is up: there are endless many orders, of which each
-/// that ends shows the same.
-const CYCLE: &[u8] =
-    b"module t; reg a; initial a=1'b0; always #0 a=~a; always begin #0 ; if (a) begin $display(\"x\"); $finish; end end endmodule";
-
-/// A process that shows a line again and again at one time.
-const ENDLESS: &[u8] = b"module t; always #0 $display(\"a\"); endmodule";
-
-/// One order, of 40,001 entries.
-const LONG: &[u8] =
-    b"module t; reg [15:0] n; initial begin n=16'd0; while (n<16'd20000) begin #1 n=n+16'd1; end $display(\"%0d\",n); end endmodule";
 
 /// A search: of which design, up to which time, at which bounds. Then the texts of the design's runs, how many of them are shown,
 /// and whether they are all.
@@ -83,15 +55,17 @@ const PLAIN: Row<'static> = Row {
 
 const ROWS: &[Row<'static>] = &[
     PLAIN,
+    // two processes at one clock that take each other's value: no order of theirs shows
     Row {
-        source: CLOCKED,
+        source: b"module t; reg clk; reg [7:0] q0, q1; initial #1 clk=1'b0; always #5 clk=~clk; initial q0=8'd1; initial q1=8'd2; always @(posedge clk) q0<=q0+q1; always @(posedge clk) q1<=q1+q0; always @(negedge clk) $display(\"%0d %0d\",q0,q1); endmodule",
         until: 20,
         texts: &["1 2\n3 3\n6 6\n"],
         shown: 1,
         ..PLAIN
     },
+    // the same where the clock's first edge races with the first values, and with the process that waits for it
     Row {
-        source: AT_ONCE,
+        source: b"module t; reg clk; reg [7:0] q0, q1; initial clk=1'b0; always #5 clk=~clk; initial q0=8'd1; initial q1=8'd2; always @(posedge clk) q0<=q0+q1; always @(posedge clk) q1<=q1+q0; always @(negedge clk) $display(\"%0d %0d\",q0,q1); endmodule",
         until: 10,
         texts: &[
             "3 3\n",
@@ -103,8 +77,9 @@ const ROWS: &[Row<'static>] = &[
         shown: 5,
         ..PLAIN
     },
+    // two processes at one clock that show a line each
     Row {
-        source: PRINTS,
+        source: b"module t; reg clk; initial clk=1'b0; always #5 clk=~clk; always @(posedge clk) $display(\"a\"); always @(posedge clk) $display(\"b\"); endmodule",
         until: 15,
         texts: &[
             "a\nb\na\nb\n",
@@ -115,27 +90,32 @@ const ROWS: &[Row<'static>] = &[
         shown: 4,
         ..PLAIN
     },
+    // three processes that show a line each, two of them the same one
     Row {
-        source: SAME,
+        source: b"module t; initial $display(\"a\"); initial $display(\"b\"); initial $display(\"b\"); endmodule",
         texts: &["a\nb\nb\n", "b\na\nb\n", "b\nb\na\n"],
         shown: 3,
         ..PLAIN
     },
+    // a register goes up and down by turns, until another process looks while it is up: there are endless many orders, of which
+    // each that ends shows the same
     Row {
-        source: CYCLE,
+        source: b"module t; reg a; initial a=1'b0; always #0 a=~a; always begin #0 ; if (a) begin $display(\"x\"); $finish; end end endmodule",
         texts: &["x\n"],
         shown: 1,
         ..PLAIN
     },
+    // a process that shows a line again and again at one time
     Row {
-        source: ENDLESS,
+        source: b"module t; always #0 $display(\"a\"); endmodule",
         texts: &[],
         shown: 0,
         covered: false,
         ..PLAIN
     },
+    // one order, of 40,001 entries
     Row {
-        source: LONG,
+        source: b"module t; reg [15:0] n; initial begin n=16'd0; while (n<16'd20000) begin #1 n=n+16'd1; end $display(\"%0d\",n); end endmodule",
         until: 20_000,
         entries: 100_000,
         texts: &["20000\n"],
@@ -227,27 +207,20 @@ fn texts_of_lawful_orders_are_shown(rt: HostRuntime) {
 }
 
 // What a search in so much memory shows: how many texts, and whether they are all.
-fn found_in(
-    rt: &impl Abort,
-    alloc: Global,
-    hoard: &mut Hoard,
-    design: &Design,
-    count: usize,
-) -> (usize, bool) {
-    let is_left = hoard.leave(count.saturating_mul(STEP));
-    holds(rt, is_left, "a piece of memory");
-    let found = found_of(rt, alloc, design, &PLAIN);
+fn found_in(rt: &impl Abort, memory: &mut Scarce, design: &Design) -> (usize, bool) {
+    memory.leave(rt);
+    let found = found_of(rt, memory.alloc, design, &PLAIN);
     assert_texts(rt, &found.shown, PLAIN.texts);
     (found.shown.len(), found.covered)
 }
 
 // A search gets more and more memory. Where some is refused, what was found is shown, and isn't all.
 fn assert_refused(rt: &impl Abort, alloc: Global, design: &Design) {
-    let mut hoard = Hoard::new(alloc, ROOMS, PIECE).expect(rt, "memory");
+    let mut memory = Scarce::new(rt, alloc, STEP, ROOMS, PIECE);
     let mut most = 0;
     for count in 0..ROOMS {
-        let (shown, covered) = found_in(rt, alloc, &mut hoard, design, count);
-        hoard.shut();
+        memory.steps = count;
+        let (shown, covered) = found_in(rt, &mut memory, design);
         if covered {
             holds(rt, most > 0, "no text in too little memory");
             assert_length(rt, shown, 2);

@@ -335,16 +335,9 @@ fn turn_in(rt: &impl Abort, alloc: Global, log: &mut TurnLog, source: &str, held
 const TWO: &str =
     "module t; reg [3:0] a, b; initial begin a = 4'd5; $display(\"%0d %0d\", a, b); end endmodule";
 
-/// The same with three registers.
-const THREE: &str =
-    "module t; reg [3:0] a, b, c; initial begin a = 4'd5; $display(\"%0d %0d\", a, b); end endmodule";
-
 /// One read, one write, one nonblocking assignment and one line.
 const FULL: &str =
     "module t; reg [3:0] q, a; initial begin q = a; q <= #2 4'd3; $display(\"3\"); end endmodule";
-
-/// Nothing.
-const EMPTY: &str = "module t; reg [3:0] q, a; initial ; endmodule";
 
 // How many reads, writes, nets, nonblocking assignments and bytes a log has.
 fn sizes(log: &TurnLog) -> [usize; 5] {
@@ -367,10 +360,22 @@ fn assert_sizes(rt: &impl Abort, log: &TurnLog, wanted: [usize; 5]) {
 const KEPT: &[(&str, u64, [usize; 5], &str)] = &[
     (TWO, 1, [1, 1, 1, 0, 4], "5 3\n"),
     (TWO, 2, [1, 1, 1, 0, 4], "5 3\n"),
-    (THREE, 3, [1, 1, 1, 0, 4], "5 3\n"),
+    // the same with three registers
+    (
+        "module t; reg [3:0] a, b, c; initial begin a = 4'd5; $display(\"%0d %0d\", a, b); end endmodule",
+        3,
+        [1, 1, 1, 0, 4],
+        "5 3\n",
+    ),
     (TWO, 4, [1, 1, 1, 0, 4], "5 3\n"),
     (FULL, 5, [1, 1, 1, 1, 2], "3\n"),
-    (EMPTY, 5, [0; 5], ""),
+    // nothing
+    (
+        "module t; reg [3:0] q, a; initial ; endmodule",
+        5,
+        [0; 5],
+        "",
+    ),
     (FULL, 6, [1, 1, 1, 1, 2], "3\n"),
 ];
 

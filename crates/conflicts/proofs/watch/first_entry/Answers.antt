@@ -1,11 +1,11 @@
 -- The first of the entries that the rules permit.
-use Rattle.std.proofs.Common.{List, sym, subst}
-use Rattle.std.specs.List.{Contains}
-use Rattle.model.specs.declared.entry.Entry.{Entry}
+use Rattle.std.proofs.Common.{◌≡◌, None}
+use Rattle.model.specs.Runs.{refusal}
+use Rattle.regions.specs.Machine.{state_at}
+use Rattle.seeded.proofs.Choosing.{one_of}
 use Rattle.conflicts.proofs.watch.first_entry.Goals as goal
 
-pub returns-in-Some : goal.returns-in-Some
-returns-in-Some c =
-    let there : Contains c.deref.result.now c.in-Some.first.now = (0, c.in-Some.ensures.item.3.0, sym c.in-Some.ensures.item.1) in
-    (c.in-Ok.ensures.permitted c.in-Some.first.now).0
-    (subst (λ (es : List Entry). Contains es c.in-Some.first.now) c.deref.ensures.value there)
+pub returns : goal.returns
+returns c =
+    one_of (λ entry. refusal (state_at c.args.machine.now) entry ≡ None) c.choices-choices.result c.get.result 0 c.get.ensures
+    (λ entry there. (c.choices-choices.ensures.permitted entry).0 there)

@@ -5,8 +5,11 @@ use Rattle.logic4.specs.Vector.{Vector}
 use Rattle.orders.specs.Apart.{WakesNone}
 use Rattle.std.specs.Prelude.{slice_index_or}
 use Rattle.flat.specs.Tests.{waiting}
-use Rattle.flat.proofs.Sleeping.{wakes_more}
+use Rattle.flat.proofs.Sleeping.{sleeps_unwritten, wakes_more}
 use Rattle.flat.proofs.waits.sleeps_through.Goals as goal
+
+pub returns-then-not-awaits_any : goal.returns-then-not-awaits_any
+returns-then-not-awaits_any c = λ on. sleeps_unwritten c.args.control.now c.args.store.now c.args.writes.now (c.awaits_any.ensures c.if-not-awaits_any.true)
 
 pub loop-place-preserved : goal.loop-place-preserved
 loop-place-preserved c =

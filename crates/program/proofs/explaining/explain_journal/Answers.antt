@@ -9,4 +9,4 @@ use Rattle.program.proofs.explaining.explain_journal.Goals as goal
 pub returns-clause-refused : goal.returns-clause-refused
 returns-clause-refused g c =
     subst (λ (w : Window). IfErr c.explain_bytes.result (λ (fault : Fault). status_of fault ≡ 5 → HasExplainedSome w (g.O.Write.contents c.args.out.now) (g.O.Write.contents c.explain_bytes.new.out) fault))
-    c.window_of.ensures c.explain_bytes.ensures.refused
+    c.between.ensures c.explain_bytes.ensures.refused

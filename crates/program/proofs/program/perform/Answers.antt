@@ -2,8 +2,9 @@
 use Rattle.std.proofs.Common.{ap, subst}
 use Rattle.std.specs.Io.KnownBytes.{Keeps}
 use Rattle.journal.specs.Counted.{held}
-use Rattle.arguments.specs.CommandWords.{Asks, AsksExplain}
-use Rattle.program.proofs.Ended.{check_alone, explain_alone, if_err, if_read, is_check, is_explain, kept, left_of_dump, left_of_telling, left_unless_one, one_only, output_same, unless_one, unless_told, version_performed}
+use Rattle.arguments.specs.CommandWords.{Asks, AsksCheck, AsksExplain}
+use Rattle.files.specs.Saved.{KeepsFiles}
+use Rattle.program.proofs.Ended.{at_any_fault, check_alone, explain_alone, if_err, if_read, is_check, is_explain, kept, left_of_dump, left_of_telling, left_unless_one, one_only, output_same, unless_one, unless_told, version_performed}
 use Rattle.program.proofs.program.perform.Goals as goal
 
 pub returns-in-Run-clause-checked : goal.returns-in-Run-clause-checked
@@ -21,7 +22,7 @@ returns-in-Run-clause-nothing g c = λ words asks.
 
 pub returns-in-Replay-clause-nothing : goal.returns-in-Replay-clause-nothing
 returns-in-Replay-clause-nothing g c = λ words asks.
-    unless_one (Keeps (g.O.Write.contents (held c.args.out.now)) (g.O.Write.contents (held c.perform_replay.new.out))) words c.perform_replay.result c.perform_replay.ensures.nothing
+    unless_one (Keeps (g.O.Write.contents (held c.args.out.now)) (g.O.Write.contents (held c.replay_journal.new.out))) words c.replay_journal.result c.replay_journal.ensures.nothing
 
 pub returns-in-Races-clause-nothing : goal.returns-in-Races-clause-nothing
 returns-in-Races-clause-nothing g c = λ words asks.
@@ -59,6 +60,11 @@ returns-in-Waves-clause-refused g c = λ words asks begins. absurd (explain_alon
 pub returns-in-Version-clause-refused : goal.returns-in-Version-clause-refused
 returns-in-Version-clause-refused g c = λ words asks begins. absurd (explain_alone words c.args.request.now (ap is_explain c.in-Version.is) asks begins)
 
+pub returns-in-Check-clause-ended : goal.returns-in-Check-clause-ended
+returns-in-Check-clause-ended g c = λ words asks.
+    let own : AsksCheck words c.in-Check.request = subst (Asks words) c.in-Check.is asks in
+    c.perform_check.ensures.ended words (record { begins = own.begins; file = own.is_check.file })
+
 pub returns-in-Check-clause-checked : goal.returns-in-Check-clause-checked
 returns-in-Check-clause-checked g c = λ words asks begins. c.perform_check.ensures.fault
 
@@ -70,13 +76,16 @@ pub returns-in-Check-clause-unsaved : goal.returns-in-Check-clause-unsaved
 returns-in-Check-clause-unsaved g c = if_err _ c.perform_check.result (λ f source. c.perform_check.ensures.unsaved)
 
 pub returns-in-Waves-clause-ended : goal.returns-in-Waves-clause-ended
-returns-in-Waves-clause-ended g c = λ words asks. c.perform_waves.ensures.ended words (g.O.Write.contents (held c.args.out.now)) (subst (Asks words) c.in-Waves.is asks)
+returns-in-Waves-clause-ended g c = λ words asks. c.dump_waves.ensures.ended words (g.O.Write.contents (held c.args.out.now)) (subst (Asks words) c.in-Waves.is asks)
 
 pub returns-in-Waves-clause-checked : goal.returns-in-Waves-clause-checked
 returns-in-Waves-clause-checked g c = λ words asks begins. absurd (check_alone words c.args.request.now (ap is_check c.in-Waves.is) asks begins)
 
 pub returns-in-Waves-clause-nothing : goal.returns-in-Waves-clause-nothing
-returns-in-Waves-clause-nothing g c = λ words asks. if_err _ c.perform_waves.result (λ f other. output_same (g.O.Write.contents (held c.args.out.now)))
+returns-in-Waves-clause-nothing g c = λ words asks. if_err _ c.dump_waves.result (λ f other. output_same (g.O.Write.contents (held c.args.out.now)))
+
+pub returns-in-Waves-clause-unsaved : goal.returns-in-Waves-clause-unsaved
+returns-in-Waves-clause-unsaved g c = at_any_fault (KeepsFiles (g.F.Files.made c.args.files.now) (g.F.Files.made c.dump_waves.new.files)) c.dump_waves.result c.dump_waves.ensures.unsaved
 
 pub returns-in-Version-clause-ended : goal.returns-in-Version-clause-ended
 returns-in-Version-clause-ended g c = λ words asks.
@@ -100,8 +109,8 @@ returns-in-Run-clause-wanting g c = λ words asks.
 
 pub returns-in-Replay-clause-wanting : goal.returns-in-Replay-clause-wanting
 returns-in-Replay-clause-wanting g c = λ words asks.
-    left_unless_one words (g.O.Write.contents (held c.args.out.now)) (g.O.Write.contents (held c.perform_replay.new.out)) (g.F.Files.made c.args.files.now) (g.F.Files.made c.perform_replay.new.files) c.perform_replay.result c.perform_replay.ensures.nothing
-    (if_err _ c.perform_replay.result (λ f other. c.perform_replay.ensures.unsaved))
+    left_unless_one words (g.O.Write.contents (held c.args.out.now)) (g.O.Write.contents (held c.replay_journal.new.out)) (g.F.Files.made c.args.files.now) (g.F.Files.made c.replay_journal.new.files) c.replay_journal.result c.replay_journal.ensures.nothing
+    (if_err _ c.replay_journal.result (λ f other. c.replay_journal.ensures.unsaved))
 
 pub returns-in-Races-clause-wanting : goal.returns-in-Races-clause-wanting
 returns-in-Races-clause-wanting g c = λ words asks. c.perform_races.ensures.wanting words (subst (Asks words) c.in-Races.is asks)
@@ -118,7 +127,7 @@ returns-in-Explain-clause-wanting g c = λ words asks.
 
 pub returns-in-Waves-clause-wanting : goal.returns-in-Waves-clause-wanting
 returns-in-Waves-clause-wanting g c = λ words asks.
-    left_of_dump words (g.O.Write.contents (held c.args.out.now)) (g.F.Files.made c.args.files.now) (g.F.Files.made c.perform_waves.new.files) c.perform_waves.result c.perform_waves.ensures.unsaved
+    left_of_dump words (g.O.Write.contents (held c.args.out.now)) (g.F.Files.made c.args.files.now) (g.F.Files.made c.dump_waves.new.files) c.dump_waves.result c.dump_waves.ensures.unsaved
 
 pub returns-in-Version-clause-wanting : goal.returns-in-Version-clause-wanting
 returns-in-Version-clause-wanting g c = λ words asks.

@@ -7,7 +7,7 @@ use Rattle.program.proofs.program.perform_check.Goals as goal
 
 pub returns-in-Ok-None-clause-ended : goal.returns-in-Ok-None-clause-ended
 returns-in-Ok-None-clause-ended g c = λ words asks.
-    check_performed words c.args.request.now (g.O.Write.contents (held c.args.out.now)) (g.O.Write.contents (held c.show_right.new.out))
+    check_performed words c.args.file.now (g.O.Write.contents (held c.args.out.now)) (g.O.Write.contents (held c.show_right.new.out))
     (g.F.Files.made c.args.files.now) (g.F.Files.made c.check.new.files) c.show_right.result asks (right_if c.in-Ok-None.field-0 (search rules) c.in-Ok-None.ensures.checked) c.check.ensures.kept
     c.show_right.ensures.shown c.show_right.ensures.done
 

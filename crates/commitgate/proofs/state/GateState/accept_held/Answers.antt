@@ -17,7 +17,7 @@ use Rattle.commitgate.proofs.state.GateState.accept_held.Goals as goal
 pub show_reads-requires : goal.show_reads-requires
 show_reads-requires g c = record {
   reads = subst (λ rs. AreReadsIn (length g.K.Naming.named.cells) rs) (sym c.reads.ensures)
-      (reads_in g.K.Naming.named.code (length g.K.Naming.named.cells) c.args.ticket c.args.log.now c.known.ensures.widths c.known-2.ensures.own c.requires.turn.turn);
+      (reads_in g.K.Naming.named.code (length g.K.Naming.named.cells) c.args.ticket c.args.log.now c.invariant_holds.ensures.widths c.invariant_holds-2.ensures.own c.requires.turn.turn);
 }
 
 pub accept-requires-clause-seen : goal.accept-requires-clause-seen

@@ -38,12 +38,12 @@ returns-in-Some-clause-state g c =
 
 pub returns-in-Stopped-clause-seat : goal.returns-in-Stopped-clause-seat
 returns-in-Stopped-clause-seat g c awake =
-    tell_stopped g.K.Naming.named c.args.seat.now c.args.self.now c.known.ensures.guarded c.known.ensures.kept c.greet.ensures.later RestCauses c.in-Stopped.why c.greet.new.seat c.greet.ensures.seat
+    tell_stopped g.K.Naming.named c.args.seat.now c.args.self.now c.invariant_holds.ensures.guarded c.invariant_holds.ensures.kept c.greet.ensures.later RestCauses c.in-Stopped.why c.greet.new.seat c.greet.ensures.seat
     (ap (λ (h : GateState). h.end) (sym c.greet.ensures.same) ∙ c.in-Stopped.ensures)
 
 pub returns-in-Quiet-clause-seat : goal.returns-in-Quiet-clause-seat
 returns-in-Quiet-clause-seat g c awake =
-    tell_quiet g.K.Naming.named c.args.seat.now c.args.self.now c.known.ensures.guarded c.known.ensures.kept c.greet.ensures.later c.greet.new.seat c.greet.ensures.seat
+    tell_quiet g.K.Naming.named c.args.seat.now c.args.self.now c.invariant_holds.ensures.guarded c.invariant_holds.ensures.kept c.greet.ensures.later c.greet.new.seat c.greet.ensures.seat
     (ap (λ (h : GateState). h.end) (sym c.greet.ensures.same) ∙ c.in-Quiet.ensures.0)
     (ap (λ (h : GateState). is_quiet (state_in g.K.Naming.named.code h)) (sym c.greet.ensures.same) ∙ c.in-Quiet.ensures.1)
 
@@ -51,20 +51,20 @@ pub returns-then-is_active-clause-seat : goal.returns-then-is_active-clause-seat
 returns-then-is_active-clause-seat g c awake =
     let same = c.greet.ensures.same in
     let active : has_any c.args.self.now.core.active ≡ true = ap (λ (h : GateState). has_any h.core.active) (sym (c.self.view_is ∙ same)) ∙ sym c.if-is_active.ensures in
-    tell_busy g.K.Naming.named c.args.seat.now c.args.self.now c.known.ensures.guarded c.known.ensures.kept c.greet.ensures.later c.greet.new.seat c.greet.ensures.seat
+    tell_busy g.K.Naming.named c.args.seat.now c.args.self.now c.invariant_holds.ensures.guarded c.invariant_holds.ensures.kept c.greet.ensures.later c.greet.new.seat c.greet.ensures.seat
     (ap (λ (h : GateState). h.end) (sym same) ∙ c.in-Running.ensures.0) active awake
 
 pub returns-then-is_full-clause-seat : goal.returns-then-is_full-clause-seat
 returns-then-is_full-clause-seat g c awake =
     tell_stop g.K.Naming.named RestCauses c.args.seat.now c.greet.new.seat c.stop.new.seat Entries c.args.self.now c.greet.new.self c.stop.new.self
-    c.known-then-is_full.ensures.guarded c.known-then-is_full.ensures.kept c.greet.ensures.later c.greet.ensures.same c.greet.ensures.seat c.stop.ensures.state c.stop.ensures.seat (inl refl)
+    c.invariant_holds-then-is_full.ensures.guarded c.invariant_holds-then-is_full.ensures.kept c.greet.ensures.later c.greet.ensures.same c.greet.ensures.seat c.stop.ensures.state c.stop.ensures.seat (inl refl)
 
 pub returns-in-Some-clause-seat : goal.returns-in-Some-clause-seat
 returns-in-Some-clause-seat g c awake =
     let n = g.K.Naming.named in
     let passed = subst (λ (l : Limits). IsPassed l c.due_change-change.result c.in-Some.why) c.self.invariant.limits_is c.in-Some.ensures in
     tell_stop n RestCauses c.args.seat.now c.greet.new.seat c.stop-in-Some.new.seat c.in-Some.why c.args.self.now c.greet.new.self c.stop-in-Some.new.self
-    c.known-in-Some.ensures.guarded c.known-in-Some.ensures.kept c.greet.ensures.later c.greet.ensures.same c.greet.ensures.seat c.stop-in-Some.ensures.state c.stop-in-Some.ensures.seat
+    c.invariant_holds-in-Some.ensures.guarded c.invariant_holds-in-Some.ensures.kept c.greet.ensures.later c.greet.ensures.same c.greet.ensures.seat c.stop-in-Some.ensures.state c.stop-in-Some.ensures.seat
     (passed_cause n.limits c.due_change-change.result c.in-Some.why passed)
 
 pub append-requires-clause-timely : goal.append-requires-clause-timely
@@ -88,7 +88,7 @@ returns-in-Ok-clause-seat g c awake =
       change = change;
       is_change = is_change;
       timely = subst (λ (l : Limits). IsTimely l change) c.self.invariant.limits_is c.in_default.ensures;
-      appended = tell_appended n old held c.known.ensures.guarded c.known.ensures.kept greet.later c.append.new.self c.known-in-Ok.ensures.guarded c.known-in-Ok.ensures.kept change c.in-Ok.grant.position c.in-Ok.grant.entry c.in-Ok.grant.tickets.items new
+      appended = tell_appended n old held c.invariant_holds.ensures.guarded c.invariant_holds.ensures.kept greet.later c.append.new.self c.invariant_holds-in-Ok.ensures.guarded c.invariant_holds-in-Ok.ensures.kept change c.in-Ok.grant.position c.in-Ok.grant.entry c.in-Ok.grant.tickets.items new
           granted
           (ap (λ (v : SeatView). v.worker) seat ∙ worker)
           seen

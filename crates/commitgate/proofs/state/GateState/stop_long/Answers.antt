@@ -21,7 +21,7 @@ stop-requires-clause-ends g c =
     let held = c.args.self.now in
     let may = c.requires.may in
     subst (λ (p : ℕ). EndsIn (design_of n.code) n.limits (length held.journal) (state_in n.code held) (Stopped (TooLong p))) (sym c.process.ensures)
-    (long_ends n.code n.limits held c.args.ticket.now (unfinished n.code n.limits held c.known.ensures.guarded may.running) may.current may.room c.requires.long)
+    (long_ends n.code n.limits held c.args.ticket.now (unfinished n.code n.limits held c.invariant_holds.ensures.guarded may.running) may.current may.room c.requires.long)
 
 pub returns-clause-seat : goal.returns-clause-seat
 returns-clause-seat g c =
@@ -31,7 +31,7 @@ returns-clause-seat g c =
     let stop = c.stop.ensures in
     let log : c.stop.new.self.log ≡ c.args.self.now.log ++ (old.worker, Ended why) ∷ [] = ap (λ (h : GateState). h.log) stop.state in
     let seen : c.stop.new.seat.seen ≡ c.stop.new.self.log = ap (λ (v : SeatView). v.seen) stop.seat in
-    tell_ended n (λ w. w ≡ why) old c.stop.new.seat why c.stop.new.self c.known-2.ensures.guarded c.known-2.ensures.kept
+    tell_ended n (λ w. w ≡ why) old c.stop.new.seat why c.stop.new.self c.invariant_holds-2.ensures.guarded c.invariant_holds-2.ensures.kept
     (record {
       worker = ap (λ (v : SeatView). v.worker) stop.seat;
       later = ((old.worker, Ended why) ∷ [], ap (λ (l : Log). l ++ (old.worker, Ended why) ∷ []) c.requires.seen ∙ sym (seen ∙ log));

@@ -25,7 +25,7 @@ returns-in-Some-clause-seat g c =
 
 pub stale-requires-clause-declared : goal.stale-requires-clause-declared
 stale-requires-clause-declared g c =
-    long_reads_in g.K.Naming.named.code (length g.K.Naming.named.cells) c.args.ticket c.args.reads.now.entries c.known.ensures.widths c.known-2.ensures.own c.requires.turn
+    long_reads_in g.K.Naming.named.code (length g.K.Naming.named.cells) c.args.ticket c.args.reads.now.entries c.invariant_holds.ensures.widths c.invariant_holds-2.ensures.own c.requires.turn
 
 pub stale-requires-clause-recorded : goal.stale-requires-clause-recorded
 stale-requires-clause-recorded g c =
@@ -54,7 +54,7 @@ returns-in-Some-stale-clause-seat g c =
     let greeted = of_none c.barred.result _ c.barred.ensures.greeted c.in_default.is in
     let may = of_none c.barred.result _ c.barred.ensures.may c.in_default.is in
     let new = c.stale.new.seat in
-    tell_stale n c.args.seat.now c.args.self.now c.known.ensures.guarded c.known.ensures.kept c.barred.ensures.later c.args.ticket c.again.result c.args.reads.now.entries r new
+    tell_stale n c.args.seat.now c.args.self.now c.invariant_holds.ensures.guarded c.invariant_holds.ensures.kept c.barred.ensures.later c.args.ticket c.again.result c.args.reads.now.entries r new
     (c.stale.ensures.seat ∙ ap (λ (v : SeatView). record v { fresh = new.fresh }) greeted)
     (subst (λ (v : SeatView). Rises v.fresh new.fresh) greeted c.stale.ensures.rises)
     may.running
@@ -83,7 +83,7 @@ stop_long-requires-clause-long g c =
     let current = subst (λ (h : GateState). AreCurrent n.code h reads) barred (of_none c.stale.result _ c.stale.ensures.none c.in_default-stale.is) in
     let read = subst (λ (h : GateState). GaveAll (IsRead n.code h.histories) reads) barred (of_none c.stale.result _ c.stale.ensures.read c.in_default-stale.is) in
     subst (λ (h : GateState). turn_at n.code h c.args.ticket.process c.args.ticket.state ≡ None) (sym (c.stale.ensures.same ∙ barred))
-    (long_by n held c.args.ticket reads c.known.ensures.kept may.current c.known-2.ensures.own c.requires.turn read current (sym (length-map held.values length) ∙ ap length c.known.ensures.guarded.store))
+    (long_by n held c.args.ticket reads c.invariant_holds.ensures.kept may.current c.invariant_holds-2.ensures.own c.requires.turn read current (sym (length-map held.values length) ∙ ap length c.invariant_holds.ensures.guarded.store))
 
 pub returns-clause-state : goal.returns-clause-state
 returns-clause-state g c =
@@ -98,7 +98,7 @@ returns-clause-state g c =
     let worker = ap (λ (v : SeatView). v.worker) c.stale.ensures.seat ∙ ap (λ (v : SeatView). v.worker) (of_none c.barred.result _ c.barred.ensures.greeted c.in_default.is) in
     read_stopped n.code n.limits c.args.seat.now.worker held c.args.ticket reads c.stop_long.result c.stop_long.new.self c.stop_long.ensures.why
     may current
-    (long_by n held c.args.ticket reads c.known.ensures.kept may.current c.known-2.ensures.own c.requires.turn read current (sym (length-map held.values length) ∙ ap length c.known.ensures.guarded.store))
+    (long_by n held c.args.ticket reads c.invariant_holds.ensures.kept may.current c.invariant_holds-2.ensures.own c.requires.turn read current (sym (length-map held.values length) ∙ ap length c.invariant_holds.ensures.guarded.store))
     (c.stop_long.ensures.state ∙ (λ i. stopped (worker i) c.stop_long.result (same i)))
 
 pub returns-clause-seat : goal.returns-clause-seat
@@ -113,7 +113,7 @@ returns-clause-seat g c =
     let causes = told.ReadCauses n c.args.ticket.process reads new in
     let barred = of_none c.barred.result _ c.barred.ensures.same c.in_default.is in
     let same = c.stale.ensures.same ∙ barred in
-    let current = current_told n c.stale.new.seat.worker c.stop_long.result c.args.self.now c.stop_long.new.self reads new c.known.ensures.kept
+    let current = current_told n c.stale.new.seat.worker c.stop_long.result c.args.self.now c.stop_long.new.self reads new c.invariant_holds.ensures.kept
     (c.stop_long.ensures.state ∙ ap (stopped c.stale.new.seat.worker c.stop_long.result) same) c.stop_long.ensures.seen
     (subst (λ (h : GateState). AreCurrent n.code h reads) barred (of_none c.stale.result _ c.stale.ensures.none c.in_default-stale.is)) in
     let long = stopped_for n (λ why. why ≡ c.stop_long.result) causes c.stale.new.seat c.stop_long.result new (λ _. inr (c.stop_long.ensures.why, current)) c.stop_long.ensures.seat in

@@ -22,7 +22,7 @@ use Rattle.commitgate.proofs.state.GateState.update.Goals as goal
 
 pub returns-in-Some-clause-seat : goal.returns-in-Some-clause-seat
 returns-in-Some-clause-seat g c =
-    tell_stopped g.K.Naming.named c.args.seat.now c.args.self.now c.known.ensures.guarded c.known.ensures.kept c.greet_unless.ensures.later CommitCauses c.in-Some.why c.greet_unless.new.seat c.greet_unless.ensures.seat
+    tell_stopped g.K.Naming.named c.args.seat.now c.args.self.now c.invariant_holds.ensures.guarded c.invariant_holds.ensures.kept c.greet_unless.ensures.later CommitCauses c.in-Some.why c.greet_unless.new.seat c.greet_unless.ensures.seat
     (ap (λ (h : GateState). h.end) (sym c.greet_unless.ensures.same) ∙ sym c.ended.ensures ∙ c.in-Some.is)
 
 pub returns-in_default-first_update-clause-state : goal.returns-in_default-first_update-clause-state
@@ -38,10 +38,10 @@ returns-in_default-first_update-clause-seat g c =
     let held = c.args.self.now in
     let running = ap (λ (h : GateState). h.end) (sym c.greet_unless.ensures.same) ∙ (sym c.ended.ensures ∙ c.in_default.is) in
     let none = none_least (update_numbers c.self.inside.run_state.regions.active) (sym c.first_update.ensures.least ∙ c.in_default-first_update.is) in (
-      tell_refused n old held c.known.ensures.guarded c.known.ensures.kept c.greet_unless.ensures.later c.greet_unless.new.seat old.fresh c.greet_unless.ensures.seat (rises_self old.fresh) running,
+      tell_refused n old held c.invariant_holds.ensures.guarded c.invariant_holds.ensures.kept c.greet_unless.ensures.later c.greet_unless.new.seat old.fresh c.greet_unless.ensures.seat (rises_self old.fresh) running,
       (
         state_in n.code held,
-        ap (λ (v : SeatView). after (design_of n.code) (entries_of v.seen)) c.greet_unless.ensures.seat ∙ after_log n held c.known.ensures.guarded c.known.ensures.kept,
+        ap (λ (v : SeatView). after (design_of n.code) (entries_of v.seen)) c.greet_unless.ensures.seat ∙ after_log n held c.invariant_holds.ensures.guarded c.invariant_holds.ensures.kept,
         no_updates (state_in n.code held) (subst (λ (h : GateState). HasNoUpdate h.core) (c.self.view_is ∙ c.greet_unless.ensures.same) none),
       ),
     )
@@ -54,7 +54,7 @@ returns-then-is_full-clause-seat g c =
     let log : c.stop.new.self.log ≡ c.args.self.now.log ++ (c.greet_unless.new.seat.worker, Ended Entries) ∷ [] =
     ap (λ (h : GateState). h.log) stop.state ∙ ap (λ (h : GateState). h.log ++ (c.greet_unless.new.seat.worker, Ended Entries) ∷ []) greet.same in
     let seen : c.stop.new.seat.seen ≡ c.stop.new.self.log = ap (λ (v : SeatView). v.seen) stop.seat in
-    tell_ended g.K.Naming.named CommitCauses old c.stop.new.seat Entries c.stop.new.self c.known-then-is_full.ensures.guarded c.known-then-is_full.ensures.kept
+    tell_ended g.K.Naming.named CommitCauses old c.stop.new.seat Entries c.stop.new.self c.invariant_holds-then-is_full.ensures.guarded c.invariant_holds-then-is_full.ensures.kept
     (record {
       worker = ap (λ (v : SeatView). v.worker) stop.seat ∙ ap (λ (v : SeatView). v.worker) greet.seat;
       later = prefix_trans old.seen c.args.self.now.log c.stop.new.seat.seen greet.later ((c.greet_unless.new.seat.worker, Ended Entries) ∷ [], sym (seen ∙ log));
@@ -80,14 +80,14 @@ returns-in-Ok-clause-seat g c =
     let seen : new.seen ≡ c.append.new.self.log = ap (λ (v : SeatView). v.seen) seat in
     record {
       number = number;
-      appended = tell_appended n old held c.known.ensures.guarded c.known.ensures.kept greet.later c.append.new.self c.known-in-Ok.ensures.guarded c.known-in-Ok.ensures.kept (Update number) c.in-Ok.grant.position c.in-Ok.grant.entry c.in-Ok.grant.tickets.items new
+      appended = tell_appended n old held c.invariant_holds.ensures.guarded c.invariant_holds.ensures.kept greet.later c.append.new.self c.invariant_holds-in-Ok.ensures.guarded c.invariant_holds-in-Ok.ensures.kept (Update number) c.in-Ok.grant.position c.in-Ok.grant.entry c.in-Ok.grant.tickets.items new
           granted
           (ap (λ (v : SeatView). v.worker) seat ∙ worker)
           seen
           (ap (λ (v : SeatView). v.mine) seat ∙ ap (λ (v : SeatView). v.mine ++ c.in-Ok.grant.position ∷ []) greet.seat)
           (ap (λ (v : SeatView). v.stored) seat ∙ ap (λ (v : SeatView). if (state_in n.code c.append.new.self).finished then Some Finish else v.stored) greet.seat)
           (subst (λ f. Rises f new.fresh) (ap (λ (v : SeatView). v.fresh) greet.seat) c.in-Ok.ensures.rises)
-          (met_update n held c.append.new.self number new.seen new.fresh (length n.cells) c.known.ensures.widths c.known-in-Ok.ensures.kept seen
+          (met_update n held c.append.new.self number new.seen new.fresh (length n.cells) c.invariant_holds.ensures.widths c.invariant_holds-in-Ok.ensures.kept seen
           (subst (λ (h : GateState). least (update_numbers h.core.active) ≡ Some number) (c.self.view_is ∙ greet.same) (sym c.first_update.ensures.least ∙ c.in-Some-first_update.is))
           (subst (λ (h : GateState). HasMetLog c.append.new.self.histories new.fresh (length n.cells) (updated_register h.core.active (Update number)) None) greet.same c.in-Ok.ensures.met));
     }

@@ -27,7 +27,7 @@ returns-in-Some-clause-seat g c =
 pub stale-requires-clause-declared : goal.stale-requires-clause-declared
 stale-requires-clause-declared g c =
     subst (λ rs. AreReadsIn (length g.K.Naming.named.cells) rs) (sym c.reads.ensures)
-    (reads_in g.K.Naming.named.code (length g.K.Naming.named.cells) c.args.ticket c.args.log.now c.known.ensures.widths c.known-2.ensures.own c.requires.turn)
+    (reads_in g.K.Naming.named.code (length g.K.Naming.named.cells) c.args.ticket c.args.log.now c.invariant_holds.ensures.widths c.invariant_holds-2.ensures.own c.requires.turn)
 
 pub stale-requires-clause-recorded : goal.stale-requires-clause-recorded
 stale-requires-clause-recorded g c =
@@ -58,7 +58,7 @@ returns-in-Some-stale-clause-seat g c =
     let greeted = of_none c.barred.result _ c.barred.ensures.greeted c.in_default.is in
     let may = of_none c.barred.result _ c.barred.ensures.may c.in_default.is in
     let new = c.stale.new.seat in
-    tell_stale n c.args.seat.now c.args.self.now c.known.ensures.guarded c.known.ensures.kept c.barred.ensures.later c.args.ticket c.again.result c.args.log.now.reads r new
+    tell_stale n c.args.seat.now c.args.self.now c.invariant_holds.ensures.guarded c.invariant_holds.ensures.kept c.barred.ensures.later c.args.ticket c.again.result c.args.log.now.reads r new
     (c.stale.ensures.seat ∙ ap (λ (v : SeatView). record v { fresh = new.fresh }) greeted)
     (subst (λ (v : SeatView). Rises v.fresh new.fresh) greeted c.stale.ensures.rises)
     may.running

@@ -1,0 +1,20 @@
+-- The run by a seed, and that it has ended.
+use Rattle.std.proofs.Common.{refl, rules}
+use Rattle.design.specs.Compiled.{design_of}
+use Rattle.program.specs.Printed.{limits_of}
+use Rattle.program.proofs.Endings.{ended}
+use Rattle.program.proofs.running.left_by_seed.Goals as goal
+
+pub returns-clause-left : goal.returns-clause-left
+returns-clause-left g c = record {
+  run = c.run_seeded-run.result;
+  is_run = search rules;
+  journal = refl;
+  lines = refl;
+  end = refl;
+}
+
+pub returns-clause-ended : goal.returns-clause-ended
+returns-clause-ended g c =
+    let run = c.run_seeded-run.result in
+    ended (design_of c.args.design.now) (limits_of c.args.request.now.options) run.journal.items run.end c.run_seeded-run.ensures.ends

@@ -1,5 +1,0 @@
-use Rattle.turn.specs.RunningTurn.{status_of}
-use Rattle.turn.proofs.running_turn.RunningTurn.assign_after.Goals as goal
-
-pub returns-clause-takes : goal.returns-clause-takes
-returns-clause-takes g c = (c.compute.new.self.stack.top, (status_of c.compute.new.self, (c.in_ok-compute.ensures.value, c.hold.ensures)))
