@@ -46,7 +46,7 @@ def program_of(hostile, crate):
     """The program of a crate's tests. It is built where it isn't there."""
     path = f"{hostile.tests or f'{TOP}/crates/{crate}/out'}/{crate}_tests"
     if not os.access(path, os.X_OK) and not hostile.tests:
-        subprocess.run([f"{TOP}/tools/build", crate], check=True)
+        subprocess.run([f"{TOP}/tools/libraries", crate], check=True)
         subprocess.run(["rt", "test"], cwd=f"{TOP}/crates/{crate}", stdout=subprocess.DEVNULL, check=True)
     if not os.access(path, os.X_OK):
         raise SystemExit(f"hostile: {path} can't be run")

@@ -17,7 +17,7 @@ use Rattle.commitgate.specs.declared.reply.Reply.{Reply}
 use Rattle.commitgate.specs.declared.reply.Reply.TheVariants as replies
 use Rattle.commitgate.specs.declared.reply.Reply.TheVariants.{Accepted, Stale, Gone, NoMemory}
 use Rattle.commitgate.specs.Named.{Named}
-use Rattle.runstate.specs.Log.{entries_of}
+use Rattle.runstate.specs.Ledger.{entries_of}
 use Rattle.runstate.specs.GateState.{GateState}
 use Rattle.runstate.specs.Guarded.{Guarded}
 use Rattle.commitgate.specs.GateInvariant.{GateInvariant}
@@ -75,9 +75,9 @@ stored_for P Q new old why f (inr h) = inr (h.0, f h.1)
 
 pub stopped_for : (n : Named) (P Q : Why → Type 0) (old : SeatView) (why : Why) (new : SeatView) → (P why → Q why) → IsStopped n P old why new → IsStopped n Q old why new
 stopped_for n P Q old why new f s = record {
-  log = s.log;
+  ledger = s.ledger;
   follows = s.follows;
-  mine = s.mine;
+  positions = s.positions;
   end = s.end;
   stays = s.stays;
   stored = stored_for P Q new.stored old.stored why f s.stored;
@@ -105,8 +105,8 @@ barred_long_told n old ticket reads new (replies.Stopped why) h = stopped_for n 
 barred_long_told n old ticket reads new (NoMemory back) h = absurd h
 
 -- a register that was read has changed
-pub tell_stale : (n : Named) (old : SeatView) (held : GateState) → Guarded n.code n.limits held → GateInvariant n held → IsPrefix old.seen held.log
-    → (ticket back : TicketView) (reads : List (ℕ × Seen)) (r : ℕ) (new : SeatView) → new ≡ record old { seen = held.log; fresh = new.fresh } → Rises old.fresh new.fresh → held.end ≡ None
+pub tell_stale : (n : Named) (old : SeatView) (held : GateState) → Guarded n.code n.limits held → GateInvariant n held → IsPrefix old.seen held.ledger
+    → (ticket back : TicketView) (reads : List (ℕ × Seen)) (r : ℕ) (new : SeatView) → new ≡ record old { seen = held.ledger; fresh = new.fresh } → Rises old.fresh new.fresh → held.end ≡ None
     → back ≡ again ticket → IsFirstMovedIn (design_of n.code) held.journal reads r → fresh_of new.fresh r ≡ hist (design_of n.code) held.journal r
     → IsStale n old ticket reads r back new
 tell_stale n old held g k later ticket back reads r new is rises running returned moved met =
@@ -138,11 +138,11 @@ long_by n held ticket reads kept current own turn gave cur count =
     (subst (Agrees reads) (sym kept.values) agree)
 
 -- what is current under the lock is current in what a seat has seen that saw the run stopped
-pub current_told : (n : Named) (worker : ℕ) (why : Why) (held held' : GateState) (reads : List (ℕ × Seen)) (new : SeatView) → GateInvariant n held → held' ≡ stopped worker why held → new.seen ≡ held'.log
+pub current_told : (n : Named) (worker : ℕ) (why : Why) (held held' : GateState) (reads : List (ℕ × Seen)) (new : SeatView) → GateInvariant n held → held' ≡ stopped worker why held → new.seen ≡ held'.ledger
     → AreCurrent n.code held reads → AreCurrentTo n reads new
 current_told n worker why held held' reads new kept is seen current k d at =
     let journal : held.journal ≡ entries_of new.seen =
-    kept.journal_is ∙ sym (entries_ended held.log worker why) ∙ ap (λ (h : GateState). entries_of h.log) (sym is) ∙ ap entries_of (sym seen) in
+    kept.journal_is ∙ sym (entries_ended held.ledger worker why) ∙ ap (λ (h : GateState). entries_of h.ledger) (sym is) ∙ ap entries_of (sym seen) in
     subst (λ j. IsCurrentIn (design_of n.code) j d) journal (current k d at)
 
 -- the run is stopped for a turn that is too long, which was evaluated under the lock

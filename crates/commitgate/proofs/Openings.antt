@@ -7,7 +7,7 @@ use Rattle.regcells.specs.CellSeats as regs
 use Rattle.runstate.specs.declared.mark.MarkView.{MarkView}
 use Rattle.runstate.specs.declared.run_state.RunState.{RunState}
 use Rattle.commitgate.specs.Named.{Named}
-use Rattle.runstate.specs.Log.{Log}
+use Rattle.runstate.specs.Ledger.{Ledger}
 use Rattle.runstate.specs.RunState.{gate_state_of}
 use Rattle.runstate.specs.Marked.{keeper}
 use Rattle.commitgate.specs.StateInvariant.{Stands}
@@ -29,7 +29,7 @@ stands_first n room committed seats p whole b mark keeps =
       cells_are = ap (λ (f : regs.Fresh). f.cells) b.holder_is;
       widths_are = b.widths_are;
       mark_is = mark;
-      keeps = keeps ∙ ap (λ (l : Log). keeper (cell_view {V = MarkView} whole).made l) (sym seen);
+      keeps = keeps ∙ ap (λ (l : Ledger). keeper (cell_view {V = MarkView} whole).made l) (sym seen);
       guarded = guarded_same n.code n.limits (gate_state_of p) p.holder.seen (cell_view {V = MarkView} whole).seen b.guarded;
       kept = kept_start n (gate_state_of (record p { whole = whole })) b.journal_is b.end_is seen (ap (λ (f : regs.Fresh). f.seen) b.holder_is) refl refl;
     }

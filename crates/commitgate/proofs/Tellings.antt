@@ -22,16 +22,16 @@ use Rattle.regions.specs.Queue as queue
 use Rattle.regions.specs.StatePassing.{HasOwnStates}
 use Rattle.regions.specs.Find.{update_numbers}
 use Rattle.turn.specs.declared.memory.Seen.{Seen}
-use Rattle.runstate.specs.declared.log.Item.TheVariants.{Ended}
+use Rattle.runstate.specs.declared.ledger.Item.TheVariants.{Ended}
 use Rattle.commitgate.specs.Named.{Named}
-use Rattle.runstate.specs.Log.{Log, entries_of, end_in, items_of}
+use Rattle.runstate.specs.Ledger.{Ledger, entries_of, end_in, items_of}
 use Rattle.runstate.specs.GateState.{GateState, state_in}
 use Rattle.runstate.specs.Guarded.{MayEnd, Guarded}
 use Rattle.commitgate.specs.GateInvariant.{GateInvariant}
 use Rattle.regcells.specs.Meetings.{Rises}
 use Rattle.commitgate.specs.Seats.{SeatView, Follows}
 use Rattle.commitgate.specs.Tickets.{TicketView, IsCurrent, process_in, ticket_for}
-use Rattle.commitgate.specs.GateJournals.{HasNoUpdate, EndHolds, IsLog, IsActiveTicket, made_active, AreTicketsOf}
+use Rattle.commitgate.specs.GateJournals.{HasNoUpdate, EndHolds, IsLedger, IsActiveTicket, made_active, AreTicketsOf}
 use Rattle.commitgate.specs.GateAnswers.{IsGranted, stopped}
 use Rattle.commitgate.specs.declared.reply.Reply.{Reply}
 use Rattle.commitgate.specs.declared.reply.Reply.TheVariants as replies
@@ -45,17 +45,17 @@ use Rattle.commitgate.proofs.Staying.{end_stays}
 use Rattle.commitgate.proofs.Meetings.{rises_self, rises_both}
 
 -- the state after what the lock has
-pub after_log : (n : Named) (held : GateState) → Guarded n.code n.limits held → GateInvariant n held → after (design_of n.code) (entries_of held.log) ≡ Some (state_in n.code held)
-after_log n held g k =
+pub after_ledger : (n : Named) (held : GateState) → Guarded n.code n.limits held → GateInvariant n held → after (design_of n.code) (entries_of held.ledger) ≡ Some (state_in n.code held)
+after_ledger n held g k =
     ap (after (design_of n.code)) (sym k.journal_is) ∙ ap (option_map (λ e. e.state)) g.ran.is_run ∙ ap Some g.ran.state_is
 
 -- what holds of the state after a journal
 some_after : (o : Option State) (s : State) (P : State → Type 0) → o ≡ Some s → P s → IsSomeAnd o P
 some_after o s P is h = subst (λ (x : Option State). IsSomeAnd x P) (sym is) h
 
--- the log under the lock is one of the gate's
-pub is_log : (n : Named) (held : GateState) → Guarded n.code n.limits held → GateInvariant n held → IsLog n held.log
-is_log n held g k = record {
+-- the ledger under the lock is one of the gate's
+pub is_ledger : (n : Named) (held : GateState) → Guarded n.code n.limits held → GateInvariant n held → IsLedger n held.ledger
+is_ledger n held g k = record {
   lawful = subst (IsLawful (design_of n.code)) k.journal_is (lawful_of n.code n.limits held g);
   few = subst (λ (j : List Entry). length j ≤ n.limits.max_entries) k.journal_is g.few;
   timely = subst (AreTimely n.limits) k.journal_is k.timely;
@@ -64,46 +64,46 @@ is_log n held g k = record {
   workers = k.workers;
 }
   where
-    holds : (end : Option Why) → end ≡ end_in held.log → MayEnd (design_of n.code) n.limits (length held.journal) (state_in n.code held) end → EndHolds n held.log (end_in held.log)
-    holds None is h = subst (EndHolds n held.log) is (some_after (after (design_of n.code) (entries_of held.log)) (state_in n.code held) (λ s. s.finished ≡ false) (after_log n held g k) h)
+    holds : (end : Option Why) → end ≡ end_in held.ledger → MayEnd (design_of n.code) n.limits (length held.journal) (state_in n.code held) end → EndHolds n held.ledger (end_in held.ledger)
+    holds None is h = subst (EndHolds n held.ledger) is (some_after (after (design_of n.code) (entries_of held.ledger)) (state_in n.code held) (λ s. s.finished ≡ false) (after_ledger n held g k) h)
     holds (Some why) is h =
-        subst (EndHolds n held.log) is
-        (some_after (after (design_of n.code) (entries_of held.log)) (state_in n.code held) (λ s. EndsIn (design_of n.code) n.limits (length (entries_of held.log)) s (Stopped why)) (after_log n held g k)
+        subst (EndHolds n held.ledger) is
+        (some_after (after (design_of n.code) (entries_of held.ledger)) (state_in n.code held) (λ s. EndsIn (design_of n.code) n.limits (length (entries_of held.ledger)) s (Stopped why)) (after_ledger n held g k)
         (subst (λ (j : List Entry). EndsIn (design_of n.code) n.limits (length j) (state_in n.code held) (Stopped why)) k.journal_is h))
 
-module _ (n : Named) (old : SeatView) (held : GateState) (g : Guarded n.code n.limits held) (k : GateInvariant n held) (later : IsPrefix old.seen held.log) where
-  -- a seat that has seen the log, and perhaps more of the registers
+module _ (n : Named) (old : SeatView) (held : GateState) (g : Guarded n.code n.limits held) (k : GateInvariant n held) (later : IsPrefix old.seen held.ledger) where
+  -- a seat that has seen the ledger, and perhaps more of the registers
   abbrev pub greeted : List (List Vector) → SeatView
-  greeted fresh = record old { seen = held.log; fresh = fresh }
+  greeted fresh = record old { seen = held.ledger; fresh = fresh }
 
   pub tell_refused : (new : SeatView) (fresh : List (List Vector)) → new ≡ greeted fresh → Rises old.fresh fresh → held.end ≡ None → IsRefused n old new
   tell_refused new fresh is rises running = subst (IsRefused n old) (sym is) (record {
-    log = is_log n held g k;
+    ledger = is_ledger n held g k;
     running = sym k.end_is ∙ running;
-    looks_on = record { follows = record { worker = refl; later = later; rises = rises }; mine = refl; stored = refl };
+    looks_on = record { follows = record { worker = refl; later = later; rises = rises }; positions = refl; stored = refl };
   })
 
   pub tell_stopped : (causes : Why → Type 0) (why : Why) (new : SeatView) → new ≡ greeted old.fresh → held.end ≡ Some why → IsStopped n causes old why new
   tell_stopped causes why new is ended = subst (IsStopped n causes old why) (sym is) (record {
-    log = is_log n held g k;
+    ledger = is_ledger n held g k;
     follows = record { worker = refl; later = later; rises = rises_self old.fresh };
-    mine = refl;
+    positions = refl;
     end = sym k.end_is ∙ ended;
-    stays = end_stays n held.log why (sym k.end_is ∙ ended);
+    stays = end_stays n held.ledger why (sym k.end_is ∙ ended);
     stored = inl refl;
   })
 
-  pub tell_stops : (causes : Why → Type 0) (why : Why) (new : SeatView) → new ≡ record old { seen = (stopped old.worker why held).log; stored = Some why } → held.end ≡ None
+  pub tell_stops : (causes : Why → Type 0) (why : Why) (new : SeatView) → new ≡ record old { seen = (stopped old.worker why held).ledger; stored = Some why } → held.end ≡ None
       → EndsIn (design_of n.code) n.limits (length held.journal) (state_in n.code held) (Stopped why) → old.worker < n.workers → causes why → IsStopped n causes old why new
   tell_stops causes why new is running ends low cause =
       let g' = guarded_stop n.code n.limits old.worker held why g ends in
       let k' = kept_stop n held old.worker why k low running in
       subst (IsStopped n causes old why) (sym is) (record {
-        log = is_log n (stopped old.worker why held) g' k';
-        follows = record { worker = refl; later = prefix_trans old.seen held.log (held.log ++ (old.worker, Ended why) ∷ []) later ((old.worker, Ended why) ∷ [], refl); rises = rises_self old.fresh };
-        mine = refl;
+        ledger = is_ledger n (stopped old.worker why held) g' k';
+        follows = record { worker = refl; later = prefix_trans old.seen held.ledger (held.ledger ++ (old.worker, Ended why) ∷ []) later ((old.worker, Ended why) ∷ [], refl); rises = rises_self old.fresh };
+        positions = refl;
         end = sym k'.end_is;
-        stays = end_stays n (held.log ++ (old.worker, Ended why) ∷ []) why (sym k'.end_is);
+        stays = end_stays n (held.ledger ++ (old.worker, Ended why) ∷ []) why (sym k'.end_is);
         stored = inr (refl, cause);
       })
 
@@ -174,29 +174,29 @@ current_active code held ticket low h =
 pub current_below : (core : Core) (ticket : TicketView) → IsCurrent core ticket → ticket.process < length core.processes
 current_below core ticket h = process_below core.processes ticket.process ticket.state h.evaluation.1
 
-module _ (n : Named) (old : SeatView) (held : GateState) (g : Guarded n.code n.limits held) (k : GateInvariant n held) (later : IsPrefix old.seen held.log) where
+module _ (n : Named) (old : SeatView) (held : GateState) (g : Guarded n.code n.limits held) (k : GateInvariant n held) (later : IsPrefix old.seen held.ledger) where
   -- the entry was appended
   abbrev pub tell_appended : (held' : GateState) (g' : Guarded n.code n.limits held') (k' : GateInvariant n held') (entry : Entry) (position : ℕ) (named : Entry) (tickets : List TicketView) (new : SeatView)
       → IsGranted n.code old.worker held entry position named tickets held'
-      → new.worker ≡ old.worker → new.seen ≡ held'.log → new.mine ≡ old.mine ++ position ∷ []
+      → new.worker ≡ old.worker → new.seen ≡ held'.ledger → new.positions ≡ old.positions ++ position ∷ []
       → new.stored ≡ (if (state_in n.code held').finished then Some Finish else old.stored) → Rises old.fresh new.fresh
       → HasMetEntry n (state_in n.code held) entry new.seen new.fresh
       → IsAppended n old entry position named tickets new
-  tell_appended held' g' k' entry position named tickets new h worker seen mine stored rises met = record {
-    log = subst (IsLog n) (sym seen) (is_log n held' g' k');
+  tell_appended held' g' k' entry position named tickets new h worker seen positions stored rises met = record {
+    ledger = subst (IsLedger n) (sym seen) (is_ledger n held' g' k');
     follows = record {
       worker = worker;
-      later = prefix_trans old.seen held.log new.seen later (items_of old.worker entry (state_in n.code held').finished, sym (seen ∙ h.log_is));
+      later = prefix_trans old.seen held.ledger new.seen later (items_of old.worker entry (state_in n.code held').finished, sym (seen ∙ h.ledger_is));
       rises = rises;
     };
-    before = held.log;
+    before = held.ledger;
     extends = later;
     from = state_in n.code held;
-    from_is = after_log n held g k;
+    from_is = after_ledger n held g k;
     to = state_in n.code held';
-    to_is = ap (λ (l : Log). after (design_of n.code) (entries_of l)) seen ∙ after_log n held' g' k';
-    ends = seen ∙ h.log_is;
-    mine = mine;
+    to_is = ap (λ (l : Ledger). after (design_of n.code) (entries_of l)) seen ∙ after_ledger n held' g' k';
+    ends = seen ∙ h.ledger_is;
+    positions = positions;
     stored = stored;
     position_is = h.position_is ∙ ap length k.journal_is;
     entry_is = h.entry_is;
@@ -210,14 +210,14 @@ module _ (n : Named) (old : SeatView) (held : GateState) (g : Guarded n.code n.l
   }
 
 -- the run is stopped for this reason, in what the seat has then seen
-pub tell_ended : (n : Named) (causes : Why → Type 0) (old new : SeatView) (why : Why) (held' : GateState) → Guarded n.code n.limits held' → GateInvariant n held' → Follows old new → new.mine ≡ old.mine
-    → new.seen ≡ held'.log → held'.end ≡ Some why → (new.stored ≡ old.stored) ⊎ ((new.stored ≡ Some why) × causes why) → IsStopped n causes old why new
-tell_ended n causes old new why held' g' k' follows mine seen ended stored =
+pub tell_ended : (n : Named) (causes : Why → Type 0) (old new : SeatView) (why : Why) (held' : GateState) → Guarded n.code n.limits held' → GateInvariant n held' → Follows old new → new.positions ≡ old.positions
+    → new.seen ≡ held'.ledger → held'.end ≡ Some why → (new.stored ≡ old.stored) ⊎ ((new.stored ≡ Some why) × causes why) → IsStopped n causes old why new
+tell_ended n causes old new why held' g' k' follows positions seen ended stored =
     let end : end_in new.seen ≡ Some why = ap end_in seen ∙ sym k'.end_is ∙ ended in
     record {
-      log = subst (IsLog n) (sym seen) (is_log n held' g' k');
+      ledger = subst (IsLedger n) (sym seen) (is_ledger n held' g' k');
       follows = follows;
-      mine = mine;
+      positions = positions;
       end = end;
       stays = end_stays n new.seen why end;
       stored = stored;
@@ -231,8 +231,8 @@ refused_by false P h f = λ p. clash (h.1 p)
     clash e = cc
 
 -- no active evaluation is the ticket's
-pub tell_gone : (n : Named) (old : SeatView) (held : GateState) (ticket : TicketView) (current : Bool) (new : SeatView) → Guarded n.code n.limits held → GateInvariant n held → IsPrefix old.seen held.log
-    → new ≡ record old { seen = held.log } → held.end ≡ None → IsStateOf n.code ticket.process ticket.state
+pub tell_gone : (n : Named) (old : SeatView) (held : GateState) (ticket : TicketView) (current : Bool) (new : SeatView) → Guarded n.code n.limits held → GateInvariant n held → IsPrefix old.seen held.ledger
+    → new ≡ record old { seen = held.ledger } → held.end ≡ None → IsStateOf n.code ticket.process ticket.state
     → (IsTrue current ↔ IsCurrent held.core ticket) → current ≡ false
     → ((p : ℕ) → action_in held.core.active ticket.event ≡ Some (Evaluate p) → p < length held.core.processes)
     → IsGone n old ticket new
@@ -240,36 +240,36 @@ tell_gone n old held ticket current new g k later is running own test isnt below
   refused = tell_refused n old held g k later new old.fresh is (rises_self old.fresh) running;
   gone = (
     state_in n.code held,
-    ap (λ (v : SeatView). after (design_of n.code) (entries_of v.seen)) is ∙ after_log n held g k,
+    ap (λ (v : SeatView). after (design_of n.code) (entries_of v.seen)) is ∙ after_ledger n held g k,
     λ h. refused_by current (IsCurrent held.core ticket) test isnt
         (active_current n.code held ticket g.states own (below ticket.process h.evaluation) h),
   );
 }
 
--- What a call told a seat that had first seen the whole log, and perhaps more of the registers, it told the seat as it was before.
-module _ (n : Named) (old : SeatView) (log : Log) (later : IsPrefix old.seen log) (fresh : List (List Vector)) (rises : Rises old.fresh fresh) where
+-- What a call told a seat that had first seen the whole ledger, and perhaps more of the registers, it told the seat as it was before.
+module _ (n : Named) (old : SeatView) (ledger : Ledger) (later : IsPrefix old.seen ledger) (fresh : List (List Vector)) (rises : Rises old.fresh fresh) where
   abbrev pub met_first : SeatView
-  met_first = record old { seen = log; fresh = fresh }
+  met_first = record old { seen = ledger; fresh = fresh }
 
   pub follows_first : (new : SeatView) → Follows met_first new → Follows old new
   follows_first new f = record {
     worker = f.worker;
-    later = prefix_trans old.seen log new.seen later f.later;
+    later = prefix_trans old.seen ledger new.seen later f.later;
     rises = rises_both old.fresh fresh new.fresh rises f.rises;
   }
 
   refused_first : (new : SeatView) → IsRefused n met_first new → IsRefused n old new
   refused_first new r = record {
-    log = r.log;
+    ledger = r.ledger;
     running = r.running;
-    looks_on = record { follows = follows_first new r.looks_on.follows; mine = r.looks_on.mine; stored = r.looks_on.stored };
+    looks_on = record { follows = follows_first new r.looks_on.follows; positions = r.looks_on.positions; stored = r.looks_on.stored };
   }
 
   pub stopped_first : (causes : Why → Type 0) (why : Why) (new : SeatView) → IsStopped n causes met_first why new → IsStopped n causes old why new
   stopped_first causes why new s = record {
-    log = s.log;
+    ledger = s.ledger;
     follows = follows_first new s.follows;
-    mine = s.mine;
+    positions = s.positions;
     end = s.end;
     stays = s.stays;
     stored = s.stored;
@@ -278,16 +278,16 @@ module _ (n : Named) (old : SeatView) (log : Log) (later : IsPrefix old.seen log
   abbrev pub appended_first : (entry : Entry) (position : ℕ) (named : Entry) (tickets : List TicketView) (new : SeatView) → IsAppended n met_first entry position named tickets new
       → IsAppended n old entry position named tickets new
   appended_first entry position named tickets new a = record {
-    log = a.log;
+    ledger = a.ledger;
     follows = follows_first new a.follows;
     before = a.before;
-    extends = prefix_trans old.seen log a.before later a.extends;
+    extends = prefix_trans old.seen ledger a.before later a.extends;
     from = a.from;
     from_is = a.from_is;
     to = a.to;
     to_is = a.to_is;
     ends = a.ends;
-    mine = a.mine;
+    positions = a.positions;
     stored = a.stored;
     position_is = a.position_is;
     entry_is = a.entry_is;

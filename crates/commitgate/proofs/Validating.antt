@@ -17,7 +17,7 @@ use Rattle.turn.specs.TurnAnswers.{IsTurnLog}
 use Rattle.turn.specs.Reads.{Agrees, GaveAll}
 use Rattle.regcells.specs.Values.{last_value}
 use Rattle.commitgate.specs.Named.{Named}
-use Rattle.runstate.specs.Log.{Log, entries_of}
+use Rattle.runstate.specs.Ledger.{Ledger, entries_of}
 use Rattle.runstate.specs.GateState.{GateState, state_in}
 use Rattle.commitgate.specs.GateInvariant.{GateInvariant}
 use Rattle.regcells.specs.Meetings.{fresh_of, IsCurrentOf, IsFirstMovedOf, AreReadsIn, AreWritesIn}
@@ -147,7 +147,7 @@ same_number : (p q : ℕ) → Some (Evaluate p) ≡ Some (Evaluate q) → p ≡ 
 same_number p q e = cc
 
 -- the seat has met what the turn read and wrote
-pub met_turn : (n : Named) (held held' : GateState) (event : ℕ) (log : LogView) (seen : Log) (fresh : List (List Vector)) (m : ℕ) → GateInvariant n held' → seen ≡ held'.log
+pub met_turn : (n : Named) (held held' : GateState) (event : ℕ) (log : LogView) (seen : Ledger) (fresh : List (List Vector)) (m : ℕ) → GateInvariant n held' → seen ≡ held'.ledger
     → IsLogOfEvent n.code held event log → AreReadsIn (length n.code.widths) log.reads → AreWritesIn (length n.code.widths) log.writes
     → HasMetLog held'.histories fresh m None (Some log) → HasMetEntry n (state_in n.code held) (entries.Turn event) seen fresh
 met_turn n held held' event log seen fresh m kept is h reads writes met p turn action found =
@@ -164,7 +164,7 @@ met_turn n held held' event log seen fresh m kept is h reads writes met p turn a
     }
 
 -- the seat has met the register of an update
-pub met_update : (n : Named) (held held' : GateState) (number : ℕ) (seen : Log) (fresh : List (List Vector)) (m : ℕ) → m ≡ length n.code.widths → GateInvariant n held' → seen ≡ held'.log
+pub met_update : (n : Named) (held held' : GateState) (number : ℕ) (seen : Ledger) (fresh : List (List Vector)) (m : ℕ) → m ≡ length n.code.widths → GateInvariant n held' → seen ≡ held'.ledger
     → least (update_numbers held.core.active) ≡ Some number
     → HasMetLog held'.histories fresh m (updated_register held.core.active (entries.Update number)) None → HasMetEntry n (state_in n.code held) (entries.Update number) seen fresh
 met_update n held held' number seen fresh m e kept is first met r v action low =

@@ -17,7 +17,7 @@ abbrev pub first_fresh : Named → regs.Fresh
 first_fresh n = record { cells = n.cells; seen = first_values n.code }
 
 -- The cells have the widths of the design's registers, and the holder and each worker's seat have seen that they are all x;
--- the mark's pass knows the empty log; the journal is empty, the regions are at the start, and no end is stored; and
+-- the mark's pass knows the empty ledger; the journal is empty, the regions are at the start, and no end is stored; and
 -- there is room for a number of each worker.
 pub record IsBlank (n : Named) (room : ℕ) (committed : List ℕ) (seats : List regs.Fresh) (run_state : RunState) : Type 0 where
   pub code_is : run_state.design.now ≡ n.code

@@ -4,4 +4,4 @@ use Rattle.commitgate.specs.Seats.{SeatView}
 
 -- a seat that belongs to no gate
 abbrev pub nobody : SeatView
-nobody = record { worker = 0; seen = []; mine = []; stored = None; fresh = [] }
+nobody = record { worker = 0; seen = []; positions = []; stored = None; fresh = [] }

@@ -21,34 +21,34 @@ use Rattle.commitgate.specs.declared.reply.UpdateReply.TheVariants as updates
 use Rattle.commitgate.specs.declared.reply.Rest.{Rest}
 use Rattle.commitgate.specs.declared.reply.Rest.TheVariants as rests
 use Rattle.commitgate.specs.Named.{Named}
-use Rattle.runstate.specs.Log.{Log, entries_of, end_in, items_of}
+use Rattle.runstate.specs.Ledger.{Ledger, entries_of, end_in, items_of}
 use Rattle.regcells.specs.Meetings.{fresh_of}
 use Rattle.commitgate.specs.Seats.{SeatView, Follows, LooksOn}
 use Rattle.commitgate.specs.Tickets.{TicketView, AreRising, again}
 use Rattle.runstate.specs.Histories.{hist, IsCurrentIn, IsFirstMovedIn}
-use Rattle.commitgate.specs.GateJournals.{IsLog, After, Stays, IsActiveTicket, made_active, AreTicketsOf, HasUpdate, HasNoUpdate}
+use Rattle.commitgate.specs.GateJournals.{IsLedger, After, Stays, IsActiveTicket, made_active, AreTicketsOf, HasUpdate, HasNoUpdate}
 use Rattle.commitgate.specs.GateAnswers.{IsRegionChange}
 
--- the seat has seen the whole history of a register by a log
-abbrev pub HasMet : Named → Log → List (List Vector) → ℕ → Type 0
-HasMet n log fresh r = fresh_of fresh r ≡ hist (design_of n.code) (entries_of log) r
+-- the seat has seen the whole history of a register by a ledger
+abbrev pub HasMet : Named → Ledger → List (List Vector) → ℕ → Type 0
+HasMet n ledger fresh r = fresh_of fresh r ≡ hist (design_of n.code) (entries_of ledger) r
 
 -- the same of each register that a turn reads or writes
-pub record HasMetTurn (n : Named) (log : Log) (fresh : List (List Vector)) (turn : turns.Turn) : Type 0 where
-  pub uses : All (HasMet n log fresh) turn.uses
-  pub writes : All (λ w. HasMet n log fresh w.0) turn.writes
+pub record HasMetTurn (n : Named) (ledger : Ledger) (fresh : List (List Vector)) (turn : turns.Turn) : Type 0 where
+  pub uses : All (HasMet n ledger fresh) turn.uses
+  pub writes : All (λ w. HasMet n ledger fresh w.0) turn.writes
 
 -- the same of each register that an entry's turn reads, or that the entry writes
-abbrev pub HasMetEntry : Named → State → Entry → Log → List (List Vector) → Type 0
-HasMetEntry n s (Turn number) log fresh =
+abbrev pub HasMetEntry : Named → State → Entry → Ledger → List (List Vector) → Type 0
+HasMetEntry n s (Turn number) ledger fresh =
     (p : ℕ) (turn : turns.Turn) → action_in s.active number ≡ Some (Evaluate p) → turn_of (design_of n.code) s p ≡ Some turn
-    → HasMetTurn n log fresh turn
-HasMetEntry n s (Update number) log fresh =
-    (r : ℕ) (v : Vector) → action_in s.active number ≡ Some (states.Update r v) → r < length n.code.widths → HasMet n log fresh r
-HasMetEntry n s ActivateInactive log fresh = Unit {0}
-HasMetEntry n s ActivateNba log fresh = Unit {0}
-HasMetEntry n s ActivateMonitor log fresh = Unit {0}
-HasMetEntry n s (Advance time) log fresh = Unit {0}
+    → HasMetTurn n ledger fresh turn
+HasMetEntry n s (Update number) ledger fresh =
+    (r : ℕ) (v : Vector) → action_in s.active number ≡ Some (states.Update r v) → r < length n.code.widths → HasMet n ledger fresh r
+HasMetEntry n s ActivateInactive ledger fresh = Unit {0}
+HasMetEntry n s ActivateNba ledger fresh = Unit {0}
+HasMetEntry n s ActivateMonitor ledger fresh = Unit {0}
+HasMetEntry n s (Advance time) ledger fresh = Unit {0}
 
 -- The entry stands in the journal. What the seat has seen is lawful, is all that it had seen with further items, and
 -- ends with this entry in the seat's name, with the end Finish behind it where the run is finished. Its position is one
@@ -56,16 +56,16 @@ HasMetEntry n s (Advance time) log fresh = Unit {0}
 -- evaluation that became active, in rising number. Of each register that the entry's turn read, or that the
 -- entry wrote, the seat has seen the whole history.
 pub record IsAppended (n : Named) (old : SeatView) (entry : Entry) (position : ℕ) (named : Entry) (tickets : List TicketView) (new : SeatView) : Type 0 where
-  pub log : IsLog n new.seen
+  pub ledger : IsLedger n new.seen
   pub follows : Follows old new
-  pub before : Log
+  pub before : Ledger
   pub extends : IsPrefix old.seen before
   pub from : State
   pub from_is : after (design_of n.code) (entries_of before) ≡ Some from
   pub to : State
   pub to_is : after (design_of n.code) (entries_of new.seen) ≡ Some to
   pub ends : new.seen ≡ before ++ items_of old.worker entry to.finished
-  pub mine : new.mine ≡ old.mine ++ position ∷ []
+  pub positions : new.positions ≡ old.positions ++ position ∷ []
   pub stored : new.stored ≡ (if to.finished then Some Finish else old.stored)
   pub position_is : position ≡ length (entries_of before)
   pub entry_is : named ≡ entry
@@ -75,16 +75,16 @@ pub record IsAppended (n : Named) (old : SeatView) (entry : Entry) (position : �
 
 -- the run goes on, the call appended nothing, and what the seat has seen is lawful
 pub record IsRefused (n : Named) (old new : SeatView) : Type 0 where
-  pub log : IsLog n new.seen
+  pub ledger : IsLedger n new.seen
   pub running : end_in new.seen ≡ None
   pub looks_on : LooksOn old new
 
 -- The run is stopped for this reason, which is the end in what the seat has seen and holds of it, and the journal stays
 -- as it is. It was stored before or elsewhere, or else by this call, for one of its own causes.
 pub record IsStopped (n : Named) (causes : Why → Type 0) (old : SeatView) (why : Why) (new : SeatView) : Type 0 where
-  pub log : IsLog n new.seen
+  pub ledger : IsLedger n new.seen
   pub follows : Follows old new
-  pub mine : new.mine ≡ old.mine
+  pub positions : new.positions ≡ old.positions
   pub end : end_in new.seen ≡ Some why
   pub stays : Stays n new.seen
   pub stored : (new.stored ≡ old.stored) ⊎ ((new.stored ≡ Some why) × causes why)

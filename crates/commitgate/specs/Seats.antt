@@ -4,16 +4,16 @@ use mathlib.Core.List.{IsPrefix}
 use Rattle.logic4.specs.Vector.{Vector, unknown}
 use Rattle.model.specs.declared.end.Why.{Why}
 use Rattle.design.specs.Compiled.{Compiled}
-use Rattle.runstate.specs.Log.{Log}
+use Rattle.runstate.specs.Ledger.{Ledger}
 use Rattle.regcells.specs.Meetings.{Rises}
 
--- What contracts see of a seat: its worker; the beginning of the gate's log that it has seen; the positions in the
+-- What contracts see of a seat: its worker; the beginning of the gate's ledger that it has seen; the positions in the
 -- journal of the entries that it appended, rising; the end that it stored, if it stored one; and of each register the
 -- beginning of its history that it has seen.
 pub record SeatView : Type 0 where
   pub worker : ℕ
-  pub seen : Log
-  pub mine : List ℕ
+  pub seen : Ledger
+  pub positions : List ℕ
   pub stored : Option Why
   pub fresh : List (List Vector)
 
@@ -21,15 +21,15 @@ pub record SeatView : Type 0 where
 abbrev pub first_values : Compiled → List (List Vector)
 first_values code = map (λ w. unknown w ∷ []) code.widths
 
--- the seat of a worker that has seen nothing of the log, and of each register that it begins all x
+-- the seat of a worker that has seen nothing of the ledger, and of each register that it begins all x
 abbrev pub new_seat : Compiled → ℕ → SeatView
-new_seat code worker = record { worker = worker; seen = []; mine = []; stored = None; fresh = first_values code }
+new_seat code worker = record { worker = worker; seen = []; positions = []; stored = None; fresh = first_values code }
 
 -- a seat that read registers: it may only have seen more of them
 pub record ReadsOn (old new : SeatView) : Type 0 where
   pub worker : new.worker ≡ old.worker
   pub seen : new.seen ≡ old.seen
-  pub mine : new.mine ≡ old.mine
+  pub positions : new.positions ≡ old.positions
   pub stored : new.stored ≡ old.stored
   pub rises : Rises old.fresh new.fresh
 
@@ -42,5 +42,5 @@ pub record Follows (old new : SeatView) : Type 0 where
 -- a call that neither appended nor stored anything in the seat's name
 pub record LooksOn (old new : SeatView) : Type 0 where
   pub follows : Follows old new
-  pub mine : new.mine ≡ old.mine
+  pub positions : new.positions ≡ old.positions
   pub stored : new.stored ≡ old.stored

@@ -2,7 +2,7 @@
 ghost use Rattle.std.specs.Prelude.{◌≡◌, ◌+◌, ◌<◌, [], None, length, slice_set};
 ghost use mathlib.Core.List.{IsPrefix};
 ghost use Rattle.crossbeam_utils.specs.Seq.{cell_view};
-ghost use Rattle.runstate.specs.Log.{entries_of, positions_of, stored_of};
+ghost use Rattle.runstate.specs.Ledger.{entries_of, positions_of, stored_of};
 ghost use Rattle.runstate.specs.Marked.{seated};
 ghost use Rattle.regcells.specs.Meetings.{fresh_of};
 ghost use Rattle.commitgate.specs.Seats.{ReadsOn, LooksOn};
@@ -22,7 +22,7 @@ use turn::Seen;
 const MOST_ROOMS: usize = 16;
 
 /// A worker's seat: its number, how many entries it has seen and how many it appended, what it has seen of the registers and
-/// of the log, and room for the tickets of the entries that it will append.
+/// of the ledger, and room for the tickets of the entries that it will append.
 #[derive(Drop)]
 pub struct Seat<K: Naming> {
     pub(crate) worker: u32,
@@ -41,18 +41,18 @@ impl<K: Naming> Model for Seat<K> {
 
     ghost Value = { SeatView };
 
-    ghost view = { λ s. record { worker = s.worker; seen = (cell_view s.pass).seen; mine = (cell_view s.pass).mine; stored = (cell_view s.pass).stored; fresh = s.regs.seen } };
+    ghost view = { λ s. record { worker = s.worker; seen = (cell_view s.pass).seen; positions = (cell_view s.pass).positions; stored = (cell_view s.pass).stored; fresh = s.regs.seen } };
 
     ghost invariant = { λ s. SeatInvariant K.named s.worker s.entries s.share s.regs s.pass.table_id (cell_view s.pass) };
 }
 
 impl<K: Naming> Seat<K> {
-    /// The seat of a worker that has seen nothing of the log.
+    /// The seat of a worker that has seen nothing of the ledger.
     pub(crate) fn new(alloc: Global, worker: u32, regs: RegSeat, pass: MarkPass) -> Seat<K>
         requires names { (regs.cells ≡ K.named.cells) × (pass.table_id ≡ K.named.mark) }
         requires worker { worker < K.named.workers }
         requires pass { cell_view pass ≡ seated worker [] None [] }
-        ensures { result ≡ record { worker = worker; seen = []; mine = []; stored = None; fresh = regs.seen } }
+        ensures { result ≡ record { worker = worker; seen = []; positions = []; stored = None; fresh = regs.seen } }
     {
         Seat {
             worker,
@@ -93,8 +93,8 @@ impl<K: Naming> Seat<K> {
 
     /// The number of entries that it appended.
     pub fn share(&self) -> u64
-        ensures share { result ≡ length self.now.mine }
-        ensures mine { self.now.mine ≡ positions_of self.now.worker self.now.seen }
+        ensures share { result ≡ length self.now.positions }
+        ensures positions { self.now.positions ≡ positions_of self.now.worker self.now.seen }
         ensures stored { self.now.stored ≡ stored_of self.now.worker self.now.seen }
     {
         self.share

@@ -1,4 +1,5 @@
 pub mod ControlWaking
+pub mod Halves
 pub mod Fits
 pub mod DesignTrees
 pub mod Sizings

@@ -5,6 +5,7 @@ ghost use Rattle.logic4.specs.Vector.{greatest_width, AreWithin};
 
 use crate::ascii::Ascii;
 use crate::control::{Control, RegId};
+use crate::halved::Halved;
 use crate::tree::Conversion;
 use logic4::bits::Bits;
 use model::tree::{BinaryOperator, Task, UnaryOperator};
@@ -188,7 +189,7 @@ pub enum Node {
 #[derive(Clone, Copy, PartialEq, Eq, Debug)]
 pub struct ProcState {
     pub place: usize,
-    pub pending: Option<(RegId, Bits)>,
+    pub pending: Option<(RegId, Halved)>,
 }
 
 impl ProcState {
@@ -200,7 +201,7 @@ impl ProcState {
     }
 }
 
-fn same_pending(left: Option<(RegId, Bits)>, right: Option<(RegId, Bits)>) -> bool
+fn same_pending(left: Option<(RegId, Halved)>, right: Option<(RegId, Halved)>) -> bool
     ensures { IsTrue result ↔ (left ≡ right) }
 {
     match (left, right) {

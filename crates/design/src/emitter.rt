@@ -13,7 +13,8 @@ ghost use Rattle.design.specs.Emitter.{emitted_of, assign_node};
 use crate::code::{Node, Op, Shown, Span};
 use crate::control::{Control, RegId, Trigger};
 use crate::extents::Extent;
-use crate::tree::{Expression, Statement};
+use crate::room::room_of;
+use crate::tree::{Expression, Process, Statement};
 use std::alloc::{AllocError, Global};
 
 /// The code so far. What it leads to may stand behind it.
@@ -84,16 +85,30 @@ struct Choice<'a> {
 }
 
 impl Emitter {
-    /// No code yet.
-    pub fn new(alloc: Global) -> Emitter
-        ensures { emitted_of result ≡ record { nodes = []; ops = []; shown = []; controls = [] } }
+    /// No code yet, with room for that of so many statements, which are those of these processes. Fails where memory is
+    /// refused.
+    pub fn new(
+        alloc: Global,
+        statements: usize,
+        processes: &[Process],
+    ) -> Result<Emitter, AllocError>
+        ensures { IfOk result (λ made. emitted_of made ≡ record { nodes = []; ops = []; shown = []; controls = [] }) }
     {
-        Emitter {
-            nodes: Vec::new(alloc),
-            ops: Vec::new(alloc),
-            shown: Vec::new(alloc),
-            controls: Vec::new(alloc),
-        }
+        let room = room_of(processes);
+        let nodes = statements.saturating_add(processes.len());
+        Ok(Emitter {
+            nodes: Vec::with_capacity(alloc, nodes)?,
+            ops: Vec::with_capacity(alloc, room.ops)?,
+            shown: Vec::with_capacity(alloc, room.shown)?,
+            controls: Vec::with_capacity(alloc, room.controls)?,
+        })
+    }
+
+    /// The same code, in no more room than it needs.
+    pub fn give_back(&mut self)
+        ensures { emitted_of self.new ≡ emitted_of self.old }
+    {
+        self.ops.shrink_to_fit();
     }
 
     /// One node more.

@@ -73,8 +73,10 @@ pub fn emit_processes(
     ensures starts { IfOk result (λ made. made.1.items ≡ starts_of 0 (statement_count (tree_design widths.now processes.now)) (map process_of processes.now)) }
 {
     let table = extents_of(alloc, processes)?;
-    let mut emitter = Emitter::new(alloc);
-    let starts = emitter.emit_bodies(alloc, widths, &table, processes, table.len())?;
+    let end = table.len();
+    let mut emitter = Emitter::new(alloc, end, processes)?;
+    let starts = emitter.emit_bodies(alloc, widths, &table, processes, end)?;
     emitter.emit_ends(processes, &starts)?;
+    emitter.give_back();
     Ok((emitter, starts))
 }

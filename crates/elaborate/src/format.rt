@@ -40,7 +40,7 @@ pub fn pieces(alloc: Global, format: &[u8]) -> Result<Vec<Piece>, AllocError>
     ensures { IfOk result (λ v. map piece_of v.items ≡ unwrap_or (pieces_of format.now) []) }
 {
     let mut reading = Reading::AtByte;
-    let mut pieces = Vec::new(alloc);
+    let mut pieces = Vec::with_capacity(alloc, format.len())?;
     for byte in format {
         let Some((next, piece)) = read(reading, *byte) else {
             return Ok(Vec::new(alloc));

@@ -94,7 +94,7 @@ fn each_given_up(
     requires { AreSmallStatements (statements (map statement_of body.items)) }
     ensures { IfOk result (λ made. tree.statements_of made.items ≡ block_of names.now (statements (map statement_of body.items))) }
 {
-    let mut made = Vec::new(alloc);
+    let mut made = Vec::with_capacity(alloc, body.len())?;
     for one in body {
         one_given_up(alloc, names, one, &mut made)?;
     }
@@ -113,13 +113,21 @@ fn one_given_up(
     statement(alloc, names, &s, into)
 }
 
+// How many statements one makes, unless it is a block with others inside it: the room of their list.
+fn count_of(s: &source::Statement) -> usize {
+    match s {
+        source::Statement::Block(body) => body.len(),
+        _ => 1,
+    }
+}
+
 // The statements of one statement.
 #[cycle(resolved_in)]
 fn alone(alloc: Global, names: &Names, s: &source::Statement) -> Built<Vec<Statement>>
     requires { IsSmallStatement (statement_of s.now) }
     ensures { IfOk result (λ made. tree.statements_of made.items ≡ model.statements_of names.now (statement_of s.now)) }
 {
-    let mut made = Vec::new(alloc);
+    let mut made = Vec::with_capacity(alloc, count_of(s))?;
     statement(alloc, names, s, &mut made)?;
     Ok(made)
 }
@@ -130,7 +138,7 @@ fn block(alloc: Global, names: &Names, body: &[source::Statement]) -> Built<Vec<
     requires { AreSmallStatements (statements (map statement_of body.now)) }
     ensures { IfOk result (λ made. tree.statements_of made.items ≡ block_of names.now (statements (map statement_of body.now))) }
 {
-    let mut made = Vec::new(alloc);
+    let mut made = Vec::with_capacity(alloc, body.len())?;
     all(alloc, names, body, &mut made)?;
     Ok(made)
 }
@@ -334,14 +342,14 @@ fn print(
         ≡ followed_by (tree.statements_of into.old.items) (model.alone (designs.Print task (unwrap_or (pieces_of format.now) []) (all_resolved names.now (expressions (map expression_of arguments.now)))))) }
 {
     let pieces = format::pieces(alloc, format)?;
-    let arguments = expressions(alloc, names, arguments)?;
+    let arguments = expressions(alloc, names, arguments, arguments.len())?;
     build::push(into, build::print_of(task, pieces, arguments))
 }
 
 fn triggers(alloc: Global, names: &Names, events: &[source::Event]) -> Built<Vec<Trigger>>
     ensures { IfOk result (λ made. made.items ≡ map (model.trigger_of names.now) (map trigger_of events.now)) }
 {
-    let mut made = Vec::new(alloc);
+    let mut made = Vec::with_capacity(alloc, events.len())?;
     for event in events {
         made.push((event.change, names.number(event.name.as_str())))?;
     }
@@ -362,7 +370,8 @@ fn expression(alloc: Global, names: &Names, e: &source::Expression) -> Built<Exp
         source::Expression::Literal(bits) => Ok(Expression::Literal(*bits)),
         source::Expression::Concat(part, others) => {
             let first = expression(alloc, names, part)?;
-            let others = expressions(alloc, names, others.as_slice())?;
+            let room = others.len().saturating_add(1);
+            let others = expressions(alloc, names, others.as_slice(), room)?;
             build::concat_of(first, others)
         }
         source::Expression::Unary(op, e) => {
@@ -384,12 +393,17 @@ fn expression(alloc: Global, names: &Names, e: &source::Expression) -> Built<Exp
 }
 
 #[cycle(resolved)]
-fn expressions(alloc: Global, names: &Names, parts: &[source::Expression]) -> Built<Vec<Expression>>
+fn expressions(
+    alloc: Global,
+    names: &Names,
+    parts: &[source::Expression],
+    room: usize,
+) -> Built<Vec<Expression>>
     requires { AreSmall (expressions (map expression_of parts.now)) }
     ensures { IfOk result
         (λ made. tree.expressions_of made.items ≡ all_resolved names.now (expressions (map expression_of parts.now))) }
 {
-    let mut made = Vec::new(alloc);
+    let mut made = Vec::with_capacity(alloc, room)?;
     for part in parts {
         made.push(expression(alloc, names, part)?)?;
     }

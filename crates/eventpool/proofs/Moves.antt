@@ -6,9 +6,9 @@ use lib.ListN.{get_elem?}
 use Rattle.crossbeam_deque.specs.Tasks.{Pushes, Takes, Finds, FindsFew, Learns, Forks, Merges}
 use Rattle.crossbeam_deque.proofs.Lists.{at_set}
 use Rattle.eventpool.specs.declared.rule.Hand.{Hand}
-use Rattle.eventpool.specs.DequeLog.{tickets_of, got_by, AreHands}
+use Rattle.eventpool.specs.DequeTrail.{tickets_of, got_by, AreHands}
 use Rattle.eventpool.specs.DequeRule.{owner, thief, nobody, Fits, DequeInvariant, Removed, AllGone, Bare, Accounts}
-use Rattle.eventpool.proofs.Logs.{eqb_self, eqb_off, begins_self, begins_none, begins_on, got_more, got_other, got_none, named_more, named_wider, hands_more, tickets_more}
+use Rattle.eventpool.proofs.Trails.{eqb_self, eqb_off, begins_self, begins_none, begins_on, got_more, got_other, got_none, named_more, named_wider, hands_more, tickets_more}
 
 off : false ≡ true → ⊥
 off e = true≢false (sym e)
@@ -30,8 +30,8 @@ unfolding seat_more
 seat_old seat name port k n = ap (λ b. cond b port (seat k)) (eqb_off k name n)
 
 module _ {T : Type 0} where
-  nobody_fits : (seat : ℕ → ℕ) (opened : ℕ) (put : List T) (log : List (ℕ × T)) (port : ℕ) → Fits seat opened put log port nobody
-  nobody_fits seat opened put log port = record { seen = begins_none log; named = λ h. absurd (off h); owns = λ h. absurd (off h) }
+  nobody_fits : (seat : ℕ → ℕ) (opened : ℕ) (put : List T) (trail : List (ℕ × T)) (port : ℕ) → Fits seat opened put trail port nobody
+  nobody_fits seat opened put trail port = record { seen = begins_none trail; named = λ h. absurd (off h); owns = λ h. absurd (off h) }
 
   -- one pass changes its view
   each_set : (P : ℕ → Hand T → Type 0) (views : List (Hand T)) (port : ℕ) (w : Hand T) → P port w
@@ -44,7 +44,7 @@ module _ {T : Type 0} where
       (at_set views port j w u e)
 
   pub begins : DequeInvariant {T = T} [] (owner 1 [] [] [] [] ∷ [])
-  begins = record { seat = λ k. k; opened = 1; log = []; each = one }
+  begins = record { seat = λ k. k; opened = 1; trail = []; each = one }
     where
       first : Fits {T = T} (λ k. k) 1 [] [] 0 (owner 1 [] [] [] [])
       first = record { seen = begins_none []; named = λ _. (refl, omega arith, refl); owns = λ _. (refl, refl, refl, refl, tt, tt) }
@@ -54,9 +54,9 @@ module _ {T : Type 0} where
       one (suc port) v e = absurd (some-ne-none v (sym e))
 
   -- one owner at most
-  one_owner : (seat : ℕ → ℕ) (opened : ℕ) (put : List T) (log : List (ℕ × T)) (i j : ℕ) (v u : Hand T)
-      → Fits seat opened put log i v → Fits seat opened put log j u → v.owns ≡ true → u.owns ≡ true → j ≡ i
-  one_owner seat opened put log i j v u f g a b =
+  one_owner : (seat : ℕ → ℕ) (opened : ℕ) (put : List T) (trail : List (ℕ × T)) (i j : ℕ) (v u : Hand T)
+      → Fits seat opened put trail i v → Fits seat opened put trail j u → v.owns ≡ true → u.owns ≡ true → j ≡ i
+  one_owner seat opened put trail i j v u f g a b =
       let x = f.owns a in let y = g.owns b in
       sym (g.named y.0).0 ∙ ap seat (y.1 ∙ sym x.1) ∙ (f.named x.0).0
 
@@ -65,13 +65,13 @@ module _ {T : Type 0} where
       let w : Hand T = record v { put = v.put ++ xs } in
       let mine = h.each port v at in
       let o = mine.owns may in
-      let more : tickets_of h.log ++ (items ++ xs) ≡ (tickets_of h.log ++ items) ++ xs = sym (append_assoc (tickets_of h.log) items xs) in
-      let P : ℕ → Hand T → Type 0 = Fits h.seat h.opened (tickets_of h.log ++ (items ++ xs)) h.log in (
+      let more : tickets_of h.trail ++ (items ++ xs) ≡ (tickets_of h.trail ++ items) ++ xs = sym (append_assoc (tickets_of h.trail) items xs) in
+      let P : ℕ → Hand T → Type 0 = Fits h.seat h.opened (tickets_of h.trail ++ (items ++ xs)) h.trail in (
         w,
         record {
           seat = h.seat;
           opened = h.opened;
-          log = h.log;
+          trail = h.trail;
           each = each_set P views port w
               (record { seen = mine.seen; named = mine.named; owns = λ _. (o.0, o.1, ap (λ l. l ++ xs) o.2 ∙ sym more, o.3, o.4, o.5) })
               (λ j u other e. let f = h.each j u e in record { seen = f.seen; named = f.named; owns = λ owns. absurd (other (one_owner _ _ _ _ port j v u mine f may owns)) });
@@ -85,28 +85,28 @@ module _ {T : Type 0} where
   removes_one port v x items views may h at =
       let mine = h.each port v at in
       let n = mine.named may in
-      let log : List (ℕ × T) = h.log ++ (v.name, x) ∷ [] in
-      let w : Hand T = record v { mine = v.mine ++ x ∷ []; seen = log } in
-      let put : tickets_of log ++ items ≡ tickets_of h.log ++ x ∷ items = tickets_more h.log v.name x items in
-      let P : ℕ → Hand T → Type 0 = Fits h.seat h.opened (tickets_of log ++ items) log in
-      let got : v.mine ++ x ∷ [] ≡ got_by v.name log = ap (λ l. l ++ x ∷ []) n.2 ∙ sym (got_more v.name h.log x) in (
+      let trail : List (ℕ × T) = h.trail ++ (v.name, x) ∷ [] in
+      let w : Hand T = record v { got = v.got ++ x ∷ []; seen = trail } in
+      let put : tickets_of trail ++ items ≡ tickets_of h.trail ++ x ∷ items = tickets_more h.trail v.name x items in
+      let P : ℕ → Hand T → Type 0 = Fits h.seat h.opened (tickets_of trail ++ items) trail in
+      let got : v.got ++ x ∷ [] ≡ got_by v.name trail = ap (λ l. l ++ x ∷ []) n.2 ∙ sym (got_more v.name h.trail x) in (
         w,
         record {
           seat = h.seat;
           opened = h.opened;
-          log = log;
+          trail = trail;
           each = each_set P views port w
               (record {
-                seen = begins_self log;
+                seen = begins_self trail;
                 named = λ _. (n.0, n.1, got);
                 owns = λ owns. let o = mine.owns owns in
-                    (o.0, o.1, o.2 ∙ sym put, o.3, hands_more h.opened v.name v.back h.log x o.4 n.1, named_more v.given v.name h.log x o.5 (let a = o.3 in let b = n.1 in omega arith));
+                    (o.0, o.1, o.2 ∙ sym put, o.3, hands_more h.opened v.name v.back h.trail x o.4 n.1, named_more v.given v.name h.trail x o.5 (let a = o.3 in let b = n.1 in omega arith));
               })
               (λ j u other e. let f = h.each j u e in record {
-                seen = begins_on u.seen h.log ((v.name, x) ∷ []) f.seen;
-                named = λ is. let g = f.named is in (g.0, g.1, g.2 ∙ sym (got_other u.name v.name h.log x (λ same. other (sym g.0 ∙ ap h.seat same ∙ n.0))));
+                seen = begins_on u.seen h.trail ((v.name, x) ∷ []) f.seen;
+                named = λ is. let g = f.named is in (g.0, g.1, g.2 ∙ sym (got_other u.name v.name h.trail x (λ same. other (sym g.0 ∙ ap h.seat same ∙ n.0))));
                 owns = λ owns. let o = f.owns owns in
-                    (o.0, o.1, o.2 ∙ sym put, o.3, hands_more h.opened v.name u.back h.log x o.4 n.1, named_more u.given v.name h.log x o.5 (let a = o.3 in let b = n.1 in omega arith));
+                    (o.0, o.1, o.2 ∙ sym put, o.3, hands_more h.opened v.name u.back h.trail x o.4 n.1, named_more u.given v.name h.trail x o.5 (let a = o.3 in let b = n.1 in omega arith));
               });
         },
         (
@@ -125,11 +125,11 @@ module _ {T : Type 0} where
   pub finds : (port : ℕ) (v : Hand T) → v.owns ≡ true → Finds DequeInvariant port v (AllGone v)
   finds port v may views h at =
       let mine = h.each port v at in let o = mine.owns may in
-      (h.log, mine.seen, o.2 ∙ append_none (tickets_of h.log), (mine.named o.0).2, o.5)
+      (h.trail, mine.seen, o.2 ∙ append_none (tickets_of h.trail), (mine.named o.0).2, o.5)
 
   pub finds_few : (port : ℕ) (v : Hand T) → v.named ≡ true → FindsFew DequeInvariant 0 port v (Bare v)
   finds_few port v may [] views none h at =
-      let mine = h.each port v at in (h.log, tickets_of h.log, mine.seen, refl, (mine.named may).2)
+      let mine = h.each port v at in (h.trail, tickets_of h.trail, mine.seen, refl, (mine.named may).2)
   finds_few port v may (x ∷ xs) views none h at = absurd (omega arith)
 
   -- the new pass is the last
@@ -150,13 +150,13 @@ module _ {T : Type 0} where
       let right : Hand T = thief v.given [] [] in
       let new : ℕ = length (set views port left) in
       let seat : ℕ → ℕ = seat_more h.seat v.given new in
-      let put : List T = tickets_of h.log ++ items in
-      let P : ℕ → Hand T → Type 0 = Fits seat (v.given + 1) put h.log in
+      let put : List T = tickets_of h.trail ++ items in
+      let P : ℕ → Hand T → Type 0 = Fits seat (v.given + 1) put h.trail in
       let older : (k : ℕ) → k < h.opened → seat k ≡ h.seat k = λ k lt. seat_old h.seat v.given new k (λ same. absurd (omega arith)) in
       let first : P port left = record {
         seen = mine.seen;
         named = λ _. (older v.name n.1 ∙ n.0, let lt = n.1 in omega arith, n.2);
-        owns = λ _. (o.0, o.1, o.2, omega arith, subst (λ b. AreHands (v.given + 1) b h.log) (sym none) tt, named_wider v.given (v.given + 1) h.log (omega arith) o.5);
+        owns = λ _. (o.0, o.1, o.2, omega arith, subst (λ b. AreHands (v.given + 1) b h.trail) (sym none) tt, named_wider v.given (v.given + 1) h.trail (omega arith) o.5);
       } in
       let others : (j : ℕ) (u : Hand T) → j ≢ port → get_elem? views j ≡ some u → P j u = λ j u other e. let f = h.each j u e in record {
         seen = f.seen;
@@ -164,14 +164,14 @@ module _ {T : Type 0} where
         owns = λ owns. absurd (other (one_owner _ _ _ _ port j v u mine f may owns));
       } in
       let fresh : P new right = record {
-        seen = begins_none h.log;
-        named = λ _. (seat_new h.seat v.given new, omega arith, sym (got_none v.given v.given h.log o.5 (omega arith)));
+        seen = begins_none h.trail;
+        named = λ _. (seat_new h.seat v.given new, omega arith, sym (got_none v.given v.given h.trail o.5 (omega arith)));
         owns = λ owns. absurd (off owns);
       } in
       record {
         seat = seat;
         opened = v.given + 1;
-        log = h.log;
+        trail = h.trail;
         each = λ j u e. ⊎_elim
             (λ (was : get_elem? (set views port left) j ≡ some u). each_set P views port left first others j u was)
             (λ (is : (j ≡ new) × (right ≡ u)). subst (λ (y : ℕ × Hand T). P y.0 y.1) (λ i. (sym is.0 i, is.1 i)) fresh)
@@ -179,9 +179,9 @@ module _ {T : Type 0} where
       }
 
   pub returns : (port : ℕ) (v : Hand T) (other : ℕ) (u : Hand T) → v.owns ≡ true → u.named ≡ true → (u.name + 1) + length v.back ≡ v.given
-      → Merges DequeInvariant port v other u (record v { back = (u.mine, u.seen) ∷ v.back }) nobody
+      → Merges DequeInvariant port v other u (record v { back = (u.got, u.seen) ∷ v.back }) nobody
   returns port v other u may named last items views h at apart there =
-      let both : Hand T = record v { back = (u.mine, u.seen) ∷ v.back } in
+      let both : Hand T = record v { back = (u.got, u.seen) ∷ v.back } in
       let mine = h.each port v at in
       let o = mine.owns may in
       let n = mine.named o.0 in
@@ -189,12 +189,12 @@ module _ {T : Type 0} where
       let theirs = h.each other u was in
       let t = theirs.named named in
       let opened : h.opened ≡ u.name + 1 = let e = o.3 in omega arith in
-      let put : List T = tickets_of h.log ++ items in
-      let P : ℕ → Hand T → Type 0 = Fits h.seat u.name put h.log in
-      let below : (j : ℕ) (x : Hand T) → j ≢ other → Fits h.seat h.opened put h.log j x → (is : x.named ≡ true) → x.name < u.name
+      let put : List T = tickets_of h.trail ++ items in
+      let P : ℕ → Hand T → Type 0 = Fits h.seat u.name put h.trail in
+      let below : (j : ℕ) (x : Hand T) → j ≢ other → Fits h.seat h.opened put h.trail j x → (is : x.named ≡ true) → x.name < u.name
       = λ j x away f is. let g = f.named is in
       let differ : x.name ≢ u.name = (λ same. away (sym g.0 ∙ ap h.seat same ∙ t.0)) in let lt = g.1 in omega arith in
-      let back : AreHands (u.name + 1) v.back h.log = subst (λ k. AreHands k v.back h.log) opened o.4 in
+      let back : AreHands (u.name + 1) v.back h.trail = subst (λ k. AreHands k v.back h.trail) opened o.4 in
       let first : P port both = record {
         seen = mine.seen;
         named = λ is. (n.0, below port v (λ same. apart (sym same)) mine is, n.2);
@@ -210,11 +210,11 @@ module _ {T : Type 0} where
       record {
         seat = h.seat;
         opened = u.name;
-        log = h.log;
-        each = each_set P (set views port both) other nobody (nobody_fits h.seat u.name put h.log other) (λ j x away e. now j x e away);
+        trail = h.trail;
+        each = each_set P (set views port both) other nobody (nobody_fits h.seat u.name put h.trail other) (λ j x away e. now j x e away);
       }
 
   pub accounts : (port : ℕ) (v : Hand T) → v.owns ≡ true → Learns DequeInvariant port v (Accounts v)
   accounts port v may items views h at =
       let mine = h.each port v at in let o = mine.owns may in
-      (h.log, o.2, (mine.named o.0).2 ∙ ap (λ k. got_by k h.log) o.1, mine.seen, h.opened, o.3, o.4, o.5)
+      (h.trail, o.2, (mine.named o.0).2 ∙ ap (λ k. got_by k h.trail) o.1, mine.seen, h.opened, o.3, o.4, o.5)

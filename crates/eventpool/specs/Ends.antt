@@ -6,7 +6,7 @@ use Rattle.std.specs.declared.alloc.Global.{Global}
 abbrev pub DequeId : Type 0
 DequeId = (ℕ × ℕ) × Global
 
--- an owner: how many names it gave, what it put, what it took, the log that it saw, and the hands that came back
+-- an owner: how many names it gave, what it put, what it took, the trail that it saw, and the hands that came back
 pub record Owning (T : Type 0) : Type 0 where
   pub deque : DequeId
   pub given : ℕ
@@ -15,7 +15,7 @@ pub record Owning (T : Type 0) : Type 0 where
   pub seen : List (ℕ × T)
   pub back : List (List T × List (ℕ × T))
 
--- a thief: its name, what it stole, the log that it saw, and how many tickets it knows to have left
+-- a thief: its name, what it stole, the trail that it saw, and how many tickets it knows to have left
 pub record Stealing (T : Type 0) : Type 0 where
   pub deque : DequeId
   pub name : ℕ

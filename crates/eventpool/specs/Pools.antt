@@ -2,9 +2,9 @@
 use Rattle.std.specs.Prelude.{◌≡◌, ℕ, zero, suc, ◌+◌, ◌-◌, ◌<◌, ◌≤◌, cond, ltb, List, [], ◌∷◌, map, length, Some, slice_get, slice_index_or}
 use Rattle.std.specs.Global.{Vec}
 use Rattle.eventpool.specs.Ends.{Owning, Stealing, DequeId, thief_card}
-use Rattle.eventpool.specs.DequeLog.{IsDealt}
+use Rattle.eventpool.specs.DequeTrail.{IsDealt}
 
--- what an end got, and the beginning of the log that it saw
+-- what an end got, and the beginning of the trail that it saw
 abbrev pub Share : Type 0 → Type 0
 Share T = List T × List (ℕ × T)
 

@@ -13,7 +13,7 @@ module _ {T : Type 0} where
     deque = worker_deque s.end;
     given = (worker_view s.end).given;
     put = (worker_view s.end).put;
-    taken = (worker_view s.end).mine;
+    taken = (worker_view s.end).got;
     seen = (worker_view s.end).seen;
     back = (worker_view s.end).back;
   }
@@ -33,7 +33,7 @@ module _ {T : Type 0} where
   stealing s = record {
     deque = stealer_deque s.end;
     name = (view s.pass).name;
-    stolen = (view s.pass).mine;
+    stolen = (view s.pass).got;
     seen = (view s.pass).seen;
     gone = taken s.pass;
   }

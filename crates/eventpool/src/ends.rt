@@ -1,7 +1,7 @@
 //! The ends of a deque: its owner, and its thieves.
 ghost use Rattle.std.specs.Prelude.{◌≡◌, ℕ, ◌+◌, ◌<◌, ◌≤◌, ◌^◌, List, [], ◌∷◌, ◌++◌, ◌⊎◌, length, IfOk, IfErr, IfSome, IfNone, OnOk, sum_by};
 ghost use mathlib.Core.List.{IsPrefix};
-ghost use Rattle.eventpool.specs.DequeLog.{tickets_of, got_by, EndsWith, IsDealt};
+ghost use Rattle.eventpool.specs.DequeTrail.{tickets_of, got_by, EndsWith, IsDealt};
 ghost use Rattle.eventpool.specs.Ends.{owner_card, thief_card};
 ghost use Rattle.eventpool.specs.DequeAnswers.{IfOne, IfEmpty, IfAgain, IsAllGone, IsBare};
 
@@ -77,11 +77,9 @@ impl<T> Model for Thief<T> {
 
     ghost Value = { Stealing T };
 
-    ghost use Rattle.eventpool.specs.Views.{stealing};
+    ghost use Rattle.eventpool.specs.Views.{stealing, IsThief};
 
     ghost view = { stealing };
-
-    ghost use Rattle.eventpool.specs.Views.{IsThief};
 
     ghost invariant = { IsThief };
 }
@@ -124,7 +122,7 @@ impl<T: Drop> Owner<T> {
     pub fn take(&mut self) -> Option<T>
         ensures taken { IfSome result (λ x. self.new ≡ record self.old { taken = self.old.taken ++ x ∷ []; seen = self.new.seen }) }
         ensures seen { IfSome result (λ x. EndsWith self.old.seen self.new.seen 0 x) }
-        ensures mine { IfSome result (λ _. self.new.taken ≡ got_by 0 self.new.seen) }
+        ensures got { IfSome result (λ _. self.new.taken ≡ got_by 0 self.new.seen) }
         ensures put { IfSome result (λ _. IsPrefix (tickets_of self.new.seen) self.old.put) }
         ensures none { IfNone result ((self.new ≡ self.old) × IsAllGone self.old) }
         ensures end { owner_card self.new ≡ owner_card self.old }
@@ -199,7 +197,7 @@ impl<T: Drop> Thief<T> {
     pub fn steal(&mut self) -> Stolen<T>
         ensures stolen { IfOne result (λ x. self.new ≡ record self.old { stolen = self.old.stolen ++ x ∷ []; seen = self.new.seen; gone = self.new.gone }) }
         ensures seen { IfOne result (λ x. EndsWith self.old.seen self.new.seen self.old.name x) }
-        ensures mine { IfOne result (λ _. self.new.stolen ≡ got_by self.old.name self.new.seen) }
+        ensures got { IfOne result (λ _. self.new.stolen ≡ got_by self.old.name self.new.seen) }
         ensures empty { IfEmpty result ((self.new ≡ record self.old { gone = self.new.gone }) × IsBare self.old) }
         ensures again { IfAgain result ((self.new ≡ record self.old { gone = self.new.gone }) × ((self.old.gone < self.new.gone) ⊎ IsBare self.old)) }
         ensures end { thief_card self.new ≡ thief_card self.old }

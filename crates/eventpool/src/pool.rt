@@ -90,7 +90,7 @@ impl Pool {
     }
 }
 
-/// Takes all ends of a pool back. Of each deque one log has every ticket that left. These are the first of those that were
+/// Takes all ends of a pool back. Of each deque one trail has every ticket that left. These are the first of those that were
 /// put, in order, and each went to one end, once. The others are left in the deque, in order, and are dropped. It takes no memory.
 pub fn close<T: Drop>(mut owners: Vec<Owner<T>>, mut thieves: Vec<Vec<Thief<T>>>) -> Tally
     requires { IsPool owners.items thieves.items }

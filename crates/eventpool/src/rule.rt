@@ -8,14 +8,14 @@ use std::collections::LinkedList;
 pub struct Hand<T> {
     /// It is the owner's: it knows all that was put, how many names were given, and what came back.
     pub owns: bool,
-    /// It has a name, by which the log calls it. The owner's is 0.
+    /// It has a name, by which the trail calls it. The owner's is 0.
     pub named: bool,
     pub name: u64,
     pub given: u64,
     pub put: LinkedList<T>,
     /// What it removed.
-    pub mine: LinkedList<T>,
-    /// The beginning of the log that it saw.
+    pub got: LinkedList<T>,
+    /// The beginning of the trail that it saw.
     pub seen: LinkedList<(u64, T)>,
     /// Of each thief that came back, by rising name: what it removed, and what it saw.
     pub back: LinkedList<(LinkedList<T>, LinkedList<(u64, T)>)>,
@@ -85,7 +85,7 @@ impl<T> Join<Hand<T>> for Returns {
     ghost use Rattle.std.specs.Prelude.{◌∷◌};
     ghost use Rattle.eventpool.specs.DequeRule.{nobody};
 
-    ghost both = { λ v u. record v { back = (u.mine, u.seen) ∷ v.back } };
+    ghost both = { λ v u. record v { back = (u.got, u.seen) ∷ v.back } };
 
     ghost spent = { nobody };
 }

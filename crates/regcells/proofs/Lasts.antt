@@ -17,7 +17,7 @@ use Rattle.regcells.specs.Passes.{RegPass, seen_by, IsHolding}
 
 -- ---- the end of a list
 
-last_from : (v : Vector) (log : List Vector) (k : ℕ) (x : Vector) → slice_get log k ≡ Some x → length log ≡ k + 1 → x ≡ last_of v log
+last_from : (v : Vector) (values : List Vector) (k : ℕ) (x : Vector) → slice_get values k ≡ Some x → length values ≡ k + 1 → x ≡ last_of v values
 last_from v [] k x e n = absurd (omega arith)
 last_from v (y ∷ []) zero x e n = cc
 last_from v (y ∷ []) (suc k) x e n = absurd (omega arith)
@@ -25,10 +25,10 @@ last_from v (y ∷ z ∷ zs) zero x e n = absurd (omega arith)
 last_from v (y ∷ z ∷ zs) (suc k) x e n = last_from y (z ∷ zs) k x e (omega arith)
 
 -- the value at the end is the last
-pub last_at : (log : List Vector) (k : ℕ) (x : Vector) → slice_get log k ≡ Some x → length log ≡ k + 1 → x ≡ last_value log
-last_at log k x e n = last_from [] log k x e n
+pub last_at : (values : List Vector) (k : ℕ) (x : Vector) → slice_get values k ≡ Some x → length values ≡ k + 1 → x ≡ last_value values
+last_at values k x e n = last_from [] values k x e n
 
-end_from : (v : Vector) (log : List Vector) (k : ℕ) → length log ≡ k + 1 → slice_get log k ≡ Some (last_of v log)
+end_from : (v : Vector) (values : List Vector) (k : ℕ) → length values ≡ k + 1 → slice_get values k ≡ Some (last_of v values)
 end_from v [] k n = absurd (omega arith)
 end_from v (y ∷ []) zero n = refl
 end_from v (y ∷ []) (suc k) n = absurd (omega arith)
@@ -36,8 +36,8 @@ end_from v (y ∷ z ∷ zs) zero n = absurd (omega arith)
 end_from v (y ∷ z ∷ zs) (suc k) n = end_from y (z ∷ zs) k (omega arith)
 
 -- the last value is at the end
-pub at_end : (log : List Vector) (k : ℕ) → length log ≡ k + 1 → slice_get log k ≡ Some (last_value log)
-at_end log k n = end_from [] log k n
+pub at_end : (values : List Vector) (k : ℕ) → length values ≡ k + 1 → slice_get values k ≡ Some (last_value values)
+at_end values k n = end_from [] values k n
 
 last_of-append : (v : Vector) (xs ys : List Vector) → last_of v (xs ++ ys) ≡ last_of (last_of v xs) ys
 last_of-append v [] ys = refl
@@ -57,11 +57,11 @@ last_of-altered v [] = refl
 last_of-altered v (u ∷ us) = last_here (same_vector v u) v u us refl (λ w. last_of-altered w us)
 
 -- the last of the values that were given is the last
-pub last_given : (log given : List Vector) → last_value (values_after log given) ≡ last_of (last_value log) given
-last_given log given = last_of-append [] log (altered (last_value log) given) ∙ last_of-altered (last_value log) given
+pub last_given : (values given : List Vector) → last_value (values_after values given) ≡ last_of (last_value values) given
+last_given values given = last_of-append [] values (altered (last_value values) given) ∙ last_of-altered (last_value values) given
 
 -- a longer list is as wide
-pub width_given : (log given : List Vector) → 0 < length log → width_of (values_after log given) ≡ width_of log
+pub width_given : (values given : List Vector) → 0 < length values → width_of (values_after values given) ≡ width_of values
 width_given [] given h = absurd (omega arith)
 width_given (y ∷ ys) given h = refl
 
@@ -71,15 +71,15 @@ first_given [] h = absurd (omega arith)
 first_given (d ∷ ds) h = refl
 
 -- nothing that differs
-pub none_given : (log given : List Vector) → length (altered (last_value log) given) ≡ 0 → values_after log given ≡ log
-none_given log given none = by_list (altered (last_value log) given) none
+pub none_given : (values given : List Vector) → length (altered (last_value values) given) ≡ 0 → values_after values given ≡ values
+none_given values given none = by_list (altered (last_value values) given) none
   where
-    by_list : (more : List Vector) → length more ≡ 0 → log ++ more ≡ log
-    by_list [] n = append-nil log
+    by_list : (more : List Vector) → length more ≡ 0 → values ++ more ≡ values
+    by_list [] n = append-nil values
     by_list (v ∷ more) n = absurd (omega arith)
 
-pub length-given : (log given : List Vector) → length (values_after log given) ≡ length log + length (altered (last_value log) given)
-length-given log given = length-append log (altered (last_value log) given)
+pub length-given : (values given : List Vector) → length (values_after values given) ≡ length values + length (altered (last_value values) given)
+length-given values given = length-append values (altered (last_value values) given)
 
 -- ---- nets
 
@@ -129,9 +129,9 @@ same_holding p q h same =
 -- the holder's pass, after some values of the register's width were given
 pub given_holding : (p q : RegPass) (given : List Vector) (net : Net) (w : ℕ) → IsHolding p → cell_view q ≡ holder (values_after (seen_by p) given) → IsNetOf given net → All (λ v. length v ≡ w) given → w ≡ width_of (seen_by p) → IsHolding q
 given_holding p q given net w h more is all wide =
-    let log = values_after (seen_by p) given in
-    let seen : seen_by q ≡ log = ap (λ u. u.seen) more in
-    let last : last_value log ≡ net.last = last_given (seen_by p) given ∙ net_last given net (last_value (seen_by p)) is in
+    let values = values_after (seen_by p) given in
+    let seen : seen_by q ≡ values = ap (λ u. u.seen) more in
+    let last : last_value values ≡ net.last = last_given (seen_by p) given ∙ net_last given net (last_value (seen_by p)) is in
     record {
       all = more ∙ ap holder (sym seen);
       begun = subst (λ l. 0 < length l) (sym seen) (let b = h.begun in omega (arith, length-given (seen_by p) given));

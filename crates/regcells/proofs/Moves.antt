@@ -17,32 +17,32 @@ use Rattle.regcells.proofs.Lasts.{at_end}
 off : false ≡ true → ⊥
 off e = true≢false (sym e)
 
-pub nothing_begins : (log : List Vector) → IsPrefix [] log
-nothing_begins log = (log, refl)
+pub nothing_begins : (values : List Vector) → IsPrefix [] values
+nothing_begins values = (values, refl)
 
-pub begins_longer : (log more : List Vector) → IsPrefix log (log ++ more)
-begins_longer log more = (more, refl)
+pub begins_longer : (values more : List Vector) → IsPrefix values (values ++ more)
+begins_longer values more = (more, refl)
 
-begun : (log : List Vector) (words : List ℕ) → 0 < length log → IsEndOnceBegun log words → IsEnd log words
+begun : (values : List Vector) (words : List ℕ) → 0 < length values → IsEndOnceBegun values words → IsEnd values words
 begun [] words h e = absurd (omega arith)
 begun (x ∷ xs) words h e = e
 
-end_once_begun : (log : List Vector) (words : List ℕ) → IsEnd log words → IsEndOnceBegun log words
+end_once_begun : (values : List Vector) (words : List ℕ) → IsEnd values words → IsEndOnceBegun values words
 end_once_begun [] words e = tt
 end_once_begun (x ∷ xs) words e = e
 
 -- one pass changes its view, and the list only grows
-pub fits_set : (seat : ℕ) (log now : List Vector) (views : List View) (by : ℕ) (w : View)
-    → IsPrefix log now → (now ≡ log) ⊎ (by ≡ seat)
-    → ((j : ℕ) (u : View) → get_elem? views j ≡ some u → Fits seat log j u)
+pub fits_set : (seat : ℕ) (values now : List Vector) (views : List View) (by : ℕ) (w : View)
+    → IsPrefix values now → (now ≡ values) ⊎ (by ≡ seat)
+    → ((j : ℕ) (u : View) → get_elem? views j ≡ some u → Fits seat values j u)
     → Fits seat now by w
     → (j : ℕ) (u : View) → get_elem? (set views by w) j ≡ some u → Fits seat now j u
-fits_set seat log now views by w grows who old mine j u e =
+fits_set seat values now views by w grows who old mine j u e =
     ⊎_elim
     (λ (x : (j ≡ by) × (w ≡ u)). subst (λ (y : ℕ × View). Fits seat now y.0 y.1) (λ i. (sym x.0 i, x.1 i)) mine)
     (λ (x : (j ≢ by) × (get_elem? views j ≡ some u)).
     let f = old j u x.1 in
-    ((λ (h : u.holds ≡ true). ((f.0 h).0, ⊎_elim (λ (s : now ≡ log). (f.0 h).1 ∙ sym s) (λ (s : by ≡ seat). absurd (x.0 ((f.0 h).0 ∙ sym s))) who)), prefix_trans _ _ _ f.1 grows, prefix_trans _ _ _ f.2 grows))
+    ((λ (h : u.holds ≡ true). ((f.0 h).0, ⊎_elim (λ (s : now ≡ values). (f.0 h).1 ∙ sym s) (λ (s : by ≡ seat). absurd (x.0 ((f.0 h).0 ∙ sym s))) who)), prefix_trans _ _ _ f.1 grows, prefix_trans _ _ _ f.2 grows))
     (at_set views by j w u e)
 
 pub begins : (words : List ℕ) → CellInvariant words (holder [] ∷ [])
@@ -71,10 +71,10 @@ checks by v holds some_seen words views h at =
     )
 
 -- the words of the last value and of its place are the end of the list
-pub end_of : (log : List Vector) (x : Vector) (words : List ℕ) → x ≡ last_value log → length log ≡ version_in words + 1 → value_in (length x) words ≡ x → HoldValue (length x) words → width_of log ≡ length x → IsEnd log words
-end_of log x words last version value hold wide =
+pub end_of : (values : List Vector) (x : Vector) (words : List ℕ) → x ≡ last_value values → length values ≡ version_in words + 1 → value_in (length x) words ≡ x → HoldValue (length x) words → width_of values ≡ length x → IsEnd values words
+end_of values x words last version value hold wide =
     record {
-      last = at_end log (version_in words) version ∙ ap Some (sym last ∙ sym value ∙ ap (λ w. value_in w words) (sym wide));
+      last = at_end values (version_in words) version ∙ ap Some (sym last ∙ sym value ∙ ap (λ w. value_in w words) (sym wide));
       version = version;
       hold = subst (λ w. HoldValue w words) (sym wide) hold;
     }
@@ -83,14 +83,14 @@ pub stores : (by : ℕ) (v : View) (given : List Vector) (new : List ℕ) → v 
 stores by v given new is end words views h at =
     let mine = (h.3 by v at).0 (ap (λ (u : View). u.holds) is) in
     let w = holder (values_after v.seen given) in
-    let log = values_after h.1 given in
-    let same : values_after v.seen given ≡ log = ap (λ l. values_after l given) mine.1 in (
+    let values = values_after h.1 given in
+    let same : values_after v.seen given ≡ values = ap (λ l. values_after l given) mine.1 in (
       w,
       (
         h.0,
-        log,
-        end_once_begun log new (subst (λ l. IsEnd l new) same end),
-        fits_set h.0 h.1 log views by w (begins_longer h.1 (altered (last_value h.1) given)) (inr mine.0) h.3 ((λ _. (mine.0, same)), subst (λ l. IsPrefix l log) (sym same) (prefix_self log), nothing_begins log),
+        values,
+        end_once_begun values new (subst (λ l. IsEnd l new) same end),
+        fits_set h.0 h.1 values views by w (begins_longer h.1 (altered (last_value h.1) given)) (inr mine.0) h.3 ((λ _. (mine.0, same)), subst (λ l. IsPrefix l values) (sym same) (prefix_self values), nothing_begins values),
       ),
       refl,
     )

@@ -1,12 +1,9 @@
 -- The words of a cell, of 64 bits each: the two halves of the value's first word, the low one first, those of its second
 -- word, and the version.
-use Rattle.std.specs.Prelude.{ℕ, ◌+◌, ◌*◌, ◌^◌, List, slice_index}
+use Rattle.std.specs.Prelude.{ℕ, List, slice_index}
 use Rattle.logic4.specs.Vector.{Vector}
 use Rattle.logic4.specs.VectorWords.{AreWords, of_words}
-
--- the word of a value that has these halves
-abbrev pub joined : ℕ → ℕ → ℕ
-joined low high = high * 2 ^ 64 + low
+use Rattle.design.specs.Halves.{joined}
 
 -- the value's first word
 abbrev pub first_in : List ℕ → ℕ

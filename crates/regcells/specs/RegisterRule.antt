@@ -21,10 +21,10 @@ abbrev pub informed : View → View → View
 informed v w = record { holds = v.holds; seen = v.seen; shown = w.seen }
 
 -- the words hold the last value and its version, which is its place in the list
-pub record IsEnd (log : List Vector) (words : List ℕ) : Type 0 where
-  pub last : slice_get log (version_in words) ≡ Some (value_in (width_of log) words)
-  pub version : length log ≡ version_in words + 1
-  pub hold : HoldValue (width_of log) words
+pub record IsEnd (values : List Vector) (words : List ℕ) : Type 0 where
+  pub last : slice_get values (version_in words) ≡ Some (value_in (width_of values) words)
+  pub version : length values ≡ version_in words + 1
+  pub hold : HoldValue (width_of values) words
 
 -- before its first value a cell's words say nothing
 abbrev pub IsEndOnceBegun : List Vector → List ℕ → Type 0
@@ -33,12 +33,12 @@ IsEndOnceBegun (x ∷ xs) words = IsEnd (x ∷ xs) words
 
 -- the holder's pass knows the whole list, and each pass a beginning of it
 abbrev pub Fits : ℕ → List Vector → ℕ → View → Type 0
-Fits holding log by v = (v.holds ≡ true → (by ≡ holding) × (v.seen ≡ log)) × IsPrefix v.seen log × IsPrefix v.shown log
+Fits holding values by v = (v.holds ≡ true → (by ≡ holding) × (v.seen ≡ values)) × IsPrefix v.seen values × IsPrefix v.shown values
 
 -- there is one list of values
 abbrev pub CellInvariant : List ℕ → List View → Type 0
 CellInvariant words views =
-    (holding : ℕ) × (log : List Vector) × IsEndOnceBegun log words × ((by : ℕ) (v : View) → get_elem? views by ≡ some v → Fits holding log by v)
+    (holding : ℕ) × (values : List Vector) × IsEndOnceBegun values words × ((by : ℕ) (v : View) → get_elem? views by ≡ some v → Fits holding values by v)
 
 -- a seat has seen the list as it is
 abbrev pub Looked : View → List ℕ → List ℕ → View → Type 0

@@ -41,12 +41,6 @@ pub struct RegSeat {
     passes: Vec<RegPass>,
 }
 
-/// The one who stores. It has seen all values of each register.
-#[derive(Drop)]
-pub struct Holder {
-    passes: Vec<RegPass>,
-}
-
 impl Model for RegSeat {
     ghost use Rattle.regcells.specs.CellSeats.{Fresh};
 
@@ -59,16 +53,20 @@ impl Model for RegSeat {
     ghost invariant = { λ s. AllBegun s.passes.items };
 }
 
+/// The one who stores. It has seen all values of each register.
+#[derive(Drop)]
+pub struct Holder {
+    passes: Vec<RegPass>,
+}
+
 impl Model for Holder {
     ghost use Rattle.regcells.specs.CellSeats.{Fresh};
 
     ghost Value = { Fresh };
 
-    ghost use Rattle.regcells.specs.Passes.{fresh_by};
+    ghost use Rattle.regcells.specs.Passes.{fresh_by, AllHold};
 
     ghost view = { λ s. fresh_by s.passes.items };
-
-    ghost use Rattle.regcells.specs.Passes.{AllHold};
 
     ghost invariant = { λ s. AllHold s.passes.items };
 }

@@ -71,9 +71,9 @@ pub fn meet_reads<R: Wait>(
     requires seat { seat.old.cells ≡ cells.now }
     requires holder { holder.old.cells ≡ cells.now }
     requires reads { AreReadsIn (length cells.now) reads.now.entries }
-    ensures met { Met seat.old.seen holder.old.seen seat.new.seen }
-    ensures cells { seat.new.cells ≡ seat.old.cells }
     ensures holder { holder.new ≡ holder.old }
+    ensures cells { seat.new.cells ≡ seat.old.cells }
+    ensures met { Met seat.old.seen holder.old.seen seat.new.seen }
     ensures all { HasMetReads holder.old.seen seat.new.seen reads.now.entries }
 {
     for place in 0..reads.len() {

@@ -54,6 +54,12 @@ pub trait Giving {
     ghost given: { List Vector };
 }
 
+impl Giving for Brand {
+    ghost use Rattle.std.specs.Prelude.{[]};
+
+    ghost given = { [] };
+}
+
 /// A store by the holder.
 pub struct Stores<X: Giving> {
     of: PhantomData<X>,
@@ -63,12 +69,6 @@ impl<X: Giving> Outcome<[u64; WORDS], View> for Stores<X> {
     ghost use Rattle.regcells.specs.RegisterRule.{Stored};
 
     ghost then = { Stored X.given };
-}
-
-impl Giving for Brand {
-    ghost use Rattle.std.specs.Prelude.{[]};
-
-    ghost given = { [] };
 }
 
 /// A note of what a pass has seen.

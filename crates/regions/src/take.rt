@@ -36,7 +36,7 @@ fn log_event(
     match state.evaluation_near(number, near) {
         Some((_, place)) => {
             let now = state.time();
-            match turn_on(log, design, &place, now, store) {
+            match turn_on(log, design, place, now, store) {
                 Ok(()) => Ok(true),
                 Err(FillFault::TooLong) => Err(TakeFault::TooLong),
                 Err(FillFault::Memory) => Err(TakeFault::Memory),

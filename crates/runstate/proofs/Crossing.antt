@@ -27,9 +27,9 @@ module _ (l : NamedLft) (design : IsSync Design.the_row) where
       (
         search (regions_send, sendable) depth 20,
         (
-          search (crosses, sendable) depth 20,
+          search (holder.the_send, sendable) depth 20,
           (
-            search (holder.the_send, sendable) depth 20,
+            search (crosses, sendable) depth 20,
             (
               search (made_send, sendable) depth 20,
               (search sendable depth 20, (search (pass.the_send, sendable) depth 20, tt)),

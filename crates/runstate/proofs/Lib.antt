@@ -1,6 +1,6 @@
--- Lemmas of what lies under the lock: the log with its mark, histories, appended entries, and that the state of a run may cross threads.
+-- Lemmas of what lies under the lock: the ledger with its mark, histories, appended entries, and that the state of a run may cross threads.
 pub mod Beginnings
-pub mod Logs
+pub mod Ledgers
 mod MarkMoves
 pub mod Histories
 pub mod Given

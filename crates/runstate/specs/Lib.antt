@@ -1,4 +1,4 @@
-pub mod Log
+pub mod Ledger
 pub mod Marked
 pub mod GateState
 pub mod Guarded

@@ -1,9 +1,9 @@
 //! A turn that is evaluated under the lock, on the last value of each register.
 ghost use Rattle.std.specs.Prelude.{◌≡◌, ◌≤◌, ◌^◌, length, MatchResult};
 ghost use Rattle.model.specs.Runs.{last_time};
-ghost use Rattle.turn.specs.Reads.{GaveAll};
 ghost use Rattle.turn.specs.TurnAnswers.{IsTurnLog, IsNoTurn};
 ghost use Rattle.turn.specs.declared.log.FillFault.TheVariants as fault_of;
+ghost use Rattle.turn.specs.Reads.{GaveAll};
 ghost use Rattle.runstate.specs.Holding.{IsLastIn};
 
 use design::{Design, ProcState, RegId};
@@ -17,6 +17,12 @@ pub trait Holding {
     ghost use Rattle.regcells.specs.CellSeats.{Fresh};
 
     ghost holds: { Fresh };
+}
+
+impl Holding for Brand {
+    ghost use Rattle.runstate.specs.Holding.{no_registers};
+
+    ghost holds = { no_registers };
 }
 
 // Reads the last value of each register, of which the holder has seen what its type names.
@@ -53,12 +59,6 @@ impl<'g, H: Holding, R: Wait> RegReader for HeldReader<'g, H, R> {
     fn read(&mut self, register: RegId) -> Seen {
         self.cells.get_held(self.rt, &mut self.holder, register)
     }
-}
-
-impl Holding for Brand {
-    ghost use Rattle.runstate.specs.Holding.{no_registers};
-
-    ghost holds = { no_registers };
 }
 
 /// The cells of the registers, with their holder.

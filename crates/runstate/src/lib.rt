@@ -2,8 +2,8 @@
 //!
 //! Under the lock lies the `RunState`: the journal; the regions after it, and beside them the lines that it
 //! prints and the evaluations that its last entry made active; the holder of the registers' cells; the end, once one is
-//! stored; and the pass that keeps the log. The log is the journal and the end, each item with the seat that added it. The
-//! cells and the mark of the log lie beside the lock, since seats load them without it, and each call gets them.
+//! stored; and the pass that keeps the ledger. The ledger is the journal and the end, each item with the seat that added it. The
+//! cells and the mark of the ledger lie beside the lock, since seats load them without it, and each call gets them.
 //!
 //! Who has the lock takes these steps, in this order, to append an entry:
 //!
@@ -15,18 +15,18 @@
 //!    cells, and appends its lines. Where memory is refused, journal, regions, registers, lines and end are as before.
 //! 4. The entry is pushed onto the journal, and the end Finish is stored where the run is finished.
 //! 5. The seat is told: it meets the registers that the entry wrote (`RunState::show_written`, by `meeting` of `regcells`), and the
-//!    log has the entry in its name (`RunState::publish`, by `mark`), with that end behind it.
+//!    ledger has the entry in its name (`RunState::publish`, by `mark`), with that end behind it.
 //!
-//! A seat without an entry to append looks at the mark (`look`), or sees the whole log under the lock (`catch_up`).
+//! A seat without an entry to append looks at the mark (`look`), or sees the whole ledger under the lock (`catch_up`).
 #![tactic(auto)]
 
 mod evaluate;
-mod log;
+mod ledger;
 mod mark;
 mod run_state;
 
 pub use evaluate::{HeldCells, Holding, held_turn};
-pub use log::Item;
+pub use ledger::Item;
 pub use mark::{
     Addition, Adds, Both, Compares, Looks, Makes, MarkCell, MarkPass, MarkView, Marks, Telling,
     Whole, add, catch_up, look, new_mark, next_seat,

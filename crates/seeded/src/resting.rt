@@ -45,6 +45,7 @@ fn past_end(limits: Limits) -> End
 /// none where one may be next. The limit isn't past the last time, as for every run.
 ///
 /// Where it answers none, a run may still end there, by a turn that is too long: that shows once the turn is tried.
+#[inline(always)]
 pub fn end_at(limits: Limits, machine: &Machine<'_>) -> Option<End>
     requires until { IfSome limits.until (λ until. until ≤ last_time) }
     ensures rests { IfSome result (RestsAt (design_of machine.now.code) limits (state_at machine.now)) }

@@ -18,12 +18,12 @@ use Rattle.model.specs.Laws.{times_in}
 use Rattle.model.proofs.RunLaws.{events_are_taken_once}
 use native.Mathlib.Decide.{dec_lt}
 use Rattle.design.specs.Compiled.{Compiled, design_of}
-use Rattle.runstate.specs.declared.log.Item.TheVariants.{Did, Ended}
+use Rattle.runstate.specs.declared.ledger.Item.TheVariants.{Did, Ended}
 use Rattle.commitgate.specs.Named.{Named}
-use Rattle.runstate.specs.Log.{Log, entries_of, end_in, IsEndLast}
+use Rattle.runstate.specs.Ledger.{Ledger, entries_of, end_in, IsEndLast}
 use Rattle.commitgate.specs.Seats.{SeatView, new_seat}
 use Rattle.commitgate.specs.Tickets.{TicketView, IsFirstTickets}
-use Rattle.commitgate.specs.GateJournals.{IsLog}
+use Rattle.commitgate.specs.GateJournals.{IsLedger}
 use Rattle.commitgate.specs.Closing.{ClosedView, EndsOrRuns, IsEndIn, IsClosedWith, AreAllSeats, times}
 use Rattle.eventpool.specs.Ends.{Owning, Stealing, owner_card}
 use Rattle.eventpool.specs.Pools.{Counts, cards_of, IsPool, IsUnused}
@@ -39,7 +39,7 @@ use Rattle.workers.proofs.Seats.{turns_begin, entries_begin}
 use Rattle.simulate.proofs.Placed.{placed_at, placed_few}
 
 -- an end is the last
-end_last : (seen more : Log) → IsEndLast (seen ++ more) → IsSome (end_in seen) → more ≡ []
+end_last : (seen more : Ledger) → IsEndLast (seen ++ more) → IsSome (end_in seen) → more ≡ []
 end_last [] more h e = absurd (cc e)
 end_last ((k, Did entry) ∷ xs) more h e = end_last xs more h e
 end_last ((k, Ended why) ∷ []) more h e = h
@@ -54,16 +54,16 @@ both None p q = p
 both (Some s) p q = true≢false (sym p.0 ∙ q.0)
 
 -- a run of which a worker has seen the end isn't running
-pub ended : (n : Named) (s : SeatView) (log : Log) (entries : List Entry) (end : End) → IsOver n s → IsPrefix s.seen log → IsLog n log → entries ≡ entries_of log
-    → IsEndIn log end → EndsOrRuns n entries end → Ends (design_of n.code) n.limits entries end
-ended n s log entries Quiet over later is same at e = e
-ended n s log entries (Stopped why) over later is same at e = e
-ended n s log entries Running over later is same at e =
-    let whole : entries ≡ entries_of s.seen = same ∙ over.0 log is later in
+pub ended : (n : Named) (s : SeatView) (ledger : Ledger) (entries : List Entry) (end : End) → IsOver n s → IsPrefix s.seen ledger → IsLedger n ledger → entries ≡ entries_of ledger
+    → IsEndIn ledger end → EndsOrRuns n entries end → Ends (design_of n.code) n.limits entries end
+ended n s ledger entries Quiet over later is same at e = e
+ended n s ledger entries (Stopped why) over later is same at e = e
+ended n s ledger entries Running over later is same at e =
+    let whole : entries ≡ entries_of s.seen = same ∙ over.0 ledger is later in
     absurd (⊎_elim
     (λ (some : IsSome (end_in s.seen)).
-    let none : later.0 ≡ [] = end_last s.seen later.0 (subst (λ (l : Log). IsEndLast l) (sym later.1) is.last) some in
-    let all : log ≡ s.seen = sym later.1 ∙ ap (λ l. s.seen ++ l) none ∙ append_none s.seen in
+    let none : later.0 ≡ [] = end_last s.seen later.0 (subst (λ (l : Ledger). IsEndLast l) (sym later.1) is.last) some in
+    let all : ledger ≡ s.seen = sym later.1 ∙ ap (λ l. s.seen ++ l) none ∙ append_none s.seen in
     let off : IsSome {T = Why} None = subst (λ (o : Option Why). IsSome o) (sym (ap end_in all) ∙ at) some in
     absurd (cc off))
     (λ (quiet : Ends (design_of n.code) n.limits (entries_of s.seen) Quiet).
@@ -155,20 +155,20 @@ module _ {A : Type 0} where
       record { moves = []; below = tt; is = is }
 
   -- the turns of each worker are those of its positions in the whole journal, and no more than its evaluations, where these can be told
-  turns_few : (log : Log) (ys : List (Worker A)) → AllByRecursion Counted ys → All (λ s. IsPrefix s.seen log) (map (λ w. w.seat) ys)
-      → (sum_by (λ w. turns_at (entries_of log) w.seat.mine) ys ≤ sum_by (λ w. w.evaluations) ys) ⊎ (2 ^ 64 - 1 ≤ sum_by (λ w. w.evaluations) ys)
+  turns_few : (ledger : Ledger) (ys : List (Worker A)) → AllByRecursion Counted ys → All (λ s. IsPrefix s.seen ledger) (map (λ w. w.seat) ys)
+      → (sum_by (λ w. turns_at (entries_of ledger) w.seat.positions) ys ≤ sum_by (λ w. w.evaluations) ys) ⊎ (2 ^ 64 - 1 ≤ sum_by (λ w. w.evaluations) ys)
   unfolding Counted
-  turns_few log [] c p = inl (omega arith)
-  turns_few log (y ∷ ys) c p =
-      let a = sum_cons (λ (w : Worker A). turns_at (entries_of log) w.seat.mine) y ys in
+  turns_few ledger [] c p = inl (omega arith)
+  turns_few ledger (y ∷ ys) c p =
+      let a = sum_cons (λ (w : Worker A). turns_at (entries_of ledger) w.seat.positions) y ys in
       let b = sum_cons (λ (w : Worker A). w.evaluations) y ys in
-      let t : turns_at (entries_of log) y.seat.mine ≡ turns_of y.seat = turns_begin (entries_of y.seat.seen) (entries_of log) y.seat.mine (entries_begin y.seat.seen log (p 0 y.seat (omega arith))) c.0.0 in
+      let t : turns_at (entries_of ledger) y.seat.positions ≡ turns_of y.seat = turns_begin (entries_of y.seat.seen) (entries_of ledger) y.seat.positions (entries_begin y.seat.seen ledger (p 0 y.seat (omega arith))) c.0.0 in
       elim (small y.evaluations) [
         | inl lt ↦
             ⊎_elim
-            (λ (r : sum_by (λ w. turns_at (entries_of log) w.seat.mine) ys ≤ sum_by (λ w. w.evaluations) ys). let q = c.0.1 lt in inl (omega (arith, a, b, t, r, q)))
+            (λ (r : sum_by (λ w. turns_at (entries_of ledger) w.seat.positions) ys ≤ sum_by (λ w. w.evaluations) ys). let q = c.0.1 lt in inl (omega (arith, a, b, t, r, q)))
             (λ (r : 2 ^ 64 - 1 ≤ sum_by (λ w. w.evaluations) ys). inr (omega (arith, b, r)))
-            (turns_few log ys c.1 (all_tail (λ s. IsPrefix s.seen log) y.seat (map (λ w. w.seat) ys) p))
+            (turns_few ledger ys c.1 (all_tail (λ s. IsPrefix s.seen ledger) y.seat (map (λ w. w.seat) ys) p))
         | inr ge ↦ inr (omega (arith, b, ge))
       ]
 
@@ -182,13 +182,13 @@ module _ {A : Type 0} where
       let d = sum_cons (λ (w : Worker A). sum_by (λ t. length t.stolen) w.row.items) y ys in
       let e = c.0.2 in let r = few_evaluations ys c.1 in omega (arith, a, b, d, e, r)
 
-  at_end : (n : Named) (first left : List (Worker A)) (log : Log) (closed : ClosedView) → AreDone n first left → 1 ≤ n.workers → length left ≡ n.workers
-      → All (λ v. IsPrefix v.seen log) (map (λ (w : Worker A). w.seat) left) → IsLog n log → closed.entries ≡ entries_of log → IsEndIn log closed.end → EndsOrRuns n closed.entries closed.end
+  at_end : (n : Named) (first left : List (Worker A)) (ledger : Ledger) (closed : ClosedView) → AreDone n first left → 1 ≤ n.workers → length left ≡ n.workers
+      → All (λ v. IsPrefix v.seen ledger) (map (λ (w : Worker A). w.seat) left) → IsLedger n ledger → closed.entries ≡ entries_of ledger → IsEndIn ledger closed.end → EndsOrRuns n closed.entries closed.end
       → Ends (design_of n.code) n.limits closed.entries closed.end
-  at_end n first [] log closed h some long extends is same at e = absurd (omega (arith, some, long))
-  at_end n [] (y ∷ ys) log closed h some long extends is same at e = absurd h
-  at_end n (x ∷ xs) (y ∷ ys) log closed h some long extends is same at e =
-      ended n y.seat log closed.entries closed.end h.0.over (extends 0 y.seat (omega arith)) is same at e
+  at_end n first [] ledger closed h some long extends is same at e = absurd (omega (arith, some, long))
+  at_end n [] (y ∷ ys) ledger closed h some long extends is same at e = absurd h
+  at_end n (x ∷ xs) (y ∷ ys) ledger closed h some long extends is same at e =
+      ended n y.seat ledger closed.entries closed.end h.0.over (extends 0 y.seat (omega arith)) is same at e
 
   -- workers with new seats that evaluated nothing
   new_counted : (code : Compiled) (ks : List ℕ) (ws : List (Worker A)) → map (λ w. w.seat) ws ≡ map (new_seat code) ks → AllByRecursion (λ w. w.evaluations ≡ 0) ws
@@ -230,18 +230,18 @@ module _ {A : Type 0} where
   outcome n first left seats owners rows closed tally evaluations b h some few s o r e c puts takes steals =
       let long : length left ≡ n.workers = done_length n first left h ∙ b.count in
       let counted : AllByRecursion Counted left = done_counted n first left b.counted h in
-      let extends : All (λ v. IsPrefix v.seen c.log) (map (λ (w : Worker A). w.seat) left) = subst (λ (l : List SeatView). All (λ v. IsPrefix v.seen c.log) l) s c.extends in
-      let shares : (place : ℕ) → sum_by (λ ps. times place ps) (map (λ (v : SeatView). v.mine) seats) ≡ times place (range_with_len 0 (length closed.entries)) =
-      (λ place. sum_map (λ (ps : List ℕ). times place ps) (λ (v : SeatView). v.mine) seats ∙ c.once place) in
-      let all : sum_by (λ (w : Worker A). turns_at (entries_of c.log) w.seat.mine) left ≡ turns_in closed.entries =
-      (ap (λ (j : List Entry). sum_by (λ (w : Worker A). turns_at j w.seat.mine) left) (sym c.entries)
-      ∙ sym (sum_map (λ (v : SeatView). turns_at closed.entries v.mine) (λ (w : Worker A). w.seat) left)
-      ∙ ap (sum_by (λ (v : SeatView). turns_at closed.entries v.mine)) (sym s)
-      ∙ sym (sum_map (λ (ps : List ℕ). turns_at closed.entries ps) (λ (v : SeatView). v.mine) seats)
-      ∙ turns_add_up closed.entries (map (λ (v : SeatView). v.mine) seats) shares) in
+      let extends : All (λ v. IsPrefix v.seen c.ledger) (map (λ (w : Worker A). w.seat) left) = subst (λ (l : List SeatView). All (λ v. IsPrefix v.seen c.ledger) l) s c.extends in
+      let shares : (place : ℕ) → sum_by (λ ps. times place ps) (map (λ (v : SeatView). v.positions) seats) ≡ times place (range_with_len 0 (length closed.entries)) =
+      (λ place. sum_map (λ (ps : List ℕ). times place ps) (λ (v : SeatView). v.positions) seats ∙ c.once place) in
+      let all : sum_by (λ (w : Worker A). turns_at (entries_of c.ledger) w.seat.positions) left ≡ turns_in closed.entries =
+      (ap (λ (j : List Entry). sum_by (λ (w : Worker A). turns_at j w.seat.positions) left) (sym c.entries)
+      ∙ sym (sum_map (λ (v : SeatView). turns_at closed.entries v.positions) (λ (w : Worker A). w.seat) left)
+      ∙ ap (sum_by (λ (v : SeatView). turns_at closed.entries v.positions)) (sym s)
+      ∙ sym (sum_map (λ (ps : List ℕ). turns_at closed.entries ps) (λ (v : SeatView). v.positions) seats)
+      ∙ turns_add_up closed.entries (map (λ (v : SeatView). v.positions) seats) shares) in
       let total : sum evaluations ≡ sum_by (λ (w : Worker A). w.evaluations) left = sum_is evaluations ∙ ap (sum_by (λ (k : ℕ). k)) e ∙ sum_map (λ (k : ℕ). k) (λ (w : Worker A). w.evaluations) left in
       let most : turns_in closed.entries ≤ length closed.entries = few_turns closed.entries in
-      let room : length closed.entries ≤ n.limits.max_entries = (let f = c.is_log.few in let l = ap length c.entries in omega (arith, f, l)) in
+      let room : length closed.entries ≤ n.limits.max_entries = (let f = c.is_ledger.few in let l = ap length c.entries in omega (arith, f, l)) in
       let taken : tally.takes ≡ sum_by (λ (w : Worker A). length w.owner.taken) left = takes ∙ ap (sum_by (λ (q : Owning _). length q.taken)) o ∙ sum_map (λ (q : Owning _). length q.taken) (λ (w : Worker A). w.owner) left in
       let put : tally.puts ≡ sum_by (λ (w : Worker A). length w.owner.put) left = puts ∙ ap (sum_by (λ (q : Owning _). length q.put)) o ∙ sum_map (λ (q : Owning _). length q.put) (λ (w : Worker A). w.owner) left in
       let stolen : tally.steals ≡ sum_by (λ (w : Worker A). sum_by (λ t. length t.stolen) w.row.items) left =
@@ -251,14 +251,14 @@ module _ {A : Type 0} where
         timely = c.closed_is.timely;
         once = λ event. once (design_of n.code) closed.entries event c.closed_is.lawful;
         lines_are = c.closed_is.lines_are;
-        ends = at_end n first left c.log closed h some long extends c.is_log c.entries c.end_is c.closed_is.ends;
-        shares = ap length c.shares ∙ length-map seats (λ (v : SeatView). length v.mine) ∙ ap length s ∙ length-map left (λ (w : Worker A). w.seat) ∙ long;
+        ends = at_end n first left c.ledger closed h some long extends c.is_ledger c.entries c.end_is c.closed_is.ends;
+        shares = ap length c.shares ∙ length-map seats (λ (v : SeatView). length v.positions) ∙ ap length s ∙ length-map left (λ (w : Worker A). w.seat) ∙ long;
         committed = c.sum_is;
         counts = ap length e ∙ length-map left (λ (w : Worker A). w.evaluations) ∙ long;
         turns = ⊎_elim
-            (λ (x : sum_by (λ (w : Worker A). turns_at (entries_of c.log) w.seat.mine) left ≤ sum_by (λ (w : Worker A). w.evaluations) left). omega (arith, x, all, total))
+            (λ (x : sum_by (λ (w : Worker A). turns_at (entries_of c.ledger) w.seat.positions) left ≤ sum_by (λ (w : Worker A). w.evaluations) left). omega (arith, x, all, total))
             (λ (x : 2 ^ 64 - 1 ≤ sum_by (λ (w : Worker A). w.evaluations) left). omega (arith, x, most, room, few, total))
-            (turns_few c.log left counted extends);
+            (turns_few c.ledger left counted extends);
         tickets = let f = few_evaluations left counted in omega (arith, f, total, taken, stolen);
         placed = let p = placed_few n first left b h some in omega (arith, p, put);
       }

@@ -2,6 +2,7 @@
 ghost use Rattle.std.specs.Prelude.{◌≡◌, ◌++◌, OnOk, flat_map};
 ghost use Rattle.statekeys.specs.KeyCodes.{nat_code, list_code};
 
+use design::Halved;
 use logic4::bits::Bits;
 use std::alloc::AllocError;
 use std::collections::VecDeque;
@@ -123,6 +124,16 @@ impl Encode for Bits {
         put_nat(bytes, u128::from(self.width()))?;
         put_nat(bytes, first)?;
         put_nat(bytes, second)
+    }
+}
+
+impl Encode for Halved {
+    ghost use Rattle.statekeys.specs.KeyCodes.{vector_code};
+
+    ghost code = { vector_code };
+
+    fn encode(&self, bytes: &mut Vec<u8>) -> Result<(), AllocError> {
+        self.get().encode(bytes)
     }
 }
 

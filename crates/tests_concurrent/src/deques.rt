@@ -284,7 +284,7 @@ fn steal_by_three<K: Naming + Send, R: Threads + Wait + Sync>(
 // What the four workers of a pool got.
 #[derive(Drop)]
 struct Got {
-    mine: Vec<u64>,
+    taken: Vec<u64>,
     first: Vec<u64>,
     second: Vec<u64>,
     third: Vec<u64>,
@@ -303,7 +303,7 @@ fn race<K: Naming + Send, R: Threads + Wait + Sync>(
     let three = thieves.pop()?;
     let two = thieves.pop()?;
     let one = thieves.pop()?;
-    let ((owners, mine), ((one, first), ((two, second), (three, third)))) = thread::join(
+    let ((owners, taken), ((one, first), ((two, second), (three, third)))) = thread::join(
         rt,
         move || -> (Vec<Owner<Ticket<K>>>, Vec<u64>)
             ensures { map owner_card result.0.items ≡ map owner_card owners.items }
@@ -322,7 +322,7 @@ fn race<K: Naming + Send, R: Threads + Wait + Sync>(
         return None;
     };
     let got = Got {
-        mine,
+        taken,
         first,
         second,
         third,
@@ -332,7 +332,7 @@ fn race<K: Naming + Send, R: Threads + Wait + Sync>(
 
 // Each event of 256 stands once among those of four workers, and those of the owner rise.
 fn assert_got(rt: &impl Abort, got: Got) {
-    let mut events = got.mine;
+    let mut events = got.taken;
     holds(rt, events.is_sorted(), "the owner's events rise");
     put_behind(rt, &mut events, &got.first);
     put_behind(rt, &mut events, &got.second);
@@ -361,7 +361,7 @@ fn share_all<K: Naming + Send, R: Threads + Wait + Abort + Sync>(
     };
     let tally = close(owners, thieves);
     let stolen = got.first.len() + got.second.len() + got.third.len();
-    assert_tally(rt, &tally, 256, got.mine.len() as u128, stolen as u128);
+    assert_tally(rt, &tally, 256, got.taken.len() as u128, stolen as u128);
     assert_got(rt, got);
     Ok(())
 }

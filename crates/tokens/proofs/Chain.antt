@@ -21,6 +21,16 @@ reading_one piece o none shown is test some =
     let h : worth_of piece ≡ Some (worth_or_none (worth_of piece)) = some_worth (worth_of piece) none (ap is_some (sym is) ∙ test) some in
     rw shown (ap (option_map one) h)
 
+no_worth : (o : Option Worth) → is_some o ≡ false → o ≡ None
+no_worth None none = refl
+no_worth (Some w) none = absurd (cc)
+
+pub reading_none : (piece : List ℕ) (bad : Bool) → is_skipped piece ≡ false → is_some (worth_of piece) ≡ not bad → bad ≡ true → reading piece ≡ None
+unfolding reading
+reading_none piece bad shown test is =
+    let one = λ (w : Worth). record { kind = kind_of piece; text = piece; value = w.0; bits = w.1 } ∷ [] in
+    rw shown (ap (option_map one) (no_worth (worth_of piece) (test ∙ ap not is)))
+
 pub added : (piece : List ℕ) (old : PlainTokens) (read : Bool) (new : PlainTokens) → read ≡ true → Adds piece old read new → (us : PlainTokens) × (reading piece ≡ Some us) × (new ≡ old ++ us)
 added piece old true new is h = h
 added piece old false new is h = absurd (cc)

@@ -8,7 +8,7 @@ ghost use Rattle.tokens.specs.Lexing.{Cut, Stops};
 ghost use Rattle.tokens.specs.Tokens.{plain_token};
 
 use crate::kinds::kind_of;
-use crate::literal::worth_of;
+use crate::literal::is_bad_number;
 use crate::pieces::piece_len;
 use crate::spans::is_space;
 use crate::token::Token;
@@ -44,7 +44,7 @@ fn add<'a>(alloc: Global, found: &mut Vec<Token<'a>>, piece: &'a [u8]) -> Result
     if is_skipped(piece) {
         return Ok(true);
     }
-    if worth_of(alloc, piece)?.is_none() {
+    if is_bad_number(alloc, piece)? {
         return Ok(false);
     }
     let kind = kind_of(piece);

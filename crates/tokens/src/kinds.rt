@@ -103,7 +103,13 @@ fn system_name(text: &[u8]) -> Option<Kind>
 fn sign(text: &[u8]) -> Option<Kind>
     ensures { result ≡ spec.kind_in spec.signs text.now }
 {
-    kind_in(SIGNS, text)
+    // Those that stand most often and late in the table are found without it.
+    match text {
+        [b';'] => Some(Kind::Semicolon),
+        [b'='] => Some(Kind::Assign),
+        [b'<', b'='] => Some(Kind::AtMost),
+        _ => kind_in(SIGNS, text),
+    }
 }
 
 /// The kind of a reserved word, or of a name.

@@ -1,6 +1,7 @@
 //! Plain decimals, and literals with a size.
 
-ghost use Rattle.std.specs.Prelude.{◌≡◌, ◌≤◌, ◌^◌, ◌%◌, ℕ, [], true, nat_lt, length, option_map, IfOk};
+ghost use Rattle.std.specs.Prelude.{◌≡◌, ◌≤◌, ◌^◌, ◌%◌, ℕ, [], true, not, nat_lt, length, option_map, IfOk};
+ghost use Rattle.std.specs.Option.{is_some};
 ghost use Rattle.logic4.specs.Vector.{bit_digit, vector, greatest_width};
 ghost use Rattle.tokens.specs.ByteClasses.{is_digit, all};
 ghost use Rattle.tokens.specs.Literals as spec;
@@ -168,7 +169,7 @@ fn is_below(n: u128, width: u32) -> bool
     requires { width ≤ greatest_width }
     ensures { result ≡ nat_lt n (2 ^ width) }
 {
-    width == MAX_WIDTH || n < 2u128.pow(width)
+    width == MAX_WIDTH || n < 1 << width
 }
 
 /// The vector of a literal of base d, where the width holds it.
@@ -295,6 +296,25 @@ pub fn worth_of(alloc: Global, text: &[u8]) -> Result<Option<Worth>, AllocError>
     match text {
         [b, ..] if is_digit(*b) => number_of(alloc, text),
         _ => Ok(Some((0, None))),
+    }
+}
+
+// Whether a number is malformed or too wide. What a number stands for is long, and is to lie in no frame of the callers'.
+#[inline(never)]
+fn is_unread(alloc: Global, number: &[u8]) -> Result<bool, AllocError>
+    ensures { IfOk result (λ unread. is_some (spec.number_of number.now) ≡ not unread) }
+{
+    Ok(number_of(alloc, number)?.is_none())
+}
+
+/// Whether a token is a number that is malformed or too wide.
+#[inline(always)]
+pub fn is_bad_number(alloc: Global, text: &[u8]) -> Result<bool, AllocError>
+    ensures { IfOk result (λ bad. is_some (spec.worth_of text.now) ≡ not bad) }
+{
+    match text {
+        [b, ..] if is_digit(*b) => is_unread(alloc, text),
+        _ => Ok(false),
     }
 }
 

@@ -4,7 +4,7 @@ ghost use Rattle.turn.specs.declared.log.FillFault.TheVariants as fault;
 ghost use Rattle.turn.specs.Nets.{nets_of};
 
 use crate::memory::Seen;
-use crate::running_turn::RunningTurn;
+use crate::running_turn::{RunningTurn, put_state};
 use design::{ProcState, RegId};
 use indexmap::IndexMap;
 use logic4::bits::Bits;
@@ -140,6 +140,14 @@ impl TurnLog {
         ensures { result ≡ self.now.next }
     {
         self.running.state
+    }
+
+    /// Sets a state to where the process goes on.
+    #[inline(always)]
+    pub fn put_next(&self, state: &mut ProcState)
+        ensures { state.new ≡ self.now.next }
+    {
+        put_state(state, &self.running.state);
     }
 
     /// The number of counted steps.

@@ -139,7 +139,7 @@ impl RunningTurn {
     {
         let place = self.state.place;
         if let Some((register, value)) = self.state.pending {
-            self.write(register, value, place)?;
+            self.write(register, value.get(), place)?;
             return Ok(Step::Goes);
         }
         match nodes.get(place) {

@@ -76,12 +76,13 @@ impl Memory {
     }
 
     // Records a read, whose value is known from now on.
-    fn record(&mut self, register: RegId, seen: Seen) -> Result<(), AllocError>
-        ensures known { OnOk result (self.new.known ≡ slice_set self.old.known register (Some seen.value)) }
-        ensures reads { OnOk result (self.new.reads.entries ≡ insert_entry nat_eq self.old.reads.entries register seen) }
+    #[inline(always)]
+    fn record(&mut self, register: RegId, seen: &Seen) -> Result<(), AllocError>
+        ensures known { OnOk result (self.new.known ≡ slice_set self.old.known register (Some seen.now.value)) }
+        ensures reads { OnOk result (self.new.reads.entries ≡ insert_entry nat_eq self.old.reads.entries register seen.now) }
     {
         self.set(register, &seen.value);
-        self.reads.insert(register, seen)?;
+        self.reads.insert(register, *seen)?;
         Ok(())
     }
 
@@ -97,9 +98,8 @@ impl Memory {
         ensures reads { ReadsOn R.gave R.lasting result reader.old self.old.reads.entries reader.new self.new.reads.entries }
     {
         let seen = reader.read(register);
-        let value = seen.value;
-        self.record(register, seen)?;
-        Ok(value)
+        self.record(register, &seen)?;
+        Ok(seen.value)
     }
 
     /// The value of a register: the one that is known, or else the one that is read now, and recorded.

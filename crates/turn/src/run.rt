@@ -41,7 +41,7 @@ fn run<R: RegReader>(
     let nodes = design.nodes();
     let ops = design.ops();
     let shown = design.shown();
-    running.begin(*state, design.registers())?;
+    running.begin(state, design.registers())?;
     for count in 0..MOST_STEPS {
         match running.take(nodes, ops, shown, now, reader)? {
             Step::Goes => {}

@@ -11,7 +11,7 @@ use crate::memory::{Memory, RegReader, Seen};
 use crate::stack::Stack;
 use crate::writes::Writes;
 use design::code::{Op, Span};
-use design::{ProcState, RegId};
+use design::{Halved, ProcState, RegId};
 use indexmap::IndexMap;
 use logic4::bits::Bits;
 use std::alloc::{AllocError, Global};
@@ -66,12 +66,33 @@ fn note_write(
 
 // Nothing is left over. Mostly nothing was, and then nothing is written.
 #[inline(always)]
-fn forget(pending: &mut Option<(RegId, Bits)>)
+fn forget(pending: &mut Option<(RegId, Halved)>)
     ensures { pending.new ≡ None }
 {
     if pending.is_some() {
         *pending = None;
     }
+}
+
+// Sets what is left over. Mostly nothing is, and then little is written.
+#[inline(always)]
+fn put_pending(pending: &mut Option<(RegId, Halved)>, from: &Option<(RegId, Halved)>)
+    ensures { pending.new ≡ from.now }
+{
+    if from.is_some() {
+        *pending = *from;
+    } else {
+        forget(pending);
+    }
+}
+
+// Sets where a process goes on, part by part: as a whole it is dear to copy.
+#[inline(always)]
+pub(crate) fn put_state(state: &mut ProcState, from: &ProcState)
+    ensures { state.new ≡ from.now }
+{
+    state.place = from.place;
+    put_pending(&mut state.pending, &from.pending);
 }
 
 impl RunningTurn {
@@ -102,10 +123,11 @@ impl RunningTurn {
     }
 
     /// A turn begins, over this many registers. What the room held counts for nothing.
-    pub fn begin(&mut self, state: ProcState, registers: u32) -> Result<(), AllocError>
-        ensures { OnOk result (status_of self.new ≡ fresh state registers) }
+    #[inline(always)]
+    pub fn begin(&mut self, state: &ProcState, registers: u32) -> Result<(), AllocError>
+        ensures { OnOk result (status_of self.new ≡ fresh state.now registers) }
     {
-        self.state = state;
+        put_state(&mut self.state, state);
         self.memory.begin(registers)?;
         self.writes.clear();
         self.nbas.clear();
@@ -154,20 +176,21 @@ impl RunningTurn {
     {
         self.state = ProcState {
             place: next,
-            pending: Some((register, self.stack.top)),
+            pending: Some((register, Halved::new(self.stack.top))),
         };
     }
 
     /// Makes a nonblocking assignment of the topmost vector of the stack, which is due at this time (9.2.2).
+    #[inline(always)]
     pub fn assign_later(&mut self, register: RegId, due: u64, next: usize) -> Result<(), AllocError>
         ensures { OnOk result (status_of self.new ≡ delaying (status_of self.old) (record { reg = register; value = self.old.stack.top; due = due }) next) }
     {
-        let nba = Nba {
+        self.nbas.reserve(1)?;
+        self.nbas.push_reserved(Nba {
             reg: register,
             value: self.stack.top,
             due,
-        };
-        self.nbas.push(nba)?;
+        });
         self.go(next);
         Ok(())
     }

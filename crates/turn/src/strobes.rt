@@ -63,7 +63,7 @@ fn print_lines<R: RegReader>(
         place: 0,
         pending: None,
     };
-    running.begin(start, design.registers())?;
+    running.begin(&start, design.registers())?;
     for place in places {
         running.strobe_line(nodes, ops, shown, *place, reader)?;
     }

@@ -61,11 +61,14 @@ impl Known {
         }
     }
 
-    /// Nothing is known, of this many registers.
+    /// Nothing is known, of this many registers. Mostly there are as many slots, and then a new stamp is all.
     pub fn begin(&mut self, registers: u32) -> Result<(), AllocError>
         ensures { OnOk result (self.new ≡ replicate registers None) }
     {
         self.stamp = next_stamp(self.stamp, &mut self.slots);
+        if self.slots.len() == registers as usize {
+            return Ok(());
+        }
         let unset = Slot {
             stamp: 0,
             value: Bits::unknown(1),

@@ -55,7 +55,7 @@ module _ {T : Type 0} where
       → Goes appended appended s s' → appended + left ≤ turns → IsOpen s o r e turns tickets → IsOpen s' o1 r1 e left 0
   open_goes s s' o o1 r r1 e turns tickets appended left got goes few c =
       let t = goes.counted c.0 in (
-        goes.positions c.0,
+        goes.has_positions c.0,
         (λ lt. let p = c.1 lt in omega (arith, p, t, few)),
         (let q = c.2 in omega (arith, q, got)),
       )
@@ -65,7 +65,7 @@ module _ {T : Type 0} where
       → Goes 0 0 s s' → e' ≡ min (e + 1) (2 ^ 64 - 1) → more ≤ turns + 1 → IsOpen s o r e turns 1 → IsOpen s' o1 r1 e' more 0
   open_begun s s' o o1 r r1 e e' turns more got goes one few c =
       let t = goes.counted c.0 in (
-        goes.positions c.0,
+        goes.has_positions c.0,
         (λ lt. let p = c.1 (omega (arith, one, lt)) in omega (arith, p, t, one, few, lt)),
         (let q = c.2 in omega (arith, q, got, one)),
       )
@@ -107,7 +107,7 @@ module _ {A : Type 0} where
     worker = fills.worker ∙ ap (λ s. s.worker) seat;
     ends = (fills.ends.0 ∙ ends.0, fills.ends.1 ∙ ends.1);
     later = later_more a b c (later_taken a b ticket seat put all) fills.later;
-    entries_few = (let f = fills.entries_few in let l : length b.seat.mine ≡ length a.seat.mine = ap (λ (s : SeatView). length s.mine) seat in omega (arith, f, l));
+    entries_few = (let f = fills.entries_few in let l : length b.seat.positions ≡ length a.seat.positions = ap (λ (s : SeatView). length s.positions) seat in omega (arith, f, l));
     tickets_few = (let f = fills.tickets_few in let g = all (λ ticket. 1) in omega (arith, f, g));
     counted = λ k. fills.counted (
       rw seat k.0,

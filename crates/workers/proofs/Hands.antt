@@ -22,7 +22,7 @@ same_begin xs (z ∷ zs) ys p few = let l : length ys ≡ length xs + length (z 
 -- a seat that goes on and appends nothing
 pub kept_goes : {turns : ℕ} (n : Named) (placed : List TicketView) (s s' : SeatView) (o : Owning TicketView) (row : List (Stealing TicketView)) (due hand : List TicketView)
     → Goes turns 0 s s' → LosesNone n placed s o row due hand → LosesNone n placed s' o row due hand
-kept_goes n placed s s' o row due hand goes k = kept_looks n placed s s' o row due hand goes.seen (same_begin s.mine goes.mine.0 s'.mine goes.mine.1 goes.few) k
+kept_goes n placed s s' o row due hand goes k = kept_looks n placed s s' o row due hand goes.seen (same_begin s.positions goes.positions.0 s'.positions goes.positions.1 goes.few) k
 
 module _ {A : Type 0} where
   -- a worker of which only what is counted changed

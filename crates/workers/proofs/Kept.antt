@@ -7,7 +7,7 @@ use Rattle.model.specs.declared.entry.Entry.TheVariants.{Turn, Update, ActivateI
 use Rattle.model.specs.declared.end.Why.{Why}
 use Rattle.turn.specs.declared.memory.Seen.{Seen}
 use Rattle.turn.specs.TurnLogs.{LogView}
-use Rattle.runstate.specs.Log.{Log, entries_of}
+use Rattle.runstate.specs.Ledger.{Ledger, entries_of}
 use Rattle.commitgate.specs.Named.{Named}
 use Rattle.commitgate.specs.Seats.{SeatView, ReadsOn}
 use Rattle.commitgate.specs.Tickets.{TicketView, again}
@@ -26,13 +26,13 @@ use Rattle.workers.proofs.Seats.{begins_more, entries_begin, below_longer, begin
 use Rattle.workers.proofs.Weighing.{weigh_append, turned_round}
 use Rattle.workers.proofs.Places.{turned_same, granted_same, turned_more, granted_more}
 
-gone_later : (n : Named) (seen seen' : Log) (gone : List TicketView) → IsPrefix seen seen' → AllByRecursion (WasGone n seen) gone → AllByRecursion (WasGone n seen') gone
+gone_later : (n : Named) (seen seen' : Ledger) (gone : List TicketView) → IsPrefix seen seen' → AllByRecursion (WasGone n seen) gone → AllByRecursion (WasGone n seen') gone
 gone_later n seen seen' [] later h = tt
 gone_later n seen seen' (t ∷ ts) later h = (
   record {
-    log = h.0.log;
-    begins = begins_more h.0.log seen seen' h.0.begins later;
-    is_log = h.0.is_log;
+    ledger = h.0.ledger;
+    begins = begins_more h.0.ledger seen seen' h.0.begins later;
+    is_ledger = h.0.is_ledger;
     gone = h.0.gone;
   },
   gone_later n seen seen' ts later h.1,
@@ -44,7 +44,7 @@ module _ (n : Named) (placed : List TicketView) where
       → ((event : ℕ) → tickets_for event due' ≡ tickets_for event due) → ((event : ℕ) → tickets_for event hand' ≡ tickets_for event hand)
       → LosesNone n placed s o row due hand → LosesNone n placed s o row due' hand'
   kept_hand s o row due due' hand hand' same equal k = record {
-    positions = k.positions;
+    has_positions = k.has_positions;
     back = k.back;
     gone = k.gone;
     were_gone = k.were_gone;
@@ -56,7 +56,7 @@ module _ (n : Named) (placed : List TicketView) where
   pub kept_back : (s : SeatView) (o : Owning TicketView) (row : List (Stealing TicketView)) (ticket back : TicketView) (due hand : List TicketView)
       → back.event ≡ ticket.event → LosesNone n placed s o row due (ticket ∷ hand) → LosesNone n placed s o row (back ∷ due) hand
   kept_back s o row ticket back due hand same k = record {
-    positions = k.positions;
+    has_positions = k.has_positions;
     back = back ∷ k.back;
     gone = k.gone;
     were_gone = k.were_gone;
@@ -69,24 +69,24 @@ module _ (n : Named) (placed : List TicketView) where
 
   -- a seat that appended nothing
   pub kept_looks : (s s' : SeatView) (o : Owning TicketView) (row : List (Stealing TicketView)) (due hand : List TicketView)
-      → IsPrefix s.seen s'.seen → s'.mine ≡ s.mine → LosesNone n placed s o row due hand → LosesNone n placed s' o row due hand
-  kept_looks s s' o row due hand later mine k = record {
-    positions = subst (λ ps. AllByRecursion (λ q. q < length (entries_of s'.seen)) ps) (sym mine)
-        (below_longer (length (entries_of s.seen)) (length (entries_of s'.seen)) s.mine (begins_length (entries_of s.seen) (entries_of s'.seen) (entries_begin s.seen s'.seen later)) k.positions);
+      → IsPrefix s.seen s'.seen → s'.positions ≡ s.positions → LosesNone n placed s o row due hand → LosesNone n placed s' o row due hand
+  kept_looks s s' o row due hand later positions k = record {
+    has_positions = subst (λ ps. AllByRecursion (λ q. q < length (entries_of s'.seen)) ps) (sym positions)
+        (below_longer (length (entries_of s.seen)) (length (entries_of s'.seen)) s.positions (begins_length (entries_of s.seen) (entries_of s'.seen) (entries_begin s.seen s'.seen later)) k.has_positions);
     back = k.back;
     gone = k.gone;
     were_gone = gone_later n s.seen s'.seen k.gone later k.were_gone;
-    puts = λ event. let a = k.puts event in let r = granted_same n event s s' later mine k.positions in omega (arith, a, r);
-    gots = λ event. let a = k.gots event in let t = turned_same event s s' later mine k.positions in omega (arith, a, t);
+    puts = λ event. let a = k.puts event in let r = granted_same n event s s' later positions k.has_positions in omega (arith, a, r);
+    gots = λ event. let a = k.gots event in let t = turned_same event s s' later positions k.has_positions in omega (arith, a, t);
   }
 
   pub kept_refused : (s s' : SeatView) (o : Owning TicketView) (row : List (Stealing TicketView)) (due hand : List TicketView)
       → IsRefused n s s' → LosesNone n placed s o row due hand → LosesNone n placed s' o row due hand
-  kept_refused s s' o row due hand r k = kept_looks s s' o row due hand r.looks_on.follows.later r.looks_on.mine k
+  kept_refused s s' o row due hand r k = kept_looks s s' o row due hand r.looks_on.follows.later r.looks_on.positions k
 
   pub kept_read : (s s' : SeatView) (o : Owning TicketView) (row : List (Stealing TicketView)) (due hand : List TicketView)
       → ReadsOn s s' → LosesNone n placed s o row due hand → LosesNone n placed s' o row due hand
-  kept_read s s' o row due hand r k = kept_looks s s' o row due hand ([], append-nil s.seen ∙ sym r.seen) r.mine k
+  kept_read s s' o row due hand r k = kept_looks s s' o row due hand ([], append-nil s.seen ∙ sym r.seen) r.positions k
 
   -- a seat that appended an entry: its tickets are to be put, and that of its turn isn't in hand any more
   pub kept_appended : (s s' : SeatView) (o : Owning TicketView) (row : List (Stealing TicketView)) (due hand hand' : List TicketView)
@@ -94,19 +94,19 @@ module _ (n : Named) (placed : List TicketView) where
       → ((event : ℕ) → tickets_for event hand' + is_turn event entry ≡ tickets_for event hand)
       → LosesNone n placed s o row due hand → LosesNone n placed s' o row (tickets ++ due) hand'
   kept_appended s s' o row due hand hand' entry position named tickets a same k = record {
-    positions = (goes_appended n s entry position named tickets s' a).positions k.positions;
+    has_positions = (goes_appended n s entry position named tickets s' a).has_positions k.has_positions;
     back = k.back;
     gone = k.gone;
     were_gone = gone_later n s.seen s'.seen k.gone a.follows.later k.were_gone;
     puts = λ event.
         let b = k.puts event in
         let d = weigh_append (is_for event) tickets due in
-        let r = granted_more n s entry position named tickets s' a event k.positions in
+        let r = granted_more n s entry position named tickets s' a event k.has_positions in
         omega (arith, b, d, r);
     gots = λ event.
         let b = k.gots event in
         let h = same event in
-        let t = turned_more n s entry position named tickets s' a event k.positions in
+        let t = turned_more n s entry position named tickets s' a event k.has_positions in
         omega (arith, b, h, t);
   }
 
@@ -115,10 +115,10 @@ module _ (n : Named) (placed : List TicketView) where
       → IsGone n s ticket s' → LosesNone n placed s o row due (ticket ∷ hand) → LosesNone n placed s' o row due hand
   kept_gone s s' o row ticket due hand g k =
       let later = kept_refused s s' o row due (ticket ∷ hand) g.refused k in record {
-        positions = later.positions;
+        has_positions = later.has_positions;
         back = later.back;
         gone = ticket ∷ later.gone;
-        were_gone = (record { log = s'.seen; begins = ([], append-nil s'.seen); is_log = g.refused.log; gone = g.gone }, later.were_gone);
+        were_gone = (record { ledger = s'.seen; begins = ([], append-nil s'.seen); is_ledger = g.refused.ledger; gone = g.gone }, later.were_gone);
         puts = later.puts;
         gots = λ event. let a = later.gots event in omega (arith, a);
       }
@@ -127,7 +127,7 @@ module _ (n : Named) (placed : List TicketView) where
   pub kept_put : (s : SeatView) (o o' : Owning TicketView) (row : List (Stealing TicketView)) (tickets due hand : List TicketView)
       → o'.put ≡ o.put ++ tickets → o'.taken ≡ o.taken → LosesNone n placed s o row (tickets ++ due) hand → LosesNone n placed s o' row due hand
   kept_put s o o' row tickets due hand put taken k = record {
-    positions = k.positions;
+    has_positions = k.has_positions;
     back = k.back;
     gone = k.gone;
     were_gone = k.were_gone;
@@ -147,7 +147,7 @@ module _ (n : Named) (placed : List TicketView) where
       → GotOne o row o' row' ticket → o'.put ≡ o.put
       → LosesNone n placed s o row due hand → LosesNone n placed s o' row' due (ticket ∷ hand)
   kept_taken s o o' row row' ticket due hand got put k = record {
-    positions = k.positions;
+    has_positions = k.has_positions;
     back = k.back;
     gone = k.gone;
     were_gone = k.were_gone;
@@ -159,7 +159,7 @@ module _ (n : Named) (placed : List TicketView) where
   pub kept_ends : (s : SeatView) (o o' : Owning TicketView) (row row' : List (Stealing TicketView)) (due hand : List TicketView)
       → GotNone o row o' row' → o'.put ≡ o.put → LosesNone n placed s o row due hand → LosesNone n placed s o' row' due hand
   kept_ends s o o' row row' due hand got put k = record {
-    positions = k.positions;
+    has_positions = k.has_positions;
     back = k.back;
     gone = k.gone;
     were_gone = k.were_gone;
@@ -172,7 +172,7 @@ ended_kept : (n : Named) (placed : List TicketView) (last new : SeatView) (end :
     → UpdatesEndedTo n last end new → LosesNone n placed last o row due hand → LosesNone n placed new o row due hand
 ended_kept n placed last new ends.Woke o row due hand same k = subst (λ (v : SeatView). LosesNone n placed v o row due hand) (sym same) k
 ended_kept n placed last new ends.Nothing o row due hand a k = kept_refused n placed last new o row due hand a.0 k
-ended_kept n placed last new (ends.Stopped why) o row due hand a k = kept_looks n placed last new o row due hand a.follows.later a.mine k
+ended_kept n placed last new (ends.Stopped why) o row due hand a k = kept_looks n placed last new o row due hand a.follows.later a.positions k
 ended_kept n placed last new ends.NoMemory o row due hand a k = kept_refused n placed last new o row due hand a k
 ended_kept n placed last new ends.NoRoom o row due hand same k = subst (λ (v : SeatView). LosesNone n placed v o row due hand) (sym same) k
 

@@ -18,7 +18,7 @@ module _ {A : Type 0} where
   pub later_more : (a b c : Worker A) → Extends a b → Extends b c → Extends a c
   later_more a b c f g = record {
     seen = begins_more a.seat.seen b.seat.seen c.seat.seen f.seen g.seen;
-    mine = begins_more a.seat.mine b.seat.mine c.seat.mine f.mine g.mine;
+    positions = begins_more a.seat.positions b.seat.positions c.seat.positions f.positions g.positions;
     put = begins_more a.owner.put b.owner.put c.owner.put f.put g.put;
     got = λ weight. let p = f.got weight in let q = g.got weight in omega (arith, p, q);
   }
@@ -27,7 +27,7 @@ module _ {A : Type 0} where
   pub later_puts : {turns entries : ℕ} (a b : Worker A) → Goes turns entries a.seat b.seat → OnlyPuts a.owner b.owner → b.row.items ≡ a.row.items → Extends a b
   later_puts a b goes puts row = record {
     seen = goes.seen;
-    mine = goes.mine;
+    positions = goes.positions;
     put = puts.2;
     got = λ weight. let g = got_puts_all a b weight puts row in omega (arith, g);
   }
@@ -37,7 +37,7 @@ module _ {A : Type 0} where
       → GotOne a.owner a.row.items b.owner b.row.items ticket → Extends a b
   later_taken a b ticket seat put got = record {
     seen = ([], append-nil a.seat.seen ∙ ap (λ (s : SeatView). s.seen) (sym seat));
-    mine = ([], append-nil a.seat.mine ∙ ap (λ (s : SeatView). s.mine) (sym seat));
+    positions = ([], append-nil a.seat.positions ∙ ap (λ (s : SeatView). s.positions) (sym seat));
     put = ([], append-nil a.owner.put ∙ sym put);
     got = λ weight. let g = got weight in omega (arith, g);
   }
@@ -67,7 +67,7 @@ module _ {A : Type 0} where
       → GotOne a.owner a.row.items b.owner b.row.items ticket → Within 0 1 a b
   within_taken a b ticket seat put got = record {
     later = later_taken a b ticket seat put got;
-    entries_few = (let l : length b.seat.mine ≡ length a.seat.mine = ap (λ (s : SeatView). length s.mine) seat in omega (arith, l));
+    entries_few = (let l : length b.seat.positions ≡ length a.seat.positions = ap (λ (s : SeatView). length s.positions) seat in omega (arith, l));
     tickets_few = (let g = got (λ ticket. 1) in omega (arith, g));
   }
 
@@ -77,11 +77,11 @@ module _ {A : Type 0} where
   within_none a b seat put got = record {
     later = record {
       seen = ([], append-nil a.seat.seen ∙ ap (λ (s : SeatView). s.seen) (sym seat));
-      mine = ([], append-nil a.seat.mine ∙ ap (λ (s : SeatView). s.mine) (sym seat));
+      positions = ([], append-nil a.seat.positions ∙ ap (λ (s : SeatView). s.positions) (sym seat));
       put = ([], append-nil a.owner.put ∙ sym put);
       got = λ weight. let g = got weight in omega (arith, g);
     };
-    entries_few = (let l : length b.seat.mine ≡ length a.seat.mine = ap (λ (s : SeatView). length s.mine) seat in omega (arith, l));
+    entries_few = (let l : length b.seat.positions ≡ length a.seat.positions = ap (λ (s : SeatView). length s.positions) seat in omega (arith, l));
     tickets_few = (let g = got (λ ticket. 1) in omega (arith, g));
   }
 

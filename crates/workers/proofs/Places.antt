@@ -9,7 +9,7 @@ use Rattle.model.specs.declared.entry.Entry.{Entry}
 use Rattle.model.specs.States.{Event, State}
 use Rattle.model.specs.Runs.{after}
 use Rattle.design.specs.Compiled.{Compiled, design_of}
-use Rattle.runstate.specs.Log.{entries_of, items_of}
+use Rattle.runstate.specs.Ledger.{entries_of, items_of}
 use Rattle.commitgate.specs.Named.{Named}
 use Rattle.commitgate.specs.Seats.{SeatView}
 use Rattle.commitgate.specs.Tickets.{TicketView}
@@ -39,18 +39,18 @@ granted_stable n event J K place lt =
     (made_between (after (design_of n.code) (take-append-le place J K (omega (arith, lt)) i)) (after (design_of n.code) (take-append-le (place + 1) J K (omega (arith, lt)) i))))
 
 -- a seat that appended nothing
-over_same : (weight : List Entry → ℕ → ℕ) → IsStable weight → (old new : SeatView) → IsPrefix old.seen new.seen → new.mine ≡ old.mine
-    → AllByRecursion (λ p. p < length (entries_of old.seen)) old.mine → over_own weight new ≡ over_own weight old
-over_same weight stable old new later mine h =
-    ap (weigh (weight (entries_of new.seen))) mine ∙ over_later weight stable (entries_of old.seen) (entries_of new.seen) old.mine (entries_begin old.seen new.seen later) h
+over_same : (weight : List Entry → ℕ → ℕ) → IsStable weight → (old new : SeatView) → IsPrefix old.seen new.seen → new.positions ≡ old.positions
+    → AllByRecursion (λ p. p < length (entries_of old.seen)) old.positions → over_own weight new ≡ over_own weight old
+over_same weight stable old new later positions h =
+    ap (weigh (weight (entries_of new.seen))) positions ∙ over_later weight stable (entries_of old.seen) (entries_of new.seen) old.positions (entries_begin old.seen new.seen later) h
 
-pub turned_same : (event : ℕ) (old new : SeatView) → IsPrefix old.seen new.seen → new.mine ≡ old.mine
-    → AllByRecursion (λ p. p < length (entries_of old.seen)) old.mine → turned event new ≡ turned event old
-turned_same event old new later mine h = over_same (turned_at event) (turned_stable event) old new later mine h
+pub turned_same : (event : ℕ) (old new : SeatView) → IsPrefix old.seen new.seen → new.positions ≡ old.positions
+    → AllByRecursion (λ p. p < length (entries_of old.seen)) old.positions → turned event new ≡ turned event old
+turned_same event old new later positions h = over_same (turned_at event) (turned_stable event) old new later positions h
 
-pub granted_same : (n : Named) (event : ℕ) (old new : SeatView) → IsPrefix old.seen new.seen → new.mine ≡ old.mine
-    → AllByRecursion (λ p. p < length (entries_of old.seen)) old.mine → granted n event new ≡ granted n event old
-granted_same n event old new later mine h = over_same (granted_at n event) (granted_stable n event) old new later mine h
+pub granted_same : (n : Named) (event : ℕ) (old new : SeatView) → IsPrefix old.seen new.seen → new.positions ≡ old.positions
+    → AllByRecursion (λ p. p < length (entries_of old.seen)) old.positions → granted n event new ≡ granted n event old
+granted_same n event old new later positions h = over_same (granted_at n event) (granted_stable n event) old new later positions h
 
 -- the tickets of an entry are those of the evaluations that it made active
 tickets_made : (code : Compiled) (s : State) (es : List Event) (tickets : List TicketView) (event : ℕ) → AreTicketsOf code s es tickets
@@ -68,11 +68,11 @@ module _ (n : Named) (old : SeatView) (entry : Entry) (position : ℕ) (named : 
   grown : IsPrefix (entries_of old.seen) (entries_of new.seen)
   grown = begins_more (entries_of old.seen) (entries_of a.before) (entries_of new.seen) (entries_begin old.seen a.before a.extends) (entry ∷ [], sym whole)
 
-  over_one : (weight : List Entry → ℕ → ℕ) → IsStable weight → AllByRecursion (λ p. p < length (entries_of old.seen)) old.mine
+  over_one : (weight : List Entry → ℕ → ℕ) → IsStable weight → AllByRecursion (λ p. p < length (entries_of old.seen)) old.positions
       → over_own weight new ≡ over_own weight old + weight (entries_of new.seen) position
   over_one weight stable h =
-      ap (weigh (weight (entries_of new.seen))) a.mine ∙ weigh_snoc (weight (entries_of new.seen)) old.mine position
-      ∙ (λ i. over_later weight stable (entries_of old.seen) (entries_of new.seen) old.mine grown h i + weight (entries_of new.seen) position)
+      ap (weigh (weight (entries_of new.seen))) a.positions ∙ weigh_snoc (weight (entries_of new.seen)) old.positions position
+      ∙ (λ i. over_later weight stable (entries_of old.seen) (entries_of new.seen) old.positions grown h i + weight (entries_of new.seen) position)
 
   turn_last : (event : ℕ) → turned_at event (entries_of new.seen) position ≡ is_turn event entry
   turn_last event =
@@ -95,8 +95,8 @@ module _ (n : Named) (old : SeatView) (entry : Entry) (position : ℕ) (named : 
       ∙ tickets_made n.code a.to (made_active a.from.active a.to.active) tickets event a.tickets_are
 
   -- a seat that appended an entry
-  pub turned_more : (event : ℕ) → AllByRecursion (λ p. p < length (entries_of old.seen)) old.mine → turned event new ≡ turned event old + is_turn event entry
+  pub turned_more : (event : ℕ) → AllByRecursion (λ p. p < length (entries_of old.seen)) old.positions → turned event new ≡ turned event old + is_turn event entry
   turned_more event h = over_one (turned_at event) (turned_stable event) h ∙ ap (λ k. turned event old + k) (turn_last event)
 
-  pub granted_more : (event : ℕ) → AllByRecursion (λ p. p < length (entries_of old.seen)) old.mine → granted n event new ≡ granted n event old + tickets_for event tickets
+  pub granted_more : (event : ℕ) → AllByRecursion (λ p. p < length (entries_of old.seen)) old.positions → granted n event new ≡ granted n event old + tickets_for event tickets
   granted_more event h = over_one (granted_at n event) (granted_stable n event) h ∙ ap (λ k. granted n event old + k) (granted_last event)

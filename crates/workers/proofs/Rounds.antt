@@ -12,7 +12,7 @@ module _ {T : Type 0} where
       → got_by_ends o1 r1 ≡ got_by_ends o r → Goes 0 entries s s' → e' ≡ e → IsCounted s o r e → IsCounted s' o1 r1 e'
   counted_idle s s' o o1 r r1 e e' got goes same c =
       let t = goes.counted c.0 in (
-        goes.positions c.0,
+        goes.has_positions c.0,
         (λ lt. let p = c.1 (omega (arith, same, lt)) in omega (arith, p, t, same)),
         (let q = c.2 in omega (arith, q, got, same)),
       )
@@ -21,7 +21,7 @@ module _ {T : Type 0} where
       → got_by_ends o1 r1 ≡ got_by_ends o r → GoesOnce s s' → e' ≡ min (e + 1) (2 ^ 64 - 1) → IsReady s o r e → IsCounted s' o1 r1 e'
   counted_served s s' o o1 r r1 e e' got goes more c =
       let t = goes.2.counted c.0 in let one = goes.1 in (
-        goes.2.positions c.0,
+        goes.2.has_positions c.0,
         (λ lt. let p = c.1 (omega (arith, more, lt)) in omega (arith, p, t, one, more, lt)),
         (let q = c.2 in omega (arith, q, got, more)),
       )

@@ -6,7 +6,7 @@ use mathlib.Core.List.{IsPrefix}
 use Rattle.model.specs.declared.entry.Entry.{Entry}
 use Rattle.model.specs.declared.end.Why.{Why}
 use Rattle.commitgate.specs.Named.{Named}
-use Rattle.runstate.specs.Log.{Log, entries_of, entry_in, items_of}
+use Rattle.runstate.specs.Ledger.{Ledger, entries_of, entry_in, items_of}
 use Rattle.commitgate.specs.Seats.{SeatView, ReadsOn}
 use Rattle.commitgate.specs.Tickets.{TicketView}
 use Rattle.commitgate.specs.SeatAnswers.{IsAppended, IsRefused, IsStopped, IsQuietTo, StoppedTo}
@@ -27,11 +27,11 @@ module _ {A : Type 0} where
   get_last [] x = refl
   get_last (y ∷ ys) x = get_last ys x
 
-pub entries_append : (xs ys : Log) → entries_of (xs ++ ys) ≡ entries_of xs ++ entries_of ys
+pub entries_append : (xs ys : Ledger) → entries_of (xs ++ ys) ≡ entries_of xs ++ entries_of ys
 entries_append [] ys = refl
 entries_append (x ∷ xs) ys = ap (λ l. entry_in x.1 ++ l) (entries_append xs ys) ∙ sym (append_assoc (entry_in x.1) (entries_of xs) (entries_of ys))
 
-pub entries_begin : (xs ys : Log) → IsPrefix xs ys → IsPrefix (entries_of xs) (entries_of ys)
+pub entries_begin : (xs ys : Ledger) → IsPrefix xs ys → IsPrefix (entries_of xs) (entries_of ys)
 entries_begin xs ys p = (entries_of p.0, sym (entries_append xs p.0) ∙ ap entries_of p.1)
 
 pub items_entry : (k : ℕ) (entry : Entry) (finished : Bool) → entries_of (items_of k entry finished) ≡ entry ∷ []
@@ -62,16 +62,16 @@ turns_snoc J [] p = let one : turns_at J (p ∷ []) ≡ turn_count_at (slice_get
 turns_snoc J (q ∷ qs) p = let rest = turns_snoc J qs p in omega (arith, rest)
 
 -- a seat that looks on
-pub goes_kept : (old new : SeatView) → new.worker ≡ old.worker → IsPrefix old.seen new.seen → new.mine ≡ old.mine → Goes 0 0 old new
-goes_kept old new worker later mine =
+pub goes_kept : (old new : SeatView) → new.worker ≡ old.worker → IsPrefix old.seen new.seen → new.positions ≡ old.positions → Goes 0 0 old new
+goes_kept old new worker later positions =
     let p = entries_begin old.seen new.seen later in record {
       worker = worker;
       seen = later;
-      mine = ([], append-nil old.mine ∙ sym mine);
-      few = (let l = ap length mine in omega (arith, l));
-      positions = λ h. subst (λ ps. AllByRecursion (λ q. q < length (entries_of new.seen)) ps) (sym mine)
-          (below_longer (length (entries_of old.seen)) (length (entries_of new.seen)) old.mine (begins_length (entries_of old.seen) (entries_of new.seen) p) h);
-      counted = λ h. ap (turns_at (entries_of new.seen)) mine ∙ turns_begin (entries_of old.seen) (entries_of new.seen) old.mine p h ∙ (let t = turns_of old in omega arith);
+      positions = ([], append-nil old.positions ∙ sym positions);
+      few = (let l = ap length positions in omega (arith, l));
+      has_positions = λ h. subst (λ ps. AllByRecursion (λ q. q < length (entries_of new.seen)) ps) (sym positions)
+          (below_longer (length (entries_of old.seen)) (length (entries_of new.seen)) old.positions (begins_length (entries_of old.seen) (entries_of new.seen) p) h);
+      counted = λ h. ap (turns_at (entries_of new.seen)) positions ∙ turns_begin (entries_of old.seen) (entries_of new.seen) old.positions p h ∙ (let t = turns_of old in omega arith);
     }
 
 pub goes_self : (s : SeatView) → Goes 0 0 s s
@@ -81,20 +81,20 @@ pub goes_more : (a b e d : ℕ) (x y z : SeatView) → Goes a e x y → Goes b d
 goes_more a b e d x y z f g = record {
   worker = g.worker ∙ f.worker;
   seen = begins_more x.seen y.seen z.seen f.seen g.seen;
-  mine = begins_more x.mine y.mine z.mine f.mine g.mine;
+  positions = begins_more x.positions y.positions z.positions f.positions g.positions;
   few = (let p = f.few in let q = g.few in omega (arith, p, q));
-  positions = λ h. g.positions (f.positions h);
-  counted = λ h. let p = f.counted h in let q = g.counted (f.positions h) in omega (arith, p, q);
+  has_positions = λ h. g.has_positions (f.has_positions h);
+  counted = λ h. let p = f.counted h in let q = g.counted (f.has_positions h) in omega (arith, p, q);
 }
 
 pub goes_then : (a e : ℕ) (x y z : SeatView) → Goes a e x y → Goes 0 0 y z → Goes a e x z
 goes_then a e x y z f g = record {
   worker = g.worker ∙ f.worker;
   seen = begins_more x.seen y.seen z.seen f.seen g.seen;
-  mine = begins_more x.mine y.mine z.mine f.mine g.mine;
+  positions = begins_more x.positions y.positions z.positions f.positions g.positions;
   few = (let p = f.few in let q = g.few in omega (arith, p, q));
-  positions = λ h. g.positions (f.positions h);
-  counted = λ h. let p = f.counted h in let q = g.counted (f.positions h) in omega (arith, p, q);
+  has_positions = λ h. g.has_positions (f.has_positions h);
+  counted = λ h. let p = f.counted h in let q = g.counted (f.has_positions h) in omega (arith, p, q);
 }
 
 -- a seat that appended an entry
@@ -111,20 +111,20 @@ goes_appended n old entry position named tickets new a =
     let all : IsPrefix (entries_of old.seen) (entries_of new.seen) = begins_more (entries_of old.seen) J (entries_of new.seen) later (entry ∷ [], sym whole) in record {
       worker = a.follows.worker;
       seen = a.follows.later;
-      mine = (position ∷ [], sym a.mine);
-      few = (let l : length new.mine ≡ length old.mine + 1 = ap length a.mine ∙ length-append old.mine (position ∷ []) in omega (arith, l));
-      positions = λ h. subst (λ ps. AllByRecursion (λ q. q < length (entries_of new.seen)) ps) (sym a.mine)
-          (below_snoc (length (entries_of new.seen)) position old.mine (omega (arith, long, a.position_is))
-          (below_longer (length (entries_of old.seen)) (length (entries_of new.seen)) old.mine (omega (arith, long, short)) h));
-      counted = λ h. ap (turns_at (entries_of new.seen)) a.mine ∙ turns_snoc (entries_of new.seen) old.mine position
-          ∙ (λ i. turns_begin (entries_of old.seen) (entries_of new.seen) old.mine all h i + turn_count_at (last i));
+      positions = (position ∷ [], sym a.positions);
+      few = (let l : length new.positions ≡ length old.positions + 1 = ap length a.positions ∙ length-append old.positions (position ∷ []) in omega (arith, l));
+      has_positions = λ h. subst (λ ps. AllByRecursion (λ q. q < length (entries_of new.seen)) ps) (sym a.positions)
+          (below_snoc (length (entries_of new.seen)) position old.positions (omega (arith, long, a.position_is))
+          (below_longer (length (entries_of old.seen)) (length (entries_of new.seen)) old.positions (omega (arith, long, short)) h));
+      counted = λ h. ap (turns_at (entries_of new.seen)) a.positions ∙ turns_snoc (entries_of new.seen) old.positions position
+          ∙ (λ i. turns_begin (entries_of old.seen) (entries_of new.seen) old.positions all h i + turn_count_at (last i));
     }
 
 pub goes_refused : (n : Named) (old new : SeatView) → IsRefused n old new → Goes 0 0 old new
-goes_refused n old new r = goes_kept old new r.looks_on.follows.worker r.looks_on.follows.later r.looks_on.mine
+goes_refused n old new r = goes_kept old new r.looks_on.follows.worker r.looks_on.follows.later r.looks_on.positions
 
 pub goes_stopped : (n : Named) (causes : Why → Type 0) (old : SeatView) (why : Why) (new : SeatView) → IsStopped n causes old why new → Goes 0 0 old new
-goes_stopped n causes old why new s = goes_kept old new s.follows.worker s.follows.later s.mine
+goes_stopped n causes old why new s = goes_kept old new s.follows.worker s.follows.later s.positions
 
 pub over_stopped : (n : Named) (causes : Why → Type 0) (old : SeatView) (why : Why) (new : SeatView) → IsStopped n causes old why new → IsOver n new
 over_stopped n causes old why new s = (s.stays, inl (subst (λ (o : Option Why). IsSome o) (sym s.end) refl))
@@ -144,9 +144,9 @@ pub goes_few : (a e d : ℕ) (x y : SeatView) → e ≤ d → Goes a e x y → G
 goes_few a e d x y le f = record {
   worker = f.worker;
   seen = f.seen;
-  mine = f.mine;
-  few = (let p = f.few in omega (arith, p, le));
   positions = f.positions;
+  few = (let p = f.few in omega (arith, p, le));
+  has_positions = f.has_positions;
   counted = f.counted;
 }
 
@@ -154,18 +154,18 @@ pub goes_first : (b d : ℕ) (x y z : SeatView) → Goes 0 0 x y → Goes b d y 
 goes_first b d x y z f g = record {
   worker = g.worker ∙ f.worker;
   seen = begins_more x.seen y.seen z.seen f.seen g.seen;
-  mine = begins_more x.mine y.mine z.mine f.mine g.mine;
+  positions = begins_more x.positions y.positions z.positions f.positions g.positions;
   few = (let p = f.few in let q = g.few in omega (arith, p, q));
-  positions = λ h. g.positions (f.positions h);
-  counted = λ h. let p = f.counted h in let q = g.counted (f.positions h) in omega (arith, p, q);
+  has_positions = λ h. g.has_positions (f.has_positions h);
+  counted = λ h. let p = f.counted h in let q = g.counted (f.has_positions h) in omega (arith, p, q);
 }
 
 pub goes_read : (old new : SeatView) → ReadsOn old new → Goes 0 0 old new
 goes_read old new r = record {
   worker = r.worker;
   seen = ([], append-nil old.seen ∙ sym r.seen);
-  mine = ([], append-nil old.mine ∙ sym r.mine);
-  few = (let l = ap length r.mine in omega (arith, l));
-  positions = λ h. subst (λ (p : Log × List ℕ). AllByRecursion (λ q. q < length (entries_of p.0)) p.1) (λ i. (sym r.seen i, sym r.mine i)) h;
-  counted = λ h. (λ i. turns_at (entries_of (r.seen i)) (r.mine i)) ∙ (let t = turns_of old in omega arith);
+  positions = ([], append-nil old.positions ∙ sym r.positions);
+  few = (let l = ap length r.positions in omega (arith, l));
+  has_positions = λ h. subst (λ (p : Ledger × List ℕ). AllByRecursion (λ q. q < length (entries_of p.0)) p.1) (λ i. (sym r.seen i, sym r.positions i)) h;
+  counted = λ h. (λ i. turns_at (entries_of (r.seen i)) (r.positions i)) ∙ (let t = turns_of old in omega arith);
 }

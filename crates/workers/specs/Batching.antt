@@ -69,6 +69,6 @@ pub record Fills {A : Type 0} (old new : Worker A) (turns tickets taken more lef
   pub worker : new.seat.worker ≡ old.seat.worker
   pub ends : SameEnds old.owner old.row.items new.owner new.row.items
   pub later : Extends old new
-  pub entries_few : length new.seat.mine + (more + left) ≤ length old.seat.mine + (turns + tickets + taken)
+  pub entries_few : length new.seat.positions + (more + left) ≤ length old.seat.positions + (turns + tickets + taken)
   pub tickets_few : weigh_got (λ ticket. 1) new.owner new.row.items ≤ weigh_got (λ ticket. 1) old.owner old.row.items + taken
   pub counted : IsOpen old.seat old.owner old.row.items old.evaluations turns tickets → IsOpen new.seat new.owner new.row.items new.evaluations more left

@@ -8,11 +8,11 @@ use Rattle.model.specs.declared.entry.Entry.TheVariants.{Turn, Update, ActivateI
 use Rattle.model.specs.States.{Event, State}
 use Rattle.model.specs.Runs.{after}
 use Rattle.design.specs.Compiled.{design_of}
-use Rattle.runstate.specs.Log.{Log, entries_of}
+use Rattle.runstate.specs.Ledger.{Ledger, entries_of}
 use Rattle.commitgate.specs.Named.{Named}
 use Rattle.commitgate.specs.Seats.{SeatView}
 use Rattle.commitgate.specs.Tickets.{TicketView}
-use Rattle.commitgate.specs.GateJournals.{IsLog, After, IsActiveTicket, made_active}
+use Rattle.commitgate.specs.GateJournals.{IsLedger, After, IsActiveTicket, made_active}
 use Rattle.eventpool.specs.Ends.{Owning, Stealing}
 use Rattle.workers.specs.declared.worker.Worker.{Worker}
 
@@ -81,7 +81,7 @@ granted_at n event journal place =
 
 -- the sum over the places of a seat's own entries in the journal that it has seen
 abbrev pub over_own : (List Entry → ℕ → ℕ) → SeatView → ℕ
-over_own weight s = weigh (weight (entries_of s.seen)) s.mine
+over_own weight s = weigh (weight (entries_of s.seen)) s.positions
 
 -- how many entries of the seat's own are the turn of this event
 abbrev pub turned : ℕ → SeatView → ℕ
@@ -92,17 +92,17 @@ abbrev pub granted : Named → ℕ → SeatView → ℕ
 granted n event s = over_own (granted_at n event) s
 
 -- at some moment no active evaluation had the ticket's event, process, remainder and time: so after a beginning of what was seen
-pub record WasGone (n : Named) (seen : Log) (ticket : TicketView) : Type 0 where
-  pub log : Log
-  pub begins : IsPrefix log seen
-  pub is_log : IsLog n log
-  pub gone : After n log (λ s. IsActiveTicket n.code s ticket → ⊥)
+pub record WasGone (n : Named) (seen : Ledger) (ticket : TicketView) : Type 0 where
+  pub ledger : Ledger
+  pub begins : IsPrefix ledger seen
+  pub is_ledger : IsLedger n ledger
+  pub gone : After n ledger (λ s. IsActiveTicket n.code s ticket → ⊥)
 
 -- Of a worker none is lost, where these tickets are to be put into its deque and these are in hand. Of each event there are as many tickets that
 -- were put into its deque, or are to be, as had been placed in it before it began, as entries of its own granted, and as went back.
 -- And of each event its ends got as many tickets as there are turns in entries of its own, and tickets that went back, were gone, or are in hand.
 pub record LosesNone (n : Named) (placed : List TicketView) (s : SeatView) (owner : Owning TicketView) (row : List (Stealing TicketView)) (due hand : List TicketView) : Type 0 where
-  pub positions : AllByRecursion (λ p. p < length (entries_of s.seen)) s.mine
+  pub has_positions : AllByRecursion (λ p. p < length (entries_of s.seen)) s.positions
   pub back : List TicketView
   pub gone : List TicketView
   pub were_gone : AllByRecursion (WasGone n s.seen) gone
@@ -122,14 +122,14 @@ pub record KeepsAll {A : Type 0} (n : Named) (old : Worker A) (hand : List Ticke
 -- more tickets.
 pub record Extends {A : Type 0} (old new : Worker A) : Type 0 where
   pub seen : IsPrefix old.seat.seen new.seat.seen
-  pub mine : IsPrefix old.seat.mine new.seat.mine
+  pub positions : IsPrefix old.seat.positions new.seat.positions
   pub put : IsPrefix old.owner.put new.owner.put
   pub got : (weight : TicketView → ℕ) → weigh_got weight old.owner old.row.items ≤ weigh_got weight new.owner new.row.items
 
 -- It appended at most so many entries meanwhile, and got at most so many tickets.
 pub record Within {A : Type 0} (entries tickets : ℕ) (old new : Worker A) : Type 0 where
   pub later : Extends old new
-  pub entries_few : length new.seat.mine ≤ length old.seat.mine + entries
+  pub entries_few : length new.seat.positions ≤ length old.seat.positions + entries
   pub tickets_few : weigh_got (λ ticket. 1) new.owner new.row.items ≤ weigh_got (λ ticket. 1) old.owner old.row.items + tickets
 
 -- the most entries that a worker appends, and tickets that it gets, in its last round

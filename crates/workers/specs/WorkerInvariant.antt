@@ -6,7 +6,7 @@ use Rattle.model.specs.declared.end.End.TheVariants.{Quiet}
 use Rattle.model.specs.Runs.{Ends}
 use Rattle.design.specs.Compiled.{design_of}
 use Rattle.commitgate.specs.Named.{Named}
-use Rattle.runstate.specs.Log.{entries_of, end_in}
+use Rattle.runstate.specs.Ledger.{entries_of, end_in}
 use Rattle.commitgate.specs.Seats.{SeatView, new_seat}
 use Rattle.commitgate.specs.Tickets.{TicketView, IsFirstTickets}
 use Rattle.commitgate.specs.declared.reply.Grant.{Grant}
@@ -31,19 +31,19 @@ OverUnless n next s = next ≡ next_of.Ends → IsOver n s
 
 -- the positions of the seat's entries are positions of the journal that it has seen
 abbrev pub HasPositions : SeatView → Type 0
-HasPositions s = AllByRecursion (λ p. p < length (entries_of s.seen)) s.mine
+HasPositions s = AllByRecursion (λ p. p < length (entries_of s.seen)) s.positions
 
 -- how many turns the seat appended
 abbrev pub turns_of : SeatView → ℕ
-turns_of s = turns_at (entries_of s.seen) s.mine
+turns_of s = turns_at (entries_of s.seen) s.positions
 
 -- the seat goes on, and has appended so many more turns, and at most so many more entries
 pub record Goes (turns entries : ℕ) (old new : SeatView) : Type 0 where
   pub worker : new.worker ≡ old.worker
   pub seen : IsPrefix old.seen new.seen
-  pub mine : IsPrefix old.mine new.mine
-  pub few : length new.mine ≤ length old.mine + entries
-  pub positions : HasPositions old → HasPositions new
+  pub positions : IsPrefix old.positions new.positions
+  pub few : length new.positions ≤ length old.positions + entries
+  pub has_positions : HasPositions old → HasPositions new
   pub counted : HasPositions old → turns_of new ≡ turns_of old + turns
 
 -- the tickets that an answer of the gate gives: those that the entry made, or the one that comes back

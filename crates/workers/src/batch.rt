@@ -138,10 +138,10 @@ impl<K: Naming> Batch<K> {
 // Answers whether the worker goes on, and then the batch is empty.
 fn tell_long<K: Naming, P: Probe, R: Wait>(
     run: &RunContext<'_, '_, K, P, R>,
-    ticket: Ticket<K>,
-    worker: &mut Worker<K>,
     batch: &mut Batch<K>,
     pace: &mut Pace,
+    worker: &mut Worker<K>,
+    ticket: Ticket<K>,
 ) -> Next
     requires room { HasRoom batch.old }
     requires few { length batch.old.tickets.items < most_turns }
@@ -156,7 +156,7 @@ fn tell_long<K: Naming, P: Probe, R: Wait>(
     ensures over { OverUnless K.named result worker.new.seat }
 {
     let place = batch.tickets.len();
-    match commit(run, worker, batch, pace) {
+    match commit(run, batch, pace, worker) {
         Next::GoesOn => {}
         Next::Ends => return Next::Ends,
     }
@@ -172,9 +172,9 @@ fn tell_long<K: Naming, P: Probe, R: Wait>(
 // evaluated under the lock, whose ticket goes back.
 fn begin<K: Naming, P: Probe, R: Wait>(
     run: &RunContext<'_, '_, K, P, R>,
-    worker: &mut Worker<K>,
     batch: &mut Batch<K>,
     pace: &mut Pace,
+    worker: &mut Worker<K>,
     ticket: Ticket<K>,
 ) -> Filling
     requires design { run.now.design.now ≡ K.named.code }
@@ -204,7 +204,7 @@ fn begin<K: Naming, P: Probe, R: Wait>(
             }
             Err((ticket, FillFault::TooLong)) => {
                 pace.stay_alone();
-                after(tell_long(run, ticket, worker, batch, pace))
+                after(tell_long(run, batch, pace, worker, ticket))
             }
             Err((_, FillFault::Memory)) => {
                 run.gate.stop(run.rt, &mut worker.seat);
@@ -226,10 +226,10 @@ fn extend<K: Naming, P: Probe, R: Wait>(
     pace: &mut Pace,
     worker: &mut Worker<K>,
 ) -> Filling
-    requires offered { IsOffered K.named batch.old worker.old }
-    requires few { length batch.old.tickets.items < most_turns }
-    requires room { HasRoom batch.old }
     requires design { run.now.design.now ≡ K.named.code }
+    requires room { HasRoom batch.old }
+    requires few { length batch.old.tickets.items < most_turns }
+    requires offered { IsOffered K.named batch.old worker.old }
     ensures room { HasRoom batch.new }
     ensures few { length batch.new.tickets.items ≤ length batch.old.tickets.items + 1 }
     ensures fills { Fills worker.old worker.new (length batch.old.tickets.items) 0 1 (length batch.new.tickets.items) 0 }
@@ -237,7 +237,7 @@ fn extend<K: Naming, P: Probe, R: Wait>(
     ensures leads { Leads K.named result batch.new worker.new }
 {
     match worker.owner.take() {
-        Some(ticket) => begin(run, worker, batch, pace, ticket),
+        Some(ticket) => begin(run, batch, pace, worker, ticket),
         None => Filling::Enough,
     }
 }
@@ -261,7 +261,7 @@ fn fill<K: Naming, P: Probe, R: Wait>(
     ensures over { OverUnless K.named result worker.new.seat }
 {
     batch.steps = 0;
-    let mut next = begin(run, worker, batch, pace, ticket);
+    let mut next = begin(run, batch, pace, worker, ticket);
     for _place in 1..MOST_TURNS {
         match next {
             Filling::More => {}
@@ -275,37 +275,6 @@ fn fill<K: Naming, P: Probe, R: Wait>(
         Filling::Enough => Next::GoesOn,
         Filling::Over => Next::Ends,
     }
-}
-
-// Commits the turns of a batch in one holding of the lock, and settles the answers. Answers whether the worker goes on.
-fn commit<K: Naming, P: Probe, R: Wait>(
-    run: &RunContext<'_, '_, K, P, R>,
-    worker: &mut Worker<K>,
-    batch: &mut Batch<K>,
-    pace: &mut Pace,
-) -> Next
-    requires room { HasRoom batch.old }
-    requires few { length batch.old.tickets.items ≤ most_turns }
-    requires offered { IsOffered K.named batch.old worker.old }
-    ensures room { HasRoom batch.new }
-    ensures few { length batch.new.tickets.items ≤ length batch.old.tickets.items }
-    ensures empty { result ≡ GoesOn → batch.new.tickets.items ≡ [] }
-    ensures logs { batch.new.logs ≡ batch.old.logs }
-    ensures rises { result ≡ GoesOn → Rises worker.old.seat.fresh worker.new.seat.fresh }
-    ensures fills { Fills worker.old worker.new (length batch.old.tickets.items) 0 0 (length batch.new.tickets.items) 0 }
-    ensures keeps { result ≡ GoesOn → (rest : List TicketView) → KeepsAll K.named worker.old (batch.old.tickets.items ++ rest) worker.new rest }
-    ensures over { OverUnless K.named result worker.new.seat }
-{
-    let Batch {
-        tickets,
-        logs,
-        events: _,
-        replies,
-        steps: _,
-    } = batch;
-    run.gate
-        .commit_all(run.rt, &mut worker.seat, tickets, logs, replies);
-    settle_all(run, batch, pace, &mut worker.seat, &mut worker.owner)
 }
 
 // What comes of the answers: each is told to the probe, and settled. Answers whether the worker goes on, and then memory was
@@ -343,14 +312,45 @@ fn settle_all<K: Naming, P: Probe, R: Wait>(
     Next::GoesOn
 }
 
+// Commits the turns of a batch in one holding of the lock, and settles the answers. Answers whether the worker goes on.
+fn commit<K: Naming, P: Probe, R: Wait>(
+    run: &RunContext<'_, '_, K, P, R>,
+    batch: &mut Batch<K>,
+    pace: &mut Pace,
+    worker: &mut Worker<K>,
+) -> Next
+    requires room { HasRoom batch.old }
+    requires few { length batch.old.tickets.items ≤ most_turns }
+    requires offered { IsOffered K.named batch.old worker.old }
+    ensures room { HasRoom batch.new }
+    ensures few { length batch.new.tickets.items ≤ length batch.old.tickets.items }
+    ensures empty { result ≡ GoesOn → batch.new.tickets.items ≡ [] }
+    ensures logs { batch.new.logs ≡ batch.old.logs }
+    ensures rises { result ≡ GoesOn → Rises worker.old.seat.fresh worker.new.seat.fresh }
+    ensures fills { Fills worker.old worker.new (length batch.old.tickets.items) 0 0 (length batch.new.tickets.items) 0 }
+    ensures keeps { result ≡ GoesOn → (rest : List TicketView) → KeepsAll K.named worker.old (batch.old.tickets.items ++ rest) worker.new rest }
+    ensures over { OverUnless K.named result worker.new.seat }
+{
+    let Batch {
+        tickets,
+        logs,
+        events: _,
+        replies,
+        steps: _,
+    } = batch;
+    run.gate
+        .commit_all(run.rt, &mut worker.seat, tickets, logs, replies);
+    settle_all(run, batch, pace, &mut worker.seat, &mut worker.owner)
+}
+
 /// Evaluates a ticket that the worker got, and more of its own deque, and commits their turns. Answers whether the worker goes
 /// on, and then the batch is empty again.
 pub(crate) fn serve_several<K: Naming, P: Probe, R: Wait>(
     run: &RunContext<'_, '_, K, P, R>,
-    worker: &mut Worker<K>,
-    ticket: Ticket<K>,
     batch: &mut Batch<K>,
     pace: &mut Pace,
+    worker: &mut Worker<K>,
+    ticket: Ticket<K>,
 ) -> Next
     requires design { run.now.design.now ≡ K.named.code }
     requires room { HasRoom batch.old }
@@ -366,5 +366,5 @@ pub(crate) fn serve_several<K: Naming, P: Probe, R: Wait>(
         Next::GoesOn => {}
         Next::Ends => return Next::Ends,
     }
-    commit(run, worker, batch, pace)
+    commit(run, batch, pace, worker)
 }

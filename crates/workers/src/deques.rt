@@ -77,12 +77,12 @@ pub(crate) fn take_soon<T: Drop, R: Wait>(
     row: &mut Vec<Thief<T>>,
     looks: u32,
 ) -> Option<T>
-    ensures put { owner.new.put ≡ owner.old.put }
     ensures ends { SameEnds owner.old row.old.items owner.new row.new.items }
-    ensures got { IfSome result (λ x. GotOne owner.old row.old.items owner.new row.new.items x) }
-    ensures same { IfNone result (GotNone owner.old row.old.items owner.new row.new.items) }
     ensures some { IfSome result (λ _. got_by_ends owner.new row.new.items ≡ got_by_ends owner.old row.old.items + 1) }
     ensures none { IfNone result (got_by_ends owner.new row.new.items ≡ got_by_ends owner.old row.old.items) }
+    ensures got { IfSome result (λ x. GotOne owner.old row.old.items owner.new row.new.items x) }
+    ensures same { IfNone result (GotNone owner.old row.old.items owner.new row.new.items) }
+    ensures put { owner.new.put ≡ owner.old.put }
 {
     if row.is_empty() {
         return None;

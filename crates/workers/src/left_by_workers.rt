@@ -24,11 +24,12 @@ impl<K: Naming> LeftByWorkers<K> {
         let seats = Vec::with_capacity(alloc, workers)?;
         let owners = Vec::with_capacity(alloc, workers)?;
         let rows = Vec::with_capacity(alloc, workers)?;
+        let evaluations = Vec::with_capacity(alloc, workers)?;
         Ok(LeftByWorkers {
-            evaluations: Vec::with_capacity(alloc, workers)?,
             seats,
             owners,
             rows,
+            evaluations,
         })
     }
 

@@ -9,7 +9,7 @@ use std::sync::{Condvar, Wait};
 use std::time::Duration;
 
 // Turns of fewer counted steps than this, in the mean, are short.
-const SHORT: u64 = 100;
+const SHORT: u64 = 120;
 
 // In the mean the last turn has the weight of one in so many.
 const WEIGHT: u64 = 8;

@@ -1,7 +1,7 @@
 //! The seats that are given back, and what a gate leaves.
 ghost use Rattle.std.specs.Prelude.{◌≡◌, length};
-ghost use Rattle.runstate.specs.Log.{entries_of};
-ghost use Rattle.commitgate.specs.GateJournals.{IsLog};
+ghost use Rattle.runstate.specs.Ledger.{entries_of};
+ghost use Rattle.commitgate.specs.GateJournals.{IsLedger};
 ghost use Rattle.commitgate.specs.Closing.{IsClosed, IsEndIn, Settled};
 
 use crate::closed::Closed;
@@ -13,11 +13,11 @@ use runstate::RunState;
 use std::sync::Wait;
 
 impl<'d, K: Naming> GateState<'d, K> {
-    /// The number of entries that a seat appended. The log extends what it has seen, and has in its name just what it knows.
+    /// The number of entries that a seat appended. The ledger extends what it has seen, and has in its name just what it knows.
     pub(crate) fn settle<R: Wait>(&mut self, context: &Context<'_, K, R>, mut seat: Seat<K>) -> u64
         ensures same { self.new ≡ self.old }
-        ensures share { result ≡ length seat.mine }
-        ensures settled { Settled self.old.log seat }
+        ensures share { result ≡ length seat.positions }
+        ensures settled { Settled self.old.ledger seat }
     {
         let share = seat.share();
         self.greet(context, &mut seat);
@@ -27,9 +27,9 @@ impl<'d, K: Naming> GateState<'d, K> {
     /// The journal, the lines and the end, with these numbers of entries of the seats.
     pub(crate) fn close(self, committed: Vec<u64>) -> Closed
         ensures closed { IsClosed K.named result }
-        ensures log { IsLog K.named self.entry.log }
-        ensures entries { result.entries ≡ entries_of self.entry.log }
-        ensures end { IsEndIn self.entry.log result.end }
+        ensures ledger { IsLedger K.named self.entry.ledger }
+        ensures entries { result.entries ≡ entries_of self.entry.ledger }
+        ensures end { IsEndIn self.entry.ledger result.end }
         ensures committed { result.committed ≡ committed.items }
     {
         let end = self.end();

@@ -1,7 +1,7 @@
 //! The change of the regions that is due where nothing is active.
 ghost use Rattle.std.specs.Prelude.{◌≡◌, ◌↔◌, length, IsTrue, IfSome, IfNone, MatchOption};
 ghost use Rattle.model.specs.Runs.{IsTimely};
-ghost use Rattle.runstate.specs.Log.{entries_of};
+ghost use Rattle.runstate.specs.Ledger.{entries_of};
 ghost use Rattle.runstate.specs.GateState.{state_in};
 ghost use Rattle.commitgate.specs.GateAnswers.{IsResting, MustWait, stopped_for_memory};
 ghost use Rattle.commitgate.specs.DueRegions.{IsDueChange, IsPassed};

@@ -43,7 +43,7 @@ impl<'d, K: Naming> GateState<'d, K> {
         self.run_state.evaluate(rt, cells, log, state, now)
     }
 
-    /// Appends a turn that was evaluated under the lock, in the name of a seat that has seen the whole log.
+    /// Appends a turn that was evaluated under the lock, in the name of a seat that has seen the whole ledger.
     fn accept_held<R: Wait>(
         &mut self,
         context: &Context<'_, K, R>,
@@ -51,7 +51,7 @@ impl<'d, K: Naming> GateState<'d, K> {
         seat: &mut Seat<K>,
         ticket: Ticket<K>,
     ) -> Reply<K>
-        requires seen { seat.old.seen ≡ self.old.log }
+        requires seen { seat.old.seen ≡ self.old.ledger }
         requires may { MayCommit K.named.limits self.old ticket }
         requires turn { IsCurrentTurn K.named.code self.old ticket log.now }
         ensures state { Answered K.named.code K.named.limits seat.old.worker self.old ticket log.now.reads self.new result }

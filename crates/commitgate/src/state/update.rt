@@ -23,10 +23,10 @@ impl<'d, K: Naming> GateState<'d, K> {
         seat: &mut Seat<K>,
         greeted: bool,
     ) -> UpdateReply<K>
-        requires { IsTrue greeted → seat.old.seen ≡ self.old.log }
+        requires { IsTrue greeted → seat.old.seen ≡ self.old.ledger }
         ensures state { UpdateAnswered K.named.code K.named.limits seat.old.worker self.old self.new result }
         ensures seat { UpdateAnsweredTo K.named seat.old seat.new result }
-        ensures seen { seat.new.seen ≡ self.new.log }
+        ensures seen { seat.new.seen ≡ self.new.ledger }
     {
         self.invariant_holds();
         self.greet_unless(context, seat, greeted);

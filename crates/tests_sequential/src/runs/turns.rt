@@ -12,7 +12,7 @@ ghost use Rattle.design.specs.ExpressionSteps.{below, piece, run_ops};
 use super::compare::{assert_length, assert_number, assert_text};
 use super::held::{Held, Taken, assert_read_at, beginning, design_of, first_turn, turn_from};
 use crate::claims::{fail, holds};
-use design::{Design, ProcState, RegId};
+use design::{Design, Halved, ProcState, RegId};
 use hoard::Hoard;
 use logic4::bits::Bits;
 use std::alloc::Global;
@@ -479,7 +479,7 @@ fn assert_pending(rt: &impl Abort, log: &TurnLog) {
     );
     holds(
         rt,
-        log.next().pending == Some((1, Bits::from_u64(4, 3))),
+        log.next().pending == Some((1, Halved::new(Bits::from_u64(4, 3)))),
         "another assignment",
     );
 }

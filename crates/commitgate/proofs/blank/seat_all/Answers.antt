@@ -18,7 +18,7 @@ loop-worker-preserved g c =
     let fewer : n.workers - c.loop-worker.worker - 1 ≡ n.workers - (c.loop-worker.worker + 1) = omega arith in
     let place : 0 + c.loop-worker.worker ≡ c.loop-worker.worker = omega arith in
     let seat : c.new.result ≡ new_seat n.code c.loop-worker.worker =
-    c.new.ensures ∙ ap (λ (f : regs.Fresh). record { worker = c.loop-worker.worker; seen = []; mine = []; stored = None; fresh = f.seen }) own in
+    c.new.ensures ∙ ap (λ (f : regs.Fresh). record { worker = c.loop-worker.worker; seen = []; positions = []; stored = None; fresh = f.seen }) own in
     record {
       table = next.cell.0 ∙ i.table;
       keeps = next.whole ∙ ap (λ (m : ℕ). keeper (m + 1) []) (ap (λ v. v.made) i.keeps);

@@ -26,8 +26,8 @@ pub returns-in-Ok : goal.returns-in-Ok
 returns-in-Ok c =
     let code = c.args.design.now in
     let values = c.args.store.now in
-    given_turn code c.args.state.now values c.args.number c.in-Some.field-0-0 c.in-Some.place c.turn_on.new.log c.requires.stands.states c.requires.stands.store c.in-Some.ensures
-    (subst (λ (now : ℕ). IsTurnOn code c.in-Some.place values now c.turn_on.new.log) c.time-now.ensures c.in-Ok.ensures)
+    given_turn code c.args.state.now values c.args.number c.in-Some.field-0-0 c.in-Some.place.now c.turn_on.new.log c.requires.stands.states c.requires.stands.store c.in-Some.ensures
+    (subst (λ (now : ℕ). IsTurnOn code c.in-Some.place.now values now c.turn_on.new.log) c.time-now.ensures c.in-Ok.ensures)
 
 pub returns-in-Err-TooLong : goal.returns-in-Err-TooLong
 returns-in-Err-TooLong c =
@@ -36,9 +36,9 @@ returns-in-Err-TooLong c =
     let core = c.args.state.now in
     let permitted : refusal (state_of (remainder_of code) values core) (entries.Turn c.args.number) ≡ None =
     permitted_where c.args.state.now.finished (action_in c.args.state.now.active c.args.number) c.in-Some.field-0-0 (sym c.is_finished.ensures ∙ c.if-is_finished.false) c.in-Some.ensures.0 in
-    let none = subst (λ (f : FillFault). IsNoTurnOn code c.in-Some.place values c.time-now.result f) c.in-Err-TooLong.field-0-is c.in-Err-TooLong.ensures in
-    stop_turn code core values c.args.number c.in-Some.field-0-0 c.in-Some.place c.requires.stands.states c.in-Some.ensures permitted
-    (subst (λ (now : ℕ). (q : ℕ) → IsStateOf code q c.in-Some.place → short_turn (design_of code) q (remainder_of code c.in-Some.place) values now ≡ None) c.time-now.ensures none)
+    let none = subst (λ (f : FillFault). IsNoTurnOn code c.in-Some.place.now values c.time-now.result f) c.in-Err-TooLong.field-0-is c.in-Err-TooLong.ensures in
+    stop_turn code core values c.args.number c.in-Some.field-0-0 c.in-Some.place.now c.requires.stands.states c.in-Some.ensures permitted
+    (subst (λ (now : ℕ). (q : ℕ) → IsStateOf code q c.in-Some.place.now → short_turn (design_of code) q (remainder_of code c.in-Some.place.now) values now ≡ None) c.time-now.ensures none)
 
 pub returns-in-Err-Memory : goal.returns-in-Err-Memory
 returns-in-Err-Memory c =

@@ -9,7 +9,7 @@ reads_on_more : (a b c : SeatView) → ReadsOn a b → ReadsOn b c → ReadsOn a
 reads_on_more a b c p q = record {
   worker = q.worker ∙ p.worker;
   seen = q.seen ∙ p.seen;
-  mine = q.mine ∙ p.mine;
+  positions = q.positions ∙ p.positions;
   stored = q.stored ∙ p.stored;
   rises = λ r. prefix_trans (fresh_of a.fresh r) (fresh_of b.fresh r) (fresh_of c.fresh r) (p.rises r) (q.rises r);
 }

@@ -12,13 +12,13 @@ returns-clause-reads_on g c =
     subst (λ (v : SeatView). ReadsOn v (record {
       worker = c.self.inside.worker;
       seen = (cell_view {V = MarkView} c.self.inside.pass).seen;
-      mine = (cell_view {V = MarkView} c.self.inside.pass).mine;
+      positions = (cell_view {V = MarkView} c.self.inside.pass).positions;
       stored = (cell_view {V = MarkView} c.self.inside.pass).stored;
       fresh = c.read.new.seat.seen;
     })) c.self.view_is (record {
       worker = refl;
       seen = refl;
-      mine = refl;
+      positions = refl;
       stored = refl;
       rises = rises_set c.self.inside.regs.seen c.read.new.seat.seen c.args.register (fresh_of c.read.new.seat.seen c.args.register) (ap (λ (f : regs.Fresh). f.seen) c.read.ensures.others) refl c.read.ensures.later;
     })

@@ -1,7 +1,7 @@
 -- The seat has met what was read, and then the turn is accepted.
 use Rattle.std.proofs.Common.{◌≡◌, ℕ, length, sym, ap, ◌∙◌, subst}
 use mathlib.Core.List.{IsPrefix}
-use Rattle.runstate.specs.Log.{Log}
+use Rattle.runstate.specs.Ledger.{Ledger}
 use Rattle.runstate.specs.GateState.{GateState}
 use Rattle.regcells.specs.Meetings.{AreReadsIn, HasMetReads}
 use Rattle.commitgate.specs.Seats.{SeatView}
@@ -22,7 +22,7 @@ show_reads-requires g c = record {
 
 pub accept-requires-clause-seen : goal.accept-requires-clause-seen
 accept-requires-clause-seen g c =
-    ap (λ (v : SeatView). v.seen) c.show_reads.ensures.seat ∙ c.requires.seen ∙ ap (λ (h : GateState). h.log) (sym c.show_reads.ensures.same)
+    ap (λ (v : SeatView). v.seen) c.show_reads.ensures.seat ∙ c.requires.seen ∙ ap (λ (h : GateState). h.ledger) (sym c.show_reads.ensures.same)
 
 pub accept-requires-clause-may : goal.accept-requires-clause-may
 accept-requires-clause-may g c =
@@ -48,8 +48,8 @@ pub returns-clause-seat : goal.returns-clause-seat
 returns-clause-seat g c =
     let n = g.K.Naming.named in
     let old = c.args.seat.now in
-    let log : Log = c.args.self.now.log in
+    let ledger : Ledger = c.args.self.now.ledger in
     let fresh = c.show_reads.new.seat.fresh in
-    let seat = c.show_reads.ensures.seat ∙ ap (λ (l : Log). record old { seen = l; fresh = fresh }) c.requires.seen in
-    answered_first n old log (subst (λ (l : Log). IsPrefix l log) (sym c.requires.seen) (prefix_self log)) fresh c.show_reads.ensures.rises CommitCauses c.args.ticket c.args.log.now.reads c.accept.new.seat c.accept.result
+    let seat = c.show_reads.ensures.seat ∙ ap (λ (l : Ledger). record old { seen = l; fresh = fresh }) c.requires.seen in
+    answered_first n old ledger (subst (λ (l : Ledger). IsPrefix l ledger) (sym c.requires.seen) (prefix_self ledger)) fresh c.show_reads.ensures.rises CommitCauses c.args.ticket c.args.log.now.reads c.accept.new.seat c.accept.result
     (subst (λ (v : SeatView). AnsweredTo n CommitCauses v c.args.ticket c.args.log.now.reads c.accept.new.seat c.accept.result) seat c.accept.ensures.seat)

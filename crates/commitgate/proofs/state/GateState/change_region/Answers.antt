@@ -82,7 +82,7 @@ returns-in-Ok-clause-seat g c awake =
     let seat = c.in-Ok.ensures.seat in
     let granted = subst (λ (h : GateState). IsGranted n.code old.worker h change c.in-Ok.grant.position c.in-Ok.grant.entry c.in-Ok.grant.tickets.items c.append.new.self) greet.same
     (subst (λ k. IsGranted n.code k c.greet.new.self change c.in-Ok.grant.position c.in-Ok.grant.entry c.in-Ok.grant.tickets.items c.append.new.self) worker c.in-Ok.ensures.ok) in
-    let seen : new.seen ≡ c.append.new.self.log = ap (λ (v : SeatView). v.seen) seat in
+    let seen : new.seen ≡ c.append.new.self.ledger = ap (λ (v : SeatView). v.seen) seat in
     let is_change = due_is_change (state_in n.code c.greet.new.self) change c.due_change-change.ensures in
     record {
       change = change;
@@ -92,7 +92,7 @@ returns-in-Ok-clause-seat g c awake =
           granted
           (ap (λ (v : SeatView). v.worker) seat ∙ worker)
           seen
-          (ap (λ (v : SeatView). v.mine) seat ∙ ap (λ (v : SeatView). v.mine ++ c.in-Ok.grant.position ∷ []) greet.seat)
+          (ap (λ (v : SeatView). v.positions) seat ∙ ap (λ (v : SeatView). v.positions ++ c.in-Ok.grant.position ∷ []) greet.seat)
           (ap (λ (v : SeatView). v.stored) seat ∙ ap (λ (v : SeatView). if (state_in n.code c.append.new.self).finished then Some Finish else v.stored) greet.seat)
           (subst (λ f. Rises f new.fresh) (ap (λ (v : SeatView). v.fresh) greet.seat) c.in-Ok.ensures.rises)
           (met_change n (state_in n.code held) change new.seen new.fresh is_change);

@@ -4,8 +4,8 @@ use Rattle.model.specs.declared.end.Why.TheVariants.{TooLong}
 use Rattle.model.specs.declared.end.End.TheVariants.{Stopped}
 use Rattle.model.specs.Runs.{EndsIn}
 use Rattle.design.specs.Compiled.{design_of}
-use Rattle.runstate.specs.declared.log.Item.TheVariants.{Ended}
-use Rattle.runstate.specs.Log.{Log}
+use Rattle.runstate.specs.declared.ledger.Item.TheVariants.{Ended}
+use Rattle.runstate.specs.Ledger.{Ledger}
 use Rattle.runstate.specs.GateState.{GateState, state_in}
 use Rattle.regcells.specs.Meetings.{Rises}
 use Rattle.commitgate.specs.Seats.{SeatView}
@@ -29,15 +29,15 @@ returns-clause-seat g c =
     let old = c.args.seat.now in
     let why = TooLong c.process.result in
     let stop = c.stop.ensures in
-    let log : c.stop.new.self.log ≡ c.args.self.now.log ++ (old.worker, Ended why) ∷ [] = ap (λ (h : GateState). h.log) stop.state in
-    let seen : c.stop.new.seat.seen ≡ c.stop.new.self.log = ap (λ (v : SeatView). v.seen) stop.seat in
+    let ledger : c.stop.new.self.ledger ≡ c.args.self.now.ledger ++ (old.worker, Ended why) ∷ [] = ap (λ (h : GateState). h.ledger) stop.state in
+    let seen : c.stop.new.seat.seen ≡ c.stop.new.self.ledger = ap (λ (v : SeatView). v.seen) stop.seat in
     tell_ended n (λ w. w ≡ why) old c.stop.new.seat why c.stop.new.self c.invariant_holds-2.ensures.guarded c.invariant_holds-2.ensures.kept
     (record {
       worker = ap (λ (v : SeatView). v.worker) stop.seat;
-      later = ((old.worker, Ended why) ∷ [], ap (λ (l : Log). l ++ (old.worker, Ended why) ∷ []) c.requires.seen ∙ sym (seen ∙ log));
+      later = ((old.worker, Ended why) ∷ [], ap (λ (l : Ledger). l ++ (old.worker, Ended why) ∷ []) c.requires.seen ∙ sym (seen ∙ ledger));
       rises = subst (λ f. Rises old.fresh f) (sym (ap (λ (v : SeatView). v.fresh) stop.seat)) (rises_self old.fresh);
     })
-    (ap (λ (v : SeatView). v.mine) stop.seat)
+    (ap (λ (v : SeatView). v.positions) stop.seat)
     seen
     (ap (λ (h : GateState). h.end) stop.state)
     (inr (ap (λ (v : SeatView). v.stored) stop.seat, refl))

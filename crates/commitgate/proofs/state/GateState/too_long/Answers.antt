@@ -66,7 +66,7 @@ pub stop_long-requires-clause-seen : goal.stop_long-requires-clause-seen
 stop_long-requires-clause-seen g c =
     let same = c.stale.ensures.same ∙ of_none c.barred.result _ c.barred.ensures.same c.in_default.is in
     let greeted = of_none c.barred.result _ c.barred.ensures.greeted c.in_default.is in
-    ap (λ (v : SeatView). v.seen) c.stale.ensures.seat ∙ ap (λ (v : SeatView). v.seen) greeted ∙ ap (λ (h : GateState). h.log) (sym same)
+    ap (λ (v : SeatView). v.seen) c.stale.ensures.seat ∙ ap (λ (v : SeatView). v.seen) greeted ∙ ap (λ (h : GateState). h.ledger) (sym same)
 
 pub stop_long-requires-clause-may : goal.stop_long-requires-clause-may
 stop_long-requires-clause-may g c =
@@ -117,5 +117,5 @@ returns-clause-seat g c =
     (c.stop_long.ensures.state ∙ ap (stopped c.stale.new.seat.worker c.stop_long.result) same) c.stop_long.ensures.seen
     (subst (λ (h : GateState). AreCurrent n.code h reads) barred (of_none c.stale.result _ c.stale.ensures.none c.in_default-stale.is)) in
     let long = stopped_for n (λ why. why ≡ c.stop_long.result) causes c.stale.new.seat c.stop_long.result new (λ _. inr (c.stop_long.ensures.why, current)) c.stop_long.ensures.seat in
-    stopped_first n old c.args.self.now.log c.barred.ensures.later fresh (subst (λ (v : SeatView). Rises v.fresh fresh) greeted c.stale.ensures.rises) causes c.stop_long.result new
+    stopped_first n old c.args.self.now.ledger c.barred.ensures.later fresh (subst (λ (v : SeatView). Rises v.fresh fresh) greeted c.stale.ensures.rises) causes c.stop_long.result new
     (subst (λ (v : SeatView). told.IsStopped n causes v c.stop_long.result new) seat long)

@@ -4,8 +4,8 @@ use Rattle.model.specs.declared.end.Why.TheVariants.{Entries, Finish}
 use Rattle.model.specs.declared.entry.Entry.TheVariants.{Update}
 use Rattle.model.specs.Runs.{after, least}
 use Rattle.design.specs.Compiled.{design_of}
-use Rattle.runstate.specs.declared.log.Item.TheVariants.{Ended}
-use Rattle.runstate.specs.Log.{entries_of}
+use Rattle.runstate.specs.declared.ledger.Item.TheVariants.{Ended}
+use Rattle.runstate.specs.Ledger.{entries_of}
 use Rattle.runstate.specs.GateState.{GateState, state_in}
 use Rattle.regcells.specs.Meetings.{Rises}
 use Rattle.commitgate.specs.Seats.{SeatView}
@@ -16,7 +16,7 @@ use Rattle.regions.specs.Find.{update_numbers}
 use Rattle.runstate.proofs.Beginnings.{prefix_trans}
 use Rattle.commitgate.proofs.Meetings.{rises_self}
 use Rattle.commitgate.proofs.Waits.{none_least}
-use Rattle.commitgate.proofs.Tellings.{after_log, tell_refused, tell_stopped, tell_ended, tell_appended, no_updates}
+use Rattle.commitgate.proofs.Tellings.{after_ledger, tell_refused, tell_stopped, tell_ended, tell_appended, no_updates}
 use Rattle.commitgate.proofs.Validating.{met_update}
 use Rattle.commitgate.proofs.state.GateState.update.Goals as goal
 
@@ -41,7 +41,7 @@ returns-in_default-first_update-clause-seat g c =
       tell_refused n old held c.invariant_holds.ensures.guarded c.invariant_holds.ensures.kept c.greet_unless.ensures.later c.greet_unless.new.seat old.fresh c.greet_unless.ensures.seat (rises_self old.fresh) running,
       (
         state_in n.code held,
-        ap (λ (v : SeatView). after (design_of n.code) (entries_of v.seen)) c.greet_unless.ensures.seat ∙ after_log n held c.invariant_holds.ensures.guarded c.invariant_holds.ensures.kept,
+        ap (λ (v : SeatView). after (design_of n.code) (entries_of v.seen)) c.greet_unless.ensures.seat ∙ after_ledger n held c.invariant_holds.ensures.guarded c.invariant_holds.ensures.kept,
         no_updates (state_in n.code held) (subst (λ (h : GateState). HasNoUpdate h.core) (c.self.view_is ∙ c.greet_unless.ensures.same) none),
       ),
     )
@@ -51,16 +51,16 @@ returns-then-is_full-clause-seat g c =
     let old = c.args.seat.now in
     let greet = c.greet_unless.ensures in
     let stop = c.stop.ensures in
-    let log : c.stop.new.self.log ≡ c.args.self.now.log ++ (c.greet_unless.new.seat.worker, Ended Entries) ∷ [] =
-    ap (λ (h : GateState). h.log) stop.state ∙ ap (λ (h : GateState). h.log ++ (c.greet_unless.new.seat.worker, Ended Entries) ∷ []) greet.same in
-    let seen : c.stop.new.seat.seen ≡ c.stop.new.self.log = ap (λ (v : SeatView). v.seen) stop.seat in
+    let ledger : c.stop.new.self.ledger ≡ c.args.self.now.ledger ++ (c.greet_unless.new.seat.worker, Ended Entries) ∷ [] =
+    ap (λ (h : GateState). h.ledger) stop.state ∙ ap (λ (h : GateState). h.ledger ++ (c.greet_unless.new.seat.worker, Ended Entries) ∷ []) greet.same in
+    let seen : c.stop.new.seat.seen ≡ c.stop.new.self.ledger = ap (λ (v : SeatView). v.seen) stop.seat in
     tell_ended g.K.Naming.named CommitCauses old c.stop.new.seat Entries c.stop.new.self c.invariant_holds-then-is_full.ensures.guarded c.invariant_holds-then-is_full.ensures.kept
     (record {
       worker = ap (λ (v : SeatView). v.worker) stop.seat ∙ ap (λ (v : SeatView). v.worker) greet.seat;
-      later = prefix_trans old.seen c.args.self.now.log c.stop.new.seat.seen greet.later ((c.greet_unless.new.seat.worker, Ended Entries) ∷ [], sym (seen ∙ log));
+      later = prefix_trans old.seen c.args.self.now.ledger c.stop.new.seat.seen greet.later ((c.greet_unless.new.seat.worker, Ended Entries) ∷ [], sym (seen ∙ ledger));
       rises = subst (λ f. Rises old.fresh f) (sym (ap (λ (v : SeatView). v.fresh) stop.seat ∙ ap (λ (v : SeatView). v.fresh) greet.seat)) (rises_self old.fresh);
     })
-    (ap (λ (v : SeatView). v.mine) stop.seat ∙ ap (λ (v : SeatView). v.mine) greet.seat)
+    (ap (λ (v : SeatView). v.positions) stop.seat ∙ ap (λ (v : SeatView). v.positions) greet.seat)
     seen
     (ap (λ (h : GateState). h.end) stop.state)
     (inr (ap (λ (v : SeatView). v.stored) stop.seat, refl))
@@ -77,14 +77,14 @@ returns-in-Ok-clause-seat g c =
     let seat = c.in-Ok.ensures.seat in
     let granted = subst (λ (h : GateState). IsGranted n.code old.worker h (Update number) c.in-Ok.grant.position c.in-Ok.grant.entry c.in-Ok.grant.tickets.items c.append.new.self) greet.same
     (subst (λ k. IsGranted n.code k c.greet_unless.new.self (Update number) c.in-Ok.grant.position c.in-Ok.grant.entry c.in-Ok.grant.tickets.items c.append.new.self) worker c.in-Ok.ensures.ok) in
-    let seen : new.seen ≡ c.append.new.self.log = ap (λ (v : SeatView). v.seen) seat in
+    let seen : new.seen ≡ c.append.new.self.ledger = ap (λ (v : SeatView). v.seen) seat in
     record {
       number = number;
       appended = tell_appended n old held c.invariant_holds.ensures.guarded c.invariant_holds.ensures.kept greet.later c.append.new.self c.invariant_holds-in-Ok.ensures.guarded c.invariant_holds-in-Ok.ensures.kept (Update number) c.in-Ok.grant.position c.in-Ok.grant.entry c.in-Ok.grant.tickets.items new
           granted
           (ap (λ (v : SeatView). v.worker) seat ∙ worker)
           seen
-          (ap (λ (v : SeatView). v.mine) seat ∙ ap (λ (v : SeatView). v.mine ++ c.in-Ok.grant.position ∷ []) greet.seat)
+          (ap (λ (v : SeatView). v.positions) seat ∙ ap (λ (v : SeatView). v.positions ++ c.in-Ok.grant.position ∷ []) greet.seat)
           (ap (λ (v : SeatView). v.stored) seat ∙ ap (λ (v : SeatView). if (state_in n.code c.append.new.self).finished then Some Finish else v.stored) greet.seat)
           (subst (λ f. Rises f new.fresh) (ap (λ (v : SeatView). v.fresh) greet.seat) c.in-Ok.ensures.rises)
           (met_update n held c.append.new.self number new.seen new.fresh (length n.cells) c.invariant_holds.ensures.widths c.invariant_holds-in-Ok.ensures.kept seen
@@ -93,10 +93,10 @@ returns-in-Ok-clause-seat g c =
     }
 
 pub returns-in-Some-clause-seen : goal.returns-in-Some-clause-seen
-returns-in-Some-clause-seen g c = ap (λ (v : SeatView). v.seen) c.greet_unless.ensures.seat ∙ ap (λ (h : GateState). h.log) (sym c.greet_unless.ensures.same)
+returns-in-Some-clause-seen g c = ap (λ (v : SeatView). v.seen) c.greet_unless.ensures.seat ∙ ap (λ (h : GateState). h.ledger) (sym c.greet_unless.ensures.same)
 
 pub returns-in_default-first_update-clause-seen : goal.returns-in_default-first_update-clause-seen
-returns-in_default-first_update-clause-seen g c = ap (λ (v : SeatView). v.seen) c.greet_unless.ensures.seat ∙ ap (λ (h : GateState). h.log) (sym c.greet_unless.ensures.same)
+returns-in_default-first_update-clause-seen g c = ap (λ (v : SeatView). v.seen) c.greet_unless.ensures.seat ∙ ap (λ (h : GateState). h.ledger) (sym c.greet_unless.ensures.same)
 
 pub returns-then-is_full-clause-seen : goal.returns-then-is_full-clause-seen
 returns-then-is_full-clause-seen g c = ap (λ (v : SeatView). v.seen) c.stop.ensures.seat
@@ -106,4 +106,4 @@ returns-in-Ok-clause-seen g c = ap (λ (v : SeatView). v.seen) c.in-Ok.ensures.s
 
 pub returns-in-Err-clause-seen : goal.returns-in-Err-clause-seen
 returns-in-Err-clause-seen g c =
-    ap (λ (v : SeatView). v.seen) (c.in-Err.ensures.err.1 ∙ c.greet_unless.ensures.seat) ∙ ap (λ (h : GateState). h.log) (sym (c.in-Err.ensures.err.0 ∙ c.greet_unless.ensures.same))
+    ap (λ (v : SeatView). v.seen) (c.in-Err.ensures.err.1 ∙ c.greet_unless.ensures.seat) ∙ ap (λ (h : GateState). h.ledger) (sym (c.in-Err.ensures.err.0 ∙ c.greet_unless.ensures.same))

@@ -71,7 +71,7 @@ pub accept-requires-clause-seen : goal.accept-requires-clause-seen
 accept-requires-clause-seen g c =
     let same = of_none c.barred.result _ c.barred.ensures.same c.in_default.is in
     let greeted = of_none c.barred.result _ c.barred.ensures.greeted c.in_default.is in
-    ap (λ (v : SeatView). v.seen) c.stale.ensures.seat ∙ ap (λ (v : SeatView). v.seen) greeted ∙ ap (λ (h : GateState). h.log) (sym (c.stale.ensures.same ∙ same))
+    ap (λ (v : SeatView). v.seen) c.stale.ensures.seat ∙ ap (λ (v : SeatView). v.seen) greeted ∙ ap (λ (h : GateState). h.ledger) (sym (c.stale.ensures.same ∙ same))
 
 pub accept-requires-clause-may : goal.accept-requires-clause-may
 accept-requires-clause-may g c =
@@ -108,11 +108,11 @@ returns-clause-seat g c =
     let fresh = c.stale.new.seat.fresh in
     let greeted = of_none c.barred.result _ c.barred.ensures.greeted c.in_default.is in
     let seat = c.stale.ensures.seat ∙ ap (λ (v : SeatView). record v { fresh = fresh }) greeted in
-    answered_first n old c.args.self.now.log c.barred.ensures.later fresh (subst (λ (v : SeatView). Rises v.fresh fresh) greeted c.stale.ensures.rises) CommitCauses c.args.ticket c.args.log.now.reads c.accept.new.seat c.accept.result
+    answered_first n old c.args.self.now.ledger c.barred.ensures.later fresh (subst (λ (v : SeatView). Rises v.fresh fresh) greeted c.stale.ensures.rises) CommitCauses c.args.ticket c.args.log.now.reads c.accept.new.seat c.accept.result
     (subst (λ (v : SeatView). AnsweredTo n CommitCauses v c.args.ticket c.args.log.now.reads c.accept.new.seat c.accept.result) seat c.accept.ensures.seat)
 
 pub returns-in-Some-stale-clause-seen : goal.returns-in-Some-stale-clause-seen
 returns-in-Some-stale-clause-seen g c =
     let same = of_none c.barred.result _ c.barred.ensures.same c.in_default.is in
     let greeted = of_none c.barred.result _ c.barred.ensures.greeted c.in_default.is in
-    ap (λ (v : SeatView). v.seen) c.stale.ensures.seat ∙ ap (λ (v : SeatView). v.seen) greeted ∙ ap (λ (h : GateState). h.log) (sym (c.stale.ensures.same ∙ same))
+    ap (λ (v : SeatView). v.seen) c.stale.ensures.seat ∙ ap (λ (v : SeatView). v.seen) greeted ∙ ap (λ (h : GateState). h.ledger) (sym (c.stale.ensures.same ∙ same))

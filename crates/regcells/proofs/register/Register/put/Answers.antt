@@ -7,6 +7,6 @@ use Rattle.regcells.proofs.register.Register.put.Goals as goal
 pub swap_as-requires : goal.swap_as-requires
 swap_as-requires g c =
     let w = c.words_of-words.ensures in
-    let log = values_after (seen_by c.args.pass.now) g.X.Giving.given in
-    let end = end_of log c.args.value c.words_of-words.result c.requires.last (c.requires.version ∙ ap (λ n. n + 1) (sym w.version)) w.value w.hold c.requires.width in
+    let values = values_after (seen_by c.args.pass.now) g.X.Giving.given in
+    let end = end_of values c.args.value c.words_of-words.result c.requires.last (c.requires.version ∙ ap (λ n. n + 1) (sym w.version)) w.value w.hold c.requires.width in
     (search rules, (search rules, (c.requires.cell, stores _ _ g.X.Giving.given c.words_of-words.result c.requires.holds end)))

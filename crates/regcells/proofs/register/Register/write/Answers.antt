@@ -11,37 +11,37 @@ use Rattle.regcells.proofs.register.Register.write.Goals as goal
 pub returns-then-more-eq0-clause-given : goal.returns-then-more-eq0-clause-given
 returns-then-more-eq0-clause-given g c =
     let k = c.check-last.ensures in
-    let log = seen_by c.args.pass.now in
+    let values = seen_by c.args.pass.now in
     let given = g.X.Giving.given in
-    let last : c.check-last.result.value ≡ last_value log = last_at log c.check-last.result.version c.check-last.result.value k.entry k.version in
-    let seen : seen_by c.check-last.new.pass ≡ log = ap (λ v. v.seen) k.same in
+    let last : c.check-last.result.value ≡ last_value values = last_at values c.check-last.result.version c.check-last.result.value k.entry k.version in
+    let seen : seen_by c.check-last.new.pass ≡ values = ap (λ v. v.seen) k.same in
     let more = c.changes_after-more.ensures.value given c.requires.net in
-    seen ∙ sym (none_given log given (ap (λ (v : Vector). length (altered v given)) (sym last) ∙ sym more ∙ c.if-more-eq0.true))
+    seen ∙ sym (none_given values given (ap (λ (v : Vector). length (altered v given)) (sym last) ∙ sym more ∙ c.if-more-eq0.true))
 
 pub put-requires-clause-last : goal.put-requires-clause-last
 put-requires-clause-last g c =
-    let log = seen_by c.check-last.new.pass in
-    sym (last_given log g.X.Giving.given ∙ net_last g.X.Giving.given c.args.net (last_value log) c.requires.net)
+    let values = seen_by c.check-last.new.pass in
+    sym (last_given values g.X.Giving.given ∙ net_last g.X.Giving.given c.args.net (last_value values) c.requires.net)
 
 pub put-requires-clause-version : goal.put-requires-clause-version
 put-requires-clause-version g c =
     let k = c.check-last.ensures in
-    let log = seen_by c.args.pass.now in
+    let values = seen_by c.args.pass.now in
     let given = g.X.Giving.given in
-    let last : c.check-last.result.value ≡ last_value log = last_at log c.check-last.result.version c.check-last.result.value k.entry k.version in
-    let seen : seen_by c.check-last.new.pass ≡ log = ap (λ v. v.seen) k.same in
-    let more : c.changes_after-more.result ≡ length (altered (last_value log) given) = c.changes_after-more.ensures.value given c.requires.net ∙ ap (λ (v : Vector). length (altered v given)) last in
-    let longer : length (values_after (seen_by c.check-last.new.pass) given) ≡ length log + length (altered (last_value log) given) = ap (λ (l : List Vector). length (values_after l given)) seen ∙ length-given log given in
+    let last : c.check-last.result.value ≡ last_value values = last_at values c.check-last.result.version c.check-last.result.value k.entry k.version in
+    let seen : seen_by c.check-last.new.pass ≡ values = ap (λ v. v.seen) k.same in
+    let more : c.changes_after-more.result ≡ length (altered (last_value values) given) = c.changes_after-more.ensures.value given c.requires.net ∙ ap (λ (v : Vector). length (altered v given)) last in
+    let longer : length (values_after (seen_by c.check-last.new.pass) given) ≡ length values + length (altered (last_value values) given) = ap (λ (l : List Vector). length (values_after l given)) seen ∙ length-given values given in
     omega (arith, longer, more, k.version)
 
 pub put-requires-clause-width : goal.put-requires-clause-width
 put-requires-clause-width g c =
-    let log = seen_by c.args.pass.now in
+    let values = seen_by c.args.pass.now in
     let given = g.X.Giving.given in
-    let seen : seen_by c.check-last.new.pass ≡ log = ap (λ v. v.seen) c.check-last.ensures.same in
-    let wide : width_of log ≡ c.args.self.now.width = ap (λ n. n.width) c.requires.register in
+    let seen : seen_by c.check-last.new.pass ≡ values = ap (λ v. v.seen) c.check-last.ensures.same in
+    let wide : width_of values ≡ c.args.self.now.width = ap (λ n. n.width) c.requires.register in
     ap (λ (l : List Vector). width_of (values_after l given)) seen
-    ∙ width_given log given c.requires.holding.begun
+    ∙ width_given values given c.requires.holding.begun
     ∙ wide
     ∙ sym (net_width given c.args.net c.args.self.now.width c.requires.net c.requires.widths)
 

@@ -1,6 +1,12 @@
-use Rattle.std.proofs.Common.{rules, ◌≡◌, length}
-use Rattle.turn.proofs.Slots.{begun}
+use Rattle.std.proofs.Common.{rules, ◌≡◌, ◌∙◌, length, replicate, None, ap, arith}
+use Rattle.turn.proofs.Slots.{older, begun}
 use Rattle.turn.proofs.table.Known.begin.Goals as goal
+
+pub returns-then-len-registers : goal.returns-then-len-registers
+returns-then-len-registers c =
+    let slots = c.next_stamp-self-inside.new.slots in
+    let len : length slots.items ≡ c.args.registers = omega (arith, c.len.ensures, c.if-len-registers.true, slots.ok.0) in
+    older c.next_stamp-self-inside.result slots.items c.next_stamp-self-inside.ensures.new ∙ ap (λ n. replicate n None) len
 
 pub returns : goal.returns
 returns c =

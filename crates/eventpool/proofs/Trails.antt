@@ -1,9 +1,9 @@
--- Laws of a deque's log.
+-- Laws of a deque's trail.
 use Rattle.std.proofs.Common.{◌≡◌, ◌≢◌, ℕ, suc, ◌+◌, ◌<◌, ◌≤◌, true, false, cond, eqb, List, [], ◌∷◌, ◌++◌, length, refl, sym, ap, ◌∙◌, arith, append_assoc, length-append, ⊎_elim}
 use Rattle.std.specs.Prelude.{◌==◌}
 use Rattle.std.proofs.lemmas.Bool.Decides.{eqb_tells}
 use mathlib.Core.List.{IsPrefix}
-use Rattle.eventpool.specs.DequeLog.{tickets_of, own, got_by, NamedBelow, AreHands}
+use Rattle.eventpool.specs.DequeTrail.{tickets_of, own, got_by, NamedBelow, AreHands}
 
 -- beginnings
 module _ {A : Type 0} where
@@ -42,45 +42,45 @@ module _ {T : Type 0} where
   append_nothing (x ∷ xs) = ap (λ l. x ∷ l) (append_nothing xs)
 
   -- one more ticket of a name is its last
-  pub got_more : (k : ℕ) (log : List (ℕ × T)) (x : T) → got_by k (log ++ (k, x) ∷ []) ≡ got_by k log ++ x ∷ []
-  got_more k log x = got_append k log ((k, x) ∷ []) ∙ ap (λ l. got_by k log ++ l) (append_nothing (own k (k, x)) ∙ own_same k x)
+  pub got_more : (k : ℕ) (trail : List (ℕ × T)) (x : T) → got_by k (trail ++ (k, x) ∷ []) ≡ got_by k trail ++ x ∷ []
+  got_more k trail x = got_append k trail ((k, x) ∷ []) ∙ ap (λ l. got_by k trail ++ l) (append_nothing (own k (k, x)) ∙ own_same k x)
 
-  pub got_other : (j k : ℕ) (log : List (ℕ × T)) (x : T) → j ≢ k → got_by j (log ++ (k, x) ∷ []) ≡ got_by j log
-  got_other j k log x n = got_append j log ((k, x) ∷ []) ∙ ap (λ l. got_by j log ++ l) (append_nothing (own j (k, x)) ∙ own_off j k x n) ∙ append_nothing (got_by j log)
+  pub got_other : (j k : ℕ) (trail : List (ℕ × T)) (x : T) → j ≢ k → got_by j (trail ++ (k, x) ∷ []) ≡ got_by j trail
+  got_other j k trail x n = got_append j trail ((k, x) ∷ []) ∙ ap (λ l. got_by j trail ++ l) (append_nothing (own j (k, x)) ∙ own_off j k x n) ∙ append_nothing (got_by j trail)
 
   -- a name that was not given has nothing
-  pub got_none : (k n : ℕ) (log : List (ℕ × T)) → NamedBelow n log → n ≤ k → got_by k log ≡ []
+  pub got_none : (k n : ℕ) (trail : List (ℕ × T)) → NamedBelow n trail → n ≤ k → got_by k trail ≡ []
   got_none k n [] h le = refl
   got_none k n (e ∷ es) h le = let off : k ≢ e.0 = (λ same. let below = h.0 in absurd (omega arith)) in ap (λ l. l ++ got_by k es) (own_off k e.0 e.1 off) ∙ got_none k n es h.1 le
 
-  pub named_more : (n k : ℕ) (log : List (ℕ × T)) (x : T) → NamedBelow n log → k < n → NamedBelow n (log ++ (k, x) ∷ [])
+  pub named_more : (n k : ℕ) (trail : List (ℕ × T)) (x : T) → NamedBelow n trail → k < n → NamedBelow n (trail ++ (k, x) ∷ [])
   named_more n k [] x h lt = (lt, tt)
   named_more n k (e ∷ es) x h lt = (h.0, named_more n k es x h.1 lt)
 
-  pub named_wider : (n m : ℕ) (log : List (ℕ × T)) → n ≤ m → NamedBelow n log → NamedBelow m log
+  pub named_wider : (n m : ℕ) (trail : List (ℕ × T)) → n ≤ m → NamedBelow n trail → NamedBelow m trail
   named_wider n m [] le h = tt
   named_wider n m (e ∷ es) le h = (let lt = h.0 in omega arith, named_wider n m es le h.1)
 
   -- hands that came back get nothing more
-  pub hands_more : (name k : ℕ) (hands : List (List T × List (ℕ × T))) (log : List (ℕ × T)) (x : T) → AreHands name hands log → k < name → AreHands name hands (log ++ (k, x) ∷ [])
-  hands_more name k [] log x h lt = tt
-  hands_more name k (b ∷ bs) log x h lt = (
-    h.0 ∙ sym (got_other name k log x (λ same. absurd (omega arith))),
-    begins_on b.1 log ((k, x) ∷ []) h.1,
-    hands_more (name + 1) k bs log x h.2 (omega arith),
+  pub hands_more : (name k : ℕ) (hands : List (List T × List (ℕ × T))) (trail : List (ℕ × T)) (x : T) → AreHands name hands trail → k < name → AreHands name hands (trail ++ (k, x) ∷ [])
+  hands_more name k [] trail x h lt = tt
+  hands_more name k (b ∷ bs) trail x h lt = (
+    h.0 ∙ sym (got_other name k trail x (λ same. absurd (omega arith))),
+    begins_on b.1 trail ((k, x) ∷ []) h.1,
+    hands_more (name + 1) k bs trail x h.2 (omega arith),
   )
 
-  pub tickets_more : (log : List (ℕ × T)) (k : ℕ) (x : T) (items : List T) → tickets_of (log ++ (k, x) ∷ []) ++ items ≡ tickets_of log ++ x ∷ items
+  pub tickets_more : (trail : List (ℕ × T)) (k : ℕ) (x : T) (items : List T) → tickets_of (trail ++ (k, x) ∷ []) ++ items ≡ tickets_of trail ++ x ∷ items
   tickets_more [] k x items = refl
   tickets_more (e ∷ es) k x items = ap (λ l. e.1 ∷ l) (tickets_more es k x items)
 
-  pub got_no_more : (k : ℕ) (log : List (ℕ × T)) → length (got_by k log) ≤ length log
+  pub got_no_more : (k : ℕ) (trail : List (ℕ × T)) → length (got_by k trail) ≤ length trail
   got_no_more k [] = omega arith
   got_no_more k (e ∷ es) = elim (k == e.0) as (λ b. length (cond b (e.1 ∷ []) [] ++ got_by k es) ≤ length (e ∷ es)) [
     | true ↦ omega (arith, got_no_more k es)
     | false ↦ omega (arith, got_no_more k es)
   ]
 
-  pub tickets_length : (log : List (ℕ × T)) → length (tickets_of log) ≡ length log
+  pub tickets_length : (trail : List (ℕ × T)) → length (tickets_of trail) ≡ length trail
   tickets_length [] = refl
   tickets_length (e ∷ es) = ap suc (tickets_length es)

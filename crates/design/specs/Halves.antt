@@ -1,0 +1,49 @@
+-- The halves of a word of 128 bits, and a vector whose two words stand in halves.
+use Rattle.std.specs.Prelude.{◌≡◌, ℕ, ◌+◌, ◌*◌, ◌/◌, ◌%◌, ◌^◌, ◌<◌, ◌≤◌, length}
+use Rattle.std.proofs.Common.{arith, ◌∙◌}
+use Rattle.logic4.specs.Vector.{Vector}
+use Rattle.logic4.specs.VectorWords.{AreWords, of_words, first_word, second_word, length-of_words, first_word-of_words, second_word-of_words}
+use Rattle.design.specs.declared.halved.Halved.TheInside.{Inside}
+
+-- the word that has these halves
+abbrev pub joined : ℕ → ℕ → ℕ
+joined low high = high * 2 ^ 64 + low
+
+-- the vector in them
+abbrev pub vector_in : Inside → Vector
+vector_in s = of_words s.width (joined s.a_low s.a_high) (joined s.b_low s.b_high)
+
+-- they hold a vector, and the low ones are halves
+pub record HoldsVector (s : Inside) : Type 0 where
+  pub words : AreWords s.width (joined s.a_low s.a_high) (joined s.b_low s.b_high)
+  pub a_low : s.a_low < 2 ^ 64
+  pub b_low : s.b_low < 2 ^ 64
+
+-- the halves of a vector
+abbrev pub halves_of : Vector → Inside
+halves_of v = record {
+  width = length v;
+  a_low = first_word v % 2 ^ 64;
+  a_high = first_word v / 2 ^ 64;
+  b_low = second_word v % 2 ^ 64;
+  b_high = second_word v / 2 ^ 64;
+}
+
+low_of : (low high n : ℕ) → low < 2 ^ 64 → n ≡ joined low high → n % 2 ^ 64 ≡ low
+low_of low high n h e = omega arith
+
+high_of : (low high n : ℕ) → low < 2 ^ 64 → n ≡ joined low high → n / 2 ^ 64 ≡ high
+high_of low high n h e = omega arith
+
+-- a vector in halves has these halves
+pub halves_of-vector_in : (s : Inside) → HoldsVector s → halves_of (vector_in s) ≡ s
+halves_of-vector_in s h =
+    let first = first_word-of_words s.width (joined s.a_low s.a_high) (joined s.b_low s.b_high) h.words.first in
+    let second = second_word-of_words s.width (joined s.a_low s.a_high) (joined s.b_low s.b_high) h.words.second in
+    λ i. record {
+      width = length-of_words s.width (joined s.a_low s.a_high) (joined s.b_low s.b_high) i;
+      a_low = low_of s.a_low s.a_high _ h.a_low first i;
+      a_high = high_of s.a_low s.a_high _ h.a_low first i;
+      b_low = low_of s.b_low s.b_high _ h.b_low second i;
+      b_high = high_of s.b_low s.b_high _ h.b_low second i;
+    }
