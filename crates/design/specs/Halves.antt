@@ -29,9 +29,11 @@ halves_of v = record {
   b_high = second_word v / 2 ^ 64;
 }
 
+-- the low half of a joined word
 low_of : (low high n : ℕ) → low < 2 ^ 64 → n ≡ joined low high → n % 2 ^ 64 ≡ low
 low_of low high n h e = omega arith
 
+-- the high half of a joined word
 high_of : (low high n : ℕ) → low < 2 ^ 64 → n ≡ joined low high → n / 2 ^ 64 ≡ high
 high_of low high n h e = omega arith
 

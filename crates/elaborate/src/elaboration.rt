@@ -2,13 +2,12 @@
 ghost use Rattle.std.specs.Prelude.{◌≡◌, [], None, map, length, IfOk, IfErr, OnOk};
 ghost use Rattle.design.specs.Compiled.{design_of};
 ghost use Rattle.design.specs.Sound.{IsSound};
-ghost use Rattle.design.specs.DesignTrees.{tree_design};
 ghost use Rattle.elaborate.specs.ModuleFaults.{IsFirstFault};
 ghost use Rattle.elaborate.specs.FirstFindings.{verdict, found_among, found_few};
 ghost use Rattle.elaborate.specs.Formed.{AreFormedProcesses};
 ghost use Rattle.elaborate.specs.Small.{AreSmallProcesses};
 ghost use Rattle.model.specs.Elaboration as model;
-ghost use Rattle.model.specs.Elaboration.{declared, faults, widths_of};
+ghost use Rattle.model.specs.Elaboration.{declared, faults};
 ghost use Rattle.model.specs.SourceTrees.{module_of, process_of};
 
 use crate::fault::ElabFault;
