@@ -1,4 +1,4 @@
--- What clap's account of the words gives for a request and for a refusal.
+-- What clap's account of the words gives for a request, and where there is none.
 use Rattle.std.proofs.Common.{◌≡◌, ◌⊎◌, ◌^◌, ◌<◌, ◌∙◌, ℕ, true, List, [], ◌∷◌, drop, Option, Some, None, is_some, option_map, pos, Result, Ok, Err, IfOk, IfErr, refl, sym, subst, ap, inl, inr, codes}
 use Rattle.std.specs.Str.Parse.{IsNumeral, ParsesUnsigned, digits_value, without_leading_plus}
 use Rattle.clap.specs.Words.{App, Row, FailsBy, HasKind, HasMatchesOf, IsAmong, Kinds, ReadsOne, Text, one_text, without_minus, fault_of, found_of, is_simple, is_simple_and_free, matches_of, rows_of, kind_of}
@@ -11,10 +11,10 @@ use Rattle.clap.specs.declared.error.Error.{Error}
 use Rattle.clap.specs.declared.error.kind.ErrorKind.{ErrorKind}
 use Rattle.clap.specs.declared.error.kind.ErrorKind.TheVariants.{ArgumentConflict, MissingSubcommand, OutOfMemory, DisplayHelp, DisplayVersion}
 use Rattle.clap.specs.declared.parser.matches.ArgMatches.{ArgMatches}
-use Rattle.arguments.specs.declared.request.Refusal.{Refusal}
-use Rattle.arguments.specs.declared.request.Refusal.TheVariants as refusal
+use Rattle.arguments.specs.declared.request.NoRequest.{NoRequest}
+use Rattle.arguments.specs.declared.request.NoRequest.TheVariants as no_request
 use Rattle.arguments.specs.Arguments.{IsGiven}
-use Rattle.arguments.specs.CommandWords.{number_given, AsksNoTask, Begins, FailsAs, IsRefusal, IsRefusalBy, MayFail, of_run, of_two_orders, of_replay, of_races, of_check, of_explain, of_waves, of_others, has_two_orders, other_faults, check_app, check_faults, explain_app, explain_faults, races_app, races_faults, replay_app, replay_faults, run_app, run_faults, run_rows, waves_app, waves_faults, whole_app}
+use Rattle.arguments.specs.CommandWords.{number_given, AsksNoTask, Begins, FailsAs, IsNoRequest, IsNoRequestBy, MayFail, of_run, of_two_orders, of_replay, of_races, of_check, of_explain, of_waves, of_others, has_two_orders, other_faults, check_app, check_faults, explain_app, explain_faults, races_app, races_faults, replay_app, replay_faults, run_app, run_faults, run_rows, waves_app, waves_faults, whole_app}
 
 whole_is_free : is_simple_and_free whole_app ≡ true
 unfolding whole_app run_app replay_app races_app check_app explain_app waves_app
@@ -103,20 +103,20 @@ pub missing_fails : (words : List Text) (e : Error) → AsksNoTask words → IsA
 missing_fails words e none among (inl h) = inl h
 missing_fails words e none among (inr h) = inr (of_others none (subst (λ (k : ErrorKind). IsAmong k (other_faults words)) (sym h) among))
 
-pub refused : (words : List Text) (kind : ErrorKind) (r : Refusal) → FailsAs words kind → IsRefusalBy kind r → IsRefusal words r
-refused words kind (refusal.Help text) (inl h) (inl by) = elim_kind (sym h ∙ by)
+pub refused : (words : List Text) (kind : ErrorKind) (r : NoRequest) → FailsAs words kind → IsNoRequestBy kind r → IsNoRequest words r
+refused words kind (no_request.Help text) (inl h) (inl by) = elim_kind (sym h ∙ by)
   where
     elim_kind : OutOfMemory ≡ DisplayHelp → MayFail words DisplayHelp ⊎ MayFail words DisplayVersion
     elim_kind e = cc
-refused words kind (refusal.Help text) (inl h) (inr by) = elim_kind (sym h ∙ by)
+refused words kind (no_request.Help text) (inl h) (inr by) = elim_kind (sym h ∙ by)
   where
     elim_kind : OutOfMemory ≡ DisplayVersion → MayFail words DisplayHelp ⊎ MayFail words DisplayVersion
     elim_kind e = cc
-refused words kind (refusal.Help text) (inr h) (inl by) = inl (subst (MayFail words) by h)
-refused words kind (refusal.Help text) (inr h) (inr by) = inr (subst (MayFail words) by h)
-refused words kind (refusal.Usage text) (inl h) by = absurd (by.0 h)
-refused words kind (refusal.Usage text) (inr h) by = (kind, h, by.1, by.2)
-refused words kind refusal.Memory h by = tt
+refused words kind (no_request.Help text) (inr h) (inl by) = inl (subst (MayFail words) by h)
+refused words kind (no_request.Help text) (inr h) (inr by) = inr (subst (MayFail words) by h)
+refused words kind (no_request.Usage text) (inl h) by = absurd (by.0 h)
+refused words kind (no_request.Usage text) (inr h) by = (kind, h, by.1, by.2)
+refused words kind no_request.Memory h by = tt
 
 -- a number that was read
 

@@ -9,8 +9,8 @@ use Rattle.clap.specs.declared.error.kind.ErrorKind.TheVariants.{ArgumentConflic
 use Rattle.clap.specs.declared.builder.action.ArgAction.TheVariants.{Set}
 use Rattle.clap.specs.declared.builder.value_parser.ValueParser.{ValueParser}
 use Rattle.arguments.specs.declared.options.Options.{Options}
-use Rattle.arguments.specs.declared.request.Refusal.{Refusal}
-use Rattle.arguments.specs.declared.request.Refusal.TheVariants as refusal
+use Rattle.arguments.specs.declared.request.NoRequest.{NoRequest}
+use Rattle.arguments.specs.declared.request.NoRequest.TheVariants as no_request
 use Rattle.arguments.specs.declared.request.Request.{Request}
 use Rattle.arguments.specs.declared.request.Request.TheVariants as request
 use Rattle.arguments.specs.declared.request.RunRequest.{RunRequest}
@@ -396,13 +396,13 @@ abbrev pub AreWrong : List Text → Type 0
 AreWrong words = (kind : ErrorKind) × MayFail words kind × (kind ≢ DisplayHelp) × (kind ≢ DisplayVersion)
 
 -- what is answered to an error of this kind, but for memory, which may be refused for any text
-abbrev pub IsRefusalBy : ErrorKind → Refusal → Type 0
-IsRefusalBy kind (refusal.Help text) = (kind ≡ DisplayHelp) ⊎ (kind ≡ DisplayVersion)
-IsRefusalBy kind (refusal.Usage text) = (kind ≢ OutOfMemory) × (kind ≢ DisplayHelp) × (kind ≢ DisplayVersion)
-IsRefusalBy kind refusal.Memory = Unit {0}
+abbrev pub IsNoRequestBy : ErrorKind → NoRequest → Type 0
+IsNoRequestBy kind (no_request.Help text) = (kind ≡ DisplayHelp) ⊎ (kind ≡ DisplayVersion)
+IsNoRequestBy kind (no_request.Usage text) = (kind ≢ OutOfMemory) × (kind ≢ DisplayHelp) × (kind ≢ DisplayVersion)
+IsNoRequestBy kind no_request.Memory = Unit {0}
 
 -- the words make no request for this reason, but for memory, which may be refused for any words
-abbrev pub IsRefusal : List Text → Refusal → Type 0
-IsRefusal words (refusal.Help text) = AsksHelp words
-IsRefusal words (refusal.Usage text) = AreWrong words
-IsRefusal words refusal.Memory = Unit {0}
+abbrev pub IsNoRequest : List Text → NoRequest → Type 0
+IsNoRequest words (no_request.Help text) = AsksHelp words
+IsNoRequest words (no_request.Usage text) = AreWrong words
+IsNoRequest words no_request.Memory = Unit {0}

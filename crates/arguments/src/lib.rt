@@ -23,7 +23,7 @@ pub use extent::Extent;
 pub use options::Options;
 pub use parsing::read_request;
 pub use request::{
-    CheckRequest, ExplainRequest, RacesRequest, Refusal, ReplayRequest, Request, RunRequest,
+    CheckRequest, ExplainRequest, NoRequest, RacesRequest, ReplayRequest, Request, RunRequest,
     WavesRequest,
 };
 pub use version::VERSION;

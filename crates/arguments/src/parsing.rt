@@ -8,7 +8,7 @@ ghost use Rattle.std.specs.Prelude.{◌≡◌, ◌⊎◌, IfErr, IfOk, IfSome, N
 ghost use Rattle.clap.specs.Words.{found_of, kind_of, rows_of};
 ghost use Rattle.clap.specs.declared.error.kind.ErrorKind.TheVariants.{ArgumentConflict, MissingSubcommand, OutOfMemory};
 ghost use Rattle.arguments.specs.Arguments.{Gives, GivesRun};
-ghost use Rattle.arguments.specs.CommandWords.{Asks, AsksNoTask, AsksTwoOrders, Begins, FailsAs, IsAskedBy, IsRefusal, IsRefusalBy, texts_of, word_of};
+ghost use Rattle.arguments.specs.CommandWords.{Asks, AsksNoTask, AsksTwoOrders, Begins, FailsAs, IsAskedBy, IsNoRequest, IsNoRequestBy, texts_of, word_of};
 ghost use Rattle.arguments.specs.declared.task.Task.{Task};
 ghost use Rattle.arguments.specs.declared.task.Task.TheVariants.{Run};
 
@@ -17,16 +17,16 @@ use crate::given::{
     check_request, explain_request, gives_two_orders, races_request, replay_request, run_request,
     waves_request,
 };
-use crate::request::{Refusal, Request};
+use crate::request::{NoRequest, Request};
 use crate::task::Task;
 use clap::error::ErrorKind;
 use clap::{ArgMatches, Error};
 use std::alloc::Global;
 
 /// The request that the words make. The first word is the program's name.
-pub fn read_request<'a>(alloc: Global, words: &'a [String]) -> Result<Request<'a>, Refusal>
+pub fn read_request<'a>(alloc: Global, words: &'a [String]) -> Result<Request<'a>, NoRequest>
     ensures asked { IfOk result (Asks (texts_of words.now)) }
-    ensures refused { IfErr result (IsRefusal (texts_of words.now)) }
+    ensures refused { IfErr result (IsNoRequest (texts_of words.now)) }
 {
     match parse(alloc, words) {
         Ok(request) => Ok(request),
@@ -35,16 +35,16 @@ pub fn read_request<'a>(alloc: Global, words: &'a [String]) -> Result<Request<'a
 }
 
 /// What is answered to an error of this kind, or that memory is refused.
-fn refuse(alloc: Global, error: &Error) -> Refusal
-    ensures { IsRefusalBy (kind_of error.now) result }
+fn refuse(alloc: Global, error: &Error) -> NoRequest
+    ensures { IsNoRequestBy (kind_of error.now) result }
 {
     if matches!(error.kind(), ErrorKind::OutOfMemory) {
-        return Refusal::Memory;
+        return NoRequest::Memory;
     }
     match error.to_string(alloc) {
-        Ok(text) if error.use_stderr() => Refusal::Usage(text),
-        Ok(text) => Refusal::Help(text),
-        Err(_) => Refusal::Memory,
+        Ok(text) if error.use_stderr() => NoRequest::Usage(text),
+        Ok(text) => NoRequest::Help(text),
+        Err(_) => NoRequest::Memory,
     }
 }
 

@@ -69,7 +69,7 @@ pub struct WavesRequest<'a> {
 /// Why there is no request: help was asked for, the words are wrong, or memory was refused. A text
 /// is what `clap` says.
 #[derive(Drop)]
-pub enum Refusal {
+pub enum NoRequest {
     Help(String),
     Usage(String),
     Memory,

@@ -29,7 +29,7 @@ abbrev pub rank_in : List ℕ → ℕ → ℕ
 rank_in ranks p = slice_index_or ranks p 0
 
 -- No register is an output of both, and the first comes in rank before the second where that waits for an output of it.
-pub record AreApart (ranks : List ℕ) (p q : ℕ) (one other : Logic) : Type 0 where
+pub record AreRanked (ranks : List ℕ) (p q : ℕ) (one other : Logic) : Type 0 where
   pub single : (r : ℕ) → contains one.outputs.items r ≡ true → contains other.outputs.items r ≡ false
   pub order : (r : ℕ) → contains one.outputs.items r ≡ true → contains other.inputs.items r ≡ true → rank_in ranks p < rank_in ranks q
 
@@ -38,11 +38,11 @@ abbrev pub AreLogics : Compiled → List (Option Logic) → Type 0
 AreLogics code logics = (p : ℕ) (logic : Logic) → slice_get logics p ≡ Some (Some logic) → HasLogic code p logic
 
 -- the logic of any two processes is apart
-abbrev pub AllApart : List ℕ → List (Option Logic) → Type 0
-AllApart ranks logics =
-    (p q : ℕ) (one other : Logic) → p ≢ q → slice_get logics p ≡ Some (Some one) → slice_get logics q ≡ Some (Some other) → AreApart ranks p q one other
+abbrev pub AllRanked : List ℕ → List (Option Logic) → Type 0
+AllRanked ranks logics =
+    (p q : ℕ) (one other : Logic) → p ≢ q → slice_get logics p ≡ Some (Some one) → slice_get logics q ≡ Some (Some other) → AreRanked ranks p q one other
 
 -- The combinational processes of a design: for each process its logic, if some was found, and its rank.
 pub record AreFound (code : Compiled) (found : Network) : Type 0 where
   pub each : AreLogics code found.logics.items
-  pub apart : AllApart found.ranks.items found.logics.items
+  pub apart : AllRanked found.ranks.items found.logics.items

@@ -1,7 +1,7 @@
 //! All combinational processes of a design, and an order among them.
 ghost use Rattle.std.specs.Prelude.{◌≡◌, ◌≢◌, ℕ, ◌<◌, true, false, [], length, Some, None, slice_get, IfOk, IfSome};
 ghost use Rattle.model.specs.Turns.{contains};
-ghost use Rattle.combinational.specs.Found.{rank_in, AreApart, AreLogics, AllApart, AreFound};
+ghost use Rattle.combinational.specs.Found.{rank_in, AreRanked, AreLogics, AllRanked, AreFound};
 ghost use Rattle.combinational.specs.declared.block.Logic.{Logic as Found};
 
 use crate::block::{Logic, is_among, logic_of};
@@ -67,7 +67,7 @@ fn rank_of(ranks: &[u32], process: usize) -> u32
 // Whether logic is apart from that of the process at a place, where that is another process.
 fn is_apart_at(network: &Network, process: usize, one: &Logic, at: usize) -> bool
     requires { at < length network.now.logics.items }
-    ensures { result ≡ true → (other : Found) → process ≢ at → slice_get network.now.logics.items at ≡ Some (Some other) → AreApart network.now.ranks.items process at one.now other }
+    ensures { result ≡ true → (other : Found) → process ≢ at → slice_get network.now.logics.items at ≡ Some (Some other) → AreRanked network.now.ranks.items process at one.now other }
 {
     if at == process {
         return true;
@@ -84,8 +84,8 @@ fn is_apart_at(network: &Network, process: usize, one: &Logic, at: usize) -> boo
 }
 
 // Whether the logic of a process is apart from that of each other one.
-fn is_apart(network: &Network, process: usize, one: &Logic) -> bool
-    ensures { result ≡ true → (q : ℕ) (other : Found) → process ≢ q → slice_get network.now.logics.items q ≡ Some (Some other) → AreApart network.now.ranks.items process q one.now other }
+fn is_ranked(network: &Network, process: usize, one: &Logic) -> bool
+    ensures { result ≡ true → (q : ℕ) (other : Found) → process ≢ q → slice_get network.now.logics.items q ≡ Some (Some other) → AreRanked network.now.ranks.items process q one.now other }
 {
     for at in 0..network.logics.len() {
         if !is_apart_at(network, process, one, at) {
@@ -98,10 +98,10 @@ fn is_apart(network: &Network, process: usize, one: &Logic) -> bool
 // Whether the process at a place has no logic, or logic that is apart from that of each other one.
 fn is_apart_from_all(network: &Network, process: usize) -> bool
     requires { process < length network.now.logics.items }
-    ensures { result ≡ true → (q : ℕ) (one other : Found) → process ≢ q → slice_get network.now.logics.items process ≡ Some (Some one) → slice_get network.now.logics.items q ≡ Some (Some other) → AreApart network.now.ranks.items process q one other }
+    ensures { result ≡ true → (q : ℕ) (one other : Found) → process ≢ q → slice_get network.now.logics.items process ≡ Some (Some one) → slice_get network.now.logics.items q ≡ Some (Some other) → AreRanked network.now.ranks.items process q one other }
 {
     match &network.logics[process] {
-        Some(one) => is_apart(network, process, one),
+        Some(one) => is_ranked(network, process, one),
         None => true,
     }
 }
@@ -109,7 +109,7 @@ fn is_apart_from_all(network: &Network, process: usize) -> bool
 // The first process whose logic isn't apart from that of each other one.
 fn first_offender(network: &Network) -> Option<usize>
     ensures within { IfSome result (λ at. at < length network.now.logics.items) }
-    ensures apart { result ≡ None → AllApart network.now.ranks.items network.now.logics.items }
+    ensures apart { result ≡ None → AllRanked network.now.ranks.items network.now.logics.items }
 {
     for at in 0..network.logics.len() {
         if !is_apart_from_all(network, at) {

@@ -6,7 +6,7 @@ ghost use Rattle.runstate.specs.Ledger.{entries_of, positions_of, stored_of};
 ghost use Rattle.runstate.specs.Marked.{seated};
 ghost use Rattle.regcells.specs.Meetings.{fresh_of};
 ghost use Rattle.commitgate.specs.Seats.{ReadsOn, LooksOn};
-ghost use Rattle.runstate.specs.Histories.{IsEntryOf};
+ghost use Rattle.runstate.specs.Histories.{StandsInHistory};
 
 use crate::naming::Naming;
 use crate::ticket::Ticket;
@@ -105,7 +105,7 @@ impl<K: Naming> Seat<K> {
         requires cells { cells.now ≡ K.named.cells }
         requires register { register < length K.named.cells }
         ensures later { IsPrefix (fresh_of self.old.fresh register) (fresh_of self.new.fresh register) }
-        ensures entry { IsEntryOf (fresh_of self.new.fresh register) result }
+        ensures entry { StandsInHistory (fresh_of self.new.fresh register) result }
         ensures version { length (fresh_of self.new.fresh register) ≡ result.version + 1 }
         ensures others { self.new.fresh ≡ slice_set self.old.fresh register (fresh_of self.new.fresh register) }
         ensures reads_on { ReadsOn self.old self.new }

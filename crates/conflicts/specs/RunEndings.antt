@@ -5,7 +5,7 @@ use Rattle.model.specs.declared.end.Limits.{Limits}
 use Rattle.model.specs.declared.end.End.{End}
 use Rattle.model.specs.Runs.{last_time, EndsIn}
 use Rattle.design.specs.Compiled.{Compiled, design_of}
-use Rattle.regions.specs.Machine.{Position, state_at}
+use Rattle.regions.specs.Machine.{MachineView, state_at}
 use Rattle.seeded.specs.declared.run.SeededRun.{SeededRun}
 use Rattle.seeded.specs.SeededRun.{IsRun}
 
@@ -14,7 +14,7 @@ abbrev pub HasTimeLimit : Limits → Type 0
 HasTimeLimit limits = IfSome limits.until (λ until. until ≤ last_time)
 
 -- a run with these limits may end in this way where the machine stands, behind this journal
-abbrev pub EndsAt : Limits → List Entry → Position → End → Type 0
+abbrev pub EndsAt : Limits → List Entry → MachineView → End → Type 0
 EndsAt limits journal p end = EndsIn (design_of p.code) limits (length journal) (state_at p) end
 
 -- a run of every design, within any limits: one of no entries, for which there was no memory

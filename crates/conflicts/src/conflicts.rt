@@ -27,7 +27,7 @@ pub(crate) struct Group {
 
 /// How many conflicts of a group there are, and the last one's places.
 #[derive(Clone, Copy)]
-struct Tally {
+struct GroupCount {
     count: usize,
     earlier: usize,
     later: usize,
@@ -37,7 +37,7 @@ struct Tally {
 #[derive(Drop)]
 pub(crate) struct Conflicts {
     most_groups: usize,
-    tallies: IndexMap<Group, Tally>,
+    group_counts: IndexMap<Group, GroupCount>,
     pub(crate) list: Vec<Conflict>,
     /// Whether none was left out.
     pub(crate) complete: bool,
@@ -61,7 +61,7 @@ impl Conflicts {
     pub(crate) fn new(alloc: Global, most_groups: usize) -> Conflicts {
         Conflicts {
             most_groups,
-            tallies: IndexMap::new(alloc),
+            group_counts: IndexMap::new(alloc),
             list: Vec::new(alloc),
             complete: true,
         }
@@ -69,17 +69,18 @@ impl Conflicts {
 
     /// How many conflicts of a pair's group are kept, where one more may be, and this pair isn't the last of them.
     pub(crate) fn round(&mut self, pair: Pair) -> Option<usize> {
-        match self.tallies.get(&Group::of(pair)).copied() {
-            Some(tally) => {
-                let is_told = tally.earlier == pair.earlier && tally.later == pair.later;
-                if is_told || tally.count >= MOST_OF_A_GROUP {
+        match self.group_counts.get(&Group::of(pair)).copied() {
+            Some(group_count) => {
+                let is_told = group_count.earlier == pair.earlier
+                    && group_count.later == pair.later;
+                if is_told || group_count.count >= MOST_OF_A_GROUP {
                     None
                 } else {
-                    Some(tally.count)
+                    Some(group_count.count)
                 }
             }
             None => {
-                if self.tallies.len() < self.most_groups {
+                if self.group_counts.len() < self.most_groups {
                     Some(0)
                 } else {
                     self.complete = false;
@@ -92,13 +93,13 @@ impl Conflicts {
     /// Keeps one more conflict, if memory isn't refused to it.
     pub(crate) fn add(&mut self, conflict: Conflict) {
         let group = Group::of(conflict.pair);
-        let tally = Tally {
+        let group_count = GroupCount {
             count: conflict.round.saturating_add(1),
             earlier: conflict.pair.earlier,
             later: conflict.pair.later,
         };
         let is_kept = self.list.push(conflict).is_ok();
-        let is_counted = self.tallies.insert(group, tally).is_ok();
+        let is_counted = self.group_counts.insert(group, group_count).is_ok();
         self.complete = self.complete & is_kept & is_counted;
     }
 }

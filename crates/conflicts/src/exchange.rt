@@ -5,9 +5,9 @@ ghost use Rattle.conflicts.specs.RunEndings.{EndsAt};
 
 use crate::conflicts::Conflict;
 use crate::follow::{follow_on, lead_all, repeat};
-use crate::moves::{Guide, next_change};
 use crate::run::Run;
 use crate::task::Task;
+use crate::transitions::{Guide, next_change};
 use deeds::lead;
 use model::end::End;
 use progress::Progress;
@@ -55,7 +55,7 @@ fn have_one_text(
     Ok(copy.take_lines() == other.take_lines())
 }
 
-// Whether a second run stands where the first one stood before the move at a place, with the same text: what follows is the same then.
+// Whether a second run stands where the first one stood before the transition at a place, with the same text: what follows is the same then.
 // The machine stands where the two runs part, and is led on by the first one's entries.
 fn rejoins(
     task: Task<'_>,
@@ -90,9 +90,9 @@ fn go_on<P: Progress>(
     ensures code { run.new.machine.code ≡ run.old.machine.code }
     ensures ends { IfOk result (λ end. IfSome end (EndsAt task.entry.limits run.new.journal.items run.new.machine)) }
 {
-    let place = next_change(task.moves, conflict.pair.later);
+    let place = next_change(task.transitions, conflict.pair.later);
     let mut guide = Guide {
-        moves: task.moves,
+        transitions: task.transitions,
         at: conflict.pair.earlier.saturating_add(1),
         until: place,
         taken: &conflict.order,
@@ -121,7 +121,7 @@ fn go_on<P: Progress>(
 }
 
 // Takes the entries of the first run up to the earlier entry of a conflict, what the later one needs, the later one, the earlier one,
-// and then the moves of the first run as far as they may be taken. None where one of those before may not be taken, or where it comes
+// and then the transitions of the first run as far as they may be taken. None where one of those before may not be taken, or where it comes
 // to where the first run came.
 fn lead_exchanged<P: Progress>(
     task: Task<'_>,
@@ -138,7 +138,13 @@ fn lead_exchanged<P: Progress>(
         return Ok(None);
     }
     let mut machine = copy_of(task.alloc, &run.machine)?;
-    if !lead_all(task.alloc, run, task.limits, task.moves, &conflict.order)? {
+    if !lead_all(
+        task.alloc,
+        run,
+        task.limits,
+        task.transitions,
+        &conflict.order,
+    )? {
         return Ok(None);
     }
     match go_on(task, run, &mut machine, conflict, progress) {

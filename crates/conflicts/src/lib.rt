@@ -7,7 +7,7 @@
 //! 3. Two entries of one stretch conflict where neither needs the other and one changes what the other reads, writes or waits
 //!    for, or both assign a register other values, or both print (`conflicts`).
 //! 4. A conflict is tried by a second run: the first run up to the earlier entry, what the later one needs, the later one,
-//!    the earlier one, and then the moves of the first run as far as they may be taken (`exchange`, and `follow` for its parts). It is lawful since a
+//!    the earlier one, and then the transitions of the first run as far as they may be taken (`exchange`, and `follow` for its parts). It is lawful since a
 //!    machine made it.
 //! 5. Where the second run has other lines than the first, or another end, a machine that is led to the two entries in the first
 //!    run confirms what each does there, and one led to them in the second that they come the other way round (the crate `deeds`).
@@ -22,12 +22,12 @@ mod conflicts;
 mod counts;
 mod exchange;
 mod follow;
-mod moves;
 mod run;
 mod search;
 mod stretch;
 mod task;
 mod told;
+mod transitions;
 mod watch;
 
 pub use search::find_races;

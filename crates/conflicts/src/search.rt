@@ -223,7 +223,7 @@ pub fn find_races<P: Progress>(
         limits,
         bounds,
         original: &original,
-        moves: &watch.moves,
+        transitions: &watch.transitions,
     };
     let Trials {
         races,

@@ -3,14 +3,14 @@ ghost use Rattle.std.specs.Prelude.{◌≤◌};
 ghost use Rattle.std.specs.Option.{ForSome};
 ghost use Rattle.model.specs.Runs.{last_time};
 
-use crate::moves::Move;
 use crate::told::Tries;
+use crate::transitions::Transition;
 use design::Design;
 use model::end::Limits;
 use seeded::run::SeededRun;
 use std::alloc::Global;
 
-/// A search: its design, limits and bounds, and its first run with the moves of that. The limit of time isn't past the last time.
+/// A search: its design, limits and bounds, and its first run with the transitions of that. The limit of time isn't past the last time.
 #[derive(Clone, Copy)]
 pub(crate) struct Task<'a> {
     pub(crate) alloc: Global,
@@ -18,6 +18,6 @@ pub(crate) struct Task<'a> {
     pub(crate) limits: Limits,
     pub(crate) bounds: Tries,
     pub(crate) original: &'a SeededRun,
-    pub(crate) moves: &'a [Move],
+    pub(crate) transitions: &'a [Transition],
     ghost until: { ForSome limits.until (λ until. until ≤ last_time) },
 }

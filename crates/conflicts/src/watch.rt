@@ -6,9 +6,9 @@ ghost use Rattle.seeded.specs.SeededRun.{HasComeTo, IsRun};
 ghost use Rattle.conflicts.specs.RunEndings.{HasTimeLimit, EndsAt};
 
 use crate::conflicts::Conflicts;
-use crate::moves::Move;
 use crate::run::Run;
 use crate::stretch::{Actor, Stretch};
+use crate::transitions::Transition;
 use deeds::{Does, Site, fill};
 use design::Design;
 use model::end::{End, Limits, Why};
@@ -36,15 +36,15 @@ pub(crate) struct Watch {
     next_event: u64,
     /// In the order of their numbers.
     makers: Vec<Maker>,
-    pub(crate) moves: Vec<Move>,
+    pub(crate) transitions: Vec<Transition>,
     pub(crate) conflicts: Conflicts,
 }
 
-/// An entry that is about to be taken: its move, the process that it is of where it is a turn or an update, and how many events
+/// An entry that is about to be taken: its transition, the process that it is of where it is a turn or an update, and how many events
 /// it makes apart from those of the processes that it wakes.
 #[derive(Clone, Copy)]
 pub(crate) struct Noted {
-    wanted: Move,
+    wanted: Transition,
     process: Option<u32>,
     own: u64,
 }
@@ -56,7 +56,7 @@ impl Watch {
             stretch: Stretch::new(alloc),
             next_event: u64::from(design.processes()),
             makers: Vec::new(alloc),
-            moves: Vec::new(alloc),
+            transitions: Vec::new(alloc),
             conflicts: Conflicts::new(alloc, most_groups),
         }
     }
@@ -130,7 +130,7 @@ impl Watch {
             self.note_wait(design);
         }
         Some(Noted {
-            wanted: Move::Turn(process),
+            wanted: Transition::Turn(process),
             process: Some(process),
             own: self.own_events(),
         })
@@ -148,7 +148,7 @@ impl Watch {
                 .access(Site::Register(register), Does::Updates, changes);
         }
         Some(Noted {
-            wanted: Move::Update,
+            wanted: Transition::Update,
             process: Some(maker.process),
             own: 0,
         })
@@ -167,7 +167,7 @@ impl Watch {
             | Entry::Advance(_) => {
                 self.stretch.find_conflicts(&mut self.conflicts);
                 Some(Noted {
-                    wanted: Move::Change(entry),
+                    wanted: Transition::Change(entry),
                     process: None,
                     own: 0,
                 })
@@ -190,14 +190,14 @@ impl Watch {
         self.makers.push(maker).is_ok()
     }
 
-    // Notes that an entry was taken: its move, and the events that it made. The answer is whether it could be noted.
+    // Notes that an entry was taken: its transition, and the events that it made. The answer is whether it could be noted.
     fn taken(&mut self, machine: &Machine<'_>, noted: Option<Noted>) -> bool {
         let noted = match noted {
             Some(noted) => noted,
             None => return false,
         };
-        let place = self.moves.len();
-        let is_kept = self.moves.push(noted.wanted).is_ok();
+        let place = self.transitions.len();
+        let is_kept = self.transitions.push(noted.wanted).is_ok();
         match noted.process {
             Some(process) => {
                 let made = noted.own.saturating_add(machine.made().len() as u64);

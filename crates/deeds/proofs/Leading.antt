@@ -17,7 +17,7 @@ use Rattle.regions.specs.Queue.{Core}
 use Rattle.regions.specs.Reader.{IsTurnOn}
 use Rattle.regions.specs.Evaluations.{IsEvaluation}
 use Rattle.regions.specs.StepLogs.{IsTaken, IsLogFor}
-use Rattle.regions.specs.Machine.{Position, state_at, Stands}
+use Rattle.regions.specs.Machine.{MachineView, state_at, Stands}
 use Rattle.regions.proofs.Given.{given_turn}
 use Rattle.deeds.specs.DeedLogs.{IsTurnLogged}
 use Rattle.deeds.specs.Witnesses.{IsLed}
@@ -48,7 +48,7 @@ after_more : (design : Design) (journal : List Entry) (entry : Entry) (s t : Sta
 after_more design journal entry s t f here next to = after_by design journal entry s t f (run design journal) refl here next to
 
 -- the machine took one entry more
-pub led_more : (old mid new : Position) (es : List Entry) (i : ℕ) (entry d : Entry) → IsLed old (take i es) mid → mid.code ≡ old.code
+pub led_more : (old mid new : MachineView) (es : List Entry) (i : ℕ) (entry d : Entry) → IsLed old (take i es) mid → mid.code ≡ old.code
     → IsTaken mid.code (state_at mid) mid.lines entry (state_at new) new.lines → i < length es → entry ≡ get_or es i d → IsLed old (take (i + 1) es) new
 led_more old mid new es i entry d led same taken lt is = λ before start.
     let design : Design = design_of old.code in
@@ -63,7 +63,7 @@ led_more old mid new es i entry d led same taken lt is = λ before start.
     subst (λ (l : List Entry). after design l ≡ Some (state_at new)) same_list more
 
 -- the log of an active evaluation's turn, in a run that isn't finished
-pub logged : (d : Compiled) (p : Position) (core : Core) (values : List Vector) (number : ℕ) (e : ℕ × ProcState) (now : ℕ) (log : LogView) → p.code ≡ d
+pub logged : (d : Compiled) (p : MachineView) (core : Core) (values : List Vector) (number : ℕ) (e : ℕ × ProcState) (now : ℕ) (log : LogView) → p.code ≡ d
     → Stands p.code p.core p.values → p.core.finished ≡ false → core ≡ p.core → values ≡ p.values → now ≡ p.core.time → IsEvaluation core number e
     → IsTurnOn d e.1 values now log → IsTurnLogged d (state_at p) number e.0 log
 logged d p core values number e now log same stands running same_core same_values same_time evaluates on =

@@ -5,19 +5,19 @@ use Rattle.model.specs.declared.entry.Entry.{Entry}
 use Rattle.model.specs.Design.{Design}
 use Rattle.model.specs.Runs.{after}
 use Rattle.design.specs.Compiled.{Compiled, design_of}
-use Rattle.regions.specs.Machine.{Position, state_at}
+use Rattle.regions.specs.Machine.{MachineView, state_at}
 use Rattle.deeds.specs.declared.pair.Pair.{Pair}
 use Rattle.deeds.specs.Roles.{IsEvent, IsRoleBehind, HasBothOrders}
 use Rattle.deeds.specs.Witnesses.{IsLed, IsPair, IsSwapped, IsOneAt, HasRoleAt, SeesBoth, SeesSwapped}
 
 -- a machine is led from the start to the one entry, and from there to the other
-pub sees_both : (d : Compiled) (before stretch : List Entry) (one other : Entry) (c : Pair) (p q r s : Position) → p.code ≡ d → q.code ≡ p.code → r ≡ q
+pub sees_both : (d : Compiled) (before stretch : List Entry) (one other : Entry) (c : Pair) (p q r s : MachineView) → p.code ≡ d → q.code ≡ p.code → r ≡ q
     → after (design_of d) [] ≡ Some (state_at p) → IsLed p before q → HasRoleAt (design_of d) (state_at q) one c.site c.time c.first → IsLed r stretch s
     → HasRoleAt (design_of d) (state_at s) other c.site c.time c.second → SeesBoth (design_of d) before stretch one other c
 sees_both d before stretch one other c p q r s of_d same kept start led first more second =
     let begun : after (design_of p.code) [] ≡ Some (state_at p) = subst (λ (k : Compiled). after (design_of k) [] ≡ Some (state_at p)) (sym of_d) start in
     let to_q : after (design_of p.code) before ≡ Some (state_at q) = led [] begun in
-    let led_q : IsLed q stretch s = subst (λ (x : Position). IsLed x stretch s) kept more in
+    let led_q : IsLed q stretch s = subst (λ (x : MachineView). IsLed x stretch s) kept more in
     let at_q : after (design_of q.code) before ≡ Some (state_at q) = subst (λ (k : Compiled). after (design_of k) before ≡ Some (state_at q)) (sym same) to_q in
     let to_s : after (design_of q.code) (before ++ stretch) ≡ Some (state_at s) = led_q before at_q in
     record {
@@ -36,7 +36,7 @@ sees_both d before stretch one other c p q r s of_d same kept start led first mo
     }
 
 -- a machine is led from the start to the second role's entry, and over it to the first one's
-pub sees_swapped : (d : Compiled) (before needed : List Entry) (other one : Entry) (c : Pair) (p q r s : Position) → p.code ≡ d → q.code ≡ p.code → r.code ≡ q.code
+pub sees_swapped : (d : Compiled) (before needed : List Entry) (other one : Entry) (c : Pair) (p q r s : MachineView) → p.code ≡ d → q.code ≡ p.code → r.code ≡ q.code
     → after (design_of d) [] ≡ Some (state_at p) → IsLed p before q → IsLed q needed r → IsOneAt (state_at r) other c.site c.time c.second → IsLed r (other ∷ []) s
     → IsOneAt (state_at s) one c.site c.time c.first → SeesSwapped (design_of d) before needed other one c
 sees_swapped d before needed other one c p q r s of_d same kept start led more second over first =

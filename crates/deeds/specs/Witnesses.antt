@@ -6,14 +6,14 @@ use Rattle.model.specs.Design.{Design}
 use Rattle.model.specs.States.{State}
 use Rattle.model.specs.Runs.{after}
 use Rattle.design.specs.Compiled.{design_of}
-use Rattle.regions.specs.Machine.{Position, state_at}
+use Rattle.regions.specs.Machine.{MachineView, state_at}
 use Rattle.deeds.specs.declared.role.Site.{Site}
 use Rattle.deeds.specs.declared.role.Role.{Role}
 use Rattle.deeds.specs.declared.pair.Pair.{Pair}
 use Rattle.deeds.specs.Roles.{IsEvent, HasRole, IsOfRole, IsOneBehind, IsRoleBehind}
 
 -- behind whatever journal the machine stood, it stands behind that journal with these entries
-abbrev pub IsLed : Position → List Entry → Position → Type 0
+abbrev pub IsLed : MachineView → List Entry → MachineView → Type 0
 IsLed old entries new =
     (before : List Entry) → after (design_of old.code) before ≡ Some (state_at old) → after (design_of old.code) (before ++ entries) ≡ Some (state_at new)
 

@@ -1,11 +1,11 @@
 -- Lexemes of what is left complete those that were found.
 use Rattle.std.proofs.Common.{◌≡◌, ℕ, ◌+◌, ◌-◌, ◌<◌, ◌≤◌, List, [], ◌∷◌, ◌++◌, length, map, take, drop, sym, ap, subst, ◌∙◌, append_assoc, length-append, take-append-drop, arith}
 use Rattle.std.proofs.lemmas.List.{length-take-le}
-use Rattle.places.specs.Spots.{skip_len, Skips, here, behind}
+use Rattle.locations.specs.Spots.{skip_len, Skips, here, behind}
 use Rattle.diagnosis.specs.Lexemes.{PlainLexeme, lexeme_len, AreLexemes, ended, taken}
 use Rattle.diagnosis.specs.declared.lexemes.Lexeme.{Lexeme}
 use Rattle.diagnosis.specs.PlainLexemes.{plain_lexeme}
-use Rattle.places.proofs.Skipped.{skips_within}
+use Rattle.locations.proofs.Skipped.{skips_within}
 
 skips_trans : {a b c : List ℕ} → Skips a b → Skips b c → Skips a c
 skips_trans here k = k

@@ -2,10 +2,10 @@
 use Rattle.std.proofs.Common.{◌≡◌, ℕ, ◌-◌, ◌≤◌, List, [], ◌∷◌, length, map, take, drop, Bool, true, Option, Some, None, subst, get_or, arith}
 use Rattle.std.specs.Prelude.{IfSome}
 use Rattle.std.proofs.lemmas.List.{take_all}
-use Rattle.places.specs.declared.spot.Spot.{Spot}
-use Rattle.places.specs.Spots.{PlainSpot}
-use Rattle.places.specs.PlainSpots.{plain_spot}
-use Rattle.diagnosis.specs.FaultPlaces.{IsSpotAt, found, later}
+use Rattle.locations.specs.declared.spot.Spot.{Spot}
+use Rattle.locations.specs.Spots.{PlainSpot}
+use Rattle.locations.specs.PlainSpots.{plain_spot}
+use Rattle.diagnosis.specs.FaultLocations.{IsSpotAt, found, later}
 
 pub front_found : (p : PlainSpot → Bool) (xs : List Spot) (d : Spot) → 1 ≤ length xs → p (plain_spot (get_or xs 0 d)) ≡ true → IsSpotAt p (map plain_spot xs) (get_or xs 0 d).byte
 front_found p [] d some h = absurd (omega arith)

@@ -1,7 +1,7 @@
 -- A text as lexemes, whatever it is: words, numbers, strings, and else single bytes.
 use Rattle.std.specs.Prelude.{◌≡◌, ℕ, suc, ◌+◌, ◌-◌, ◌<◌, List, [], ◌∷◌, ◌++◌, length, Bool, false, not, ◌&&◌, ◌||◌, ◌==◌, if◌then◌else◌}
 use Rattle.tokens.specs.ByteClasses.{is_letter, is_digit, in_word, in_number, in_line, span}
-use Rattle.places.specs.Spots.{skip_len, Skips}
+use Rattle.locations.specs.Spots.{skip_len, Skips}
 
 -- A lexeme, its first byte, and the one behind its last, counted from 0.
 pub record PlainLexeme : Type 0 where

@@ -1,4 +1,4 @@
-pub mod FaultPlaces
+pub mod FaultLocations
 pub mod Lexemes
 pub mod PlainLexemes
 pub mod LackedWords

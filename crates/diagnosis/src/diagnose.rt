@@ -1,9 +1,9 @@
-//! The fault of a source at its place, with notes.
+//! The fault of a source at its location, with notes.
 
 ghost use Rattle.std.specs.Prelude.{◌≡◌, ◌⊎◌, [], IfOk, IfNone, IfSome};
 ghost use Rattle.design.specs.Compiled.{Compiled};
 ghost use Rattle.frontend.specs.Sources.{IsDesignOf, IsSourceFault};
-ghost use Rattle.diagnosis.specs.FaultPlaces.{IsTextPlace, IsModulePlace, IsFaultPlace};
+ghost use Rattle.diagnosis.specs.FaultLocations.{IsTextLocation, IsModuleLocation, IsFaultLocation};
 ghost use Rattle.frontend.specs.declared.source.SourceFault.TheVariants.{Parse};
 ghost use Rattle.vparse.specs.declared.parser.ParseFault.TheVariants.{Memory};
 ghost use Rattle.diagnosis.specs.Notes.{HasNotes};
@@ -12,40 +12,52 @@ use crate::notes::{Note, notes};
 use crate::wanted::told_byte;
 use elaborate::ElabFault;
 use frontend::{SourceFault, read_design};
-use places::{Place, place_of_byte, place_of_token, spots};
+use locations::{Location, location_of_byte, location_of_token, spots};
 use std::alloc::Global;
 use tokens::cut::CutFault;
 use vparse::ParseFault;
 
-fn text_place(alloc: Global, source: &[u8], fault: ParseFault) -> Result<Option<Place>, CutFault>
-    ensures { IfOk result (λ place. IsTextPlace source.now fault place) }
+fn text_location(
+    alloc: Global,
+    source: &[u8],
+    fault: ParseFault,
+) -> Result<Option<Location>, CutFault>
+    ensures { IfOk result (λ location. IsTextLocation source.now fault location) }
 {
     match fault {
-        ParseFault::Byte(byte) => Ok(Some(place_of_byte(source, byte))),
-        ParseFault::Literal(byte) => Ok(Some(place_of_byte(source, byte))),
-        ParseFault::Syntax(number) => Ok(Some(place_of_token(alloc, source, number)?)),
-        ParseFault::Unsized(number) => Ok(Some(place_of_token(alloc, source, number)?)),
-        ParseFault::Deep(number) => Ok(Some(place_of_token(alloc, source, number)?)),
+        ParseFault::Byte(byte) => Ok(Some(location_of_byte(source, byte))),
+        ParseFault::Literal(byte) => Ok(Some(location_of_byte(source, byte))),
+        ParseFault::Syntax(number) => Ok(Some(location_of_token(alloc, source, number)?)),
+        ParseFault::Unsized(number) => Ok(Some(location_of_token(alloc, source, number)?)),
+        ParseFault::Deep(number) => Ok(Some(location_of_token(alloc, source, number)?)),
         ParseFault::Memory => Ok(None),
     }
 }
 
-fn module_place(alloc: Global, source: &[u8], fault: &ElabFault) -> Result<Option<Place>, CutFault>
-    ensures { IfOk result (λ place. IsModulePlace source.now fault.now place) }
+fn module_location(
+    alloc: Global,
+    source: &[u8],
+    fault: &ElabFault,
+) -> Result<Option<Location>, CutFault>
+    ensures { IfOk result (λ location. IsModuleLocation source.now fault.now location) }
 {
     let spots = spots(alloc, source)?;
     match told_byte(&spots, fault) {
-        Some(byte) => Ok(Some(place_of_byte(source, byte))),
+        Some(byte) => Ok(Some(location_of_byte(source, byte))),
         None => Ok(None),
     }
 }
 
-fn fault_place(alloc: Global, source: &[u8], fault: &SourceFault) -> Result<Option<Place>, CutFault>
-    ensures { IfOk result (λ place. IsFaultPlace source.now fault.now place) }
+fn fault_location(
+    alloc: Global,
+    source: &[u8],
+    fault: &SourceFault,
+) -> Result<Option<Location>, CutFault>
+    ensures { IfOk result (λ location. IsFaultLocation source.now fault.now location) }
 {
     match fault {
-        SourceFault::Parse(fault) => text_place(alloc, source, *fault),
-        SourceFault::Elaborate(fault) => module_place(alloc, source, fault),
+        SourceFault::Parse(fault) => text_location(alloc, source, *fault),
+        SourceFault::Elaborate(fault) => module_location(alloc, source, fault),
     }
 }
 
@@ -54,19 +66,19 @@ fn fault_place(alloc: Global, source: &[u8], fault: &SourceFault) -> Result<Opti
 #[derive(Drop)]
 pub struct Diagnosis {
     pub fault: Option<SourceFault>,
-    pub place: Option<Place>,
+    pub location: Option<Location>,
     pub notes: Vec<Note>,
 }
 
-/// A diagnosis with no notes and no place.
+/// A diagnosis with no notes and no location.
 fn plain(alloc: Global, fault: Option<SourceFault>) -> Diagnosis
     ensures fault { result.fault ≡ fault }
-    ensures place { result.place ≡ None }
+    ensures location { result.location ≡ None }
     ensures notes { result.notes.items ≡ [] }
 {
     Diagnosis {
         fault,
-        place: None,
+        location: None,
         notes: Vec::new(alloc),
     }
 }
@@ -74,15 +86,15 @@ fn plain(alloc: Global, fault: Option<SourceFault>) -> Diagnosis
 fn of_fault(alloc: Global, source: &[u8], fault: SourceFault) -> Diagnosis
     requires { IsSourceFault source.now fault }
     ensures fault { IfSome result.fault (λ told. IsSourceFault source.now told) }
-    ensures place { IfSome result.fault (λ told. IsFaultPlace source.now told result.place) }
+    ensures location { IfSome result.fault (λ told. IsFaultLocation source.now told result.location) }
     ensures some { IfNone result.fault ⊥ }
     ensures notes { IfSome result.fault (λ told. (told ≡ Parse Memory) ⊎ HasNotes source.now result.notes.items) }
 {
-    match fault_place(alloc, source, &fault) {
-        Ok(place) => match notes(alloc, source) {
+    match fault_location(alloc, source, &fault) {
+        Ok(location) => match notes(alloc, source) {
             Ok(notes) => Diagnosis {
                 fault: Some(fault),
-                place,
+                location,
                 notes,
             },
             Err(_) => plain(alloc, Some(SourceFault::Parse(ParseFault::Memory))),
@@ -96,7 +108,7 @@ fn of_fault(alloc: Global, source: &[u8], fault: SourceFault) -> Diagnosis
 pub fn diagnose(alloc: Global, source: &[u8]) -> Diagnosis
     ensures none { IfNone result.fault ((d : Compiled) × IsDesignOf source.now d) }
     ensures fault { IfSome result.fault (λ told. IsSourceFault source.now told) }
-    ensures place { IfSome result.fault (λ told. IsFaultPlace source.now told result.place) }
+    ensures location { IfSome result.fault (λ told. IsFaultLocation source.now told result.location) }
     ensures silent { IfNone result.fault (result.notes.items ≡ []) }
     ensures notes { IfSome result.fault (λ told. (told ≡ Parse Memory) ⊎ HasNotes source.now result.notes.items) }
 {

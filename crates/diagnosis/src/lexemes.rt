@@ -6,7 +6,7 @@ ghost use Rattle.diagnosis.specs.Lexemes as spec;
 ghost use Rattle.diagnosis.specs.Lexemes.{AreLexemes};
 ghost use Rattle.diagnosis.specs.PlainLexemes.{plain_lexeme};
 
-use places::behind_skipped;
+use locations::behind_skipped;
 use std::alloc::{AllocError, Global};
 use tokens::spans::{Class, is_digit, is_letter, span};
 

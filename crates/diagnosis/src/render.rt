@@ -4,7 +4,7 @@ use crate::diagnose::Diagnosis;
 use crate::notes::Note;
 use elaborate::ElabFault;
 use frontend::SourceFault;
-use places::{Place, before, last_line, place_of_byte};
+use locations::{Location, before, last_line, location_of_byte};
 use std::alloc::{AllocError, Global};
 use std::{fmt, str};
 use tokens::spans::{Class, span};
@@ -66,7 +66,7 @@ fn push_blank(text: &mut String, c: char) -> Result<(), AllocError> {
     Ok(())
 }
 
-/// Adds the line of a place, and a caret below the place. A very long line isn't shown.
+/// Adds the line of a location, and a caret below the location. A very long line isn't shown.
 fn push_line(
     alloc: Global,
     text: &mut String,
@@ -93,13 +93,13 @@ fn push_line(
 #[derive(Clone, Copy)]
 struct Head<'a> {
     file: &'a str,
-    place: Option<Place>,
+    location: Option<Location>,
 }
 
 impl fmt::Display for Head<'_> {
     fn fmt<W: fmt::Write>(&self, f: &mut fmt::Formatter<W>) -> fmt::Result {
-        match self.place {
-            Some(place) => write!(f, "{}:{}:{}", self.file, place.line, place.column),
+        match self.location {
+            Some(location) => write!(f, "{}:{}:{}", self.file, location.line, location.column),
             None => f.write_str(self.file),
         }
     }
@@ -113,8 +113,8 @@ fn push_notes(
     notes: &[Note],
 ) -> Result<(), AllocError> {
     for note in notes.iter().take(MOST_NOTES) {
-        let place = Some(place_of_byte(source, note.begin));
-        let head = Head { file, place };
+        let location = Some(location_of_byte(source, note.begin));
+        let head = Head { file, location };
         write!(text, "{head}: note: {}\n", note.advice)?;
         push_line(alloc, text, source, note.begin)?;
     }
@@ -166,11 +166,11 @@ fn push_fault(
     let Some(fault) = &diagnosis.fault else {
         return write!(text, "{file}: no fault\n");
     };
-    let place = diagnosis.place;
-    let head = Head { file, place };
+    let location = diagnosis.location;
+    let head = Head { file, location };
     write!(text, "{head}: {fault}\n")?;
-    if let Some(place) = place {
-        push_line(alloc, text, source, place.byte)?;
+    if let Some(location) = location {
+        push_line(alloc, text, source, location.byte)?;
     }
     match help(fault) {
         Some(help) => write!(text, "{head}: note: {help}\n"),

@@ -1,12 +1,12 @@
 //! The token that a fault of a module tells.
 
 ghost use Rattle.std.specs.Prelude.{◌≡◌, true, map, IfSome};
-ghost use Rattle.places.specs.PlainSpots.{plain_spot};
-ghost use Rattle.diagnosis.specs.FaultPlaces.{is_name, is_named, is_call, tells, wants, IsSpotAt};
+ghost use Rattle.locations.specs.PlainSpots.{plain_spot};
+ghost use Rattle.diagnosis.specs.FaultLocations.{is_name, is_named, is_call, tells, wants, IsSpotAt};
 
 use crate::notes::conversions;
 use elaborate::ElabFault;
-use places::{Spot, is_process};
+use locations::{Spot, is_process};
 use tokens::token::Kind;
 
 /// The greatest delay.

@@ -23,9 +23,9 @@ plain (finding.BadIndex name) = model.BadIndex name.now
 plain finding.LongDelay = model.LongDelay
 
 -- the finding that a walk ended at, if it did
-abbrev pub verdict : Result (Unit {0}) Finding → Option Fault
-verdict (Ok u) = None
-verdict (Err f) = Some (plain f)
+abbrev pub first_finding : Result (Unit {0}) Finding → Option Fault
+first_finding (Ok u) = None
+first_finding (Err f) = Some (plain f)
 
 -- the one, or else the other
 abbrev pub or_else : Option Fault → Option Fault → Option Fault

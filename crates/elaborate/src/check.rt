@@ -7,7 +7,7 @@ ghost use Rattle.model.specs.Syntax.{Literal, Select};
 ghost use Rattle.logic4.specs.Vector.{greatest_width};
 ghost use Rattle.model.specs.SourceTrees.{expression_of, expressions, process_of, statement_of, statements};
 ghost use Rattle.elaborate.specs.Formed.{IsFormed, AreFormed, IsFormedStatement, AreFormedStatements, AreFormedProcesses};
-ghost use Rattle.elaborate.specs.FirstFindings.{verdict, or_else, capped, found_where, found, all_found, found_delay, found_format, found_in, all_found_in, found_by};
+ghost use Rattle.elaborate.specs.FirstFindings.{first_finding, or_else, capped, found_where, found, all_found, found_delay, found_format, found_in, all_found_in, found_by};
 
 use crate::finding::Finding;
 use crate::format;
@@ -22,12 +22,12 @@ const MAX_DELAY: u64 = 4_294_967_295;
 #[derive(Clone, Copy)]
 struct Checked<'a> {
     size: u32,
-    verdict: Result<(), Finding<'a>>,
+    first_finding: Result<(), Finding<'a>>,
 }
 
 /// Refuses the first thing that is wrong with these processes.
 pub fn processes<'a>(names: &Names, processes: &'a [Process]) -> Result<(), Finding<'a>>
-    ensures found { verdict result ≡ found_by names.now (map process_of processes.now) }
+    ensures found { first_finding result ≡ found_by names.now (map process_of processes.now) }
     ensures formed { OnOk result (AreFormedProcesses (map process_of processes.now)) }
 {
     for process in processes {
@@ -38,7 +38,7 @@ pub fn processes<'a>(names: &Names, processes: &'a [Process]) -> Result<(), Find
 
 #[cycle(found_in)]
 fn statement<'a>(names: &Names, s: &'a Statement) -> Result<(), Finding<'a>>
-    ensures found { verdict result ≡ found_in names.now (statement_of s.now) }
+    ensures found { first_finding result ≡ found_in names.now (statement_of s.now) }
     ensures formed { OnOk result (IsFormedStatement (statement_of s.now)) }
 {
     match s {
@@ -46,7 +46,7 @@ fn statement<'a>(names: &Names, s: &'a Statement) -> Result<(), Finding<'a>>
         Statement::Block(body) => block(names, body.as_slice()),
         Statement::Assign(_, wait, e) | Statement::AssignLater(_, wait, e) => {
             delay(*wait)?;
-            expression(names, e).verdict
+            expression(names, e).first_finding
         }
         Statement::Delay(wait, s) => {
             delay(Some(*wait))?;
@@ -54,24 +54,24 @@ fn statement<'a>(names: &Names, s: &'a Statement) -> Result<(), Finding<'a>>
         }
         Statement::Await(_, s) => statement(names, s),
         Statement::If(c, body) | Statement::While(c, body) => {
-            expression(names, c).verdict?;
+            expression(names, c).first_finding?;
             block(names, body.as_slice())
         }
         Statement::IfElse(c, body, otherwise) => {
-            expression(names, c).verdict?;
+            expression(names, c).first_finding?;
             block(names, body.as_slice())?;
             block(names, otherwise.as_slice())
         }
         Statement::Print(_, format, arguments) => {
             line(format.as_slice(), arguments.as_slice())?;
-            expressions(names, arguments.as_slice()).verdict
+            expressions(names, arguments.as_slice()).first_finding
         }
     }
 }
 
 #[cycle(found_in)]
 fn block<'a>(names: &Names, body: &'a [Statement]) -> Result<(), Finding<'a>>
-    ensures found { verdict result ≡ all_found_in names.now (statements (map statement_of body.now)) }
+    ensures found { first_finding result ≡ all_found_in names.now (statements (map statement_of body.now)) }
     ensures formed { OnOk result (AreFormedStatements (statements (map statement_of body.now))) }
 {
     for s in body {
@@ -81,7 +81,7 @@ fn block<'a>(names: &Names, body: &'a [Statement]) -> Result<(), Finding<'a>>
 }
 
 fn delay<'a>(wait: Option<u64>) -> Result<(), Finding<'a>>
-    ensures { verdict result ≡ found_delay wait }
+    ensures { first_finding result ≡ found_delay wait }
 {
     match wait {
         Some(wait) if wait > MAX_DELAY => Err(Finding::LongDelay),
@@ -90,13 +90,13 @@ fn delay<'a>(wait: Option<u64>) -> Result<(), Finding<'a>>
 }
 
 fn line<'a>(format: &[u8], arguments: &[Expression]) -> Result<(), Finding<'a>>
-    ensures { verdict result ≡ found_format format.now (count_of (expressions (map expression_of arguments.now))) }
+    ensures { first_finding result ≡ found_format format.now (count_of (expressions (map expression_of arguments.now))) }
 {
     shows(format, arguments.len())
 }
 
 fn shows<'a>(format: &[u8], arguments: usize) -> Result<(), Finding<'a>>
-    ensures { verdict result ≡ found_format format.now arguments }
+    ensures { first_finding result ≡ found_format format.now arguments }
 {
     match format::conversions(format) {
         Some(count) if count == arguments => Ok(()),
@@ -107,17 +107,17 @@ fn shows<'a>(format: &[u8], arguments: usize) -> Result<(), Finding<'a>>
 #[cycle(found)]
 fn expression<'a>(names: &Names, e: &'a Expression) -> Checked<'a>
     ensures size { result.size ≡ capped (own_size (widths_of names.now) (resolved names.now (expression_of e.now))) }
-    ensures found { verdict result.verdict ≡ found names.now (expression_of e.now) }
+    ensures found { first_finding result.first_finding ≡ found names.now (expression_of e.now) }
     ensures formed { IsFormed (expression_of e.now) }
 {
     match e {
         Expression::Name(name) => Checked {
             size: names.width(name.as_str()),
-            verdict: Ok(()),
+            first_finding: Ok(()),
         },
         Expression::Select(name, index) => Checked {
             size: 1,
-            verdict: bit(names, name.as_str(), *index),
+            first_finding: bit(names, name.as_str(), *index),
         },
         Expression::Literal(bits) => literal(*bits),
         Expression::Concat(part, others) => {
@@ -136,22 +136,25 @@ fn expression<'a>(names: &Names, e: &'a Expression) -> Checked<'a>
 #[cycle(found)]
 fn expressions<'a>(names: &Names, parts: &'a [Expression]) -> Checked<'a>
     ensures size { result.size ≡ capped (total_size (widths_of names.now) (all_resolved names.now (expressions (map expression_of parts.now)))) }
-    ensures found { verdict result.verdict ≡ all_found names.now (expressions (map expression_of parts.now)) }
+    ensures found { first_finding result.first_finding ≡ all_found names.now (expressions (map expression_of parts.now)) }
     ensures formed { AreFormed (expressions (map expression_of parts.now)) }
 {
     let mut size = 0;
-    let mut verdict = Ok(());
+    let mut first_finding = Ok(());
     for part in parts {
         let checked = expression(names, part);
         size = cap(size + checked.size);
-        verdict = first(verdict, checked.verdict);
+        first_finding = first(first_finding, checked.first_finding);
     }
-    Checked { size, verdict }
+    Checked {
+        size,
+        first_finding,
+    }
 }
 
 fn unary<'a>(op: UnaryOperator, operand: Checked<'a>) -> Checked<'a>
     ensures size { result.size ≡ unary_size op operand.entry.size }
-    ensures verdict { verdict result.verdict ≡ verdict operand.entry.verdict }
+    ensures first_finding { first_finding result.first_finding ≡ first_finding operand.entry.first_finding }
 {
     Checked {
         size: match op {
@@ -161,17 +164,17 @@ fn unary<'a>(op: UnaryOperator, operand: Checked<'a>) -> Checked<'a>
             | UnaryOperator::ReduceOr
             | UnaryOperator::ReduceXor => 1,
         },
-        verdict: operand.verdict,
+        first_finding: operand.first_finding,
     }
 }
 
 fn binary<'a>(op: BinaryOperator, left: Checked<'a>, right: Checked<'a>) -> Checked<'a>
     ensures size { result.size ≡ result_size (sizing_of op) left.entry.size right.entry.size }
-    ensures verdict { verdict result.verdict ≡ or_else (verdict left.entry.verdict) (verdict right.entry.verdict) }
+    ensures first_finding { first_finding result.first_finding ≡ or_else (first_finding left.entry.first_finding) (first_finding right.entry.first_finding) }
 {
     Checked {
         size: binary_size(op, left.size, right.size),
-        verdict: first(left.verdict, right.verdict),
+        first_finding: first(left.first_finding, right.first_finding),
     }
 }
 
@@ -188,42 +191,48 @@ fn binary_size(op: BinaryOperator, left: u32, right: u32) -> u32
 
 fn conditional<'a>(test: Checked<'a>, left: Checked<'a>, right: Checked<'a>) -> Checked<'a>
     ensures size { result.size ≡ max left.entry.size right.entry.size }
-    ensures verdict { verdict result.verdict
-        ≡ or_else (verdict test.entry.verdict) (or_else (verdict left.entry.verdict) (verdict right.entry.verdict)) }
+    ensures first_finding { first_finding result.first_finding
+        ≡ or_else (first_finding test.entry.first_finding) (or_else (first_finding left.entry.first_finding) (first_finding right.entry.first_finding)) }
 {
     Checked {
         size: left.size.max(right.size),
-        verdict: first(test.verdict, first(left.verdict, right.verdict)),
+        first_finding: first(
+            test.first_finding,
+            first(left.first_finding, right.first_finding),
+        ),
     }
 }
 
 fn literal<'a>(bits: Bits) -> Checked<'a>
     ensures size { result.size ≡ capped (length bits) }
-    ensures verdict { verdict result.verdict ≡ None }
+    ensures first_finding { first_finding result.first_finding ≡ None }
     ensures formed { IsFormed (Literal bits) }
 {
     Checked {
         size: bits.width(),
-        verdict: Ok(()),
+        first_finding: Ok(()),
     }
 }
 
 // A concatenation of a part and of those behind it.
 fn concat<'a>(part: Checked<'a>, others: Checked<'a>) -> Checked<'a>
     ensures size { result.size ≡ capped (part.entry.size + others.entry.size) }
-    ensures verdict { verdict result.verdict
+    ensures first_finding { first_finding result.first_finding
         ≡ or_else (found_where (nat_lt greatest_width (part.entry.size + others.entry.size)) model.WideConcat)
-        (or_else (verdict part.entry.verdict) (verdict others.entry.verdict)) }
+        (or_else (first_finding part.entry.first_finding) (first_finding others.entry.first_finding)) }
 {
     let size = cap(part.size.saturating_add(others.size));
     Checked {
         size,
-        verdict: first(joined(size), first(part.verdict, others.verdict)),
+        first_finding: first(
+            joined(size),
+            first(part.first_finding, others.first_finding),
+        ),
     }
 }
 
 fn bit<'a>(names: &Names, name: &'a str, index: u64) -> Result<(), Finding<'a>>
-    ensures { verdict result ≡ found names.now (Select name.now index) }
+    ensures { first_finding result ≡ found names.now (Select name.now index) }
 {
     match names.range(name) {
         Some((high, _)) if index <= high => Ok(()),
@@ -233,7 +242,7 @@ fn bit<'a>(names: &Names, name: &'a str, index: u64) -> Result<(), Finding<'a>>
 
 // A concatenation of so many digits together.
 fn joined<'a>(size: u32) -> Result<(), Finding<'a>>
-    ensures { verdict result ≡ found_where (nat_lt greatest_width size) model.WideConcat }
+    ensures { first_finding result ≡ found_where (nat_lt greatest_width size) model.WideConcat }
 {
     if size > MAX_WIDTH {
         Err(Finding::WideConcat)
@@ -247,7 +256,7 @@ fn first<'a>(
     one: Result<(), Finding<'a>>,
     other: Result<(), Finding<'a>>,
 ) -> Result<(), Finding<'a>>
-    ensures { verdict result ≡ or_else (verdict one.entry) (verdict other.entry) }
+    ensures { first_finding result ≡ or_else (first_finding one.entry) (first_finding other.entry) }
 {
     one?;
     other

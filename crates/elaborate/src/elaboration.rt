@@ -3,7 +3,7 @@ ghost use Rattle.std.specs.Prelude.{◌≡◌, [], None, map, length, IfOk, IfEr
 ghost use Rattle.design.specs.Compiled.{design_of};
 ghost use Rattle.design.specs.Sound.{IsSound};
 ghost use Rattle.elaborate.specs.ModuleFaults.{IsFirstFault};
-ghost use Rattle.elaborate.specs.FirstFindings.{verdict, found_among, found_few};
+ghost use Rattle.elaborate.specs.FirstFindings.{first_finding, found_among, found_few};
 ghost use Rattle.elaborate.specs.Formed.{AreFormedProcesses};
 ghost use Rattle.elaborate.specs.Small.{AreSmallProcesses};
 ghost use Rattle.model.specs.Elaboration as model;
@@ -74,7 +74,7 @@ fn registers_of(alloc: Global, source: &Module) -> Result<Names, ElabFault>
 
 /// Refuses the first thing that is wrong with the processes of a module.
 pub fn allowed<'a>(names: &Names, processes: &'a [Process]) -> Result<(), Finding<'a>>
-    ensures found { verdict result ≡ found_among names.now (map process_of processes.now) }
+    ensures found { first_finding result ≡ found_among names.now (map process_of processes.now) }
     ensures formed { OnOk result (AreFormedProcesses (map process_of processes.now)) }
 {
     few(processes.len())?;
@@ -83,7 +83,7 @@ pub fn allowed<'a>(names: &Names, processes: &'a [Process]) -> Result<(), Findin
 }
 
 fn few<'a>(processes: usize) -> Result<(), Finding<'a>>
-    ensures { verdict result ≡ found_few processes }
+    ensures { first_finding result ≡ found_few processes }
 {
     if processes > MAX_PROCESSES {
         Err(Finding::TooManyProcesses)

@@ -3,7 +3,7 @@ ghost use Rattle.std.specs.Prelude.{◌≡◌, ◌≤◌, ◌↔◌, ◌++◌, �
 ghost use Rattle.model.specs.Design.{Byte};
 ghost use Rattle.model.specs.Elaboration.{AtByte, AfterPercent, argument_count, pieces_of, read_byte};
 ghost use Rattle.design.specs.DesignTrees.{piece_of};
-ghost use Rattle.elaborate.specs.Formats.{reading_of, step_of, shown};
+ghost use Rattle.elaborate.specs.Formats.{stage_of, step_of, shown};
 
 use design::Ascii;
 use design::tree::{Conversion, Piece};
@@ -11,7 +11,7 @@ use std::alloc::{AllocError, Global};
 
 // Where a format is read: at a plain byte, after a `%`, or after `%0`.
 #[derive(Clone, Copy)]
-enum Reading {
+enum FormatStage {
     AtByte,
     AfterPercent,
     AfterZero,
@@ -22,15 +22,15 @@ enum Reading {
 pub fn conversions(format: &[u8]) -> Option<usize>
     ensures { result ≡ option_map argument_count (pieces_of format.now) }
 {
-    let mut reading = Reading::AtByte;
+    let mut stage = FormatStage::AtByte;
     let mut count = 0;
     for byte in format {
-        let (next, piece) = read(reading, *byte)?;
-        reading = next;
+        let (next, piece) = read(stage, *byte)?;
+        stage = next;
         count += arguments(piece);
     }
-    match reading {
-        Reading::AtByte => Some(count),
+    match stage {
+        FormatStage::AtByte => Some(count),
         _ => None,
     }
 }
@@ -39,62 +39,68 @@ pub fn conversions(format: &[u8]) -> Option<usize>
 pub fn pieces(alloc: Global, format: &[u8]) -> Result<Vec<Piece>, AllocError>
     ensures { IfOk result (λ v. map piece_of v.items ≡ unwrap_or (pieces_of format.now) []) }
 {
-    let mut reading = Reading::AtByte;
+    let mut stage = FormatStage::AtByte;
     let mut pieces = Vec::with_capacity(alloc, format.len())?;
     for byte in format {
-        let Some((next, piece)) = read(reading, *byte) else {
+        let Some((next, piece)) = read(stage, *byte) else {
             return Ok(Vec::new(alloc));
         };
-        reading = next;
+        stage = next;
         push(&mut pieces, piece)?;
     }
-    match reading {
-        Reading::AtByte => Ok(pieces),
+    match stage {
+        FormatStage::AtByte => Ok(pieces),
         _ => Ok(Vec::new(alloc)),
     }
 }
 
 // One byte of a format, and the piece that it completes. None where it may not stand there.
-fn read(reading: Reading, byte: u8) -> Option<(Reading, Option<Piece>)>
-    ensures { option_map step_of result ≡ read_byte (reading_of reading) byte }
+fn read(stage: FormatStage, byte: u8) -> Option<(FormatStage, Option<Piece>)>
+    ensures { option_map step_of result ≡ read_byte (stage_of stage) byte }
 {
-    match reading {
-        Reading::AtByte => plain(byte),
-        Reading::AfterPercent => conversion(byte),
-        Reading::AfterZero if byte == b'd' => {
-            Some((Reading::AtByte, Some(Piece::Argument(Conversion::Decimal))))
+    match stage {
+        FormatStage::AtByte => plain(byte),
+        FormatStage::AfterPercent => conversion(byte),
+        FormatStage::AfterZero if byte == b'd' => {
+            Some((
+                FormatStage::AtByte,
+                Some(Piece::Argument(Conversion::Decimal)),
+            ))
         }
-        Reading::AfterZero => None,
+        FormatStage::AfterZero => None,
     }
 }
 
-fn plain(byte: u8) -> Option<(Reading, Option<Piece>)>
+fn plain(byte: u8) -> Option<(FormatStage, Option<Piece>)>
     ensures { option_map step_of result ≡ read_byte AtByte byte }
 {
     if byte == b'%' {
-        Some((Reading::AfterPercent, None))
+        Some((FormatStage::AfterPercent, None))
     } else {
         as_it_is(byte)
     }
 }
 
 // A byte that stands for itself. None where it isn't one of ASCII (3.6).
-fn as_it_is(byte: u8) -> Option<(Reading, Option<Piece>)>
+fn as_it_is(byte: u8) -> Option<(FormatStage, Option<Piece>)>
     ensures none { IsNone result ↔ (128 ≤ byte) }
     ensures some { IfSome result (λ step. step_of step ≡ (AtByte, Byte byte ∷ [])) }
 {
     let byte = Ascii::new(byte)?;
-    Some((Reading::AtByte, Some(Piece::Byte(byte))))
+    Some((FormatStage::AtByte, Some(Piece::Byte(byte))))
 }
 
-fn conversion(byte: u8) -> Option<(Reading, Option<Piece>)>
+fn conversion(byte: u8) -> Option<(FormatStage, Option<Piece>)>
     ensures { option_map step_of result ≡ read_byte AfterPercent byte }
 {
     match byte {
         b'%' => as_it_is(byte),
-        b'b' => Some((Reading::AtByte, Some(Piece::Argument(Conversion::Binary)))),
-        b'h' => Some((Reading::AtByte, Some(Piece::Argument(Conversion::Hex)))),
-        b'0' => Some((Reading::AfterZero, None)),
+        b'b' => Some((
+            FormatStage::AtByte,
+            Some(Piece::Argument(Conversion::Binary)),
+        )),
+        b'h' => Some((FormatStage::AtByte, Some(Piece::Argument(Conversion::Hex)))),
+        b'0' => Some((FormatStage::AfterZero, None)),
         _ => None,
     }
 }

@@ -5,7 +5,7 @@ ghost use Rattle.model.specs.Elaboration.{is_declared, is_range, most_registers,
 ghost use Rattle.design.specs.Compiled.{design_of};
 ghost use Rattle.design.specs.Sound.{IsSound};
 ghost use Rattle.design.specs.DesignTrees.{tree_design};
-ghost use Rattle.elaborate.specs.FirstFindings.{verdict, unknown, found_name, IsFirstOf};
+ghost use Rattle.elaborate.specs.FirstFindings.{first_finding, unknown, found_name, IsFirstOf};
 
 use crate::fault::ElabFault;
 use crate::finding::Finding;
@@ -65,7 +65,7 @@ impl Names {
     }
 
     fn allowed<'a>(&self, name: &'a str, range: Range) -> Result<(), Finding<'a>>
-        ensures { verdict result ≡ found_name self.now (name.now, range) }
+        ensures { first_finding result ≡ found_name self.now (name.now, range) }
     {
         if self.contains(name) {
             Err(Finding::DeclaredTwice(name))
@@ -93,7 +93,7 @@ impl Names {
 
     /// Refuses a name that isn't declared.
     pub fn known<'a>(&self, name: &'a str) -> Result<(), Finding<'a>>
-        ensures { verdict result ≡ unknown self.now name.now }
+        ensures { first_finding result ≡ unknown self.now name.now }
     {
         if self.contains(name) {
             Ok(())

@@ -1,7 +1,7 @@
 //! Names that are used and not declared, in the order of the text.
 ghost use Rattle.std.specs.Prelude.{◌≡◌, map};
 ghost use Rattle.model.specs.SourceTrees.{expression_of, expressions, statement_of, statements, trigger_of, process_of};
-ghost use Rattle.elaborate.specs.FirstFindings.{verdict, used, all_used, unknown_among, used_in, all_used_in, used_by};
+ghost use Rattle.elaborate.specs.FirstFindings.{first_finding, used, all_used, unknown_among, used_in, all_used_in, used_by};
 
 use crate::finding::Finding;
 use crate::names::Names;
@@ -9,7 +9,7 @@ use model::tree::{Event, Expression, Process, Statement};
 
 /// Refuses the first name of these processes that isn't declared.
 pub fn processes<'a>(names: &Names, processes: &'a [Process]) -> Result<(), Finding<'a>>
-    ensures { verdict result ≡ used_by names.now (map process_of processes.now) }
+    ensures { first_finding result ≡ used_by names.now (map process_of processes.now) }
 {
     for process in processes {
         statement(names, &process.body)?;
@@ -19,7 +19,7 @@ pub fn processes<'a>(names: &Names, processes: &'a [Process]) -> Result<(), Find
 
 #[cycle(used_in)]
 fn statement<'a>(names: &Names, s: &'a Statement) -> Result<(), Finding<'a>>
-    ensures { verdict result ≡ used_in names.now (statement_of s.now) }
+    ensures { first_finding result ≡ used_in names.now (statement_of s.now) }
 {
     match s {
         Statement::Empty | Statement::Finish => Ok(()),
@@ -48,7 +48,7 @@ fn statement<'a>(names: &Names, s: &'a Statement) -> Result<(), Finding<'a>>
 
 #[cycle(used_in)]
 fn block<'a>(names: &Names, body: &'a [Statement]) -> Result<(), Finding<'a>>
-    ensures { verdict result
+    ensures { first_finding result
         ≡ all_used_in names.now (statements (map statement_of body.now)) }
 {
     for s in body {
@@ -58,7 +58,7 @@ fn block<'a>(names: &Names, body: &'a [Statement]) -> Result<(), Finding<'a>>
 }
 
 fn events<'a>(names: &Names, events: &'a [Event]) -> Result<(), Finding<'a>>
-    ensures { verdict result ≡ unknown_among names.now (map (λ t. t.1) (map trigger_of events.now)) }
+    ensures { first_finding result ≡ unknown_among names.now (map (λ t. t.1) (map trigger_of events.now)) }
 {
     for event in events {
         names.known(event.name.as_str())?;
@@ -68,7 +68,7 @@ fn events<'a>(names: &Names, events: &'a [Event]) -> Result<(), Finding<'a>>
 
 #[cycle(used)]
 fn expression<'a>(names: &Names, e: &'a Expression) -> Result<(), Finding<'a>>
-    ensures { verdict result ≡ used names.now (expression_of e.now) }
+    ensures { first_finding result ≡ used names.now (expression_of e.now) }
 {
     match e {
         Expression::Name(name) | Expression::Select(name, _) => names.known(name.as_str()),
@@ -92,7 +92,7 @@ fn expression<'a>(names: &Names, e: &'a Expression) -> Result<(), Finding<'a>>
 
 #[cycle(used)]
 fn expressions<'a>(names: &Names, parts: &'a [Expression]) -> Result<(), Finding<'a>>
-    ensures { verdict result ≡ all_used names.now (expressions (map expression_of parts.now)) }
+    ensures { first_finding result ≡ all_used names.now (expressions (map expression_of parts.now)) }
 {
     for part in parts {
         expression(names, part)?;

@@ -4,7 +4,7 @@ use Rattle.crossbeam_deque.specs.Tasks.{FindsFew}
 use Rattle.eventpool.specs.declared.rule.Hand.{Hand}
 use Rattle.eventpool.specs.Ends.{Owning}
 use Rattle.eventpool.specs.DequeTrail.{tickets_of, NamedBelow, AreHands, IsDealt}
-use Rattle.eventpool.specs.DequeRule.{owner, thief, DequeInvariant, Removed, Bare, Accounts}
+use Rattle.eventpool.specs.DequeRule.{owner, thief, DequeInvariant, Removed, Bare, Tallies}
 use Rattle.eventpool.proofs.Trails.{got_no_more, tickets_length, begins_length}
 use Rattle.eventpool.proofs.Moves.{finds_few}
 
@@ -34,7 +34,7 @@ module _ {T : Type 0} where
       let c : length w.put ≡ length v.put = ap (λ (u : Hand T). length u.put) r.0 in
       omega (arith, tickets_length w.seen)
 
-  pub dealt_of : (v : Hand T) (items : List T) → Accounts v items → length v.back + 1 ≡ v.given → IsDealt v.put ((v.got, v.seen) ∷ v.back) items
+  pub dealt_of : (v : Hand T) (items : List T) → Tallies v items → length v.back + 1 ≡ v.given → IsDealt v.put ((v.got, v.seen) ∷ v.back) items
   dealt_of v items a all =
       let one : a.4 ≡ 1 = let e = a.5 in omega arith in
       let long : v.given ≡ length ((v.got, v.seen) ∷ v.back) = omega arith in

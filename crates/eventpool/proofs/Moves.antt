@@ -7,7 +7,7 @@ use Rattle.crossbeam_deque.specs.Tasks.{Pushes, Takes, Finds, FindsFew, Learns, 
 use Rattle.crossbeam_deque.proofs.Lists.{at_set}
 use Rattle.eventpool.specs.declared.rule.Hand.{Hand}
 use Rattle.eventpool.specs.DequeTrail.{tickets_of, got_by, AreHands}
-use Rattle.eventpool.specs.DequeRule.{owner, thief, nobody, Fits, DequeInvariant, Removed, AllGone, Bare, Accounts}
+use Rattle.eventpool.specs.DequeRule.{owner, thief, nobody, Fits, DequeInvariant, Removed, AllGone, Bare, Tallies}
 use Rattle.eventpool.proofs.Trails.{eqb_self, eqb_off, begins_self, begins_none, begins_on, got_more, got_other, got_none, named_more, named_wider, hands_more, tickets_more}
 
 off : false ≡ true → ⊥
@@ -214,7 +214,7 @@ module _ {T : Type 0} where
         each = each_set P (set views port both) other nobody (nobody_fits h.seat u.name put h.trail other) (λ j x away e. now j x e away);
       }
 
-  pub accounts : (port : ℕ) (v : Hand T) → v.owns ≡ true → Learns DequeInvariant port v (Accounts v)
-  accounts port v may items views h at =
+  pub tallies : (port : ℕ) (v : Hand T) → v.owns ≡ true → Learns DequeInvariant port v (Tallies v)
+  tallies port v may items views h at =
       let mine = h.each port v at in let o = mine.owns may in
       (h.trail, o.2, (mine.named o.0).2 ∙ ap (λ k. got_by k h.trail) o.1, mine.seen, h.opened, o.3, o.4, o.5)

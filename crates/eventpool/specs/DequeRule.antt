@@ -49,7 +49,7 @@ module _ {T : Type 0} where
   Bare v = (trail : List (ℕ × T)) × (put : List T) × IsPrefix v.seen trail × (put ≡ tickets_of trail) × (v.got ≡ got_by v.name trail)
 
   -- the tickets that were put, of which some are in the deque
-  abbrev pub Accounts : Hand T → List T → Type 0
-  Accounts v items =
+  abbrev pub Tallies : Hand T → List T → Type 0
+  Tallies v items =
       (trail : List (ℕ × T)) × (v.put ≡ tickets_of trail ++ items) × (v.got ≡ got_by 0 trail) × IsPrefix v.seen trail
       × (opened : ℕ) × (opened + length v.back ≡ v.given) × AreHands opened v.back trail × NamedBelow v.given trail

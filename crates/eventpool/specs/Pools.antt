@@ -5,8 +5,8 @@ use Rattle.eventpool.specs.Ends.{Owning, Stealing, DequeId, thief_card}
 use Rattle.eventpool.specs.DequeTrail.{IsDealt}
 
 -- what an end got, and the beginning of the trail that it saw
-abbrev pub Share : Type 0 → Type 0
-Share T = List T × List (ℕ × T)
+abbrev pub Haul : Type 0 → Type 0
+Haul T = List T × List (ℕ × T)
 
 -- the number of the deque that x names, counting round from n on: x is below twice n
 abbrev pub around : ℕ → ℕ → ℕ
@@ -25,17 +25,17 @@ module _ {T : Type 0} where
   row_of rows w = slice_index_or (map (λ (v : Vec (Stealing T)). v.items) rows) w []
 
   -- what the i-th thief of a row got and saw
-  abbrev pub share_in : List (Stealing T) → ℕ → Share T
-  share_in row i = slice_index_or (map (λ (t : Stealing T). (t.stolen, t.seen)) row) i ([], [])
+  abbrev pub haul_in : List (Stealing T) → ℕ → Haul T
+  haul_in row i = slice_index_or (map (λ (t : Stealing T). (t.stolen, t.seen)) row) i ([], [])
 
-  -- the shares of the thieves of the deque d with the c last names: the thief of the name n - c is in the row of the worker c places on
-  abbrev pub shares_back : List (Vec (Stealing T)) → ℕ → ℕ → ℕ → List (Share T)
-  shares_back rows n d zero = []
-  shares_back rows n d (suc c) = share_in (row_of rows (around n (d + suc c))) (n - suc c - 1) ∷ shares_back rows n d c
+  -- the hauls of the thieves of the deque d with the c last names: the thief of the name n - c is in the row of the worker c places on
+  abbrev pub hauls_back : List (Vec (Stealing T)) → ℕ → ℕ → ℕ → List (Haul T)
+  hauls_back rows n d zero = []
+  hauls_back rows n d (suc c) = haul_in (row_of rows (around n (d + suc c))) (n - suc c - 1) ∷ hauls_back rows n d c
 
-  -- the shares of the deque d: its owner's, and its thieves' by rising name
-  abbrev pub shares_of : List (Vec (Stealing T)) → ℕ → ℕ → Owning T → List (Share T)
-  shares_of rows n d o = (o.taken, o.seen) ∷ shares_back rows n d (n - 1)
+  -- the hauls of the deque d: its owner's, and its thieves' by rising name
+  abbrev pub hauls_of : List (Vec (Stealing T)) → ℕ → ℕ → Owning T → List (Haul T)
+  hauls_of rows n d o = (o.taken, o.seen) ∷ hauls_back rows n d (n - 1)
 
   -- the i-th thief of the worker w is that of the deque i + 1 places on, and has the name i + 1
   abbrev pub IsRow : List (Owning T) → ℕ → List (Stealing T) → Type 0
@@ -64,4 +64,4 @@ module _ {T : Type 0} where
   abbrev pub AllDealt : List (Owning T) → List (Vec (Stealing T)) → List (List T) → Type 0
   AllDealt owners rows left =
       (length left ≡ length owners)
-      × ((d : ℕ) (o : Owning T) → slice_get owners d ≡ Some o → IsDealt o.put (shares_of rows (length owners) d o) (slice_index_or left d []))
+      × ((d : ℕ) (o : Owning T) → slice_get owners d ≡ Some o → IsDealt o.put (hauls_of rows (length owners) d o) (slice_index_or left d []))

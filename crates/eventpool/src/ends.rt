@@ -58,7 +58,7 @@ impl<T> Model for Owner<T> {
 
 // How many tickets were put into a deque, taken and stolen, and how many are left.
 #[derive(Drop)]
-pub(crate) struct Account {
+pub(crate) struct DequeTally {
     pub(crate) puts: u64,
     pub(crate) takes: u64,
     pub(crate) steals: u64,
@@ -168,7 +168,7 @@ impl<T: Drop> Owner<T> {
     }
 
     // What became of the tickets, once all thieves came back.
-    pub(crate) fn settle(&mut self) -> Account
+    pub(crate) fn settle(&mut self) -> DequeTally
         requires { length self.old.back + 1 ≡ self.old.given }
         ensures same { self.new ≡ self.old }
         ensures dealt { (left : List T) × (length left ≡ result.left) × IsDealt self.old.put ((self.old.taken, self.old.seen) ∷ self.old.back) left }
@@ -182,7 +182,7 @@ impl<T: Drop> Owner<T> {
         let puts = self.puts;
         let takes = self.takes;
         let steals = puts - takes - left;
-        Account {
+        DequeTally {
             puts,
             takes,
             steals,

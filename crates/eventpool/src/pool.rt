@@ -1,6 +1,6 @@
 //! The pool: one deque a worker, and for each worker the thieves of all others.
 ghost use Rattle.std.specs.Prelude.{◌≡◌, ℕ, ◌+◌, ◌-◌, ◌<◌, ◌≤◌, List, [], length, map, sum_by, IfOk, Some, slice_get};
-ghost use Rattle.eventpool.specs.Pools.{around, shares_back, IsPool, IsUnused, AllDealt};
+ghost use Rattle.eventpool.specs.Pools.{around, hauls_back, IsPool, IsUnused, AllDealt};
 ghost use Rattle.eventpool.specs.Making.{IsBegun, IsArmed};
 ghost use Rattle.eventpool.specs.Ends.{Owning, Stealing};
 
@@ -24,7 +24,7 @@ fn around(n: usize, x: usize) -> usize
 fn gather<T: Drop>(owners: &mut Vec<Owner<T>>, rows: &mut Vec<Vec<Thief<T>>>)
     requires { IsPool owners.old.items rows.old.items }
     ensures long { length owners.new.items ≡ length owners.old.items }
-    ensures back { (d : ℕ) (o : Owning T) → slice_get owners.old.items d ≡ Some o → slice_get owners.new.items d ≡ Some (record o { back = shares_back rows.old.items (length owners.old.items) d (length owners.old.items - 1) }) }
+    ensures back { (d : ℕ) (o : Owning T) → slice_get owners.old.items d ≡ Some o → slice_get owners.new.items d ≡ Some (record o { back = hauls_back rows.old.items (length owners.old.items) d (length owners.old.items - 1) }) }
 {
     let n = owners.len();
     for done in 0..n - 1 {

@@ -94,9 +94,9 @@ impl<T> Join<Hand<T>> for Returns {
 pub struct Counts;
 
 impl<T> Lesson<T, Hand<T>> for Counts {
-    ghost use Rattle.eventpool.specs.DequeRule.{Accounts};
+    ghost use Rattle.eventpool.specs.DequeRule.{Tallies};
 
-    ghost fact = { Accounts };
+    ghost fact = { Tallies };
 }
 
 pub type OwnerEnd<T> = Worker<T, Global, Hand<T>, FirstInFirstOut>;

@@ -9,7 +9,7 @@ use Rattle.model.specs.declared.entry.Entry.{Entry}
 use Rattle.model.specs.States.{State}
 use Rattle.model.specs.Runs.{Effect, is_quiet, run}
 use Rattle.design.specs.Compiled.{Compiled, design_of}
-use Rattle.regions.specs.Machine.{Position, state_at}
+use Rattle.regions.specs.Machine.{MachineView, state_at}
 use Rattle.replay.specs.declared.fault.ReplayFault.{ReplayFault}
 use Rattle.replay.specs.JournalFaults.{IsFaultOf}
 use Rattle.explain.specs.declared.failure.ExplainFault.{ExplainFault}
@@ -232,18 +232,18 @@ puts_end_if (Ok x) s count next n old new are is put = record {
 puts_end_if (Err e) s count next n old new are is put = tt
 
 -- how the run stands was put behind a text, and both were written
-pub ended_if : {X E : Type 0} (r : Result X E) (p q : Position) (text text' sent : List ℕ) (old new : Option (List ℕ)) → q ≡ p → PutsEnd (state_at q) q.core.entries text text' → sent ≡ text'
+pub ended_if : {X E : Type 0} (r : Result X E) (p q : MachineView) (text text' sent : List ℕ) (old new : Option (List ℕ)) → q ≡ p → PutsEnd (state_at q) q.core.entries text text' → sent ≡ text'
     → OnOk r (Appends old new sent) → OnOk r (SendsEnd p text old new)
 ended_if (Ok x) p q text text' sent old new same puts is put = record {
   ending = puts.text;
-  is_ending = subst (λ (m : Position). IsEndText (state_at m) m.core.entries puts.text) same puts.is_text;
+  is_ending = subst (λ (m : MachineView). IsEndText (state_at m) m.core.entries puts.text) same puts.is_text;
   grown = subst (λ (t : List ℕ). Appends old new t) (is ∙ puts.put) put;
 }
 ended_if (Err e) p q text text' sent old new same puts is put = tt
 
 -- why an entry isn't lawful was put behind a text, and both were written
-pub refused_if : {X E : Type 0} (r : Result X E) (t : Telling) (p q : Position) (fault : ReplayFault) (text sent : List ℕ) (old new : Option (List ℕ)) → q ≡ p
+pub refused_if : {X E : Type 0} (r : Result X E) (t : Telling) (p q : MachineView) (fault : ReplayFault) (text sent : List ℕ) (old new : Option (List ℕ)) → q ≡ p
     → sent ≡ text ++ refusal_text t.names (state_at q) fault → OnOk r (Appends old new sent) → OnOk r (Appends old new (text ++ refusal_text t.names (state_at p) fault))
 refused_if (Ok x) t p q fault text sent old new same is put =
-    subst (λ (m : Position). Appends old new (text ++ refusal_text t.names (state_at m) fault)) same (subst (λ (l : List ℕ). Appends old new l) is put)
+    subst (λ (m : MachineView). Appends old new (text ++ refusal_text t.names (state_at m) fault)) same (subst (λ (l : List ℕ). Appends old new l) is put)
 refused_if (Err e) t p q fault text sent old new same is put = tt

@@ -13,14 +13,14 @@ use Rattle.steps.specs.declared.entry_account.Deed.TheVariants as deeds
 use Rattle.steps.specs.Accounts.{Account}
 use Rattle.explain.specs.Phrases.{value_text, quoted_text, register_text, process_text}
 
--- the mark before the first part of a kind: a semicolon behind another kind, else a colon
-abbrev pub mark : Bool → List ℕ
-mark true = codes "; "
-mark false = codes ": "
+-- the delimiter before the first part of a kind: a semicolon behind another kind, else a colon
+abbrev pub delimiter : Bool → List ℕ
+delimiter true = codes "; "
+delimiter false = codes ": "
 
--- what stands before a part: before the first of a kind its mark and its word, before others a comma
+-- what stands before a part: before the first of a kind its delimiter and its word, before others a comma
 abbrev pub lead : ℕ → Bool → List ℕ → List ℕ
-lead place behind word = if place == 0 then mark behind ++ word else codes ", "
+lead place behind word = if place == 0 then delimiter behind ++ word else codes ", "
 
 -- a register that is read
 abbrev pub reading_text : Names → Reading → List ℕ
@@ -43,7 +43,7 @@ list_text part word behind place (x ∷ xs) = lead place behind word ++ (part x 
 -- the lines that are printed
 abbrev pub printed_text : Bool → List ℕ → List ℕ
 printed_text behind [] = []
-printed_text behind (byte ∷ bytes) = mark behind ++ codes "prints " ++ quoted_text (byte ∷ bytes)
+printed_text behind (byte ∷ bytes) = delimiter behind ++ codes "prints " ++ quoted_text (byte ∷ bytes)
 
 -- an update
 abbrev pub update_text : Names → ℕ → Vector → List ℕ

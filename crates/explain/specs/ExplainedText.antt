@@ -5,7 +5,7 @@ use Rattle.model.specs.declared.entry.Entry.{Entry}
 use Rattle.model.specs.Design.{Design}
 use Rattle.model.specs.Runs.{Effect, run}
 use Rattle.design.specs.Compiled.{Compiled, design_of}
-use Rattle.places.specs.SourcePlaces.{AreProcesses}
+use Rattle.locations.specs.SourceLocations.{AreProcesses}
 use Rattle.replay.specs.declared.fault.ReplayFault.{ReplayFault}
 use Rattle.replay.specs.ReplayBytes.{AreRead}
 use Rattle.replay.specs.JournalFaults.{IsFaultOf}

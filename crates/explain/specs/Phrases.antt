@@ -3,7 +3,7 @@ use Rattle.std.specs.Prelude.{ℕ, ◌==◌, Bool, true, false, nat_lt, if◌the
 use Rattle.logic4.specs.Vector.{Vector}
 use Rattle.logic4.specs.Display.{binary_text}
 use Rattle.model.specs.Syntax.{Text}
-use Rattle.places.specs.declared.place.Process.{Process}
+use Rattle.locations.specs.declared.location.Process.{Process}
 use Rattle.explain.specs.declared.phrases.Names.{Names}
 
 -- the size of a literal, of one digit none
@@ -44,10 +44,10 @@ word_text true = codes "always"
 word_text false = codes "initial"
 
 -- the word and the line of a process, where they are known
-abbrev pub place_text : Option Process → List ℕ
-place_text (Some process) = codes ", " ++ word_text process.always ++ codes " at line " ++ decimal process.place.line
-place_text None = []
+abbrev pub location_text : Option Process → List ℕ
+location_text (Some process) = codes ", " ++ word_text process.always ++ codes " at line " ++ decimal process.location.line
+location_text None = []
 
 -- a process: its number, its word and its line
 abbrev pub process_text : Names → ℕ → List ℕ
-process_text names p = codes "process " ++ decimal p ++ place_text (slice_get names.processes.now p)
+process_text names p = codes "process " ++ decimal p ++ location_text (slice_get names.processes.now p)

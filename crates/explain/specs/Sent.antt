@@ -4,7 +4,7 @@ use Rattle.std.specs.Io.KnownBytes.{Appends}
 use Rattle.journal.specs.Written.{Passes}
 use Rattle.model.specs.declared.entry.Entry.{Entry}
 use Rattle.model.specs.Runs.{Effect, run}
-use Rattle.regions.specs.Machine.{Position, state_at}
+use Rattle.regions.specs.Machine.{MachineView, state_at}
 use Rattle.replay.specs.declared.fault.ReplayFault.{ReplayFault}
 use Rattle.replay.specs.JournalFaults.{IsFaultOf}
 use Rattle.explain.specs.declared.telling.Telling.{Telling}
@@ -44,7 +44,7 @@ pub record IsStoppedAt (t : Telling) (journal : List Entry) (x : Standing) (star
   pub so_far : AreTold t journal before start now text
 
 -- a text and how the run stands were written
-pub record SendsEnd (p : Position) (text : List ℕ) (old new : Option (List ℕ)) : Type 0 where
+pub record SendsEnd (p : MachineView) (text : List ℕ) (old new : Option (List ℕ)) : Type 0 where
   pub ending : List ℕ
   pub is_ending : IsEndText (state_at p) p.core.entries ending
   pub grown : Appends old new (text ++ ending)

@@ -4,7 +4,7 @@ ghost use Rattle.std.specs.Prelude.{◌≡◌, ◌++◌, OnOk, codes};
 ghost use Rattle.model.specs.Runs.{has_any};
 ghost use Rattle.explain.specs.Phrases.{quoted_text, register_text, value_text};
 ghost use Rattle.steps.specs.Accounts.{account_of};
-ghost use Rattle.explain.specs.EntryLines.{assignment_text, change_text, deed_text, entry_text, lead, list_text, mark, parts_text, printed_text, reading_text, region_text, update_text};
+ghost use Rattle.explain.specs.EntryLines.{assignment_text, change_text, deed_text, entry_text, lead, list_text, delimiter, parts_text, printed_text, reading_text, region_text, update_text};
 
 use crate::phrases::{
     Names, push_labelled, push_number, push_process, push_quoted, push_register, push_value,
@@ -16,9 +16,9 @@ use std::alloc::AllocError;
 use steps::{Changed, Deed, EntryAccount, Reading};
 use turn::Nba;
 
-// The mark before the first part of a kind.
-fn mark(behind: bool) -> &'static str
-    ensures { result.now ≡ mark behind }
+// The delimiter before the first part of a kind.
+fn delimiter(behind: bool) -> &'static str
+    ensures { result.now ≡ delimiter behind }
 {
     match behind {
         true => "; ",
@@ -33,22 +33,22 @@ fn push_lead(text: &mut Vec<u8>, place: usize, behind: bool, word: &str) -> Resu
     if place > 0 {
         return text.extend_from_slice(b", ");
     }
-    text.extend_from_slice(mark(behind).as_bytes())?;
+    text.extend_from_slice(delimiter(behind).as_bytes())?;
     text.extend_from_slice(word.as_bytes())
 }
 
-// Puts a register and a value behind a text, with a mark between them.
+// Puts a register and a value behind a text, with a delimiter between them.
 fn push_valued(
     text: &mut Vec<u8>,
     names: &Names<'_>,
     register: RegId,
-    mark: &[u8],
+    delimiter: &[u8],
     value: Bits,
 ) -> Result<(), AllocError>
-    ensures { OnOk result (text.new.items ≡ text.old.items ++ (register_text names.entry.now register ++ (mark.now ++ value_text value))) }
+    ensures { OnOk result (text.new.items ≡ text.old.items ++ (register_text names.entry.now register ++ (delimiter.now ++ value_text value))) }
 {
     push_register(text, names, register)?;
-    text.extend_from_slice(mark)?;
+    text.extend_from_slice(delimiter)?;
     push_value(text, value)
 }
 
@@ -121,9 +121,9 @@ fn push_printed(text: &mut Vec<u8>, printed: &[u8], behind: bool) -> Result<(), 
 }
 
 fn push_prints(text: &mut Vec<u8>, printed: &[u8], behind: bool) -> Result<(), AllocError>
-    ensures { OnOk result (text.new.items ≡ text.old.items ++ (mark behind ++ codes "prints " ++ quoted_text printed.now)) }
+    ensures { OnOk result (text.new.items ≡ text.old.items ++ (delimiter behind ++ codes "prints " ++ quoted_text printed.now)) }
 {
-    text.extend_from_slice(mark(behind).as_bytes())?;
+    text.extend_from_slice(delimiter(behind).as_bytes())?;
     text.extend_from_slice(b"prints ")?;
     push_quoted(text, printed)
 }

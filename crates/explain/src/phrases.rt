@@ -2,13 +2,13 @@
 
 ghost use Rattle.std.specs.Prelude.{◌≡◌, ◌++◌, OnOk, Some, decimal, slice_get};
 ghost use Rattle.logic4.specs.Display.{binary_text, digit_text};
-ghost use Rattle.explain.specs.Phrases.{escaped, escaped_text, known_name, place_text, process_text, quoted_text, register_text, size_text, value_text, word_text};
+ghost use Rattle.explain.specs.Phrases.{escaped, escaped_text, known_name, location_text, process_text, quoted_text, register_text, size_text, value_text, word_text};
 
 use design::{Design, RegId};
 use itoa::Buffer;
+use locations::Process;
 use logic4::bits::Bits;
 use logic4::digit::Digit;
-use places::Process;
 use std::alloc::AllocError;
 
 /// What registers and processes are called by: a source with its design, and its processes.
@@ -137,16 +137,16 @@ fn word_of(process: &Process) -> &'static str
 }
 
 fn push_place(text: &mut Vec<u8>, process: &Process) -> Result<(), AllocError>
-    ensures { OnOk result (text.new.items ≡ text.old.items ++ place_text (Some process.now)) }
+    ensures { OnOk result (text.new.items ≡ text.old.items ++ location_text (Some process.now)) }
 {
     text.extend_from_slice(b", ")?;
     text.extend_from_slice(word_of(process).as_bytes())?;
-    push_labelled(text, b" at line ", process.place.line as u64)
+    push_labelled(text, b" at line ", process.location.line as u64)
 }
 
 // Puts the word and the line of a process behind a text.
 fn push_begin(text: &mut Vec<u8>, names: &Names<'_>, process: u32) -> Result<(), AllocError>
-    ensures { OnOk result (text.new.items ≡ text.old.items ++ place_text (slice_get names.entry.now.processes.now process)) }
+    ensures { OnOk result (text.new.items ≡ text.old.items ++ location_text (slice_get names.entry.now.processes.now process)) }
 {
     match names.processes.get(process as usize) {
         Some(process) => push_place(text, process),

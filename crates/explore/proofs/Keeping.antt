@@ -14,73 +14,73 @@ use Rattle.explore.specs.SearchKept.{IsText, IsVisited, IsPending, AreKept, Grow
 use Rattle.explore.specs.SearchedRuns.{Runs}
 use Rattle.explore.specs.Search.{IsPrinted, Serves, IsShown, IsFollowed}
 use Rattle.explore.specs.NumberedTexts.{texts, IsTexts}
-use Rattle.explore.specs.Trail.{ways, IsTrail}
+use Rattle.explore.specs.Lineage.{ways, IsLineage}
 use Rattle.explore.specs.Visited.{IsThere}
 use Rattle.explore.specs.declared.Next.{Next}
 use Rattle.explore.specs.declared.Shown.{Shown}
 use Rattle.explore.specs.declared.kept.KeptNodes.{KeptNodes}
 use Rattle.explore.specs.declared.kept.Pending.{Pending}
-use Rattle.explore.specs.declared.kept.Place.{Place}
+use Rattle.explore.specs.declared.kept.Reached.{Reached}
 use Rattle.explore.proofs.Growing.{Extends-itself, Extends-through, length-extends, get_or-extends, length-grown, get_or-grown, slice_get_push}
 use Rattle.explore.proofs.Complete.{Any-extends, Serves-itself, IsFollowed-more, AreFollowed}
 
 -- a run's text stays its text
-pub IsText-more : {M N E : Type 0} (runs : Runs M N E) (old new : List (List M)) (told told' : List (List ℕ)) (place : Place) → Extends old new → Extends told told' → IsText runs old told place → IsText runs new told' place
-IsText-more {M} runs old new told told' place more longer text =
+pub IsText-more : {M N E : Type 0} (runs : Runs M N E) (old new : List (List M)) (told told' : List (List ℕ)) (reached : Reached) → Extends old new → Extends told told' → IsText runs old told reached → IsText runs new told' reached
+IsText-more {M} runs old new told told' reached more longer text =
     record {
       way = let far = length-extends old new more in let within = text.way in omega (arith, far, within);
       told = let far = length-extends told told' longer in let within = text.told in omega (arith, far, within);
-      same = get_or-extends told told' place.text [] longer text.told ∙ (text.same ∙ ap runs.text (sym (get_or-extends old new place.number [] more text.way)));
+      same = get_or-extends told told' reached.text [] longer text.told ∙ (text.same ∙ ap runs.text (sym (get_or-extends old new reached.number [] more text.way)));
     }
 
 -- a visit stays one
-IsVisited-more : {M N E : Type 0} (runs : Runs M N E) (HasKey : N → List ℕ → Type 0) (old new : List (List M)) (told told' : List (List ℕ)) (place : Place) (key : List ℕ) → Extends old new → Extends told told' → IsVisited runs HasKey old told place key → IsVisited runs HasKey new told' place key
-IsVisited-more {M} runs HasKey old new told told' place key more longer visit =
+IsVisited-more : {M N E : Type 0} (runs : Runs M N E) (HasKey : N → List ℕ → Type 0) (old new : List (List M)) (told told' : List (List ℕ)) (reached : Reached) (key : List ℕ) → Extends old new → Extends told told' → IsVisited runs HasKey old told reached key → IsVisited runs HasKey new told' reached key
+IsVisited-more {M} runs HasKey old new told told' reached key more longer visit =
     record {
       node = visit.node;
-      stands = subst (λ (l : List M). runs.Stands visit.node l) (sym (get_or-extends old new place.number [] more visit.text.way)) visit.stands;
+      stands = subst (λ (l : List M). runs.Stands visit.node l) (sym (get_or-extends old new reached.number [] more visit.text.way)) visit.stands;
       keyed = visit.keyed;
-      text = IsText-more runs old new told told' place more longer visit.text;
+      text = IsText-more runs old new told told' reached more longer visit.text;
     }
 
 -- a pending node stays one
 IsPending-more : {M N E : Type 0} (runs : Runs M N E) (old new : List (List M)) (told told' : List (List ℕ)) (p : Pending N) → Extends old new → Extends told told' → IsPending runs old told p → IsPending runs new told' p
 IsPending-more {M} runs old new told told' p more longer pending =
     record {
-      stands = subst (λ (l : List M). runs.Stands p.node l) (sym (get_or-extends old new p.place.number [] more pending.text.way)) pending.stands;
-      text = IsText-more runs old new told told' p.place more longer pending.text;
+      stands = subst (λ (l : List M). runs.Stands p.node l) (sym (get_or-extends old new p.reached.number [] more pending.text.way)) pending.stands;
+      text = IsText-more runs old new told told' p.reached more longer pending.text;
     }
 
 -- what is kept is good where texts are added
-pub AreKept-texts : {M N E : Type 0} (runs : Runs M N E) (HasKey : N → List ℕ → Type 0) (old new : KeptNodes N M) → AreKept runs HasKey old → new.trail ≡ old.trail → IsTexts new.texts → Extends (texts old.texts) (texts new.texts) →
+pub AreKept-texts : {M N E : Type 0} (runs : Runs M N E) (HasKey : N → List ℕ → Type 0) (old new : KeptNodes N M) → AreKept runs HasKey old → new.lineage ≡ old.lineage → IsTexts new.texts → Extends (texts old.texts) (texts new.texts) →
     ArePieces new.visited.visits → pieces new.visited.visits ≡ pieces old.visited.visits → new.pending.items ≡ old.pending.items → AreKept runs HasKey new
-AreKept-texts {M} {N} runs HasKey old new kept trail ok longer whole keys pending =
-    let more : Extends (ways old.trail) (ways new.trail) = subst (λ t. Extends (ways old.trail) (ways t)) (sym trail) (Extends-itself (ways old.trail)) in
+AreKept-texts {M} {N} runs HasKey old new kept lineage ok longer whole keys pending =
+    let more : Extends (ways old.lineage) (ways new.lineage) = subst (λ t. Extends (ways old.lineage) (ways t)) (sym lineage) (Extends-itself (ways old.lineage)) in
     record {
-      trail = subst IsTrail (sym trail) kept.trail;
+      lineage = subst IsLineage (sym lineage) kept.lineage;
       told = ok;
       whole = whole;
-      count = ap length keys ∙ (kept.count ∙ ap (λ t. length (ways t)) (sym trail));
-      visited = λ k visit e. IsVisited-more runs HasKey (ways old.trail) (ways new.trail) (texts old.texts) (texts new.texts) (record { number = k; text = visit.0 }) visit.1 more longer
+      count = ap length keys ∙ (kept.count ∙ ap (λ t. length (ways t)) (sym lineage));
+      visited = λ k visit e. IsVisited-more runs HasKey (ways old.lineage) (ways new.lineage) (texts old.texts) (texts new.texts) (record { number = k; text = visit.0 }) visit.1 more longer
           (kept.visited k visit (ap (λ (l : List (ℕ × List ℕ)). slice_get l k) (sym keys) ∙ e));
-      pending = subst (λ (l : List (Pending N)). All (IsPending runs (ways new.trail) (texts new.texts)) l) (sym pending)
-          (λ k d less. IsPending-more runs (ways old.trail) (ways new.trail) (texts old.texts) (texts new.texts) (get_or old.pending.items k d) more longer (kept.pending k d less));
+      pending = subst (λ (l : List (Pending N)). All (IsPending runs (ways new.lineage) (texts new.texts)) l) (sym pending)
+          (λ k d less. IsPending-more runs (ways old.lineage) (ways new.lineage) (texts old.texts) (texts new.texts) (get_or old.pending.items k d) more longer (kept.pending k d less));
     }
 
 -- what is kept grows where texts are added
-pub Grows-texts : {M N : Type 0} (old new : KeptNodes N M) → new.trail ≡ old.trail → Extends (texts old.texts) (texts new.texts) → new.pending.items ≡ old.pending.items → Grows old new
-Grows-texts {M} {N} old new trail longer pending =
-    let same : length (ways new.trail) ≡ length (ways old.trail) = ap (λ t. length (ways t)) trail in
+pub Grows-texts : {M N : Type 0} (old new : KeptNodes N M) → new.lineage ≡ old.lineage → Extends (texts old.texts) (texts new.texts) → new.pending.items ≡ old.pending.items → Grows old new
+Grows-texts {M} {N} old new lineage longer pending =
+    let same : length (ways new.lineage) ≡ length (ways old.lineage) = ap (λ t. length (ways t)) lineage in
     record {
-      trail = subst (λ t. Extends (ways old.trail) (ways t)) (sym trail) (Extends-itself (ways old.trail));
+      lineage = subst (λ t. Extends (ways old.lineage) (ways t)) (sym lineage) (Extends-itself (ways old.lineage));
       texts = longer;
       pending = subst (λ (l : List (Pending N)). Extends old.pending.items l) (sym pending) (Extends-itself old.pending.items);
       count = omega (arith, same, ap length pending);
       waits = λ k low high. absurd (omega (arith, same));
     }
 
--- the place of a run that goes on from another by these moves, whose text goes on by what they print
-pub IsText-next : {M N E : Type 0} (runs : Runs M N E) (old new : List (List M)) (told told' : List (List ℕ)) (from : Place) (text : ℕ) (moves : List M) (printed : List ℕ) → IsText runs old told from → IsPrinted runs (get_or old from.number []) moves printed →
+-- the text of a run that goes on from another by these moves, whose text goes on by what they print
+pub IsText-next : {M N E : Type 0} (runs : Runs M N E) (old new : List (List M)) (told told' : List (List ℕ)) (from : Reached) (text : ℕ) (moves : List M) (printed : List ℕ) → IsText runs old told from → IsPrinted runs (get_or old from.number []) moves printed →
     new ≡ grown old from.number moves → text < length told' → get_or told' text [] ≡ get_or told from.text [] ++ printed → IsText runs new told' (record { number = length old; text = text })
 IsText-next {M} runs old new told told' from text moves printed at print more within longer =
     let last : get_or new (length old) [] ≡ get_or old from.number [] ++ moves = ap (λ (l : List (List M)). get_or l (length old) []) more ∙ get_or-grown old from.number moves in
@@ -104,41 +104,41 @@ visited_pushed runs HasKey old new told told' keys visit v k more longer count b
 
 -- what is kept is good where a run is added, with its text, its visit and its node
 pub AreKept-push : {M N E : Type 0} (runs : Runs M N E) (HasKey : N → List ℕ → Type 0) (old new : KeptNodes N M) (from text : ℕ) (moves : List M) (visit : ℕ × List ℕ) (p : Pending N) → AreKept runs HasKey old →
-    IsTrail new.trail → ways new.trail ≡ grown (ways old.trail) from moves → IsTexts new.texts → Extends (texts old.texts) (texts new.texts) →
+    IsLineage new.lineage → ways new.lineage ≡ grown (ways old.lineage) from moves → IsTexts new.texts → Extends (texts old.texts) (texts new.texts) →
     ArePieces new.visited.visits → pieces new.visited.visits ≡ pieces old.visited.visits ++ visit ∷ [] → new.pending.items ≡ old.pending.items ++ p ∷ [] →
-    IsVisited runs HasKey (ways new.trail) (texts new.texts) (record { number = length (ways old.trail); text = visit.0 }) visit.1 → IsPending runs (ways new.trail) (texts new.texts) p → AreKept runs HasKey new
-AreKept-push {M} {N} runs HasKey old new from text moves visit p kept trail added ok longer whole keys pending seen last =
-    let more : Extends (ways old.trail) (ways new.trail) = (_, added) in
+    IsVisited runs HasKey (ways new.lineage) (texts new.texts) (record { number = length (ways old.lineage); text = visit.0 }) visit.1 → IsPending runs (ways new.lineage) (texts new.texts) p → AreKept runs HasKey new
+AreKept-push {M} {N} runs HasKey old new from text moves visit p kept lineage added ok longer whole keys pending seen last =
+    let more : Extends (ways old.lineage) (ways new.lineage) = (_, added) in
     record {
-      trail = trail;
+      lineage = lineage;
       told = ok;
       whole = whole;
-      count = omega (arith, ap length keys, length-append (pieces old.visited.visits) (visit ∷ []), kept.count, ap length added, length-grown (ways old.trail) from moves);
-      visited = λ k v e. visited_pushed runs HasKey (ways old.trail) (ways new.trail) (texts old.texts) (texts new.texts) (pieces old.visited.visits) visit v k more longer kept.count kept.visited seen
+      count = omega (arith, ap length keys, length-append (pieces old.visited.visits) (visit ∷ []), kept.count, ap length added, length-grown (ways old.lineage) from moves);
+      visited = λ k v e. visited_pushed runs HasKey (ways old.lineage) (ways new.lineage) (texts old.texts) (texts new.texts) (pieces old.visited.visits) visit v k more longer kept.count kept.visited seen
           (ap (λ (l : List (ℕ × List ℕ)). slice_get l k) (sym keys) ∙ e);
-      pending = subst (λ (l : List (Pending N)). All (IsPending runs (ways new.trail) (texts new.texts)) l) (sym pending)
-          (All-push (IsPending runs (ways new.trail) (texts new.texts)) old.pending.items p
-          (λ k d less. IsPending-more runs (ways old.trail) (ways new.trail) (texts old.texts) (texts new.texts) (get_or old.pending.items k d) more longer (kept.pending k d less)) last);
+      pending = subst (λ (l : List (Pending N)). All (IsPending runs (ways new.lineage) (texts new.texts)) l) (sym pending)
+          (All-push (IsPending runs (ways new.lineage) (texts new.texts)) old.pending.items p
+          (λ k d less. IsPending-more runs (ways old.lineage) (ways new.lineage) (texts old.texts) (texts new.texts) (get_or old.pending.items k d) more longer (kept.pending k d less)) last);
     }
 
 -- what is kept grows where a run is added, with its node
-pub Grows-push : {M N : Type 0} (old new : KeptNodes N M) (from : ℕ) (moves : List M) (p : Pending N) → ways new.trail ≡ grown (ways old.trail) from moves → Extends (texts old.texts) (texts new.texts) →
-    new.pending.items ≡ old.pending.items ++ p ∷ [] → p.place.number ≡ length (ways old.trail) → Grows old new
+pub Grows-push : {M N : Type 0} (old new : KeptNodes N M) (from : ℕ) (moves : List M) (p : Pending N) → ways new.lineage ≡ grown (ways old.lineage) from moves → Extends (texts old.texts) (texts new.texts) →
+    new.pending.items ≡ old.pending.items ++ p ∷ [] → p.reached.number ≡ length (ways old.lineage) → Grows old new
 Grows-push {M} {N} old new from moves p added longer pending number =
-    let long : length (ways new.trail) ≡ suc (length (ways old.trail)) = ap length added ∙ length-grown (ways old.trail) from moves in
+    let long : length (ways new.lineage) ≡ suc (length (ways old.lineage)) = ap length added ∙ length-grown (ways old.lineage) from moves in
     record {
-      trail = (_, added);
+      lineage = (_, added);
       texts = longer;
       pending = (p ∷ [], pending);
       count = omega (arith, long, ap length pending, length-append old.pending.items (p ∷ []));
       waits = λ k low high.
-          let at : p.place.number ≡ k = omega (arith, number, long) in
-          subst (λ (l : List (Pending N)). Any (λ x. x.place.number ≡ k) l) (sym pending) (Any-push (λ (x : Pending N). x.place.number ≡ k) old.pending.items p at);
+          let at : p.reached.number ≡ k = omega (arith, number, long) in
+          subst (λ (l : List (Pending N)). Any (λ x. x.reached.number ≡ k) l) (sym pending) (Any-push (λ (x : Pending N). x.reached.number ≡ k) old.pending.items p at);
     }
 
-waits_through : {M N : Type 0} (a b c : KeptNodes N M) (k : ℕ) → Grows a b → Grows b c → length (ways a.trail) ≤ k → k < length (ways c.trail) → Any (λ x. x.place.number ≡ k) c.pending.items
-waits_through {M} {N} a b c k first second low high = elim (cases_lt k (length (ways b.trail))) [
-  | inl less ↦ Any-extends (λ (x : Pending N). x.place.number ≡ k) b.pending.items c.pending.items second.pending (first.waits k low less)
+waits_through : {M N : Type 0} (a b c : KeptNodes N M) (k : ℕ) → Grows a b → Grows b c → length (ways a.lineage) ≤ k → k < length (ways c.lineage) → Any (λ x. x.reached.number ≡ k) c.pending.items
+waits_through {M} {N} a b c k first second low high = elim (cases_lt k (length (ways b.lineage))) [
+  | inl less ↦ Any-extends (λ (x : Pending N). x.reached.number ≡ k) b.pending.items c.pending.items second.pending (first.waits k low less)
   | inr far ↦ second.waits k far high
 ]
 
@@ -146,7 +146,7 @@ waits_through {M} {N} a b c k first second low high = elim (cases_lt k (length (
 pub Grows-through : {M N : Type 0} (a b c : KeptNodes N M) → Grows a b → Grows b c → Grows a c
 Grows-through {M} {N} a b c first second =
     record {
-      trail = Extends-through (ways a.trail) (ways b.trail) (ways c.trail) first.trail second.trail;
+      lineage = Extends-through (ways a.lineage) (ways b.lineage) (ways c.lineage) first.lineage second.lineage;
       texts = Extends-through (texts a.texts) (texts b.texts) (texts c.texts) first.texts second.texts;
       pending = Extends-through a.pending.items b.pending.items c.pending.items first.pending second.pending;
       count = omega (arith, first.count, second.count);
@@ -160,15 +160,15 @@ Grows-itself a = Grows-texts a a refl (Extends-itself (texts a.texts)) refl
 -- where a visit of the same key and the same text is there, a run that was reached serves the one that leads to the node
 pub there_leads : {M N E : Type 0} (runs : Runs M N E) (HasKey : N → List ℕ → Type 0) (old : KeptNodes N M) (told : List (List ℕ)) (node : N) (run : List M) (visit : ℕ × List ℕ) →
     ((a b : N) (i j : List M) (key : List ℕ) → HasKey a key → HasKey b key → runs.Stands a i → runs.Stands b j → runs.text i ≡ runs.text j → Serves runs i j) →
-    AreKept runs HasKey old → Extends (texts old.texts) told → runs.Stands node run → HasKey node visit.1 → get_or told visit.0 [] ≡ runs.text run → IsThere visit (pieces old.visited.visits) → Leads runs (ways old.trail) run
+    AreKept runs HasKey old → Extends (texts old.texts) told → runs.Stands node run → HasKey node visit.1 → get_or told visit.0 [] ≡ runs.text run → IsThere visit (pieces old.visited.visits) → Leads runs (ways old.lineage) run
 there_leads {M} {N} runs HasKey old told node run visit law kept longer stands keyed text there =
     let at : slice_get (pieces old.visited.visits) there.0 ≡ Some there.1 = slice_get-get_or (pieces old.visited.visits) there.0 there.1 there.2 ∙ ap (λ x. Some x) there.3 in
     let seen = kept.visited there.0 there.1 at in
-    let within : there.0 < length (ways old.trail) = seen.text.way in
-    let same : runs.text run ≡ runs.text (get_or (ways old.trail) there.0 []) =
+    let within : there.0 < length (ways old.lineage) = seen.text.way in
+    let same : runs.text run ≡ runs.text (get_or (ways old.lineage) there.0 []) =
     sym text ∙ (ap (λ n. get_or told n []) (sym there.4.0) ∙ (get_or-extends (texts old.texts) told there.1.0 [] longer seen.text.told ∙ seen.text.same)) in
-    let serves = law node seen.node run (get_or (ways old.trail) there.0 []) visit.1 keyed (subst (HasKey seen.node) there.4.1 seen.keyed) stands seen.stands same in
-    (there.0, get_or (ways old.trail) there.0 [], within, get_or_default (ways old.trail) there.0 (get_or (ways old.trail) there.0 []) [] within, serves)
+    let serves = law node seen.node run (get_or (ways old.lineage) there.0 []) visit.1 keyed (subst (HasKey seen.node) there.4.1 seen.keyed) stands seen.stands same in
+    (there.0, get_or (ways old.lineage) there.0 [], within, get_or_default (ways old.lineage) there.0 (get_or (ways old.lineage) there.0 []) [] within, serves)
 
 -- a run that is added serves itself
 pub pushed_leads : {M N E : Type 0} (runs : Runs M N E) (old new : List (List M)) (from : ℕ) (moves : List M) → new ≡ grown old from moves → Leads runs new (get_or old from [] ++ moves)
@@ -187,26 +187,26 @@ IsVisited-next {M} runs HasKey old new told node from text moves key more stands
     record { node = node; stands = subst (λ (l : List M). runs.Stands node l) (sym (last_grown old new from moves more)) stands; keyed = keyed; text = at }
 
 -- a node that is added is pending
-pub IsPending-next : {M N E : Type 0} (runs : Runs M N E) (old new : List (List M)) (told : List (List ℕ)) (p : Pending N) (from : ℕ) (moves : List M) → new ≡ grown old from moves → runs.Stands p.node (get_or old from [] ++ moves) → p.place.number ≡ length old →
-    IsText runs new told (record { number = length old; text = p.place.text }) → IsPending runs new told p
+pub IsPending-next : {M N E : Type 0} (runs : Runs M N E) (old new : List (List M)) (told : List (List ℕ)) (p : Pending N) (from : ℕ) (moves : List M) → new ≡ grown old from moves → runs.Stands p.node (get_or old from [] ++ moves) → p.reached.number ≡ length old →
+    IsText runs new told (record { number = length old; text = p.reached.text }) → IsPending runs new told p
 IsPending-next {M} runs old new told p from moves more stands number at =
     record {
       stands = subst (λ (l : List M). runs.Stands p.node l) (sym (ap (λ (n : ℕ). get_or new n []) number ∙ last_grown old new from moves more)) stands;
-      text = subst (λ (n : ℕ). IsText runs new told (record { number = n; text = p.place.text })) (sym number) at;
+      text = subst (λ (n : ℕ). IsText runs new told (record { number = n; text = p.reached.text })) (sym number) at;
     }
 
 -- what is kept is good without the node that was added last, which is pending
-pub AreKept-pop : {M N E : Type 0} (runs : Runs M N E) (HasKey : N → List ℕ → Type 0) (old new : KeptNodes N M) (p : Pending N) → AreKept runs HasKey old → new.trail ≡ old.trail → new.texts ≡ old.texts → new.visited ≡ old.visited → old.pending.items ≡ new.pending.items ++ p ∷ [] → AreKept runs HasKey new × IsPending runs (ways old.trail) (texts old.texts) p
-AreKept-pop {M} {N} runs HasKey old new p kept trail told visited pending =
-    let parts = All-pop (IsPending runs (ways old.trail) (texts old.texts)) old.pending.items new.pending.items (Some p) pending kept.pending in (
+pub AreKept-pop : {M N E : Type 0} (runs : Runs M N E) (HasKey : N → List ℕ → Type 0) (old new : KeptNodes N M) (p : Pending N) → AreKept runs HasKey old → new.lineage ≡ old.lineage → new.texts ≡ old.texts → new.visited ≡ old.visited → old.pending.items ≡ new.pending.items ++ p ∷ [] → AreKept runs HasKey new × IsPending runs (ways old.lineage) (texts old.texts) p
+AreKept-pop {M} {N} runs HasKey old new p kept lineage told visited pending =
+    let parts = All-pop (IsPending runs (ways old.lineage) (texts old.texts)) old.pending.items new.pending.items (Some p) pending kept.pending in (
       record {
-        trail = subst IsTrail (sym trail) kept.trail;
+        lineage = subst IsLineage (sym lineage) kept.lineage;
         told = subst IsTexts (sym told) kept.told;
         whole = subst (λ v. ArePieces v.visits) (sym visited) kept.whole;
-        count = ap (λ v. length (pieces v.visits)) visited ∙ (kept.count ∙ ap (λ t. length (ways t)) (sym trail));
-        visited = λ k v e. subst (λ t. IsVisited runs HasKey (ways t) (texts new.texts) (record { number = k; text = v.0 }) v.1) (sym trail)
-            (subst (λ t. IsVisited runs HasKey (ways old.trail) (texts t) (record { number = k; text = v.0 }) v.1) (sym told) (kept.visited k v (ap (λ s. slice_get (pieces s.visits) k) (sym visited) ∙ e)));
-        pending = subst (λ t. All (IsPending runs (ways t) (texts new.texts)) new.pending.items) (sym trail) (subst (λ t. All (IsPending runs (ways old.trail) (texts t)) new.pending.items) (sym told) parts.0);
+        count = ap (λ v. length (pieces v.visits)) visited ∙ (kept.count ∙ ap (λ t. length (ways t)) (sym lineage));
+        visited = λ k v e. subst (λ t. IsVisited runs HasKey (ways t) (texts new.texts) (record { number = k; text = v.0 }) v.1) (sym lineage)
+            (subst (λ t. IsVisited runs HasKey (ways old.lineage) (texts t) (record { number = k; text = v.0 }) v.1) (sym told) (kept.visited k v (ap (λ s. slice_get (pieces s.visits) k) (sym visited) ∙ e)));
+        pending = subst (λ t. All (IsPending runs (ways t) (texts new.texts)) new.pending.items) (sym lineage) (subst (λ t. All (IsPending runs (ways old.lineage) (texts t)) new.pending.items) (sym told) parts.0);
       },
       parts.1,
     )
@@ -226,34 +226,34 @@ only_visit runs HasKey w t visit v k first e = elim (slice_get_push [] visit v k
 ]
 
 -- what is kept at first
-pub AreKept-first : {M N E : Type 0} (runs : Runs M N E) (HasKey : N → List ℕ → Type 0) (new : KeptNodes N M) (p : Pending N) (visit : ℕ × List ℕ) → IsTrail new.trail → ways new.trail ≡ [] ∷ [] → IsTexts new.texts → texts new.texts ≡ [] ∷ [] → ArePieces new.visited.visits → pieces new.visited.visits ≡ visit ∷ [] → new.pending.items ≡ [] ++ p ∷ [] →
-    visit.0 ≡ 0 → p.place ≡ record { number = 0; text = 0 } → runs.Stands p.node [] → HasKey p.node visit.1 → runs.text [] ≡ [] → AreKept runs HasKey new
-AreKept-first {M} {N} runs HasKey new p visit trail one told none whole keys pending zeroth place stands keyed silent =
-    let first : get_or (ways new.trail) 0 [] ≡ [] = ap (λ (l : List (List M)). get_or l 0 []) one in
-    let at : IsText runs (ways new.trail) (texts new.texts) (record { number = 0; text = 0 }) = record {
+pub AreKept-first : {M N E : Type 0} (runs : Runs M N E) (HasKey : N → List ℕ → Type 0) (new : KeptNodes N M) (p : Pending N) (visit : ℕ × List ℕ) → IsLineage new.lineage → ways new.lineage ≡ [] ∷ [] → IsTexts new.texts → texts new.texts ≡ [] ∷ [] → ArePieces new.visited.visits → pieces new.visited.visits ≡ visit ∷ [] → new.pending.items ≡ [] ++ p ∷ [] →
+    visit.0 ≡ 0 → p.reached ≡ record { number = 0; text = 0 } → runs.Stands p.node [] → HasKey p.node visit.1 → runs.text [] ≡ [] → AreKept runs HasKey new
+AreKept-first {M} {N} runs HasKey new p visit lineage one told none whole keys pending zeroth reached stands keyed silent =
+    let first : get_or (ways new.lineage) 0 [] ≡ [] = ap (λ (l : List (List M)). get_or l 0 []) one in
+    let at : IsText runs (ways new.lineage) (texts new.texts) (record { number = 0; text = 0 }) = record {
       way = omega (arith, ap length one);
       told = omega (arith, ap length none);
       same = ap (λ (l : List (List ℕ)). get_or l 0 []) none ∙ (sym silent ∙ ap runs.text (sym first));
     } in
-    let standing : runs.Stands p.node (get_or (ways new.trail) 0 []) = subst (λ (l : List M). runs.Stands p.node l) (sym first) stands in
-    let seen : IsVisited runs HasKey (ways new.trail) (texts new.texts) (record { number = 0; text = visit.0 }) visit.1 = record {
+    let standing : runs.Stands p.node (get_or (ways new.lineage) 0 []) = subst (λ (l : List M). runs.Stands p.node l) (sym first) stands in
+    let seen : IsVisited runs HasKey (ways new.lineage) (texts new.texts) (record { number = 0; text = visit.0 }) visit.1 = record {
       node = p.node;
       stands = standing;
       keyed = keyed;
-      text = subst (λ (n : ℕ). IsText runs (ways new.trail) (texts new.texts) (record { number = 0; text = n })) (sym zeroth) at;
+      text = subst (λ (n : ℕ). IsText runs (ways new.lineage) (texts new.texts) (record { number = 0; text = n })) (sym zeroth) at;
     } in
-    let last : IsPending runs (ways new.trail) (texts new.texts) p = record {
-      stands = subst (λ (x : Place). runs.Stands p.node (get_or (ways new.trail) x.number [])) (sym place) standing;
-      text = subst (λ (x : Place). IsText runs (ways new.trail) (texts new.texts) x) (sym place) at;
+    let last : IsPending runs (ways new.lineage) (texts new.texts) p = record {
+      stands = subst (λ (x : Reached). runs.Stands p.node (get_or (ways new.lineage) x.number [])) (sym reached) standing;
+      text = subst (λ (x : Reached). IsText runs (ways new.lineage) (texts new.texts) x) (sym reached) at;
     } in
     record {
-      trail = trail;
+      lineage = lineage;
       told = told;
       whole = whole;
       count = omega (arith, ap length keys, ap length one);
-      visited = λ k v e. only_visit runs HasKey (ways new.trail) (texts new.texts) visit v k seen (ap (λ (l : List (ℕ × List ℕ)). slice_get l k) (sym keys) ∙ e);
-      pending = subst (λ (l : List (Pending N)). All (IsPending runs (ways new.trail) (texts new.texts)) l) (sym pending)
-          (All-push (IsPending runs (ways new.trail) (texts new.texts)) [] p (All-nil (IsPending runs (ways new.trail) (texts new.texts))) last);
+      visited = λ k v e. only_visit runs HasKey (ways new.lineage) (texts new.texts) visit v k seen (ap (λ (l : List (ℕ × List ℕ)). slice_get l k) (sym keys) ∙ e);
+      pending = subst (λ (l : List (Pending N)). All (IsPending runs (ways new.lineage) (texts new.texts)) l) (sym pending)
+          (All-push (IsPending runs (ways new.lineage) (texts new.texts)) [] p (All-nil (IsPending runs (ways new.lineage) (texts new.texts))) last);
     }
 
 -- a run that leads somewhere still does where more runs were reached, and one more does
@@ -273,32 +273,32 @@ Any-split P xs x at = elim (cases_lt at.0 (length xs)) [
 
 -- what is known of the run with a number: its node is pending, or it is followed
 abbrev pub IsKnown : {M N E : Type 0} → Runs M N E → KeptNodes N M → List (Shown M E) → ℕ → Type 0
-IsKnown runs kept shown k = Any (λ p. p.place.number ≡ k) kept.pending.items ⊎ IsFollowed runs (IsShown shown) (Serves runs) (ways kept.trail) (get_or (ways kept.trail) k [])
+IsKnown runs kept shown k = Any (λ p. p.reached.number ≡ k) kept.pending.items ⊎ IsFollowed runs (IsShown shown) (Serves runs) (ways kept.lineage) (get_or (ways kept.lineage) k [])
 
-known_before : {M N E : Type 0} (runs : Runs M N E) (old mid new : KeptNodes N M) (p : Pending N) (shown shown' : List (Shown M E)) (k : ℕ) → mid.trail ≡ old.trail → old.pending.items ≡ mid.pending.items ++ p ∷ [] → Grows mid new → Extends shown shown' →
-    k < length (ways old.trail) → IsFollowed runs (IsShown shown') (Serves runs) (ways new.trail) (get_or (ways old.trail) p.place.number []) → IsKnown runs old shown k → IsKnown runs new shown' k
-known_before {M} {N} {E} runs old mid new p shown shown' k trail popped grows told less now known =
-    let more : Extends (ways old.trail) (ways new.trail) = subst (λ t. Extends (ways t) (ways new.trail)) trail grows.trail in
-    let same : get_or (ways new.trail) k [] ≡ get_or (ways old.trail) k [] = get_or-extends (ways old.trail) (ways new.trail) k [] more less in
+known_before : {M N E : Type 0} (runs : Runs M N E) (old mid new : KeptNodes N M) (p : Pending N) (shown shown' : List (Shown M E)) (k : ℕ) → mid.lineage ≡ old.lineage → old.pending.items ≡ mid.pending.items ++ p ∷ [] → Grows mid new → Extends shown shown' →
+    k < length (ways old.lineage) → IsFollowed runs (IsShown shown') (Serves runs) (ways new.lineage) (get_or (ways old.lineage) p.reached.number []) → IsKnown runs old shown k → IsKnown runs new shown' k
+known_before {M} {N} {E} runs old mid new p shown shown' k lineage popped grows told less now known =
+    let more : Extends (ways old.lineage) (ways new.lineage) = subst (λ t. Extends (ways t) (ways new.lineage)) lineage grows.lineage in
+    let same : get_or (ways new.lineage) k [] ≡ get_or (ways old.lineage) k [] = get_or-extends (ways old.lineage) (ways new.lineage) k [] more less in
     elim known [
-      | inl at ↦ elim (Any-split (λ (x : Pending N). x.place.number ≡ k) mid.pending.items p (subst (λ (l : List (Pending N)). Any (λ x. x.place.number ≡ k) l) popped at)) [
-        | inl there ↦ inl (Any-extends (λ (x : Pending N). x.place.number ≡ k) mid.pending.items new.pending.items grows.pending there)
-        | inr is ↦ inr (subst (λ (l : List M). IsFollowed runs (IsShown shown') (Serves runs) (ways new.trail) l) (ap (λ (n : ℕ). get_or (ways old.trail) n []) is ∙ sym same) now)
+      | inl at ↦ elim (Any-split (λ (x : Pending N). x.reached.number ≡ k) mid.pending.items p (subst (λ (l : List (Pending N)). Any (λ x. x.reached.number ≡ k) l) popped at)) [
+        | inl there ↦ inl (Any-extends (λ (x : Pending N). x.reached.number ≡ k) mid.pending.items new.pending.items grows.pending there)
+        | inr is ↦ inr (subst (λ (l : List M). IsFollowed runs (IsShown shown') (Serves runs) (ways new.lineage) l) (ap (λ (n : ℕ). get_or (ways old.lineage) n []) is ∙ sym same) now)
       ]
-      | inr followed ↦ inr (subst (λ (l : List M). IsFollowed runs (IsShown shown') (Serves runs) (ways new.trail) l) (sym same)
-          (IsFollowed-more runs (ways old.trail) (ways new.trail) shown shown' (get_or (ways old.trail) k []) more told followed))
+      | inr followed ↦ inr (subst (λ (l : List M). IsFollowed runs (IsShown shown') (Serves runs) (ways new.lineage) l) (sym same)
+          (IsFollowed-more runs (ways old.lineage) (ways new.lineage) shown shown' (get_or (ways old.lineage) k []) more told followed))
     ]
 
 -- what is known of each run, after the node that was added last was expanded
-pub known_more : {M N E : Type 0} (runs : Runs M N E) (old mid new : KeptNodes N M) (p : Pending N) (shown shown' : List (Shown M E)) (k : ℕ) → mid.trail ≡ old.trail → old.pending.items ≡ mid.pending.items ++ p ∷ [] → Grows mid new → Extends shown shown' →
-    IsFollowed runs (IsShown shown') (Serves runs) (ways new.trail) (get_or (ways old.trail) p.place.number []) → ((k : ℕ) → k < length (ways old.trail) → IsKnown runs old shown k) → k < length (ways new.trail) → IsKnown runs new shown' k
-known_more runs old mid new p shown shown' k trail popped grows told now before less = elim (cases_lt k (length (ways old.trail))) [
-  | inl low ↦ known_before runs old mid new p shown shown' k trail popped grows told low now (before k low)
-  | inr high ↦ inl (grows.waits k (let same : length (ways mid.trail) ≡ length (ways old.trail) = ap (λ t. length (ways t)) trail in omega (arith, same, high)) less)
+pub known_more : {M N E : Type 0} (runs : Runs M N E) (old mid new : KeptNodes N M) (p : Pending N) (shown shown' : List (Shown M E)) (k : ℕ) → mid.lineage ≡ old.lineage → old.pending.items ≡ mid.pending.items ++ p ∷ [] → Grows mid new → Extends shown shown' →
+    IsFollowed runs (IsShown shown') (Serves runs) (ways new.lineage) (get_or (ways old.lineage) p.reached.number []) → ((k : ℕ) → k < length (ways old.lineage) → IsKnown runs old shown k) → k < length (ways new.lineage) → IsKnown runs new shown' k
+known_more runs old mid new p shown shown' k lineage popped grows told now before less = elim (cases_lt k (length (ways old.lineage))) [
+  | inl low ↦ known_before runs old mid new p shown shown' k lineage popped grows told low now (before k low)
+  | inr high ↦ inl (grows.waits k (let same : length (ways mid.lineage) ≡ length (ways old.lineage) = ap (λ t. length (ways t)) lineage in omega (arith, same, high)) less)
 ]
 
 -- where no node is pending, each run is followed
-pub all_followed : {M N E : Type 0} (runs : Runs M N E) (kept : KeptNodes N M) (shown : List (Shown M E)) → length kept.pending.items ≡ 0 → ((k : ℕ) → k < length (ways kept.trail) → IsKnown runs kept shown k) → AreFollowed runs shown (ways kept.trail)
+pub all_followed : {M N E : Type 0} (runs : Runs M N E) (kept : KeptNodes N M) (shown : List (Shown M E)) → length kept.pending.items ≡ 0 → ((k : ℕ) → k < length (ways kept.lineage) → IsKnown runs kept shown k) → AreFollowed runs shown (ways kept.lineage)
 all_followed runs kept shown none known k less = elim (known k less) [
   | inl at ↦ absurd (omega (arith, at.2, none))
   | inr followed ↦ followed

@@ -1,4 +1,4 @@
--- The steps of a trail.
+-- The steps of a lineage.
 use Rattle.std.proofs.Common.{◌≡◌, ℕ, suc, ◌+◌, ◌<◌, ◌≤◌, List, [], ◌∷◌, ◌++◌, length, get_or, sym, ap, ◌∙◌, arith, inl, inr, Some, None, Option}
 use Rattle.std.specs.Prelude.{slice_get}
 use Rattle.explore.specs.Grown.{grown, grown_all}

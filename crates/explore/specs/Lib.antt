@@ -5,5 +5,5 @@ pub mod SearchedRuns
 pub mod Search
 pub mod SearchSteps
 pub mod NumberedTexts
-pub mod Trail
+pub mod Lineage
 pub mod Visited

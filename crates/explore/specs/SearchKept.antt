@@ -6,53 +6,53 @@ use Rattle.explore.specs.Pieces.{pieces, ArePieces}
 use Rattle.explore.specs.SearchedRuns.{Runs}
 use Rattle.explore.specs.Search.{Serves}
 use Rattle.explore.specs.NumberedTexts.{texts, IsTexts}
-use Rattle.explore.specs.Trail.{ways, IsTrail}
+use Rattle.explore.specs.Lineage.{ways, IsLineage}
 use Rattle.explore.specs.declared.kept.KeptNodes.{KeptNodes}
 use Rattle.explore.specs.declared.kept.Pending.{Pending}
-use Rattle.explore.specs.declared.kept.Place.{Place}
+use Rattle.explore.specs.declared.kept.Reached.{Reached}
 use Rattle.explore.specs.declared.texts.Texts.{Texts}
-use Rattle.explore.specs.declared.trail.Trail.{Trail}
+use Rattle.explore.specs.declared.lineage.Lineage.{Lineage}
 
--- the text with a place's text number is that of the run with its number
-pub record IsText {Move Node End : Type 0} (runs : Runs Move Node End) (ways : List (List Move)) (texts : List (List ℕ)) (place : Place) : Type 0 where
-  pub way : place.number < length ways
-  pub told : place.text < length texts
-  pub same : get_or texts place.text [] ≡ runs.text (get_or ways place.number [])
+-- the text with a text number is that of the run with its number
+pub record IsText {Move Node End : Type 0} (runs : Runs Move Node End) (ways : List (List Move)) (texts : List (List ℕ)) (reached : Reached) : Type 0 where
+  pub way : reached.number < length ways
+  pub told : reached.text < length texts
+  pub same : get_or texts reached.text [] ≡ runs.text (get_or ways reached.number [])
 
--- a trail and texts hold the run with a place's number, and its text
-pub record IsHeld {Move Node End : Type 0} (runs : Runs Move Node End) (trail : Trail Move) (held : Texts) (place : Place) : Type 0 where
-  pub is_trail : IsTrail trail
+-- a lineage and texts hold the run with a number, and its text
+pub record IsHeld {Move Node End : Type 0} (runs : Runs Move Node End) (lineage : Lineage Move) (held : Texts) (reached : Reached) : Type 0 where
+  pub is_lineage : IsLineage lineage
   pub are_texts : IsTexts held
-  pub text : IsText runs (ways trail) (texts held) place
+  pub text : IsText runs (ways lineage) (texts held) reached
 
--- a node that stands at the run with a place's number has this key
-pub record IsVisited {Move Node End : Type 0} (runs : Runs Move Node End) (HasKey : Node → List ℕ → Type 0) (ways : List (List Move)) (texts : List (List ℕ)) (place : Place) (key : List ℕ) : Type 0 where
+-- a node that stands at the run with this number has this key
+pub record IsVisited {Move Node End : Type 0} (runs : Runs Move Node End) (HasKey : Node → List ℕ → Type 0) (ways : List (List Move)) (texts : List (List ℕ)) (reached : Reached) (key : List ℕ) : Type 0 where
   pub node : Node
-  pub stands : runs.Stands node (get_or ways place.number [])
+  pub stands : runs.Stands node (get_or ways reached.number [])
   pub keyed : HasKey node key
-  pub text : IsText runs ways texts place
+  pub text : IsText runs ways texts reached
 
--- the pending node stands at the run of its place
+-- the pending node stands at the run of its number
 pub record IsPending {Move Node End : Type 0} (runs : Runs Move Node End) (ways : List (List Move)) (texts : List (List ℕ)) (pending : Pending Node) : Type 0 where
-  pub stands : runs.Stands pending.node (get_or ways pending.place.number [])
-  pub text : IsText runs ways texts pending.place
+  pub stands : runs.Stands pending.node (get_or ways pending.reached.number [])
+  pub text : IsText runs ways texts pending.reached
 
 -- runs, texts and pending nodes belong together, and for each run there is the visit of a node that stands at it
 pub record AreKept {Move Node End : Type 0} (runs : Runs Move Node End) (HasKey : Node → List ℕ → Type 0) (kept : KeptNodes Node Move) : Type 0 where
-  pub trail : IsTrail kept.trail
+  pub lineage : IsLineage kept.lineage
   pub told : IsTexts kept.texts
   pub whole : ArePieces kept.visited.visits
-  pub count : length (pieces kept.visited.visits) ≡ length (ways kept.trail)
-  pub visited : (k : ℕ) (visit : ℕ × List ℕ) → slice_get (pieces kept.visited.visits) k ≡ Some visit → IsVisited runs HasKey (ways kept.trail) (texts kept.texts) (record { number = k; text = visit.0 }) visit.1
-  pub pending : All (IsPending runs (ways kept.trail) (texts kept.texts)) kept.pending.items
+  pub count : length (pieces kept.visited.visits) ≡ length (ways kept.lineage)
+  pub visited : (k : ℕ) (visit : ℕ × List ℕ) → slice_get (pieces kept.visited.visits) k ≡ Some visit → IsVisited runs HasKey (ways kept.lineage) (texts kept.texts) (record { number = k; text = visit.0 }) visit.1
+  pub pending : All (IsPending runs (ways kept.lineage) (texts kept.texts)) kept.pending.items
 
 -- runs and texts stay, and for each run that was added there is a node more that is pending
 pub record Grows {Node Move : Type 0} (old new : KeptNodes Node Move) : Type 0 where
-  pub trail : Extends (ways old.trail) (ways new.trail)
+  pub lineage : Extends (ways old.lineage) (ways new.lineage)
   pub texts : Extends (texts old.texts) (texts new.texts)
   pub pending : Extends old.pending.items new.pending.items
-  pub count : length new.pending.items + length (ways old.trail) ≡ length old.pending.items + length (ways new.trail)
-  pub waits : (k : ℕ) → length (ways old.trail) ≤ k → k < length (ways new.trail) → Any (λ pending. pending.place.number ≡ k) new.pending.items
+  pub count : length new.pending.items + length (ways old.lineage) ≡ length old.pending.items + length (ways new.lineage)
+  pub waits : (k : ℕ) → length (ways old.lineage) ≤ k → k < length (ways new.lineage) → Any (λ pending. pending.reached.number ≡ k) new.pending.items
 
 -- one of the runs that were reached serves this one
 abbrev pub Leads : {Move Node End : Type 0} → Runs Move Node End → List (List Move) → List Move → Type 0

@@ -4,32 +4,32 @@ ghost use Rattle.std.specs.List.{All, Any};
 ghost use Rattle.explore.specs.SearchKept.{AreKept, Grows, IsText, Leads};
 ghost use Rattle.explore.specs.Search.{IsNext};
 ghost use Rattle.explore.specs.NumberedTexts.{texts};
-ghost use Rattle.explore.specs.Trail.{ways};
+ghost use Rattle.explore.specs.Lineage.{ways};
 
+use crate::lineage::Lineage;
 use crate::texts::Texts;
-use crate::trail::Trail;
 use crate::visited::Visited;
 use crate::{Next, Orders, Scope};
 use std::alloc::{AllocError, Global};
 
 /// The number of a run that was reached, and that of its text.
 #[derive(Clone, Copy)]
-pub(crate) struct Place {
+pub(crate) struct Reached {
     pub(crate) number: usize,
     pub(crate) text: usize,
 }
 
-/// A node that is still to be expanded, and the place of its run.
+/// A node that is still to be expanded, and the numbers of its run.
 #[derive(Drop)]
 pub(crate) struct Pending<N> {
     pub(crate) node: N,
-    pub(crate) place: Place,
+    pub(crate) reached: Reached,
 }
 
 /// The runs that were reached, what they printed, a visit for each of them, and the nodes that are still to be expanded.
 #[derive(Drop)]
 pub(crate) struct KeptNodes<N, M> {
-    pub(crate) trail: Trail<M>,
+    pub(crate) lineage: Lineage<M>,
     pub(crate) texts: Texts,
     pub(crate) visited: Visited,
     pub(crate) pending: Vec<Pending<N>>,
@@ -44,9 +44,9 @@ pub(crate) fn first<O: Orders>(
     room: &mut O::Room,
 ) -> Result<KeptNodes<O::Node, O::Move>, AllocError>
     ensures kept { IfOk result (λ kept. AreKept (O.runs orders.now) (O.has_key orders.now) kept) }
-    ensures ways { IfOk result (λ kept. ways kept.trail ≡ [] ∷ []) }
+    ensures ways { IfOk result (λ kept. ways kept.lineage ≡ [] ∷ []) }
     ensures one { IfOk result (λ kept. length kept.pending.items ≡ 1) }
-    ensures waits { IfOk result (λ kept. Any (λ pending. pending.place.number ≡ 0) kept.pending.items) }
+    ensures waits { IfOk result (λ kept. Any (λ pending. pending.reached.number ≡ 0) kept.pending.items) }
 {
     let node = orders.start(alloc)?;
     let mut key = Vec::new(alloc);
@@ -56,10 +56,10 @@ pub(crate) fn first<O: Orders>(
     let mut pending = Vec::new(alloc);
     pending.push(Pending {
         node,
-        place: Place { number: 0, text: 0 },
+        reached: Reached { number: 0, text: 0 },
     })?;
     Ok(KeptNodes {
-        trail: Trail::new(alloc),
+        lineage: Lineage::new(alloc),
         texts: Texts::new(alloc),
         visited,
         pending,
@@ -74,17 +74,17 @@ fn follow<O: Orders>(
     orders: &O,
     room: &mut O::Room,
     kept: &mut KeptNodes<O::Node, O::Move>,
-    from: Place,
+    from: Reached,
     next: Next<O::Node, O::Move>,
 ) -> Result<bool, AllocError>
     requires kept { AreKept (O.runs orders.now) (O.has_key orders.now) kept.old }
-    requires from { IsText (O.runs orders.now) (ways kept.old.trail) (texts kept.old.texts) from }
-    requires next { IsNext (O.runs orders.now) (get_or (ways kept.old.trail) from.number []) next }
-    requires room { length (ways kept.old.trail) ≤ scope.bounds.nodes }
+    requires from { IsText (O.runs orders.now) (ways kept.old.lineage) (texts kept.old.texts) from }
+    requires next { IsNext (O.runs orders.now) (get_or (ways kept.old.lineage) from.number []) next }
+    requires room { length (ways kept.old.lineage) ≤ scope.bounds.nodes }
     ensures kept { OnOk result (AreKept (O.runs orders.now) (O.has_key orders.now) kept.new) }
     ensures grows { OnOk result (Grows kept.old kept.new) }
-    ensures room { OnOk result (length (ways kept.new.trail) ≤ scope.bounds.nodes) }
-    ensures leads { IfOk result (λ there. IsTrue there → Leads (O.runs orders.now) (ways kept.new.trail) (get_or (ways kept.old.trail) from.number [] ++ next.moves.items)) }
+    ensures room { OnOk result (length (ways kept.new.lineage) ≤ scope.bounds.nodes) }
+    ensures leads { IfOk result (λ there. IsTrue there → Leads (O.runs orders.now) (ways kept.new.lineage) (get_or (ways kept.old.lineage) from.number [] ++ next.moves.items)) }
 {
     let Next {
         node,
@@ -94,7 +94,7 @@ fn follow<O: Orders>(
     let text = kept.texts.longer(from.text, &printed)?;
     orders.key(room, &mut kept.key, &node)?;
     let bytes = kept.key.as_slice();
-    let number = kept.trail.len();
+    let number = kept.lineage.len();
     if number >= scope.bounds.nodes {
         return Ok(kept.visited.contains(text, bytes));
     }
@@ -102,10 +102,10 @@ fn follow<O: Orders>(
     if !new {
         return Ok(true);
     }
-    kept.trail.push(from.number, &moves)?;
+    kept.lineage.push(from.number, &moves)?;
     kept.pending.push(Pending {
         node,
-        place: Place { number, text },
+        reached: Reached { number, text },
     })?;
     Ok(true)
 }
@@ -117,17 +117,17 @@ pub(crate) fn follow_all<O: Orders>(
     orders: &O,
     room: &mut O::Room,
     kept: &mut KeptNodes<O::Node, O::Move>,
-    from: Place,
+    from: Reached,
     successors: Vec<Next<O::Node, O::Move>>,
 ) -> Result<bool, AllocError>
     requires kept { AreKept (O.runs orders.now) (O.has_key orders.now) kept.old }
-    requires from { IsText (O.runs orders.now) (ways kept.old.trail) (texts kept.old.texts) from }
-    requires successors { All (IsNext (O.runs orders.now) (get_or (ways kept.old.trail) from.number [])) successors.items }
-    requires room { length (ways kept.old.trail) ≤ scope.bounds.nodes }
+    requires from { IsText (O.runs orders.now) (ways kept.old.lineage) (texts kept.old.texts) from }
+    requires successors { All (IsNext (O.runs orders.now) (get_or (ways kept.old.lineage) from.number [])) successors.items }
+    requires room { length (ways kept.old.lineage) ≤ scope.bounds.nodes }
     ensures kept { OnOk result (AreKept (O.runs orders.now) (O.has_key orders.now) kept.new) }
     ensures grows { OnOk result (Grows kept.old kept.new) }
-    ensures room { OnOk result (length (ways kept.new.trail) ≤ scope.bounds.nodes) }
-    ensures leads { IfOk result (λ all. IsTrue all → All (λ next. Leads (O.runs orders.now) (ways kept.new.trail) (get_or (ways kept.old.trail) from.number [] ++ next.moves.items)) successors.items) }
+    ensures room { OnOk result (length (ways kept.new.lineage) ≤ scope.bounds.nodes) }
+    ensures leads { IfOk result (λ all. IsTrue all → All (λ next. Leads (O.runs orders.now) (ways kept.new.lineage) (get_or (ways kept.old.lineage) from.number [] ++ next.moves.items)) successors.items) }
 {
     let mut left = successors;
     let mut all = true;

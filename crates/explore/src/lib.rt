@@ -4,7 +4,7 @@
 //!    key: nodes of one key whose runs printed the same go on alike.
 //! 2. `explore` takes the last node off a stack, follows its ways, and puts the nodes that they lead to on the stack,
 //!    but for those of which one that goes on alike was there before.
-//! 3. The node itself is dropped then. What stays of it is the step that led to it (`trail`), the number of what its run
+//! 3. The node itself is dropped then. What stays of it is the step that led to it (`lineage`), the number of what its run
 //!    printed (`texts`), and its key (`visited`).
 //! 4. Where a way ends, its text and end are shown, with the moves of the whole run, unless they are there already.
 //! 5. The search is over when the stack is empty. If nothing was left out on the way, each text and end of every run is
@@ -12,12 +12,12 @@
 #![tactic(auto)]
 
 mod kept;
+mod lineage;
 mod orders;
 mod pieces;
 mod search;
 mod show;
 mod texts;
-mod trail;
 mod visited;
 
 pub use orders::Orders;

@@ -5,7 +5,7 @@ ghost use Rattle.explore.specs.Grown.{Extends};
 ghost use Rattle.explore.specs.SearchKept.{AreKept, Grows, IsPending};
 ghost use Rattle.explore.specs.Search.{AreAllShown, AreDistinct, IsFollowed, IsOfRun, IsShown, Serves};
 ghost use Rattle.explore.specs.NumberedTexts.{texts};
-ghost use Rattle.explore.specs.Trail.{ways};
+ghost use Rattle.explore.specs.Lineage.{ways};
 
 use crate::kept::{KeptNodes, Pending, first, follow_all};
 use crate::show::{Run, show_all};
@@ -36,34 +36,34 @@ fn turn<O: Orders>(
     at: Pending<O::Node>,
 ) -> Result<bool, Stop>
     requires kept { AreKept (O.runs orders.now) (O.has_key orders.now) kept.old }
-    requires room { length (ways kept.old.trail) ≤ scope.bounds.nodes }
+    requires room { length (ways kept.old.lineage) ≤ scope.bounds.nodes }
     requires sound { All (IsOfRun (O.runs orders.now)) shown.old.items }
     requires distinct { AllPairs AreDistinct shown.old.items }
-    requires at { IsPending (O.runs orders.now) (ways kept.old.trail) (texts kept.old.texts) at }
+    requires at { IsPending (O.runs orders.now) (ways kept.old.lineage) (texts kept.old.texts) at }
     ensures sound { All (IsOfRun (O.runs orders.now)) shown.new.items }
     ensures distinct { AllPairs AreDistinct shown.new.items }
     ensures shown { Extends shown.old.items shown.new.items }
     ensures kept { OnOk result (AreKept (O.runs orders.now) (O.has_key orders.now) kept.new) }
     ensures grows { OnOk result (Grows kept.old kept.new) }
-    ensures room { OnOk result (length (ways kept.new.trail) ≤ scope.bounds.nodes) }
-    ensures followed { IfOk result (λ whole. IsTrue whole → IsFollowed (O.runs orders.now) (IsShown shown.new.items) (Serves (O.runs orders.now)) (ways kept.new.trail) (get_or (ways kept.old.trail) at.place.number [])) }
+    ensures room { OnOk result (length (ways kept.new.lineage) ≤ scope.bounds.nodes) }
+    ensures followed { IfOk result (λ whole. IsTrue whole → IsFollowed (O.runs orders.now) (IsShown shown.new.items) (Serves (O.runs orders.now)) (ways kept.new.lineage) (get_or (ways kept.old.lineage) at.reached.number [])) }
 {
-    let Pending { node, place } = at;
+    let Pending { node, reached } = at;
     let Expanded {
         successors,
         ended,
         whole,
     } = orders.expand(scope.alloc, room, node)?;
     let run = Run {
-        trail: &kept.trail,
+        lineage: &kept.lineage,
         texts: &kept.texts,
-        place,
+        reached,
     };
     let told = show_all(scope.alloc, orders, run, shown, ended, scope.bounds.shown)?;
     if !told {
         return Err(Stop);
     }
-    let followed = follow_all(scope, orders, room, kept, place, successors)?;
+    let followed = follow_all(scope, orders, room, kept, reached, successors)?;
     Ok(whole & followed)
 }
 
@@ -95,7 +95,7 @@ fn search<O: Orders, P: Progress>(
     let mut kept = first(scope.alloc, orders, &mut room)?;
     let mut covered = true;
     while let Some(at) = kept.pending.pop() {
-        let reached = kept.trail.len();
+        let reached = kept.lineage.len();
         tell_nodes(progress, *nodes, reached);
         *nodes = reached;
         let whole = turn(scope, orders, &mut room, &mut kept, shown, at)?;

@@ -4,20 +4,20 @@ ghost use Rattle.std.specs.List.{All, AllPairs};
 ghost use Rattle.explore.specs.Grown.{Extends};
 ghost use Rattle.explore.specs.SearchKept.{IsHeld};
 ghost use Rattle.explore.specs.Search.{AreDistinct, Differs, IsEnded, IsOfRun, IsShown};
-ghost use Rattle.explore.specs.Trail.{ways};
+ghost use Rattle.explore.specs.Lineage.{ways};
 
-use crate::kept::Place;
+use crate::kept::Reached;
+use crate::lineage::Lineage;
 use crate::texts::Texts;
-use crate::trail::Trail;
 use crate::{Ended, Orders, Shown};
 use std::alloc::{AllocError, Global};
 
-/// The place of a run, and what holds its moves and its text.
+/// A run that was reached, and what holds its moves and its text.
 #[derive(Clone, Copy)]
 pub(crate) struct Run<'a, M> {
-    pub(crate) trail: &'a Trail<M>,
+    pub(crate) lineage: &'a Lineage<M>,
     pub(crate) texts: &'a Texts,
-    pub(crate) place: Place,
+    pub(crate) reached: Reached,
 }
 
 /// Whether this text and this end are those of what is shown.
@@ -63,28 +63,28 @@ fn show<O: Orders>(
     ended: Ended<O::Move, O::End>,
     most: usize,
 ) -> Result<bool, AllocError>
-    requires run { IsHeld (O.runs orders.now) run.trail.now run.texts.now run.place }
+    requires run { IsHeld (O.runs orders.now) run.lineage.now run.texts.now run.reached }
     requires sound { All (IsOfRun (O.runs orders.now)) shown.old.items }
     requires distinct { AllPairs AreDistinct shown.old.items }
-    requires ended { IsEnded (O.runs orders.now) (get_or (ways run.trail.now) run.place.number []) ended }
+    requires ended { IsEnded (O.runs orders.now) (get_or (ways run.lineage.now) run.reached.number []) ended }
     ensures sound { All (IsOfRun (O.runs orders.now)) shown.new.items }
     ensures distinct { AllPairs AreDistinct shown.new.items }
     ensures grows { Extends shown.old.items shown.new.items }
-    ensures there { IfOk result (λ there. IsTrue there → IsShown shown.new.items ((O.runs orders.now).text (get_or (ways run.entry.trail.now) run.entry.place.number []) ++ ended.printed.items) ended.end) }
+    ensures there { IfOk result (λ there. IsTrue there → IsShown shown.new.items ((O.runs orders.now).text (get_or (ways run.entry.lineage.now) run.entry.reached.number []) ++ ended.printed.items) ended.end) }
 {
     let Ended {
         printed,
         end,
         moves: last,
     } = ended;
-    let text = run.texts.read(alloc, run.place.text, &printed)?;
+    let text = run.texts.read(alloc, run.reached.text, &printed)?;
     if is_shown(orders, shown, &text, &end) {
         return Ok(true);
     }
     if shown.len() >= most {
         return Ok(false);
     }
-    let mut moves = run.trail.way(alloc, run.place.number)?;
+    let mut moves = run.lineage.way(alloc, run.reached.number)?;
     moves.extend_from_slice(&last)?;
     shown.push(Shown { text, end, moves })?;
     Ok(true)
@@ -99,14 +99,14 @@ pub(crate) fn show_all<O: Orders>(
     ended: Vec<Ended<O::Move, O::End>>,
     most: usize,
 ) -> Result<bool, AllocError>
-    requires run { IsHeld (O.runs orders.now) run.trail.now run.texts.now run.place }
+    requires run { IsHeld (O.runs orders.now) run.lineage.now run.texts.now run.reached }
     requires sound { All (IsOfRun (O.runs orders.now)) shown.old.items }
     requires distinct { AllPairs AreDistinct shown.old.items }
-    requires ended { All (IsEnded (O.runs orders.now) (get_or (ways run.trail.now) run.place.number [])) ended.items }
+    requires ended { All (IsEnded (O.runs orders.now) (get_or (ways run.lineage.now) run.reached.number [])) ended.items }
     ensures sound { All (IsOfRun (O.runs orders.now)) shown.new.items }
     ensures distinct { AllPairs AreDistinct shown.new.items }
     ensures grows { Extends shown.old.items shown.new.items }
-    ensures there { IfOk result (λ all. IsTrue all → All (λ one. IsShown shown.new.items ((O.runs orders.now).text (get_or (ways run.entry.trail.now) run.entry.place.number []) ++ one.printed.items) one.end) ended.items) }
+    ensures there { IfOk result (λ all. IsTrue all → All (λ one. IsShown shown.new.items ((O.runs orders.now).text (get_or (ways run.entry.lineage.now) run.entry.reached.number []) ++ one.printed.items) one.end) ended.items) }
 {
     let mut left = ended;
     while let Some(one) = left.pop() {

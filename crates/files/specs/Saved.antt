@@ -1,7 +1,7 @@
 -- What the program leaves in files, where that is known.
 use Rattle.std.specs.Prelude.{◌≡◌, ℕ, Bool, true, false, List, [], ◌∷◌, ◌++◌, suc, ⊤, Option, Some, None, IfSome, codes, decimal, take}
 use Rattle.model.specs.declared.entry.Entry.{Entry}
-use Rattle.model.specs.declared.entry.Version.TheVariants.{Two}
+use Rattle.model.specs.declared.entry.JournalVersion.TheVariants.{Two}
 use Rattle.model.specs.Journal.{journal_text}
 
 -- a file that was made and put into its place: its path, and its bytes

@@ -13,7 +13,7 @@ use Rattle.model.specs.States.{Event}
 use Rattle.model.specs.Runs.{turn_of}
 use Rattle.model.specs.Laws.{evaluations_in}
 use Rattle.orders.specs.Alike.{updates_in}
-use Rattle.orders.specs.Silent.{IsSilent}
+use Rattle.orders.specs.Inert.{IsInert}
 use Rattle.orders.proofs.EventLists.{updates-append}
 use Rattle.orders.specs.Apart.{WakesNone}
 use Rattle.design.specs.declared.code.ProcState.{ProcState}
@@ -29,7 +29,7 @@ use Rattle.regions.specs.Reader.{IsTurnOn}
 use Rattle.regions.specs.StatePassing.{HasOwnStates}
 use Rattle.regions.proofs.Evaluated.{remainder_is}
 use Rattle.flat.specs.declared.turned.Turned.{Turned}
-use Rattle.flat.specs.Turned.{turn_in, event_of, IsPlaceOf}
+use Rattle.flat.specs.Turned.{turn_in, event_of, IsContinuedAt}
 use Rattle.flat.specs.Tests.{waiting, AreUpdatesNext}
 use Rattle.flat.proofs.Sleeping.{nobody_waits, wakes_none_more}
 
@@ -60,7 +60,7 @@ place_is controls (q ∷ ps) (suc p) x within is =
     let (within', at) = place_is controls ps p x (omega (arith, within)) is in
     (omega (arith, within'), at)
 
-pub place_of : (core queue : Core) (ps : List Continuation) (p : ℕ) (x : Continuation) → map (process_of queue.controls) ps ≡ queue.processes → queue ≡ core → p < length ps → x ≡ get_or ps p x → IsPlaceOf core p x.state
+pub place_of : (core queue : Core) (ps : List Continuation) (p : ℕ) (x : Continuation) → map (process_of queue.controls) ps ≡ queue.processes → queue ≡ core → p < length ps → x ≡ get_or ps p x → IsContinuedAt core p x.state
 place_of core queue ps p x are same within is =
     subst (λ (qs : List (ProcState × List Trigger)). (p < length qs) × ((d : ProcState × List Trigger) → (slice_index_or qs p d).0 ≡ x.state)) (are ∙ ap (λ (k : Core). k.processes) same) (place_is queue.controls ps p x within is)
 
@@ -73,7 +73,7 @@ all_sleep a ws controls rem (p ∷ ps) each =
     (all_sleep a ws controls rem ps (All-tail (λ q. WakesNone a ws (waiting (triggers_at controls q.waits) ∷ [])) p ps each))
 
 -- the turn that was evaluated on the values of a machine
-pub evaluated : (design code : Compiled) (core : Core) (values store : List Vector) (p : ℕ) (place : ProcState) (now : ℕ) (log : LogView) → code ≡ design → now ≡ core.time → store ≡ values → HasOwnStates (IsStateOf code) core → map length values ≡ code.widths → IsPlaceOf core p place
+pub evaluated : (design code : Compiled) (core : Core) (values store : List Vector) (p : ℕ) (place : ProcState) (now : ℕ) (log : LogView) → code ≡ design → now ≡ core.time → store ≡ values → HasOwnStates (IsStateOf code) core → map length values ≡ code.widths → IsContinuedAt core p place
     → IsTurnOn design place store now log → turn_of (design_of code) (state_of (remainder_of code) values core) p ≡ Some (turn_in code log)
 evaluated design code core values store p place now log same time still own widths (within, at) is =
     let is' : IsTurnOn code place values core.time log =
@@ -95,7 +95,7 @@ only_updates (u ∷ us) p = omega (arith, only_updates us p)
 -- updates that are next wake nobody where each process sleeps through them
 pub silent_from : (code : Compiled) (core one two : Core) (values store : List Vector) (us : List Update) (ps : List Continuation) (controls : List (List Trigger)) (writes ws : List (ℕ × Vector)) → AreUpdatesNext (state_of (remainder_of code) values core) → map update_event us ≡ one.nonblocking → one ≡ core
     → ws ≡ updates_in (map update_event us) → writes ≡ ws → map (process_of two.controls) ps ≡ two.processes → two ≡ core → controls ≡ core.controls → store ≡ values → WakesNone store writes (map (standing (remainder_of code)) (map (process_of controls) ps))
-    → IsSilent (state_of (remainder_of code) values core)
+    → IsInert (state_of (remainder_of code) values core)
 silent_from code core one two values store us ps controls writes ws next events same is same_ws processes same' controls_are still sleeps =
     let events' : map update_event us ≡ core.nonblocking = events ∙ ap (λ (k : Core). k.nonblocking) same in
     let writes_are : writes ≡ updates_in core.nonblocking = same_ws ∙ (is ∙ ap updates_in events') in

@@ -51,6 +51,6 @@ abbrev pub turns_in : Design → State → ℕ → Turn
 turns_in design s p = option_map_or (λ turn. turn) (turn_of design s p) no_turn
 
 -- where a process goes on among those of a queue, where there is one with this number
-abbrev pub IsPlaceOf : Core → ℕ → ProcState → Type 0
-IsPlaceOf core p place =
+abbrev pub IsContinuedAt : Core → ℕ → ProcState → Type 0
+IsContinuedAt core p place =
     (p < length core.processes) × ((d : ProcState × List Trigger) → (slice_index_or core.processes p d).0 ≡ place)

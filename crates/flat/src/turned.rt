@@ -1,7 +1,7 @@
 //! The active evaluations of a machine, each with its turn on the values as they stand.
 ghost use Rattle.std.specs.Prelude.{◌≡◌, IfOk, IfSome};
 ghost use Rattle.regions.specs.Machine.{state_at};
-ghost use Rattle.flat.specs.Turned.{IsPlaceOf, IsTurned};
+ghost use Rattle.flat.specs.Turned.{IsContinuedAt, IsTurned};
 
 use design::{Design, ProcState};
 use regions::{Evaluation, Machine, turn_on};
@@ -18,7 +18,7 @@ pub struct Turned {
 
 // Where a process goes on, where there is one with this number.
 fn place_of(machine: &Machine<'_>, process: u32) -> Option<ProcState>
-    ensures { IfSome result (IsPlaceOf machine.now.core process) }
+    ensures { IfSome result (IsContinuedAt machine.now.core process) }
 {
     match machine.state().processes().get(process as usize) {
         Some(continuation) => Some(continuation.state),

@@ -12,7 +12,7 @@ use Rattle.model.specs.Syntax.{Text, Expression, Expressions, Statement, Stateme
 use Rattle.model.specs.SourceTrees.{expressions, statements}
 use Rattle.grammar.specs.Nodes.{Trigger}
 use Rattle.model.specs.Syntax as tree
-use Rattle.grammar.specs.Grammar.{IsExpression, IsDelay, no_delay, some_delay, change_of, IsTrigger, any, edge, separates, IsTriggers, last_trigger, next_trigger, IsArguments, no_argument, one_argument, IsStatement, emptied, grouped, assigned, assigned_later, delayed, awaited, branched, branched_else, looped, printed, task_kind, finished, IsBlock, begun, IsStatements, no_more, one_more, IsRange, no_range, some_range, IsNames, last_name, next_name, repeats_of, IsItems, no_items, regs, proc, IsModule, spelled, prefix}
+use Rattle.grammar.specs.Grammar.{IsExpression, IsDelay, no_delay, some_delay, change_of, IsTrigger, any, edge, separates, IsTriggers, last_trigger, next_trigger, IsArguments, no_argument, one_argument, IsStatement, emptied, grouped, assigned, assigned_later, delayed, awaited, branched, branched_else, looped, printed, task_kind, finished, IsBeginEnd, begun, IsStatements, no_more, one_more, IsRange, no_range, some_range, IsNames, last_name, next_name, repeats_of, IsItems, no_items, regs, proc, IsModule, spelled, prefix}
 use Rattle.grammar.specs.Grammar as gr
 use Rattle.grammar.specs.Grammar.{IsBinary, IsUnary, IsPrimary}
 use Rattle.grammar.specs.Reading as spec
@@ -51,7 +51,7 @@ mutual
   short-statement (branched q start d end b) = let x = short-expression d in let y = short-block b in omega arith
   short-statement (branched_else q start d end b other o) = let x = short-expression d in let y = short-block b in let z = short-block o in omega arith
 
-  short-block : {ss : Statements} {ts rest : PlainTokens} → IsBlock ss ts rest → length rest < length ts
+  short-block : {ss : Statements} {ts rest : PlainTokens} → IsBeginEnd ss ts rest → length rest < length ts
   short-block (begun q d end) = let x = short-statements d in omega arith
 
   short-statements : {ss : Statements} {ts rest : PlainTokens} → IsStatements ss ts rest → length rest ≤ length ts
@@ -60,7 +60,7 @@ mutual
 
 -- ---- what a statement begins with, and what may follow one
 
-first-block : {ss : Statements} {ts rest : PlainTokens} → IsBlock ss ts rest → kind ts ≡ k.Begin
+first-block : {ss : Statements} {ts rest : PlainTokens} → IsBeginEnd ss ts rest → kind ts ≡ k.Begin
 first-block (begun q d end) = q
 
 begins : (ts : PlainTokens) → kind ts ≡ k.Begin → (sees k.EndBlock ts ≡ false) × (sees k.Else ts ≡ false)
@@ -354,7 +354,7 @@ mutual
       ∙ otherwise-some (parse_statement n) n e (list_of ss) (list_of rs) w vs rest other rest_body
       ∙ ap (λ x. Some (tree.IfElse e x (statements (list_of rs)), rest)) (statements_list ss) ∙ ap (λ x. Some (tree.IfElse e ss x, rest)) (statements_list rs)
 
-  complete-block : {ss : Statements} {ts rest : PlainTokens} → IsBlock ss ts rest → (n : ℕ) → length ts ≤ n → spec.parse_block (parse_statement n) n ts ≡ Some (list_of ss, rest)
+  complete-block : {ss : Statements} {ts rest : PlainTokens} → IsBeginEnd ss ts rest → (n : ℕ) → length ts ≤ n → spec.parse_block (parse_statement n) n ts ≡ Some (list_of ss, rest)
   complete-block (begun {ss = ss} {t = t} {u = u} {ts = ts} {rest = rest} q d end) n w =
       block-is (parse_statement n) n (list_of ss) t ts rest q (complete-statements d n n [] u rest refl (omega arith) (omega arith) end)
 

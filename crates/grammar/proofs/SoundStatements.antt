@@ -12,7 +12,7 @@ use Rattle.model.specs.Syntax.{Text, Expression, Statement, Declaration, Process
 use Rattle.model.specs.SourceTrees.{expressions, statements}
 use Rattle.grammar.specs.Nodes.{Trigger}
 use Rattle.model.specs.Syntax as tree
-use Rattle.grammar.specs.Grammar.{IsExpression, IsDelay, no_delay, some_delay, change_of, IsTrigger, any, edge, separates, IsTriggers, last_trigger, next_trigger, IsArguments, no_argument, one_argument, IsStatement, emptied, grouped, assigned, assigned_later, delayed, awaited, branched, branched_else, looped, printed, task_kind, finished, IsBlock, begun, IsStatements, no_more, one_more, IsRange, no_range, some_range, IsNames, last_name, next_name, repeats_of, IsItems, no_items, regs, proc, IsModule, spelled}
+use Rattle.grammar.specs.Grammar.{IsExpression, IsDelay, no_delay, some_delay, change_of, IsTrigger, any, edge, separates, IsTriggers, last_trigger, next_trigger, IsArguments, no_argument, one_argument, IsStatement, emptied, grouped, assigned, assigned_later, delayed, awaited, branched, branched_else, looped, printed, task_kind, finished, IsBeginEnd, begun, IsStatements, no_more, one_more, IsRange, no_range, some_range, IsNames, last_name, next_name, repeats_of, IsItems, no_items, regs, proc, IsModule, spelled}
 use Rattle.grammar.specs.Reading as spec
 use Rattle.grammar.specs.Reading.{Parser, event_by, parse_events, parse_list, parse_statements, form_by, parse_statement, parse_names, item_by, parse_items, parse_source}
 use Rattle.grammar.proofs.Steps.{and_then-cases, some-pair, take-some, expect-some, if-is, same_kind-true}
@@ -196,7 +196,7 @@ pub record IsGuarded (p : Expression Text × List Statement) (ts rest : PlainTok
   pub between : PlainTokens
   pub is_word : ts ≡ word ∷ inside
   pub test : IsCondition p.0 inside between
-  pub block : IsBlock (statements p.1) between rest
+  pub block : IsBeginEnd (statements p.1) between rest
 
 -- statements, and the end of the block
 pub record IsRest (found all : List Statement) (ts rest : PlainTokens) : Type 0 where
@@ -222,7 +222,7 @@ module _ (inner : Parser Statement) (sound : (s : Statement) (ts rest : PlainTok
         record { more = s ∷ r.more; is_all = r.is_all ∙ append_assoc found (s ∷ []) r.more; end = r.end; spells = one_more d r.spells; ends = r.ends })
   ]
 
-  sound-block : (budget : ℕ) (body : List Statement) (ts rest : PlainTokens) → spec.parse_block inner budget ts ≡ Some (body, rest) → IsBlock (statements body) ts rest
+  sound-block : (budget : ℕ) (body : List Statement) (ts rest : PlainTokens) → spec.parse_block inner budget ts ≡ Some (body, rest) → IsBeginEnd (statements body) ts rest
   unfolding spec.parse_block
   sound-block budget body ts rest h =
       and_then-cases (expect k.Begin ts) _ _ h (λ t us begun_by h1.
@@ -257,7 +257,7 @@ module _ (inner : Parser Statement) (sound : (s : Statement) (ts rest : PlainTok
             let at = take-some ws w xs took_else in
             let o = sound-block budget other xs ys read_other in
             let q_else : w.kind ≡ k.Else = sym (ap kind at) ∙ same_kind-true _ _ e1.0 in
-            rw (g.is_word, c.is_start, sym same.0, sym same.1) (branched_else word c.opens c.spells c.closes (subst (λ x. IsBlock (statements p.1) g.between x) at g.block) q_else o)))
+            rw (g.is_word, c.is_start, sym same.0, sym same.1) (branched_else word c.opens c.spells c.closes (subst (λ x. IsBeginEnd (statements p.1) g.between x) at g.block) q_else o)))
         | inr e1 ↦ (
             let same = some-pair (tree.If p.0 (statements p.1)) s ws rest e1.1 in
             rw (g.is_word, c.is_start, sym same.0, sym same.1) (branched word c.opens c.spells c.closes g.block))

@@ -149,7 +149,7 @@ mutual
   -- control (9.7.2), a conditional statement (9.4), a while loop (9.6), $display and $strobe (17.1) and $finish (17.4.1).
   pub data IsStatement : Statement → PlainTokens → PlainTokens → Type 0 where
     emptied : {t : PlainToken} {rest : PlainTokens} → t.kind ≡ k.Semicolon → IsStatement Empty (t ∷ rest) rest
-    grouped : {ss : Statements} {ts rest : PlainTokens} → IsBlock ss ts rest → IsStatement (Block ss) ts rest
+    grouped : {ss : Statements} {ts rest : PlainTokens} → IsBeginEnd ss ts rest → IsStatement (Block ss) ts rest
     assigned : {d : Option ℕ} {e : Expression Text} {t u v : PlainToken} {ts us rest : PlainTokens}
         → t.kind ≡ k.Name → u.kind ≡ k.Assign → IsDelay d ts us → IsExpression e us (v ∷ rest) → v.kind ≡ k.Semicolon
         → IsStatement (Assign t.text d e) (t ∷ u ∷ ts) rest
@@ -160,13 +160,13 @@ mutual
     awaited : {es : List Trigger} {s : Statement} {t u : PlainToken} {ts us rest : PlainTokens}
         → t.kind ≡ k.At → u.kind ≡ k.Open → IsTriggers es ts us → IsStatement s us rest → IsStatement (Await es s) (t ∷ u ∷ ts) rest
     branched : {e : Expression Text} {ss : Statements} {t u v : PlainToken} {ts us rest : PlainTokens}
-        → t.kind ≡ k.If → u.kind ≡ k.Open → IsExpression e ts (v ∷ us) → v.kind ≡ k.Close → IsBlock ss us rest
+        → t.kind ≡ k.If → u.kind ≡ k.Open → IsExpression e ts (v ∷ us) → v.kind ≡ k.Close → IsBeginEnd ss us rest
         → IsStatement (If e ss) (t ∷ u ∷ ts) rest
     branched_else : {e : Expression Text} {ss rs : Statements} {t u v w : PlainToken} {ts us vs rest : PlainTokens}
-        → t.kind ≡ k.If → u.kind ≡ k.Open → IsExpression e ts (v ∷ us) → v.kind ≡ k.Close → IsBlock ss us (w ∷ vs) → w.kind ≡ k.Else → IsBlock rs vs rest
+        → t.kind ≡ k.If → u.kind ≡ k.Open → IsExpression e ts (v ∷ us) → v.kind ≡ k.Close → IsBeginEnd ss us (w ∷ vs) → w.kind ≡ k.Else → IsBeginEnd rs vs rest
         → IsStatement (IfElse e ss rs) (t ∷ u ∷ ts) rest
     looped : {e : Expression Text} {ss : Statements} {t u v : PlainToken} {ts us rest : PlainTokens}
-        → t.kind ≡ k.While → u.kind ≡ k.Open → IsExpression e ts (v ∷ us) → v.kind ≡ k.Close → IsBlock ss us rest
+        → t.kind ≡ k.While → u.kind ≡ k.Open → IsExpression e ts (v ∷ us) → v.kind ≡ k.Close → IsBeginEnd ss us rest
         → IsStatement (While e ss) (t ∷ u ∷ ts) rest
     printed : {task : Task} {es : Expressions Text} {t u v w : PlainToken} {ts rest : PlainTokens}
         → t.kind ≡ task_kind task → u.kind ≡ k.Open → v.kind ≡ k.Text → IsArguments es ts (w ∷ rest) → w.kind ≡ k.Semicolon
@@ -174,8 +174,8 @@ mutual
     finished : {t u : PlainToken} {rest : PlainTokens} → t.kind ≡ k.Finish → u.kind ≡ k.Semicolon → IsStatement Finish (t ∷ u ∷ rest) rest
 
   -- Statements between `begin` and `end` (9.8.1).
-  pub data IsBlock : Statements → PlainTokens → PlainTokens → Type 0 where
-    begun : {ss : Statements} {t u : PlainToken} {ts rest : PlainTokens} → t.kind ≡ k.Begin → IsStatements ss ts (u ∷ rest) → u.kind ≡ k.EndBlock → IsBlock ss (t ∷ ts) rest
+  pub data IsBeginEnd : Statements → PlainTokens → PlainTokens → Type 0 where
+    begun : {ss : Statements} {t u : PlainToken} {ts rest : PlainTokens} → t.kind ≡ k.Begin → IsStatements ss ts (u ∷ rest) → u.kind ≡ k.EndBlock → IsBeginEnd ss (t ∷ ts) rest
 
   -- Statements one after another.
   pub data IsStatements : Statements → PlainTokens → PlainTokens → Type 0 where

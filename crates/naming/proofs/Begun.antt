@@ -2,8 +2,8 @@
 use Rattle.std.proofs.Common.{◌≡◌, ℕ, List, [], Vec, Result, Ok, Err, IfOk, inr}
 use Rattle.tokens.specs.declared.cut.CutFault.{CutFault}
 use Rattle.tokens.specs.declared.cut.CutFault.TheVariants.{Memory}
-use Rattle.places.specs.declared.place.Process.{Process}
-use Rattle.places.specs.Spots.{IsUncut}
+use Rattle.locations.specs.declared.location.Process.{Process}
+use Rattle.locations.specs.Spots.{IsUncut}
 use Rattle.naming.specs.Begins.{AreProcessesOf}
 
 -- no processes are known of such a source

@@ -12,7 +12,7 @@ use Rattle.seeded.specs.declared.run.SeededRun.{SeededRun}
 use Rattle.conflicts.specs.declared.told.Race as found
 use Rattle.verdict.specs.declared.race.Race.{Race}
 use Rattle.verdict.specs.RaceLines.{race_text}
-use Rattle.places.specs.declared.place.Process.{Process}
+use Rattle.locations.specs.declared.location.Process.{Process}
 use Rattle.naming.specs.Begins.{AreProcessesOf}
 use Rattle.naming.specs.Naming.{AreRacesTold, IsRaceTold, TellsBehind, TellsEach, races_text, tell}
 

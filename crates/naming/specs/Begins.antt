@@ -2,14 +2,14 @@
 use Rattle.std.specs.Prelude.{◌≡◌, ◌⊎◌, ℕ, List, [], Option, option_map, slice_get}
 use Rattle.tokens.specs.declared.cut.CutFault.{CutFault}
 use Rattle.tokens.specs.declared.cut.CutFault.TheVariants.{Memory}
-use Rattle.places.specs.declared.place.Process as found
-use Rattle.places.specs.SourcePlaces.{AreProcesses}
-use Rattle.places.specs.Spots.{IsUncut}
+use Rattle.locations.specs.declared.location.Process as found
+use Rattle.locations.specs.SourceLocations.{AreProcesses}
+use Rattle.locations.specs.Spots.{IsUncut}
 use Rattle.verdict.specs.declared.race.Process.{Process}
 
 -- where a process begins, by its word and its line
 abbrev pub begin_at : found.Process → Process
-begin_at process = record { always = process.always; line = process.place.line }
+begin_at process = record { always = process.always; line = process.location.line }
 
 -- where the process with a number begins, if that is known
 abbrev pub begin_of : List found.Process → ℕ → Option Process

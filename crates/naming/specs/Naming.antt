@@ -16,7 +16,7 @@ use Rattle.verdict.specs.declared.race.Race.{Race}
 use Rattle.verdict.specs.declared.race.Role.{Role}
 use Rattle.verdict.specs.declared.race.Run.{Run}
 use Rattle.verdict.specs.RaceLines.{prefix_of, race_text}
-use Rattle.places.specs.declared.place.Process.{Process}
+use Rattle.locations.specs.declared.location.Process.{Process}
 use Rattle.naming.specs.Begins.{AreProcessesOf, begin_of}
 use Rattle.naming.specs.RaceWords.{word_of, IsSiteTold}
 

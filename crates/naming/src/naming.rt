@@ -11,9 +11,9 @@ use crate::words::{site_of, word_of};
 use conflicts::{Found, Tries, find_races};
 use design::Design;
 use explore::Shown;
+use locations::processes;
 use model::end::{End, Limits};
 use model::entry::Entry;
-use places::processes;
 use progress::Progress;
 use seeded::run::SeededRun;
 use std::alloc::{AllocError, Global};
@@ -74,7 +74,7 @@ pub fn push_races<P: Progress>(
 }
 
 /// The processes of a source; none where it isn't cut into tokens.
-fn processes_of(alloc: Global, source: &[u8]) -> Result<Vec<places::Process>, AllocError>
+fn processes_of(alloc: Global, source: &[u8]) -> Result<Vec<locations::Process>, AllocError>
     ensures { IfOk result (λ found. AreProcessesOf source.now found.items) }
 {
     match processes(alloc, source) {
@@ -83,7 +83,7 @@ fn processes_of(alloc: Global, source: &[u8]) -> Result<Vec<places::Process>, Al
     }
 }
 
-fn without_processes(alloc: Global, fault: CutFault) -> Result<Vec<places::Process>, AllocError>
+fn without_processes(alloc: Global, fault: CutFault) -> Result<Vec<locations::Process>, AllocError>
     ensures empty { IfOk result (λ found. found.items ≡ []) }
     ensures known { IfOk result (λ _. fault ≢ faults.Memory) }
 {
@@ -97,7 +97,7 @@ fn without_processes(alloc: Global, fault: CutFault) -> Result<Vec<places::Proce
 fn push_each<'a>(
     text: &mut Vec<u8>,
     names: &Names<'a>,
-    processes: &[places::Process],
+    processes: &[locations::Process],
     found: &'a Found,
 ) -> Result<(), AllocError>
     ensures { OnOk result (TellsEach processes.now names.entry.now.design.now names.entry.now.shown.now (option_map (λ path. path.now) names.entry.now.prefix) found.entry.now.original found.entry.now.races.items text.old.items text.new.items) }
@@ -112,7 +112,7 @@ fn push_each<'a>(
 /// A race, as it is told.
 fn told_race<'a>(
     names: &Names<'a>,
-    processes: &[places::Process],
+    processes: &[locations::Process],
     original: &'a SeededRun,
     race: &'a conflicts::Race,
     number: usize,
@@ -159,7 +159,7 @@ fn lines_of<'a>(one: &'a SeededRun, other: &'a SeededRun) -> Lines<'a>
     }
 }
 
-fn role_of(processes: &[places::Process], role: deeds::Role) -> Role<'static>
+fn role_of(processes: &[locations::Process], role: deeds::Role) -> Role<'static>
     ensures { IsRoleTold processes.now role result }
 {
     Role {
@@ -170,13 +170,13 @@ fn role_of(processes: &[places::Process], role: deeds::Role) -> Role<'static>
 }
 
 /// Where the process with a number begins, if that is known.
-fn begin_of(processes: &[places::Process], number: u32) -> Option<Process>
+fn begin_of(processes: &[locations::Process], number: u32) -> Option<Process>
     ensures { result ≡ begin_of processes.now number }
 {
     match processes.get(number as usize) {
         Some(process) => Some(Process {
             always: process.always,
-            line: process.place.line,
+            line: process.location.line,
         }),
         None => None,
     }

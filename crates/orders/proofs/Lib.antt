@@ -13,7 +13,7 @@ pub mod TimelyRuns
 pub mod SearchLaws
 pub mod CanonLaws
 pub mod SearchRows
-pub mod SilentUpdates
+pub mod InertUpdates
 pub mod FlatStates
 pub mod FlatRuns
 pub mod OneMaker

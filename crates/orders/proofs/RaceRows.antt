@@ -19,11 +19,11 @@ use Rattle.model.specs.Turns.{Turn, Ended, turn_within}
 use Rattle.model.specs.States.{Action, Evaluate, Event, State, start, turned}
 use Rattle.model.specs.Runs.{Effect, silent, joined, step, action_in, turn_of, HasLongTurn}
 use Rattle.model.proofs.StepLaws.{step_is_exact}
-use Rattle.orders.specs.Alike.{move_of}
-use Rattle.orders.specs.SearchLaws.{EndsHere, IsReached, Visited, FollowsEachMove, Shows, IsComplete}
+use Rattle.orders.specs.Alike.{transition_of}
+use Rattle.orders.specs.SearchLaws.{EndsHere, IsReached, Visited, FollowsEachTransition, Shows, IsComplete}
 use Rattle.orders.proofs.AlikeStates.{alike_states-same}
-use Rattle.orders.proofs.SilentUpdates.{goes_on}
-use Rattle.orders.proofs.SearchLaws.{each_move_covers}
+use Rattle.orders.proofs.InertUpdates.{goes_on}
+use Rattle.orders.proofs.SearchLaws.{each_transition_covers}
 
 abbrev high : Vector
 high = One ∷ []
@@ -94,10 +94,10 @@ found m p n es a there = found_if m p n es a (m == n) refl there
 -- what an entry does from a node is followed
 abbrev Followed : Effect → Entry → Type 0
 Followed e entry =
-    (other : Entry) × (g : Effect) × (move_of e.state other ≡ move_of e.state entry) × (step race e.state other ≡ Some g) × Visited nodes (joined e g)
+    (other : Entry) × (g : Effect) × (transition_of e.state other ≡ transition_of e.state entry) × (step race e.state other ≡ Some g) × Visited nodes (joined e g)
 
 follows_turn : (e g : Effect) (n m : ℕ) → n ≡ m → step race e.state (Entry.Turn m) ≡ Some g → Visited nodes (joined e g) → Followed e (Entry.Turn n)
-follows_turn e g n m same at_g visited = (Entry.Turn m, g, ap (λ k. move_of e.state (Entry.Turn k)) (sym same), at_g, visited)
+follows_turn e g n m same at_g visited = (Entry.Turn m, g, ap (λ k. transition_of e.state (Entry.Turn k)) (sym same), at_g, visited)
 
 visited_at : (v : Effect) → Contains nodes v → Visited nodes v
 visited_at v there = (v, there, (refl, alike_states-same v.state))
@@ -129,7 +129,7 @@ begin_turn : (n p : ℕ) → ((n ≡ 0) × (Evaluate p ≡ Evaluate 0)) ⊎ (act
 begin_turn n p (inl (same, is)) = follows_turn begin written n 0 same begin_writes (visited_at written (1, omega arith, refl))
 begin_turn n p (inr later) = begin_second n p (found 1 1 n [] (Evaluate p) later)
 
-begin_follows : FollowsEachMove race limits nodes begin
+begin_follows : FollowsEachTransition race limits nodes begin
 begin_follows (Entry.Turn n) f at_f timely =
     let (going, (p, turn, there, is, short, made)) = (step_is_exact race begin.state (Entry.Turn n) f).0 at_f in
     begin_turn n p (found 0 0 n ((1, Evaluate 1) ∷ []) (Evaluate p) there)
@@ -151,7 +151,7 @@ written_turn n p (inl (same, is)) =
     follows_turn written (record { state = written_first.state; lines = 49 ∷ 10 ∷ []; changes = [] }) n 1 same written_prints (visited_at written_first (3, omega arith, refl))
 written_turn n p (inr none) = absurd (nothing_in n (Evaluate p) none)
 
-written_follows : FollowsEachMove race limits nodes written
+written_follows : FollowsEachTransition race limits nodes written
 written_follows (Entry.Turn n) f at_f timely =
     let (going, (p, turn, there, is, short, made)) = (step_is_exact race written.state (Entry.Turn n) f).0 at_f in
     written_turn n p (found 1 1 n [] (Evaluate p) there)
@@ -173,7 +173,7 @@ printed_turn n p (inl (same, is)) =
     follows_turn printed (record { state = printed_first.state; lines = []; changes = (0, high) ∷ [] }) n 0 same printed_writes (visited_at printed_first (4, omega arith, refl))
 printed_turn n p (inr none) = absurd (nothing_in n (Evaluate p) none)
 
-printed_follows : FollowsEachMove race limits nodes printed
+printed_follows : FollowsEachTransition race limits nodes printed
 printed_follows (Entry.Turn n) f at_f timely =
     let (going, (p, turn, there, is, short, made)) = (step_is_exact race printed.state (Entry.Turn n) f).0 at_f in
     printed_turn n p (found 0 0 n [] (Evaluate p) there)
@@ -186,7 +186,7 @@ printed_follows ActivateMonitor f at_f timely = cc
 printed_follows (Advance time) f at_f timely = cc
 
 -- after both turns nothing is left, and both orders lead to one state
-both_follows : (e : Effect) → e.state ≡ written_first.state → FollowsEachMove race limits nodes e
+both_follows : (e : Effect) → e.state ≡ written_first.state → FollowsEachTransition race limits nodes e
 both_follows e same entry f at_f timely = absurd (no_step entry f (ap (λ s. step race s entry) (sym same) ∙ at_f))
   where
     no_step : (entry : Entry) (f : Effect) → step race written_first.state entry ≡ Some f → ⊥
@@ -258,9 +258,9 @@ reaches =
     each_node (IsReached race) ([], refl) (Entry.Turn 0 ∷ [], refl) (Entry.Turn 1 ∷ [], refl) (Entry.Turn 0 ∷ Entry.Turn 1 ∷ [], refl)
     (Entry.Turn 1 ∷ Entry.Turn 0 ∷ [], refl)
 
-follows : (e : Effect) → Contains nodes e → FollowsEachMove race limits nodes e
+follows : (e : Effect) → Contains nodes e → FollowsEachTransition race limits nodes e
 follows =
-    each_node (FollowsEachMove race limits nodes) begin_follows written_follows printed_follows (both_follows written_first refl)
+    each_node (FollowsEachTransition race limits nodes) begin_follows written_follows printed_follows (both_follows written_first refl)
     (both_follows printed_first one_state)
 
 shows : (e : Effect) → Contains nodes e → ShowsFrom e
@@ -276,6 +276,6 @@ race_is_complete =
     record {
       begun = visited_at begin (0, omega arith, refl);
       reached = reaches;
-      covered = λ e there. each_move_covers race limits nodes e (reaches e there) (follows e there);
+      covered = λ e there. each_transition_covers race limits nodes e (reaches e there) (follows e there);
       ends = λ e end there. shows e there end;
     }

@@ -12,11 +12,11 @@ use Rattle.model.specs.States.{start}
 use Rattle.model.specs.Runs.{Effect, silent, joined, step, run_from, IsTimely, AreTimely}
 use Rattle.model.proofs.RunLaws.{run_from-append}
 use Rattle.orders.specs.Alike.{Alike, IsInOrder}
-use Rattle.orders.specs.SearchLaws.{IsOneNode, OneNodeGoesOn, EndsHere, IsReached, Visited, EachMoveCovers, Shows, IsComplete, CompleteShowsAll}
+use Rattle.orders.specs.SearchLaws.{IsOneNode, OneNodeGoesOn, EndsHere, IsReached, Visited, EachTransitionCovers, Shows, IsComplete, CompleteShowsAll}
 use Rattle.orders.proofs.StatesInOrder.{step_keeps_order, run_from_in_order, start_is_in_order, run_is_in_order}
 use Rattle.orders.proofs.AlikeStates.{alike_states-same, alike_states-trans}
-use Rattle.orders.proofs.AlikeSteps.{alike_states_step_alike, move_has_one_outcome}
-use Rattle.orders.proofs.TimelyRuns.{timely_move, timely_after}
+use Rattle.orders.proofs.AlikeSteps.{alike_states_step_alike, transition_has_one_outcome}
+use Rattle.orders.proofs.TimelyRuns.{timely_transition, timely_after}
 use Rattle.orders.proofs.AlikeEnds.{alike_states_end_alike}
 
 pub then_some : (go : Effect → Option Effect) (o : Option Effect) (y k : Effect) → o ≡ Some y → go y ≡ Some k → option_and_then go o ≡ Some k
@@ -39,12 +39,12 @@ one_node_goes_on design limits e f g (entry ∷ entries) i j (lines, alike) is t
     let now = All-head (IsTimely limits) entry entries timely in
     option_and_then_some (λ x. run_from design (joined e x) entries) (step design e.state entry) g is
     (λ x at_x later.
-    let (other, y, move, at_y, (lines', changes, alike')) = alike_states_step_alike design e.state f.state entry x i j alike at_x in
+    let (other, y, transition, at_y, (lines', changes, alike')) = alike_states_step_alike design e.state f.state entry x i j alike at_x in
     let node : IsOneNode (joined e x) (joined f y) = (ap (λ ls. ls ++ x.lines) lines ∙ ap (λ ls. f.lines ++ ls) lines', alike') in
-    one_more design limits f y g other entry entries at_y (timely_move e.state f.state limits other entry move now)
+    one_more design limits f y g other entry entries at_y (timely_transition e.state f.state limits other entry transition now)
     (one_node_goes_on design limits (joined e x) (joined f y) g entries (step_keeps_order design e.state entry x i at_x) (step_keeps_order design f.state other y j at_y) node later (All-tail (IsTimely limits) entry entries timely)))
 
--- a node that is followed by each of its moves is covered
+-- a node that is followed by each of its transitions is covered
 pub visited_too : (nodes : List Effect) (e f : Effect) → IsOneNode e f → Visited nodes f → Visited nodes e
 visited_too nodes e f (lines, alike) (v, there, (lines', alike')) =
     (v, there, (lines ∙ lines', alike_states-trans e.state f.state v.state alike alike'))
@@ -52,13 +52,13 @@ visited_too nodes e f (lines, alike) (v, there, (lines', alike')) =
 pub reached_in_order : (design : Design) (e : Effect) → IsReached design e → IsInOrder e.state
 reached_in_order design e (journal, is) = run_is_in_order design journal e is
 
-pub each_move_covers : EachMoveCovers
-each_move_covers design limits nodes e from follows entry entries g end is timely ends =
+pub each_transition_covers : EachTransitionCovers
+each_transition_covers design limits nodes e from follows entry entries g end is timely ends =
     let i : IsInOrder e.state = reached_in_order design e from in
     option_and_then_some (λ x. run_from design (joined e x) entries) (step design e.state entry) g is
     (λ x at_x later.
-    let (other, y, move, at_y, visited) = follows entry x at_x (All-head (IsTimely limits) entry entries timely) in
-    let (lines, changes, alike) = move_has_one_outcome design e.state e.state entry other x y i i (alike_states-same e.state) move at_x at_y in
+    let (other, y, transition, at_y, visited) = follows entry x at_x (All-head (IsTimely limits) entry entries timely) in
+    let (lines, changes, alike) = transition_has_one_outcome design e.state e.state entry other x y i i (alike_states-same e.state) transition at_x at_y in
     let node : IsOneNode (joined e x) (joined e y) = (ap (λ ls. e.lines ++ ls) lines, alike) in
     let here : run_from design e (entry ∷ []) ≡ Some (joined e x) = then_some (λ z. run_from design (joined e z) []) (step design e.state entry) x (joined e x) at_x refl in
     (entry ∷ [], entries, joined e x, (λ none. cc), refl, here, visited_too nodes (joined e x) (joined e y) node visited))

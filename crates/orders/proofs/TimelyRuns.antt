@@ -9,30 +9,30 @@ use Rattle.model.specs.Design.{Design}
 use Rattle.model.specs.States.{State, Action, Evaluate, start}
 use Rattle.model.specs.Runs.{action_in, Effect, silent, joined, step, run_from, most_time, IsTimely, AreTimely}
 use Rattle.model.proofs.StepLaws.{step_is_exact}
-use Rattle.orders.specs.Alike.{Change, move_of_action, move_of}
+use Rattle.orders.specs.Alike.{Change, transition_of_action, transition_of}
 use Rattle.orders.specs.SearchLaws.{UnlimitedRunIsTimely}
 
--- an entry of the same move is in time too
-no_change : (o : Option Action) (limits : Limits) (d : Entry) → Some (Change d) ≡ move_of_action o → IsTimely limits d
+-- an entry of the same transition is in time too
+no_change : (o : Option Action) (limits : Limits) (d : Entry) → Some (Change d) ≡ transition_of_action o → IsTimely limits d
 no_change None limits d h = cc
 no_change (Some (Evaluate p)) limits d h = cc
 no_change (Some (Action.Update r v)) limits d h = cc
 
-timely_change : (s : State) (limits : Limits) (d entry : Entry) → Some (Change d) ≡ move_of s entry → IsTimely limits entry → IsTimely limits d
-timely_change s limits d (Entry.Turn n) move h = no_change (action_in s.active n) limits d move
-timely_change s limits d (Update n) move h = cc
-timely_change s limits d ActivateInactive move h = let same : d ≡ ActivateInactive = cc in rw same h
-timely_change s limits d ActivateNba move h = let same : d ≡ ActivateNba = cc in rw same h
-timely_change s limits d ActivateMonitor move h = let same : d ≡ ActivateMonitor = cc in rw same h
-timely_change s limits d (Advance time) move h = let same : d ≡ Advance time = cc in rw same h
+timely_change : (s : State) (limits : Limits) (d entry : Entry) → Some (Change d) ≡ transition_of s entry → IsTimely limits entry → IsTimely limits d
+timely_change s limits d (Entry.Turn n) transition h = no_change (action_in s.active n) limits d transition
+timely_change s limits d (Update n) transition h = cc
+timely_change s limits d ActivateInactive transition h = let same : d ≡ ActivateInactive = cc in rw same h
+timely_change s limits d ActivateNba transition h = let same : d ≡ ActivateNba = cc in rw same h
+timely_change s limits d ActivateMonitor transition h = let same : d ≡ ActivateMonitor = cc in rw same h
+timely_change s limits d (Advance time) transition h = let same : d ≡ Advance time = cc in rw same h
 
-pub timely_move : (s t : State) (limits : Limits) (other entry : Entry) → move_of t other ≡ move_of s entry → IsTimely limits entry → IsTimely limits other
-timely_move s t limits (Entry.Turn n) entry move h = tt
-timely_move s t limits (Update n) entry move h = tt
-timely_move s t limits ActivateInactive entry move h = timely_change s limits ActivateInactive entry move h
-timely_move s t limits ActivateNba entry move h = timely_change s limits ActivateNba entry move h
-timely_move s t limits ActivateMonitor entry move h = timely_change s limits ActivateMonitor entry move h
-timely_move s t limits (Advance time) entry move h = timely_change s limits (Advance time) entry move h
+pub timely_transition : (s t : State) (limits : Limits) (other entry : Entry) → transition_of t other ≡ transition_of s entry → IsTimely limits entry → IsTimely limits other
+timely_transition s t limits (Entry.Turn n) entry transition h = tt
+timely_transition s t limits (Update n) entry transition h = tt
+timely_transition s t limits ActivateInactive entry transition h = timely_change s limits ActivateInactive entry transition h
+timely_transition s t limits ActivateNba entry transition h = timely_change s limits ActivateNba entry transition h
+timely_transition s t limits ActivateMonitor entry transition h = timely_change s limits ActivateMonitor entry transition h
+timely_transition s t limits (Advance time) entry transition h = timely_change s limits (Advance time) entry transition h
 
 -- both parts of a journal in time are in time
 pub timely_after : (limits : Limits) (before after : List Entry) → AreTimely limits (before ++ after) → AreTimely limits after

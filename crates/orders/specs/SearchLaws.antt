@@ -9,7 +9,7 @@ use Rattle.model.specs.declared.end.End.TheVariants.{Stopped}
 use Rattle.model.specs.Design.{Design}
 use Rattle.model.specs.States.{start}
 use Rattle.model.specs.Runs.{Effect, silent, joined, step, run_from, run, IsTimely, AreTimely, EndsIn}
-use Rattle.orders.specs.Alike.{Alike, IsInOrder, move_of}
+use Rattle.orders.specs.Alike.{Alike, IsInOrder, transition_of}
 
 -- where no time limit is given, every lawful journal is in time, since no step advances past the last time
 abbrev pub UnlimitedRunIsTimely : Type 0
@@ -50,16 +50,16 @@ Covers design limits nodes e =
     → AreTimely limits (entry ∷ entries) → EndsHere design limits g end
     → (before : List Entry) × (after : List Entry) × (f : Effect) × (before ≢ []) × (before ++ after ≡ entry ∷ entries) × (run_from design e before ≡ Some f) × Visited nodes f
 
--- A node is followed by each of its moves: whatever entry leads on from it in time, one of the same move leads to a node.
-abbrev pub FollowsEachMove : Design → Limits → List Effect → Effect → Type 0
-FollowsEachMove design limits nodes e =
+-- A node is followed by each of its transitions: whatever entry leads on from it in time, one of the same transition leads to a node.
+abbrev pub FollowsEachTransition : Design → Limits → List Effect → Effect → Type 0
+FollowsEachTransition design limits nodes e =
     (entry : Entry) (f : Effect) → step design e.state entry ≡ Some f → IsTimely limits entry
-    → (other : Entry) × (g : Effect) × (move_of e.state other ≡ move_of e.state entry) × (step design e.state other ≡ Some g) × Visited nodes (joined e g)
+    → (other : Entry) × (g : Effect) × (transition_of e.state other ≡ transition_of e.state entry) × (step design e.state other ≡ Some g) × Visited nodes (joined e g)
 
--- a node that is followed by each of its moves is covered
-abbrev pub EachMoveCovers : Type 0
-EachMoveCovers =
-    (design : Design) (limits : Limits) (nodes : List Effect) (e : Effect) → IsReached design e → FollowsEachMove design limits nodes e
+-- a node that is followed by each of its transitions is covered
+abbrev pub EachTransitionCovers : Type 0
+EachTransitionCovers =
+    (design : Design) (limits : Limits) (nodes : List Effect) (e : Effect) → IsReached design e → FollowsEachTransition design limits nodes e
     → Covers design limits nodes e
 
 -- what is shown has lines and an end

@@ -1,11 +1,11 @@
 // Laws of the definitions, so that the check asks for their proofs.
 
-ghost use Rattle.orders.specs.OrderLaws.{AlikeIsEquivalence, StartIsInOrder, StepKeepsOrder, RunIsInOrder, AlikeStatesStepAlike, MoveHasOneOutcome, AlikeStatesEndAlike};
+ghost use Rattle.orders.specs.OrderLaws.{AlikeIsEquivalence, StartIsInOrder, StepKeepsOrder, RunIsInOrder, AlikeStatesStepAlike, TransitionHasOneOutcome, AlikeStatesEndAlike};
 ghost use Rattle.orders.specs.Canon.{CanonTellsAlike};
 ghost use Rattle.orders.specs.Apart.{TurnHasFrame, TurnsCommute};
-ghost use Rattle.orders.specs.Silent.{SilentUpdatesAreTaken, SilentOrderIsForgotten};
+ghost use Rattle.orders.specs.Inert.{InertUpdatesAreTaken, InertOrderIsForgotten};
 ghost use Rattle.orders.specs.Flat.{FlatTurnsAreOneNode, FlatCovers, FlatTurnsCover};
-ghost use Rattle.orders.specs.SearchLaws.{UnlimitedRunIsTimely, OneNodeGoesOn, EachMoveCovers, CompleteShowsAll};
+ghost use Rattle.orders.specs.SearchLaws.{UnlimitedRunIsTimely, OneNodeGoesOn, EachTransitionCovers, CompleteShowsAll};
 
 /// States that are alike are so in either direction, and through a third. They are those that have the same form.
 pub fn alike_is_equivalence()
@@ -20,10 +20,10 @@ pub fn events_stay_in_order()
     ensures run { RunIsInOrder }
 {}
 
-/// What one of two alike states does in a step, the other does by an entry of the same move; and one move has one outcome.
+/// What one of two alike states does in a step, the other does by an entry of the same transition; and one transition has one outcome.
 pub fn alike_states_step_alike()
     ensures step { AlikeStatesStepAlike }
-    ensures moves { MoveHasOneOutcome }
+    ensures transitions { TransitionHasOneOutcome }
 {}
 
 /// A run may end in one of two alike states as in the other.
@@ -31,11 +31,11 @@ pub fn alike_states_end_alike()
     ensures { AlikeStatesEndAlike }
 {}
 
-/// From one node runs go on alike. A node that is followed by each of its moves is covered, and where each node is covered
+/// From one node runs go on alike. A node that is followed by each of its transitions is covered, and where each node is covered
 /// the search has shown whatever a lawful run in time may print. Where no time limit is given, every lawful run is in time.
 pub fn searches_are_complete()
     ensures goes_on { OneNodeGoesOn }
-    ensures covers { EachMoveCovers }
+    ensures covers { EachTransitionCovers }
     ensures shows { CompleteShowsAll }
     ensures timely { UnlimitedRunIsTimely }
 {}
@@ -51,9 +51,9 @@ pub fn turns_apart_commute()
 {}
 
 /// Nonblocking updates that wake nobody are all taken before anything else, and their order makes no difference.
-pub fn silent_updates_are_one_way()
-    ensures taken { SilentUpdatesAreTaken }
-    ensures forgotten { SilentOrderIsForgotten }
+pub fn inert_updates_are_one_way()
+    ensures taken { InertUpdatesAreTaken }
+    ensures forgotten { InertOrderIsForgotten }
 {}
 
 /// From a flat state the turns lead to one node, but for the order of updates, and one node after these covers it; where one

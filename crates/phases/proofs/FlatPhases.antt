@@ -22,7 +22,7 @@ use Rattle.orders.specs.SearchLaws.{IsOneNode, EndsHere}
 use Rattle.orders.proofs.EventLists.{alike-same, alike-sym, alike-has_any, own_evaluation}
 use Rattle.orders.proofs.StatesInOrder.{run_from_in_order, step_keeps_order}
 use Rattle.orders.proofs.SearchLaws.{then_some, visited_too, reached_in_order, rest_of}
-use Rattle.orders.proofs.SilentUpdates.{no_end}
+use Rattle.orders.proofs.InertUpdates.{no_end}
 use Rattle.orders.proofs.FlatRuns.{flat_turns_are_one_node, takes_all}
 use Rattle.phases.specs.Phase.{Block, IsConsistent, waits_for, updated_in, IsOutput, IsPhase, EndsPhase, FlatPhaseCovers}
 use Rattle.phases.proofs.Members.{Standing}

@@ -26,7 +26,7 @@ use Rattle.orders.proofs.StatesInOrder.{step_keeps_order}
 use Rattle.orders.proofs.TurnFrame.{turn_has_frame}
 use Rattle.orders.proofs.Stores.{append-none, same_store, stores_same}
 use Rattle.orders.proofs.SearchLaws.{then_some, visited_too, reached_in_order}
-use Rattle.orders.proofs.SilentUpdates.{goes_on}
+use Rattle.orders.proofs.InertUpdates.{goes_on}
 use Rattle.phases.specs.Phase.{Block, continuation_of, IsPending, HasSettled, IsOutput, IsPhase, TakesEvent, EndsPhase, PhaseEndsInOneNode, PhaseCovers}
 use Rattle.phases.proofs.Values.{written_same}
 use Rattle.phases.proofs.Members.{Standing}

@@ -7,8 +7,8 @@ use Rattle.clap.specs.Words.{Text, first_of}
 use Rattle.explain.specs.declared.telling.Window.{Window}
 use Rattle.program.specs.declared.fault.Stop.{Stop}
 use Rattle.program.specs.declared.running.LeftByRun.{LeftByRun}
-use Rattle.arguments.specs.declared.request.Refusal.{Refusal}
-use Rattle.arguments.specs.declared.request.Refusal.TheVariants as refusal
+use Rattle.arguments.specs.declared.request.NoRequest.{NoRequest}
+use Rattle.arguments.specs.declared.request.NoRequest.TheVariants as no_request
 use Rattle.arguments.specs.declared.request.Request.{Request}
 use Rattle.arguments.specs.declared.request.Request.TheVariants as request
 use Rattle.arguments.specs.declared.request.RunRequest.{RunRequest}
@@ -22,13 +22,13 @@ use Rattle.arguments.specs.Options.{CanRun, CanSearch}
 use Rattle.program.specs.declared.ending.Ending.{Ending}
 use Rattle.program.specs.declared.ending.Ending.TheVariants as ending
 use Rattle.program.specs.declared.finding.Finding.TheVariants as finding
-use Rattle.program.specs.Program.{IsRefusalStatus, ended_status, ending_of, finding_status, help_text, right_text, status_of, stop_of, stop_status, version_text}
+use Rattle.program.specs.Program.{IsNoRequestStatus, ended_status, ending_of, finding_status, help_text, right_text, status_of, stop_of, stop_status, version_text}
 use Rattle.program.specs.Printed.{AsksCheckOf, HasBegun, HasEnded, HasLeft, HasPrintedBy, HasRefused, HasRun, HasSearched, HasChecked, HasDumped, HasExplainedSome, HasShown, HasWaves, IsDone, IsLeft, IsLeftByRun, IsRight, IsUnprinted, IsWrong, begun, checked, helped, interrupted, ran, searched, untouched, versioned}
 use Rattle.program.specs.StandardError.{HasExplainedTold, IsEndTold, IsTold, IsUnfinished, IsWanting, nothing, of_fault, of_source, of_stop}
 use Rattle.program.proofs.Statuses.{not_of_fault, not_of_stop}
 use Rattle.journal.specs.declared.counted.Counted.{Counted}
 use Rattle.files.specs.Saved.{AddsFile, SavesAllWhereAsked, KeepsFiles, Made, SavesSomeWhereAsked, SavesWhereAsked}
-use Rattle.arguments.specs.CommandWords.{AreWrong, Asks, Begins, AsksRaces, AsksRun, AsksWaves, IsRefusal, extent_of, options_of, races_rows, run_rows}
+use Rattle.arguments.specs.CommandWords.{AreWrong, Asks, Begins, AsksRaces, AsksRun, AsksWaves, IsNoRequest, extent_of, options_of, races_rows, run_rows}
 
 -- files
 
@@ -155,49 +155,49 @@ output_kept K (Err fault) h = λ e. absurd (neither (status_of fault) h e)
 
 -- refusals
 
-pub refused_done : (words : List Text) (r : Refusal) (n : ℕ) (old new : Option (List ℕ)) (files : Option (List Made)) → IsRefusal words r
-    → IsRefusalStatus r n → (n ≡ 0 → Appends old new (help_text r)) → n ≡ 0 → IsDone words old new files files
-refused_done words (refusal.Help text) n old new files is status shown e = helped is (help_text (refusal.Help text)) (shown e) (kept files)
-refused_done words (refusal.Usage text) n old new files is status shown e = absurd (clash (sym status ∙ e))
+pub refused_done : (words : List Text) (r : NoRequest) (n : ℕ) (old new : Option (List ℕ)) (files : Option (List Made)) → IsNoRequest words r
+    → IsNoRequestStatus r n → (n ≡ 0 → Appends old new (help_text r)) → n ≡ 0 → IsDone words old new files files
+refused_done words (no_request.Help text) n old new files is status shown e = helped is (help_text (no_request.Help text)) (shown e) (kept files)
+refused_done words (no_request.Usage text) n old new files is status shown e = absurd (clash (sym status ∙ e))
   where
     clash : ◌≡◌ {A = ℕ} 2 0 → ⊥
     clash q = cc
-refused_done words refusal.Memory n old new files is status shown e = absurd (clash (sym status ∙ e))
+refused_done words no_request.Memory n old new files is status shown e = absurd (clash (sym status ∙ e))
   where
     clash : ◌≡◌ {A = ℕ} 6 0 → ⊥
     clash q = cc
 
-pub refused_wrong : (words : List Text) (r : Refusal) (n : ℕ) → IsRefusal words r → IsRefusalStatus r n → n ≡ 2 → AreWrong words
-refused_wrong words (refusal.Help text) n is (inl status) e = absurd (clash (sym status ∙ e))
+pub refused_wrong : (words : List Text) (r : NoRequest) (n : ℕ) → IsNoRequest words r → IsNoRequestStatus r n → n ≡ 2 → AreWrong words
+refused_wrong words (no_request.Help text) n is (inl status) e = absurd (clash (sym status ∙ e))
   where
     clash : ◌≡◌ {A = ℕ} 0 2 → ⊥
     clash q = cc
-refused_wrong words (refusal.Help text) n is (inr status) e = absurd (clash (sym status ∙ e))
+refused_wrong words (no_request.Help text) n is (inr status) e = absurd (clash (sym status ∙ e))
   where
     clash : ◌≡◌ {A = ℕ} 1 2 → ⊥
     clash q = cc
-refused_wrong words (refusal.Usage text) n is status e = is
-refused_wrong words refusal.Memory n is status e = absurd (clash (sym status ∙ e))
+refused_wrong words (no_request.Usage text) n is status e = is
+refused_wrong words no_request.Memory n is status e = absurd (clash (sym status ∙ e))
   where
     clash : ◌≡◌ {A = ℕ} 6 2 → ⊥
     clash q = cc
 
--- a status that no refusal has
-abbrev pub is_refusal_status : ℕ → Bool
-is_refusal_status n = n == 0 || (n == 1 || (n == 2 || n == 6))
+-- a status that comes with none of these
+abbrev pub is_no_request_status : ℕ → Bool
+is_no_request_status n = n == 0 || (n == 1 || (n == 2 || n == 6))
 
 wrong_one : (b : Bool) → b ≡ true → b ≡ false → ⊥
 wrong_one true h e = cc
 wrong_one false h e = cc
 
-refusal_has : (r : Refusal) (n : ℕ) → IsRefusalStatus r n → is_refusal_status n ≡ true
-refusal_has (refusal.Help text) n (inl e) = ap is_refusal_status e
-refusal_has (refusal.Help text) n (inr e) = ap is_refusal_status e
-refusal_has (refusal.Usage text) n e = ap is_refusal_status e
-refusal_has refusal.Memory n e = ap is_refusal_status e
+no_request_has : (r : NoRequest) (n : ℕ) → IsNoRequestStatus r n → is_no_request_status n ≡ true
+no_request_has (no_request.Help text) n (inl e) = ap is_no_request_status e
+no_request_has (no_request.Help text) n (inr e) = ap is_no_request_status e
+no_request_has (no_request.Usage text) n e = ap is_no_request_status e
+no_request_has no_request.Memory n e = ap is_no_request_status e
 
-pub not_of_refusal : (r : Refusal) (n k : ℕ) → IsRefusalStatus r n → is_refusal_status k ≡ false → n ≡ k → ⊥
-not_of_refusal r n k is h e = wrong_one (is_refusal_status k) (subst (λ (m : ℕ). is_refusal_status m ≡ true) e (refusal_has r n is)) h
+pub not_of_no_request : (r : NoRequest) (n k : ℕ) → IsNoRequestStatus r n → is_no_request_status k ≡ false → n ≡ k → ⊥
+not_of_no_request r n k is h e = wrong_one (is_no_request_status k) (subst (λ (m : ℕ). is_no_request_status m ≡ true) e (no_request_has r n is)) h
 
 -- what a status tells of how a command ended
 
@@ -490,8 +490,8 @@ wrong_if None x e h = cc
 wrong_if (Some y) x e h = h
 
 -- words that make no request, and are no call for help
-pub wrong_usage : (words : List Text) (r : Refusal) (text : _) → r ≡ refusal.Usage text → IsRefusal words r → AreWrong words
-wrong_usage words r text e h = subst (IsRefusal words) e h
+pub wrong_usage : (words : List Text) (r : NoRequest) (text : _) → r ≡ no_request.Usage text → IsNoRequest words r → AreWrong words
+wrong_usage words r text e h = subst (IsNoRequest words) e h
 
 -- a request for a check, or to be told a journal
 abbrev pub is_check : Request → Bool

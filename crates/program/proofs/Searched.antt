@@ -14,7 +14,7 @@ use Rattle.naming.specs.Naming.{AreRacesTold, IsJournalTold, IsRaceTold, TellsBe
 use Rattle.seeded.specs.declared.run.SeededRun.{SeededRun}
 use Rattle.conflicts.specs.declared.told.Race as found
 use Rattle.verdict.specs.declared.race.Race.{Race}
-use Rattle.places.specs.declared.place.Process.{Process}
+use Rattle.locations.specs.declared.location.Process.{Process}
 use Rattle.program.specs.Printed.{HasLeft, HasSavedSome, HasShown, IsToldFirst, IsToldLast, TellsOtherRaces}
 use Rattle.std.specs.Io.KnownBytes.{Appends}
 use Rattle.frontend.specs.Sources.{IsDesignOf}

@@ -4,8 +4,8 @@ use Rattle.model.specs.declared.end.End.{End}
 use Rattle.model.specs.declared.end.End.TheVariants as end
 use Rattle.model.specs.declared.end.Why.{Why}
 use Rattle.model.specs.declared.end.Why.TheVariants as why
-use Rattle.arguments.specs.declared.request.Refusal.{Refusal}
-use Rattle.arguments.specs.declared.request.Refusal.TheVariants as refusal
+use Rattle.arguments.specs.declared.request.NoRequest.{NoRequest}
+use Rattle.arguments.specs.declared.request.NoRequest.TheVariants as no_request
 use Rattle.program.specs.declared.fault.Fault.{Fault}
 use Rattle.program.specs.declared.fault.Fault.TheVariants as fault
 use Rattle.program.specs.declared.ending.Ending.{Ending}
@@ -125,14 +125,14 @@ ended_status (Ok e) = ending_status e
 ended_status (Err f) = status_of f
 
 -- words that make no request: 2 for wrong ones, and 1 for help that can't be shown
-abbrev pub IsRefusalStatus : Refusal → ℕ → Type 0
-IsRefusalStatus (refusal.Help text) n = (n ≡ 0) ⊎ (n ≡ 1)
-IsRefusalStatus (refusal.Usage text) n = n ≡ 2
-IsRefusalStatus refusal.Memory n = n ≡ 6
+abbrev pub IsNoRequestStatus : NoRequest → ℕ → Type 0
+IsNoRequestStatus (no_request.Help text) n = (n ≡ 0) ⊎ (n ≡ 1)
+IsNoRequestStatus (no_request.Usage text) n = n ≡ 2
+IsNoRequestStatus no_request.Memory n = n ≡ 6
 
 -- what is shown on standard output of words that make no request
-abbrev pub help_text : Refusal → List ℕ
-help_text (refusal.Help text) = string_bytes text
+abbrev pub help_text : NoRequest → List ℕ
+help_text (no_request.Help text) = string_bytes text
 help_text r = []
 
 -- a source without a fault, as it is shown

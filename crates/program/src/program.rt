@@ -9,10 +9,10 @@ ghost use Rattle.std.specs.Prelude.{◌≡◌, ◌≢◌, ◌⊎◌, ◌≤◌, 
 ghost use Rattle.clap.specs.Words.{Text};
 ghost use Rattle.std.specs.Io.KnownBytes.{Appends, Keeps};
 ghost use Rattle.journal.specs.Counted.{held};
-ghost use Rattle.arguments.specs.CommandWords.{AreWrong, Asks, AsksExplain, AsksRaces, AsksRun, Begins, IsRefusal, texts_of};
+ghost use Rattle.arguments.specs.CommandWords.{AreWrong, Asks, AsksExplain, AsksRaces, AsksRun, Begins, IsNoRequest, texts_of};
 ghost use Rattle.program.specs.declared.finding.Finding.TheVariants as finding;
 ghost use Rattle.program.specs.Printed.{AsksCheckOf, HasEnded, HasExplainedSome, HasRefused, HasSearched, IsDone, IsLeft, IsUnprinted, window_in};
-ghost use Rattle.program.specs.Program.{IsRefusalStatus, ended_status, help_text, right_text, status_of, version_text};
+ghost use Rattle.program.specs.Program.{IsNoRequestStatus, ended_status, help_text, right_text, status_of, version_text};
 ghost use Rattle.files.specs.Saved.{KeepsFiles};
 ghost use Rattle.program.specs.StandardError.{HasExplainedTold, IsTold, IsUnfinished, IsWanting};
 ghost use Rattle.program.specs.declared.ending.Ending.TheVariants as Ending;
@@ -26,7 +26,7 @@ use crate::running::run;
 use crate::searching::search_races;
 use crate::waving::dump_waves;
 use arguments::{
-    ExplainRequest, RacesRequest, Refusal, Request, RunRequest, VERSION, read_request,
+    ExplainRequest, NoRequest, RacesRequest, Request, RunRequest, VERSION, read_request,
 };
 use files::{FileFault, Files, send_off, show};
 use journal::Counted;
@@ -64,7 +64,7 @@ pub fn command<R: Threads + Wait + Sync, F: Files, O: Write, E: Write>(
             let ended = perform(rt, alloc, &request, files, out);
             finish(ended, err)
         }
-        Err(refusal) => refuse(refusal, out, err),
+        Err(no_request) => refuse(no_request, out, err),
     }
 }
 
@@ -213,23 +213,23 @@ pub fn without_words<R: Threads + Wait + Sync, F: Files, O: Write, E: Write>(
 
 /// Answers words that make no request: help on standard output, `clap`'s text of wrong words on
 /// standard error.
-fn refuse<O: Write, E: Write>(refusal: Refusal, out: &mut O, err: &mut Counted<E>) -> u8
-    ensures status { IsRefusalStatus refusal result }
-    ensures helped { result ≡ 0 → Appends (O.contents out.old) (O.contents out.new) (help_text refusal) }
+fn refuse<O: Write, E: Write>(no_request: NoRequest, out: &mut O, err: &mut Counted<E>) -> u8
+    ensures status { IsNoRequestStatus no_request result }
+    ensures helped { result ≡ 0 → Appends (O.contents out.old) (O.contents out.new) (help_text no_request) }
     ensures nothing { (result ≡ 2) ⊎ ((result ≡ 3) ⊎ (result ≡ 5)) → Keeps (O.contents out.old) (O.contents out.new) }
     ensures wanting { result ≡ 6 → Keeps (O.contents out.old) (O.contents out.new) }
     ensures silent { (result ≡ 0) ⊎ (result ≡ 7) → err.new ≡ err.old }
-    ensures told { (words : List Text) → IsRefusal words refusal → IsTold E.contents err.old err.new words result }
+    ensures told { (words : List Text) → IsNoRequest words no_request → IsTold E.contents err.old err.new words result }
 {
-    match refusal {
-        Refusal::Help(text) => match show(out, text.as_str()) {
+    match no_request {
+        NoRequest::Help(text) => match show(out, text.as_str()) {
             Ok(()) => 0,
             Err(fault) => tell_fault(Fault::Files(fault), err),
         },
-        Refusal::Usage(text) => {
+        NoRequest::Usage(text) => {
             tell_text(err, text.as_str());
             2
         }
-        Refusal::Memory => tell_fault(Fault::Memory, err),
+        NoRequest::Memory => tell_fault(Fault::Memory, err),
     }
 }

@@ -1,4 +1,4 @@
--- What an expansion comes to where a run rests, where it branches, and where a walk leads on.
+-- What an expansion comes to where a run halts, where it branches, and where a walk leads on.
 use Rattle.std.proofs.Common.{Some, Vec, Global, vec_len, ◌==◌, Bool, true, false, ◌≡◌, ◌≢◌, ◌<◌, List, [], ◌∷◌, length, Result, Ok, Err, inl, refl, sym, ap, ◌∙◌, subst, arith}
 use Rattle.std.specs.Prelude.{IfOk}
 use Rattle.std.specs.List.{All}
@@ -11,21 +11,21 @@ use Rattle.model.specs.States.{State}
 use Rattle.model.specs.Runs.{silent, run_from, IsTimely}
 use Rattle.orders.specs.SearchLaws.{EndsHere}
 use Rattle.design.specs.Compiled.{Compiled, design_of}
-use Rattle.seeded.specs.Resting.{RestsAt}
+use Rattle.seeded.specs.Halting.{HaltsAt}
 use Rattle.explore.specs.declared.Next.{Next}
 use Rattle.explore.specs.declared.Ended.{Ended}
 use Rattle.walks.specs.Cover.{CoverRuns}
 use Rattle.walks.specs.Going.{GoesOnTo}
 use Rattle.walks.specs.Sole.{StandsForAll}
-use Rattle.regions.specs.Machine.{Position, state_at}
-use Rattle.races.specs.SearchPlaces.{IsReady, IsWayOn, IsWayToEnd, AreAllWays}
+use Rattle.regions.specs.Machine.{MachineView, state_at}
+use Rattle.races.specs.SearchNodes.{IsReady, IsWayOn, IsWayToEnd, AreAllWays}
 use Rattle.races.specs.Following.{IsArrived}
 use Rattle.walks.specs.Walking.{HasWalked}
-use Rattle.races.specs.declared.place.Place.{Place}
+use Rattle.races.specs.declared.node.DesignNode.{DesignNode}
 use Rattle.races.proofs.Ways.{nothing_followed}
 
 -- what the successor of a walk holds
-pub walk_is_way : (code : Compiled) (limits : Limits) (s : State) (m : Position) (moves : List Entry) (next : Next Place Entry) → m.code ≡ code → HasWalked limits s m moves → next.moves.items ≡ moves → next.printed.items ≡ m.lines → IsReady m.code next.node → state_at next.node.machine.value ≡ state_at m
+pub walk_is_way : (code : Compiled) (limits : Limits) (s : State) (m : MachineView) (moves : List Entry) (next : Next DesignNode Entry) → m.code ≡ code → HasWalked limits s m moves → next.moves.items ≡ moves → next.printed.items ≡ m.lines → IsReady m.code next.node → state_at next.node.machine.value ≡ state_at m
     → IsWayOn code limits s next
 walk_is_way code limits s m moves next same walked moves_are printed ready state =
     let goes : run_from (design_of code) (silent s) moves ≡ Some walked.effect = subst (λ (k : Compiled). run_from (design_of k) (silent s) moves ≡ Some walked.effect) same walked.goes in
@@ -38,7 +38,7 @@ walk_is_way code limits s m moves next same walked moves_are printed ready state
     }
 
 -- nothing is left out of a walk of one entry or more
-pub walk_is_all : (code : Compiled) (limits : Limits) (s : State) (m : Position) (moves : List Entry) (next : Next Place Entry) (ended : List (Ended Entry End)) → m.code ≡ code → HasWalked limits s m moves → moves ≢ [] → next.moves.items ≡ moves
+pub walk_is_all : (code : Compiled) (limits : Limits) (s : State) (m : MachineView) (moves : List Entry) (next : Next DesignNode Entry) (ended : List (Ended Entry End)) → m.code ≡ code → HasWalked limits s m moves → moves ≢ [] → next.moves.items ≡ moves
     → AreAllWays code limits s (next ∷ []) ended
 walk_is_all code limits s m moves next ended same walked some moves_are =
     let sole : StandsForAll (design_of code) limits s moves = subst (λ (k : Compiled). StandsForAll (design_of k) limits s moves) same (walked.sole some) in
@@ -47,27 +47,27 @@ walk_is_all code limits s m moves next ended same walked some moves_are =
       told = λ end here. absurd (sole.goes_on end here);
     }
 
--- the one end of a run that rests
-pub rest_sound : (code : Compiled) (limits : Limits) (s : State) (end : End) (xs : List (Ended Entry End)) (one : Ended Entry End) → 0 < limits.max_entries → RestsAt (design_of code) limits s end
+-- the one end of a run that halts
+pub halt_sound : (code : Compiled) (limits : Limits) (s : State) (end : End) (xs : List (Ended Entry End)) (one : Ended Entry End) → 0 < limits.max_entries → HaltsAt (design_of code) limits s end
     → xs ≡ one ∷ [] → one.end ≡ end → one.printed.items ≡ [] → one.moves.items ≡ [] → All (IsWayToEnd code limits s) xs
-rest_sound code limits s end xs one few rests is end_is printed moves =
+halt_sound code limits s end xs one few halts is end_is printed moves =
     let none : GoesOnTo (design_of code) limits (silent s) [] (silent s) = (refl, All-nil (IsTimely limits)) in
     let way : IsWayToEnd code limits s one =
     record {
       effect = silent s;
       goes = subst (λ (l : List Entry). GoesOnTo (design_of code) limits (silent s) l (silent s)) (sym moves) none;
       printed = printed;
-      here = subst (λ (x : End). EndsHere (design_of code) limits (silent s) x) (sym end_is) (rests.ends (inl few));
+      here = subst (λ (x : End). EndsHere (design_of code) limits (silent s) x) (sym end_is) (halts.ends (inl few));
     } in
     subst (All (IsWayToEnd code limits s)) (sym is) (All-cons (IsWayToEnd code limits s) one [] way (All-nil (IsWayToEnd code limits s)))
 
-pub rest_all : (code : Compiled) (limits : Limits) (s : State) (end : End) (successors : List (Next Place Entry)) (xs : List (Ended Entry End)) (one : Ended Entry End) → RestsAt (design_of code) limits s end
+pub halt_all : (code : Compiled) (limits : Limits) (s : State) (end : End) (successors : List (Next DesignNode Entry)) (xs : List (Ended Entry End)) (one : Ended Entry End) → HaltsAt (design_of code) limits s end
     → successors ≡ [] → xs ≡ one ∷ [] → one.end ≡ end → one.printed.items ≡ [] → AreAllWays code limits s successors xs
-rest_all code limits s end successors xs one rests none is end_is printed =
-    subst (λ (l : List (Next Place Entry)). AreAllWays code limits s l xs) (sym none)
+halt_all code limits s end successors xs one halts none is end_is printed =
+    subst (λ (l : List (Next DesignNode Entry)). AreAllWays code limits s l xs) (sym none)
     (subst (λ (l : List (Ended Entry End)). AreAllWays code limits s [] l) (sym is)
-    (nothing_followed code limits s (one ∷ []) (λ entry free timely. rests.nothing entry (free, timely))
-    (λ other here. (0, one, omega arith, refl, (printed, end_is ∙ sym (rests.only other here))))))
+    (nothing_followed code limits s (one ∷ []) (λ entry free timely. halts.nothing entry (free, timely))
+    (λ other here. (0, one, omega arith, refl, (printed, end_is ∙ sym (halts.only other here))))))
 
 pub both_ok : {T E : Type 0} (r : Result T E) (P Q : T → Type 0) → IfOk r P → IfOk r Q → IfOk r (λ x. P x × Q x)
 both_ok (Ok x) P Q p q = (p, q)
@@ -81,7 +81,7 @@ pub some_elements : {X : Type 0} (xs : List X) → 0 < length xs → xs ≢ []
 some_elements xs some = λ e. omega (arith, some, ap length e)
 
 -- what comes of a branching where a walk that took no entry stands
-pub branched_next : (code other : Compiled) (limits : Limits) (s t : State) (xs : List (Next Place Entry)) → other ≡ code → t ≡ s → All (IsWayOn other limits t) xs → All (IsWayOn code limits s) xs
+pub branched_next : (code other : Compiled) (limits : Limits) (s t : State) (xs : List (Next DesignNode Entry)) → other ≡ code → t ≡ s → All (IsWayOn other limits t) xs → All (IsWayOn code limits s) xs
 branched_next code other limits s t xs same alike on =
     subst (λ (x : State). All (IsWayOn code limits x) xs) alike (subst (λ (k : Compiled). All (IsWayOn k limits t) xs) same on)
 
@@ -89,30 +89,30 @@ pub branched_sound : (code other : Compiled) (limits : Limits) (s t : State) (xs
 branched_sound code other limits s t xs same alike to =
     subst (λ (x : State). All (IsWayToEnd code limits x) xs) alike (subst (λ (k : Compiled). All (IsWayToEnd k limits t) xs) same to)
 
-pub branched_all : (code other : Compiled) (limits : Limits) (s t : State) (xs : List (Next Place Entry)) (ys : List (Ended Entry End)) → other ≡ code → t ≡ s → AreAllWays other limits t xs ys → AreAllWays code limits s xs ys
+pub branched_all : (code other : Compiled) (limits : Limits) (s t : State) (xs : List (Next DesignNode Entry)) (ys : List (Ended Entry End)) → other ≡ code → t ≡ s → AreAllWays other limits t xs ys → AreAllWays code limits s xs ys
 branched_all code other limits s t xs ys same alike all =
     subst (λ (x : State). AreAllWays code limits x xs ys) alike (subst (λ (k : Compiled). AreAllWays k limits t xs ys) same all)
 
 -- what comes of a walk of one entry or more
-pub arrived_next : (code : Compiled) (limits : Limits) (s : State) (m : Position) (moves : List Entry) (xs : List (Next Place Entry)) → m.code ≡ code → HasWalked limits s m moves → IsArrived m moves xs → All (IsWayOn code limits s) xs
+pub arrived_next : (code : Compiled) (limits : Limits) (s : State) (m : MachineView) (moves : List Entry) (xs : List (Next DesignNode Entry)) → m.code ≡ code → HasWalked limits s m moves → IsArrived m moves xs → All (IsWayOn code limits s) xs
 arrived_next code limits s m moves xs same walked (next, is, moves_are, printed, ready, state) =
     subst (All (IsWayOn code limits s)) (sym is)
     (All-cons (IsWayOn code limits s) next [] (walk_is_way code limits s m moves next same walked moves_are printed ready state) (All-nil (IsWayOn code limits s)))
 
-pub arrived_all : (code : Compiled) (limits : Limits) (s : State) (m : Position) (moves : List Entry) (xs : List (Next Place Entry)) (ys : List (Ended Entry End)) → m.code ≡ code → HasWalked limits s m moves → 0 < length moves → IsArrived m moves xs → AreAllWays code limits s xs ys
+pub arrived_all : (code : Compiled) (limits : Limits) (s : State) (m : MachineView) (moves : List Entry) (xs : List (Next DesignNode Entry)) (ys : List (Ended Entry End)) → m.code ≡ code → HasWalked limits s m moves → 0 < length moves → IsArrived m moves xs → AreAllWays code limits s xs ys
 arrived_all code limits s m moves xs ys same walked some (next, is, moves_are, printed, ready, state) =
-    subst (λ (l : List (Next Place Entry)). AreAllWays code limits s l ys) (sym is)
+    subst (λ (l : List (Next DesignNode Entry)). AreAllWays code limits s l ys) (sym is)
     (walk_is_all code limits s m moves next ys same walked (some_elements moves some) moves_are)
 
--- the end of a run that rests, as what an expansion tells
+-- the end of a run that halts, as what an expansion tells
 abbrev pub IsRested : End → List (Ended Entry End) → Type 0
 IsRested end xs = (one : Ended Entry End) × (xs ≡ one ∷ []) × (one.end ≡ end) × (one.printed.items ≡ []) × (one.moves.items ≡ [])
 
-pub rested_sound : (code : Compiled) (limits : Limits) (s : State) (end : End) (xs : List (Ended Entry End)) → 0 < limits.max_entries → RestsAt (design_of code) limits s end → IsRested end xs → All (IsWayToEnd code limits s) xs
-rested_sound code limits s end xs few rests (one, is, end_is, printed, moves) = rest_sound code limits s end xs one few rests is end_is printed moves
+pub halted_sound : (code : Compiled) (limits : Limits) (s : State) (end : End) (xs : List (Ended Entry End)) → 0 < limits.max_entries → HaltsAt (design_of code) limits s end → IsRested end xs → All (IsWayToEnd code limits s) xs
+halted_sound code limits s end xs few halts (one, is, end_is, printed, moves) = halt_sound code limits s end xs one few halts is end_is printed moves
 
-pub rested_all : (code : Compiled) (limits : Limits) (s : State) (end : End) (successors : List (Next Place Entry)) (xs : List (Ended Entry End)) → RestsAt (design_of code) limits s end → IsRested end xs → successors ≡ [] → AreAllWays code limits s successors xs
-rested_all code limits s end successors xs rests (one, is, end_is, printed, moves) none = rest_all code limits s end successors xs one rests none is end_is printed
+pub halted_all : (code : Compiled) (limits : Limits) (s : State) (end : End) (successors : List (Next DesignNode Entry)) (xs : List (Ended Entry End)) → HaltsAt (design_of code) limits s end → IsRested end xs → successors ≡ [] → AreAllWays code limits s successors xs
+halted_all code limits s end successors xs halts (one, is, end_is, printed, moves) none = halt_all code limits s end successors xs one halts none is end_is printed
 
 -- what an answer of `is_empty` says of the elements
 pub empty_is_none : (v : Vec Entry Global) (b : Bool) → b ≡ (vec_len v == 0) → b ≡ true → length v.items ≡ 0

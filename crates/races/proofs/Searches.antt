@@ -17,7 +17,7 @@ use Rattle.explore.specs.declared.Ended.{Ended}
 use Rattle.explore.specs.declared.Shown.{Shown}
 use Rattle.explore.specs.Search.{IsShown, IsOfRun, IsNext, IsEnded, IsCovered, AreAllShown}
 use Rattle.walks.specs.JournalsInTime.{ComesOf, text_of, MayEnd, ComeToOneNode, IsLawfulText, AreAllTexts}
-use Rattle.walks.specs.Cover.{LeadOn, CoverRuns, FollowMoves}
+use Rattle.walks.specs.Cover.{LeadOn, CoverRuns, FollowTransitions}
 use Rattle.races.specs.DesignRuns.{runs_of, AlikeRunsServe, KeyedRunsAreAlike, RunsBeginSilent, ShownIsLawful, AllShownAreAll}
 use Rattle.walks.specs.Going.{GoesOnTo}
 use Rattle.races.specs.Expanding.{EntriesLeadToNext, EntriesLeadToEnd, ways_to, TellsEnds, CoveringIsCovered, FollowingIsCovered}
@@ -25,7 +25,7 @@ use Rattle.walks.proofs.Lists.{all_map, any_of_map}
 use Rattle.walks.proofs.RunParts.{runs_on}
 use Rattle.races.specs.Serving.{alike_serve, keyed_alike}
 use Rattle.walks.proofs.Serving.{comes_on, text_is}
-use Rattle.walks.proofs.Covering.{followed_moves_cover, ends_are_the_states}
+use Rattle.walks.proofs.Covering.{followed_transitions_cover, ends_are_the_states}
 use Rattle.walks.proofs.LawfulTexts.{ends_are_lawful, all_may_end}
 
 pub shown_of_run : {Node : Type 0} (Holds : Node → Effect → Type 0) (design : Design) (limits : Limits) (shown : Shown Entry End) → IsOfRun (runs_of Holds design limits) shown → IsLawfulText design limits shown.moves.items shown.text.items shown.end
@@ -79,10 +79,10 @@ covered_by {Node} Holds design limits successors ended run e at_e covers tells (
       leads = any_of_map (λ (next : Next Node Entry). next.moves.items) (λ way. ComeToOneNode design limits (run ++ part) (run ++ way)) successors alike;
     })
 
-pub followed_by : {Node : Type 0} (Holds : Node → Effect → Type 0) (design : Design) (limits : Limits) (successors : List (Next Node Entry)) (ended : List (Ended Entry End)) (run : List Entry) (e : Effect) → ComesOf design limits run e → All (IsNext (runs_of Holds design limits) run) successors → FollowMoves design limits e (ways_to successors) → TellsEnds design limits ended e → IsCovered (runs_of Holds design limits) successors ended run
+pub followed_by : {Node : Type 0} (Holds : Node → Effect → Type 0) (design : Design) (limits : Limits) (successors : List (Next Node Entry)) (ended : List (Ended Entry End)) (run : List Entry) (e : Effect) → ComesOf design limits run e → All (IsNext (runs_of Holds design limits) run) successors → FollowTransitions design limits e (ways_to successors) → TellsEnds design limits ended e → IsCovered (runs_of Holds design limits) successors ended run
 followed_by Holds design limits successors ended run e at_e nexts follow tells =
     covered_by Holds design limits successors ended run e at_e
-    (followed_moves_cover design limits run e (ways_to successors) at_e (lead_on Holds design limits successors run nexts) follow) tells
+    (followed_transitions_cover design limits run e (ways_to successors) at_e (lead_on Holds design limits successors run nexts) follow) tells
 
 pub alike_runs_serve : AlikeRunsServe
 alike_runs_serve = alike_serve IsOneNode

@@ -20,7 +20,7 @@ use Rattle.orders.proofs.SearchLaws.{then_some}
 use Rattle.design.specs.Compiled.{Compiled, design_of}
 use Rattle.design.specs.DesignInvariant.{controls_of}
 use Rattle.regions.specs.StepLogs.{IsTaken}
-use Rattle.regions.specs.Machine.{Position, state_at, IsStop, IsNotTaken}
+use Rattle.regions.specs.Machine.{MachineView, state_at, IsStop, IsNotTaken}
 use Rattle.regions.specs.declared.machine.TakeFault.{TakeFault}
 use Rattle.regions.specs.declared.machine.TakeFault.TheVariants as fault
 use Rattle.explore.specs.declared.Next.{Next}
@@ -29,19 +29,19 @@ use Rattle.explore.specs.Grown.{Extends}
 use Rattle.explore.specs.Search.{IsNext, IsEnded, IsCovered}
 use Rattle.explore.proofs.Complete.{Any-extends}
 use Rattle.walks.specs.JournalsInTime.{ComesOf}
-use Rattle.walks.specs.Cover.{FollowMoves}
+use Rattle.walks.specs.Cover.{FollowTransitions}
 use Rattle.walks.specs.Going.{GoesOnTo}
 use Rattle.races.specs.Expanding.{ways_to}
 use Rattle.races.specs.DesignRuns.{StandsAt}
-use Rattle.races.specs.SearchPlaces.{IsReady, Holds, lawful_runs, IsWayOn, IsWayToEnd, IsToldHere, IsFollowedIn, AreWaysFor, AreAllWays}
+use Rattle.races.specs.SearchNodes.{IsReady, Holds, lawful_runs, IsWayOn, IsWayToEnd, IsToldHere, IsFollowedIn, AreWaysFor, AreAllWays}
 use Rattle.races.specs.Following.{IsTurnOf, IsLongTurnOf, TellsLong, IsWayBy, IsAdded}
-use Rattle.races.specs.declared.place.Place.{Place}
+use Rattle.races.specs.declared.node.DesignNode.{DesignNode}
 use Rattle.races.specs.declared.expand.Way.{Way}
 use Rattle.races.specs.declared.expand.Way.TheVariants.{On, Long, Past}
-use Rattle.seeded.specs.Resting.{GoesOn}
-use Rattle.seeded.proofs.Rests.{only_long_turns_end}
+use Rattle.seeded.specs.Halting.{GoesOn}
+use Rattle.seeded.proofs.Halts.{only_long_turns_end}
 use Rattle.walks.proofs.LongTurns.{step_is_permitted, stuck_is_long_turn, long_turn_is_stuck}
-use Rattle.walks.proofs.Covering.{followed_moves_cover, permitted_are_followed}
+use Rattle.walks.proofs.Covering.{followed_transitions_cover, permitted_are_followed}
 use Rattle.walks.proofs.Straight.{running}
 use Rattle.races.proofs.Searches.{leads_to_next, leads_to_end, lead_on, covered_by}
 
@@ -84,26 +84,26 @@ turn_is_long code s entry p permitted none is =
     record { number = is.number; is_turn = is.is_turn; active = is.active; long = subst (λ r. turn_of (design_of code) s r ≡ None) (sym one) long }
 
 -- ways that were found stay where more are
-more_ways_to : (xs added : List (Next Place Entry)) (way : List Entry) → Contains (ways_to xs) way → Contains (ways_to (xs ++ added)) way
+more_ways_to : (xs added : List (Next DesignNode Entry)) (way : List Entry) → Contains (ways_to xs) way → Contains (ways_to (xs ++ added)) way
 more_ways_to xs added way there =
-    subst (λ (l : List (List Entry)). Contains l way) (sym (map-append (λ (next : Next Place Entry). next.moves.items) xs added))
+    subst (λ (l : List (List Entry)). Contains l way) (sym (map-append (λ (next : Next DesignNode Entry). next.moves.items) xs added))
     (Contains-append_left (ways_to xs) (ways_to added) way there)
 
-last_way_to : (xs : List (Next Place Entry)) (next : Next Place Entry) (way : List Entry) → next.moves.items ≡ way → Contains (ways_to (xs ++ next ∷ [])) way
+last_way_to : (xs : List (Next DesignNode Entry)) (next : Next DesignNode Entry) (way : List Entry) → next.moves.items ≡ way → Contains (ways_to (xs ++ next ∷ [])) way
 last_way_to xs next way is =
-    subst (λ (l : List (List Entry)). Contains l way) (sym (map-append (λ (n : Next Place Entry). n.moves.items) xs (next ∷ [])))
+    subst (λ (l : List (List Entry)). Contains l way) (sym (map-append (λ (n : Next DesignNode Entry). n.moves.items) xs (next ∷ [])))
     (Contains-append_right (ways_to xs) (ways_to (next ∷ [])) way (0, omega arith, is))
 
-followed_more : (code : Compiled) (limits : Limits) (s : State) (xs more : List (Next Place Entry)) (ys all : List (Ended Entry End)) (entry : Entry) → Extends xs more → Extends ys all
+followed_more : (code : Compiled) (limits : Limits) (s : State) (xs more : List (Next DesignNode Entry)) (ys all : List (Ended Entry End)) (entry : Entry) → Extends xs more → Extends ys all
     → IsFollowedIn code limits s xs ys entry → IsFollowedIn code limits s more all entry
 followed_more code limits s xs more ys all entry (added, longer) told before =
     record {
-      steps = λ f at timely. subst (λ (l : List (Next Place Entry)). Contains (ways_to l) (entry ∷ [])) (sym longer) (more_ways_to xs added (entry ∷ []) (before.steps f at timely));
+      steps = λ f at timely. subst (λ (l : List (Next DesignNode Entry)). Contains (ways_to l) (entry ∷ [])) (sym longer) (more_ways_to xs added (entry ∷ []) (before.steps f at timely));
       stops = λ number p turn active long. Any-extends (λ (way : Ended Entry End). (way.printed.items ≡ []) × (way.end ≡ Stopped (TooLong p))) ys all told (before.stops number p turn active long);
     }
 
 -- one entry more, and what it leads to
-more_ways : (code : Compiled) (limits : Limits) (s : State) (entries : List Entry) (entry : Entry) (xs more : List (Next Place Entry)) (ys all : List (Ended Entry End)) (way : Way)
+more_ways : (code : Compiled) (limits : Limits) (s : State) (entries : List Entry) (entry : Entry) (xs more : List (Next DesignNode Entry)) (ys all : List (Ended Entry End)) (way : Way)
     → AreWaysFor code limits s entries xs ys → IsWayBy code limits s entry way → IsAdded way xs ys more all → AreWaysFor code limits s (entries ++ entry ∷ []) more all
 more_ways code limits s entries entry xs more ys all (On next) before (on, moves) (longer, same) =
     let goes : run_from (design_of code) (silent s) (entry ∷ []) ≡ Some on.effect = subst (λ (way : List Entry). run_from (design_of code) (silent s) way ≡ Some on.effect) moves on.goes.0 in
@@ -113,7 +113,7 @@ more_ways code limits s entries entry xs more ys all (On next) before (on, moves
       followed = All-push (IsFollowedIn code limits s more all) entries entry
           (All-weaker (IsFollowedIn code limits s xs ys) (IsFollowedIn code limits s more all) (λ x. followed_more code limits s xs more ys all x (next ∷ [], longer) ([], same ∙ sym (append-nil ys))) entries before.followed)
           (record {
-            steps = λ f at timely. subst (λ (l : List (Next Place Entry)). Contains (ways_to l) (entry ∷ [])) (sym longer) (last_way_to xs next (entry ∷ []) moves);
+            steps = λ f at timely. subst (λ (l : List (Next DesignNode Entry)). Contains (ways_to l) (entry ∷ [])) (sym longer) (last_way_to xs next (entry ∷ []) moves);
             stops = λ number p turn active long. absurd (no_way (design_of code) s entry on.effect (ap (step (design_of code) s) turn ∙ stuck (design_of code) s number p active long) goes);
           });
     }
@@ -145,7 +145,7 @@ more_ways code limits s entries entry xs more ys all Past before late (same, sam
           });
     }
 
-pub more_ways_for : (code : Compiled) (limits : Limits) (s : State) (entries : List Entry) (entry : Entry) (xs more : List (Next Place Entry)) (ys all : List (Ended Entry End)) (way : Way)
+pub more_ways_for : (code : Compiled) (limits : Limits) (s : State) (entries : List Entry) (entry : Entry) (xs more : List (Next DesignNode Entry)) (ys all : List (Ended Entry End)) (way : Way)
     → AreWaysFor code limits s entries xs ys → IsWayBy code limits s entry way → IsAdded way xs ys more all → AreWaysFor code limits s (entries ++ entry ∷ []) more all
 more_ways_for = more_ways
 
@@ -158,11 +158,11 @@ no_ways code limits s =
     }
 
 -- ways from the state to which a journal leads, as those of a search
-way_is_next : (code : Compiled) (limits : Limits) (run : List Entry) (e : Effect) (next : Next Place Entry) → ComesOf (design_of code) limits run e → IsWayOn code limits e.state next → IsNext (lawful_runs code limits) run next
+way_is_next : (code : Compiled) (limits : Limits) (run : List Entry) (e : Effect) (next : Next DesignNode Entry) → ComesOf (design_of code) limits run e → IsWayOn code limits e.state next → IsNext (lawful_runs code limits) run next
 way_is_next code limits run e next at_e on =
     leads_to_next (Holds code) (design_of code) limits run e on.effect next at_e on.goes on.printed (record { ready = on.holds.ready; state_is = on.holds.state_is })
 
-pub ways_are_next : (code : Compiled) (limits : Limits) (run : List Entry) (s : State) (e : Effect) (successors : List (Next Place Entry)) → ComesOf (design_of code) limits run e → s ≡ e.state → All (IsWayOn code limits s) successors → All (IsNext (lawful_runs code limits) run) successors
+pub ways_are_next : (code : Compiled) (limits : Limits) (run : List Entry) (s : State) (e : Effect) (successors : List (Next DesignNode Entry)) → ComesOf (design_of code) limits run e → s ≡ e.state → All (IsWayOn code limits s) successors → All (IsNext (lawful_runs code limits) run) successors
 ways_are_next code limits run s e successors at_e same on =
     All-weaker (IsWayOn code limits s) (IsNext (lawful_runs code limits) run)
     (λ next way. way_is_next code limits run e next at_e (subst (λ x. IsWayOn code limits x next) same way)) successors on
@@ -177,14 +177,14 @@ ways_are_ended code limits run s e ended at_e same to =
     (λ x way. way_is_ended code limits run e x at_e (subst (λ y. IsWayToEnd code limits y x) same way)) ended to
 
 -- where nothing is left out, a run that leads to the state is covered
-pub ways_are_covered : (code : Compiled) (limits : Limits) (run : List Entry) (s : State) (e : Effect) (successors : List (Next Place Entry)) (ended : List (Ended Entry End)) → ComesOf (design_of code) limits run e → s ≡ e.state
+pub ways_are_covered : (code : Compiled) (limits : Limits) (run : List Entry) (s : State) (e : Effect) (successors : List (Next DesignNode Entry)) (ended : List (Ended Entry End)) → ComesOf (design_of code) limits run e → s ≡ e.state
     → AreAllWays code limits s successors ended → IsCovered (lawful_runs code limits) successors ended run
 ways_are_covered code limits run s e successors ended at_e same all =
     covered_by (Holds code) (design_of code) limits successors ended run e at_e (all.cover run e at_e (sym same))
     (λ end here. all.told end (subst (λ x. EndsHere (design_of code) limits (silent x) end) (sym same) here))
 
 -- each move from a state is followed, where each entry that is permitted was
-pub all_followed : (code : Compiled) (limits : Limits) (s : State) (entries : List Entry) (successors : List (Next Place Entry)) (ended : List (Ended Entry End))
+pub all_followed : (code : Compiled) (limits : Limits) (s : State) (entries : List Entry) (successors : List (Next DesignNode Entry)) (ended : List (Ended Entry End))
     → ((entry : Entry) → refusal s entry ≡ None → Contains entries entry)
     → ((end : End) → EndsHere (design_of code) limits (silent s) end → (p : ℕ) × (number : ℕ) × (end ≡ Stopped (TooLong p)) × (refusal s (Turn number) ≡ None) × (action_in s.active number ≡ Some (Evaluate p)) × (turn_of (design_of code) s p ≡ None))
     → AreWaysFor code limits s entries successors ended → AreAllWays code limits s successors ended
@@ -192,11 +192,11 @@ all_followed code limits s entries successors ended within ends ways =
     record {
       cover = λ run e at_e same.
           let nexts : All (IsNext (lawful_runs code limits) run) successors = ways_are_next code limits run s e successors at_e (sym same) ways.nexts in
-          let follow : FollowMoves (design_of code) limits e (ways_to successors) =
+          let follow : FollowTransitions (design_of code) limits e (ways_to successors) =
           permitted_are_followed (design_of code) limits e (ways_to successors)
           (λ entry f permitted at_f timely.
           (All-contains (IsFollowedIn code limits s successors ended) entries entry ways.followed (within entry (subst (λ x. refusal x entry ≡ None) same permitted))).steps f (subst (λ x. step (design_of code) x entry ≡ Some f) same at_f) timely) in
-          followed_moves_cover (design_of code) limits run e (ways_to successors) at_e (lead_on (Holds code) (design_of code) limits successors run nexts) follow;
+          followed_transitions_cover (design_of code) limits run e (ways_to successors) at_e (lead_on (Holds code) (design_of code) limits successors run nexts) follow;
       told = λ end here.
           let (p, number, is, permitted, active, long) = ends end here in
           subst (IsToldHere ended) (sym is) ((All-contains (IsFollowedIn code limits s successors ended) entries (Turn number) ways.followed (within (Turn number) permitted)).stops number p refl active long);
@@ -208,46 +208,46 @@ pub nothing_followed : (code : Compiled) (limits : Limits) (s : State) (ended : 
 nothing_followed code limits s ended none told =
     record {
       cover = λ run e at_e same.
-          let follow : FollowMoves (design_of code) limits e [] =
+          let follow : FollowTransitions (design_of code) limits e [] =
           λ entry f at_f timely. absurd (none entry (subst (λ x. refusal x entry ≡ None) same (step_is_permitted (design_of code) e.state entry f at_f)) timely) in
-          followed_moves_cover (design_of code) limits run e [] at_e (All-nil (λ (way : List Entry). (f : Effect) × ComesOf (design_of code) limits (run ++ way) f)) follow;
+          followed_transitions_cover (design_of code) limits run e [] at_e (All-nil (λ (way : List Entry). (f : Effect) × ComesOf (design_of code) limits (run ++ way) f)) follow;
       told = told;
     }
 
--- the ways from a place, as those of the runs at which it stands
-pub place_next : (code : Compiled) (limits : Limits) (place : Place) (run : List Entry) (successors : List (Next Place Entry)) → StandsAt (Holds code) (design_of code) limits place run → All (IsWayOn place.machine.value.code limits (state_at place.machine.value)) successors → All (IsNext (lawful_runs code limits) run) successors
-place_next code limits place run successors (e, at_e, holds) on =
-    ways_are_next code limits run (state_at place.machine.value) e successors at_e holds.state_is (subst (λ (k : Compiled). All (IsWayOn k limits (state_at place.machine.value)) successors) holds.ready.code_is on)
+-- the ways from a node, as those of the runs at which it stands
+pub node_next : (code : Compiled) (limits : Limits) (node : DesignNode) (run : List Entry) (successors : List (Next DesignNode Entry)) → StandsAt (Holds code) (design_of code) limits node run → All (IsWayOn node.machine.value.code limits (state_at node.machine.value)) successors → All (IsNext (lawful_runs code limits) run) successors
+node_next code limits node run successors (e, at_e, holds) on =
+    ways_are_next code limits run (state_at node.machine.value) e successors at_e holds.state_is (subst (λ (k : Compiled). All (IsWayOn k limits (state_at node.machine.value)) successors) holds.ready.code_is on)
 
-pub place_ended : (code : Compiled) (limits : Limits) (place : Place) (run : List Entry) (ended : List (Ended Entry End)) → StandsAt (Holds code) (design_of code) limits place run → All (IsWayToEnd place.machine.value.code limits (state_at place.machine.value)) ended → All (IsEnded (lawful_runs code limits) run) ended
-place_ended code limits place run ended (e, at_e, holds) to =
-    ways_are_ended code limits run (state_at place.machine.value) e ended at_e holds.state_is (subst (λ (k : Compiled). All (IsWayToEnd k limits (state_at place.machine.value)) ended) holds.ready.code_is to)
+pub node_ended : (code : Compiled) (limits : Limits) (node : DesignNode) (run : List Entry) (ended : List (Ended Entry End)) → StandsAt (Holds code) (design_of code) limits node run → All (IsWayToEnd node.machine.value.code limits (state_at node.machine.value)) ended → All (IsEnded (lawful_runs code limits) run) ended
+node_ended code limits node run ended (e, at_e, holds) to =
+    ways_are_ended code limits run (state_at node.machine.value) e ended at_e holds.state_is (subst (λ (k : Compiled). All (IsWayToEnd k limits (state_at node.machine.value)) ended) holds.ready.code_is to)
 
-pub place_covered : (code : Compiled) (limits : Limits) (place : Place) (run : List Entry) (successors : List (Next Place Entry)) (ended : List (Ended Entry End)) → StandsAt (Holds code) (design_of code) limits place run → AreAllWays place.machine.value.code limits (state_at place.machine.value) successors ended → IsCovered (lawful_runs code limits) successors ended run
-place_covered code limits place run successors ended (e, at_e, holds) all =
-    ways_are_covered code limits run (state_at place.machine.value) e successors ended at_e holds.state_is (subst (λ (k : Compiled). AreAllWays k limits (state_at place.machine.value) successors ended) holds.ready.code_is all)
+pub node_covered : (code : Compiled) (limits : Limits) (node : DesignNode) (run : List Entry) (successors : List (Next DesignNode Entry)) (ended : List (Ended Entry End)) → StandsAt (Holds code) (design_of code) limits node run → AreAllWays node.machine.value.code limits (state_at node.machine.value) successors ended → IsCovered (lawful_runs code limits) successors ended run
+node_covered code limits node run successors ended (e, at_e, holds) all =
+    ways_are_covered code limits run (state_at node.machine.value) e successors ended at_e holds.state_is (subst (λ (k : Compiled). AreAllWays k limits (state_at node.machine.value) successors ended) holds.ready.code_is all)
 
--- the place of a machine that took no entry stands at the journal of none
-pub place_at_start : (code : Compiled) (limits : Limits) (place : Place) (m : Position) → place.machine.value ≡ m → m.code ≡ code → m.core.controls ≡ controls_of m.code → m.lines ≡ [] → state_at m ≡ start (design_of code) → StandsAt (Holds code) (design_of code) limits place []
-place_at_start code limits place m same code_is controls silent_is state =
-    let ready : IsReady code place =
+-- the node of a machine that took no entry stands at the journal of none
+pub node_at_start : (code : Compiled) (limits : Limits) (node : DesignNode) (m : MachineView) → node.machine.value ≡ m → m.code ≡ code → m.core.controls ≡ controls_of m.code → m.lines ≡ [] → state_at m ≡ start (design_of code) → StandsAt (Holds code) (design_of code) limits node []
+node_at_start code limits node m same code_is controls silent_is state =
+    let ready : IsReady code node =
     record {
-      code_is = ap (λ (p : Position). p.code) same ∙ code_is;
-      controls = ap (λ (p : Position). p.core.controls) same ∙ (controls ∙ ap controls_of code_is);
-      silent = ap (λ (p : Position). p.lines) same ∙ silent_is;
+      code_is = ap (λ (p : MachineView). p.code) same ∙ code_is;
+      controls = ap (λ (p : MachineView). p.core.controls) same ∙ (controls ∙ ap controls_of code_is);
+      silent = ap (λ (p : MachineView). p.lines) same ∙ silent_is;
     } in
     (silent (start (design_of code)), (refl, All-nil (IsTimely limits)), record { ready = ready; state_is = ap state_at same ∙ state })
 
 -- what a machine came to by an entry that it took, as a way from where it stood
-pub taken_is_way : (limits : Limits) (m copy new : Position) (entry : Entry) (next : Next Place Entry) → copy ≡ m → m.lines ≡ [] → IsTimely limits entry → new.code ≡ copy.code
+pub taken_is_way : (limits : Limits) (m copy new : MachineView) (entry : Entry) (next : Next DesignNode Entry) → copy ≡ m → m.lines ≡ [] → IsTimely limits entry → new.code ≡ copy.code
     → IsTaken copy.code (state_at copy) copy.lines entry (state_at new) new.lines → next.moves.items ≡ entry ∷ [] → next.printed.items ≡ new.lines → IsReady new.code next.node → state_at next.node.machine.value ≡ state_at new
     → IsWayOn m.code limits (state_at m) next × (next.moves.items ≡ entry ∷ [])
 taken_is_way limits m copy new entry next same none timely code taken moves printed ready state =
-    let at : step (design_of m.code) (state_at m) entry ≡ Some taken.effect = subst (λ (p : Position). step (design_of p.code) (state_at p) entry ≡ Some taken.effect) same taken.is_step in
+    let at : step (design_of m.code) (state_at m) entry ≡ Some taken.effect = subst (λ (p : MachineView). step (design_of p.code) (state_at p) entry ≡ Some taken.effect) same taken.is_step in
     let goes : GoesOnTo (design_of m.code) limits (silent (state_at m)) (entry ∷ []) (joined (silent (state_at m)) taken.effect) =
     (then_some (λ x. run_from (design_of m.code) (joined (silent (state_at m)) x) []) (step (design_of m.code) (state_at m) entry) taken.effect (joined (silent (state_at m)) taken.effect) at refl, All-cons (IsTimely limits) entry [] timely (All-nil (IsTimely limits))) in
-    let lines : next.printed.items ≡ taken.effect.lines = printed ∙ (taken.lines_are ∙ ap (λ l. l ++ taken.effect.lines) (ap (λ (p : Position). p.lines) same ∙ none)) in
-    let is_code : new.code ≡ m.code = code ∙ ap (λ (p : Position). p.code) same in (
+    let lines : next.printed.items ≡ taken.effect.lines = printed ∙ (taken.lines_are ∙ ap (λ l. l ++ taken.effect.lines) (ap (λ (p : MachineView). p.lines) same ∙ none)) in
+    let is_code : new.code ≡ m.code = code ∙ ap (λ (p : MachineView). p.code) same in (
       record {
         effect = joined (silent (state_at m)) taken.effect;
         goes = subst (λ (l : List Entry). GoesOnTo (design_of m.code) limits (silent (state_at m)) l (joined (silent (state_at m)) taken.effect)) (sym moves) goes;
@@ -292,16 +292,16 @@ front_and_last P xs front last split all =
     )
 
 -- a machine that didn't take an entry is as it was, but for what it tells of what its last entry made
-pub untaken : (m lent new seen : Position) → lent ≡ m → new ≡ record lent { made = new.made } → seen ≡ new → seen ≡ record m { made = new.made }
-untaken m lent new seen is same at = at ∙ subst (λ (p : Position). new ≡ record p { made = new.made }) is same
+pub untaken : (m lent new seen : MachineView) → lent ≡ m → new ≡ record lent { made = new.made } → seen ≡ new → seen ≡ record m { made = new.made }
+untaken m lent new seen is same at = at ∙ subst (λ (p : MachineView). new ≡ record p { made = new.made }) is same
 
-stop_alike : (m n new : Position) (entry : Entry) (why : TakeFault) → n ≡ record m { made = new.made } → IsStop m.code (state_at m) entry why → IsStop n.code (state_at n) entry why
-stop_alike m n new entry why same stop = subst (λ (p : Position). IsStop p.code (state_at p) entry why) (sym same) stop
+stop_alike : (m n new : MachineView) (entry : Entry) (why : TakeFault) → n ≡ record m { made = new.made } → IsStop m.code (state_at m) entry why → IsStop n.code (state_at n) entry why
+stop_alike m n new entry why same stop = subst (λ (p : MachineView). IsStop p.code (state_at p) entry why) (sym same) stop
 
 -- why an entry wasn't taken is so of such a machine, too
-pub still_not_taken : (m n new : Position) (entry : Entry) (why : TakeFault) → n ≡ record m { made = new.made } → IsNotTaken m entry why → IsNotTaken n entry why
+pub still_not_taken : (m n new : MachineView) (entry : Entry) (why : TakeFault) → n ≡ record m { made = new.made } → IsNotTaken m entry why → IsNotTaken n entry why
 still_not_taken m n new entry (fault.Refused reason) same stop = stop_alike m n new entry (fault.Refused reason) same stop
 still_not_taken m n new entry fault.TooLong same stop = stop_alike m n new entry fault.TooLong same stop
-still_not_taken m n new entry fault.TooMany same stop = ap (λ (p : Position). p.core.entries) same ∙ stop
+still_not_taken m n new entry fault.TooMany same stop = ap (λ (p : MachineView). p.core.entries) same ∙ stop
 still_not_taken m n new entry fault.ApplyMemory same stop = stop_alike m n new entry fault.ApplyMemory same stop
 still_not_taken m n new entry fault.Memory same stop = stop_alike m n new entry fault.Memory same stop

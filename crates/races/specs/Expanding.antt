@@ -12,7 +12,7 @@ use Rattle.explore.specs.declared.Ended.{Ended}
 use Rattle.explore.specs.Search.{IsNext, IsEnded, IsCovered}
 use Rattle.walks.specs.JournalsInTime.{ComesOf}
 use Rattle.walks.specs.Going.{GoesOnTo}
-use Rattle.walks.specs.Cover.{CoverRuns, FollowMoves}
+use Rattle.walks.specs.Cover.{CoverRuns, FollowTransitions}
 use Rattle.races.specs.DesignRuns.{plain_runs}
 
 -- a successor whose node holds what its entries lead to, with the lines that these print, is a next one
@@ -50,5 +50,5 @@ abbrev pub FollowingIsCovered : Type 0
 FollowingIsCovered =
     (design : Design) (limits : Limits) (successors : List (Next Effect Entry)) (ended : List (Ended Entry End)) (run : List Entry)
     (e : Effect) → ComesOf design limits run e → All (IsNext (plain_runs design limits) run) successors
-    → FollowMoves design limits e (ways_to successors) → TellsEnds design limits ended e
+    → FollowTransitions design limits e (ways_to successors) → TellsEnds design limits ended e
     → IsCovered (plain_runs design limits) successors ended run

@@ -1,4 +1,4 @@
--- What following one entry from a place comes to.
+-- What following one entry from a node comes to.
 use Rattle.std.specs.Prelude.{◌≡◌, ℕ, List, [], ◌∷◌, ◌++◌, Some, None}
 use Rattle.model.specs.declared.entry.Entry.{Entry}
 use Rattle.model.specs.declared.entry.Entry.TheVariants.{Turn}
@@ -11,9 +11,9 @@ use Rattle.model.specs.Runs.{action_in, turn_of, IsTimely}
 use Rattle.design.specs.Compiled.{Compiled, design_of}
 use Rattle.explore.specs.declared.Next.{Next}
 use Rattle.explore.specs.declared.Ended.{Ended}
-use Rattle.regions.specs.Machine.{Position, state_at}
-use Rattle.races.specs.SearchPlaces.{IsReady, IsWayOn, IsWayToEnd}
-use Rattle.races.specs.declared.place.Place.{Place}
+use Rattle.regions.specs.Machine.{MachineView, state_at}
+use Rattle.races.specs.SearchNodes.{IsReady, IsWayOn, IsWayToEnd}
+use Rattle.races.specs.declared.node.DesignNode.{DesignNode}
 use Rattle.races.specs.declared.expand.Way.{Way}
 use Rattle.races.specs.declared.expand.Way.TheVariants.{On, Long, Past}
 
@@ -37,7 +37,7 @@ pub record TellsLong (code : Compiled) (s : State) (entry : Entry) (ended : Ende
   pub silent : ended.printed.items ≡ []
   pub end_is : ended.end ≡ Stopped (TooLong process)
 
--- What an entry leads to from a state: a place, by the entry alone; the end of a run whose turn is too long; or nothing, since it
+-- What an entry leads to from a state: a node, by the entry alone; the end of a run whose turn is too long; or nothing, since it
 -- isn't in time.
 abbrev pub IsWayBy : Compiled → Limits → State → Entry → Way → Type 0
 IsWayBy code limits s entry (On next) = IsWayOn code limits s next × (next.moves.items ≡ entry ∷ [])
@@ -45,12 +45,12 @@ IsWayBy code limits s entry (Long ended) = IsWayToEnd code limits s ended × Tel
 IsWayBy code limits s entry Past = IsTimely limits entry → ⊥
 
 -- a way was added to the successors, or to the ends
-abbrev pub IsAdded : Way → List (Next Place Entry) → List (Ended Entry End) → List (Next Place Entry) → List (Ended Entry End) → Type 0
+abbrev pub IsAdded : Way → List (Next DesignNode Entry) → List (Ended Entry End) → List (Next DesignNode Entry) → List (Ended Entry End) → Type 0
 IsAdded (On next) successors ended more all = (more ≡ successors ++ next ∷ []) × (all ≡ ended)
 IsAdded (Long end) successors ended more all = (more ≡ successors) × (all ≡ ended ++ end ∷ [])
 IsAdded Past successors ended more all = (more ≡ successors) × (all ≡ ended)
 
--- There is one successor, at the place of a machine, with the lines that are left in it, by these entries.
-abbrev pub IsArrived : Position → List Entry → List (Next Place Entry) → Type 0
+-- There is one successor, at the node of a machine, with the lines that are left in it, by these entries.
+abbrev pub IsArrived : MachineView → List Entry → List (Next DesignNode Entry) → Type 0
 IsArrived m moves xs =
-    (next : Next Place Entry) × (xs ≡ next ∷ []) × (next.moves.items ≡ moves) × (next.printed.items ≡ m.lines) × IsReady m.code next.node × (state_at next.node.machine.value ≡ state_at m)
+    (next : Next DesignNode Entry) × (xs ≡ next ∷ []) × (next.moves.items ≡ moves) × (next.printed.items ≡ m.lines) × IsReady m.code next.node × (state_at next.node.machine.value ≡ state_at m)

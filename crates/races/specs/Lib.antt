@@ -1,5 +1,5 @@
 pub mod DesignRuns
 pub mod Expanding
-pub mod SearchPlaces
+pub mod SearchNodes
 pub mod Following
 pub mod Serving

@@ -16,8 +16,8 @@ use Rattle.explore.specs.Search.{Serves}
 use Rattle.walks.specs.JournalsInTime.{text_of, ComeToOneNode}
 use Rattle.walks.proofs.Serving.{text_is, alike_journals_serve}
 use Rattle.races.specs.DesignRuns.{StandsAt, runs_of, TellAlike}
-use Rattle.races.specs.SearchPlaces.{Holds, lawful_runs}
-use Rattle.races.specs.declared.place.Place.{Place}
+use Rattle.races.specs.SearchNodes.{Holds, lawful_runs}
+use Rattle.races.specs.declared.node.DesignNode.{DesignNode}
 
 pub alike_serve : {Node : Type 0} (Holds : Node → Effect → Type 0) (design : Design) (limits : Limits) (i j : List Entry) → ComeToOneNode design limits i j → Serves (runs_of Holds design limits) i j
 alike_serve Holds design limits i j alike moves end ends = alike_journals_serve design limits i j moves end alike ends
@@ -32,13 +32,13 @@ pub keyed_alike : {Node : Type 0} (Holds : Node → Effect → Type 0) (key_of :
 keyed_alike Holds key_of design limits a b i j tells key at_a at_b text =
     same_text_alike Holds design limits a b i j (λ e f of_a of_b. tells a b e f of_a of_b key) at_a at_b text
 
--- the state that a place stands at, by the design itself
-stands_at : (code : Compiled) (place : Place) (e : Effect) → Holds code place e → state_of (remainder_of code) place.machine.value.values place.machine.value.core ≡ e.state
-stands_at code place e holds =
-    ap (λ (k : Compiled). state_of (remainder_of k) place.machine.value.values place.machine.value.core) (sym holds.ready.code_is) ∙ holds.state_is
+-- the state that a node stands at, by the design itself
+stands_at : (code : Compiled) (node : DesignNode) (e : Effect) → Holds code node e → state_of (remainder_of code) node.machine.value.values node.machine.value.core ≡ e.state
+stands_at code node e holds =
+    ap (λ (k : Compiled). state_of (remainder_of k) node.machine.value.values node.machine.value.core) (sym holds.ready.code_is) ∙ holds.state_is
 
 -- places of one key hold states that are alike
-keys_tell_alike : (code : Compiled) (a b : Place) (key : List ℕ) (e f : Effect) → IsKey a.machine.value.core a.machine.value.values key → IsKey b.machine.value.core b.machine.value.values key → Holds code a e → Holds code b f → Alike e.state f.state
+keys_tell_alike : (code : Compiled) (a b : DesignNode) (key : List ℕ) (e f : Effect) → IsKey a.machine.value.core a.machine.value.values key → IsKey b.machine.value.core b.machine.value.values key → Holds code a e → Holds code b f → Alike e.state f.state
 keys_tell_alike code a b key e f of_a of_b at_a at_b =
     let alike : Alike (state_of (remainder_of code) a.machine.value.values a.machine.value.core) (state_of (remainder_of code) b.machine.value.values b.machine.value.core) =
     keys_tell_states (remainder_of code) a.machine.value.core b.machine.value.core a.machine.value.values b.machine.value.values key (at_a.ready.controls ∙ sym at_b.ready.controls) of_a of_b in
@@ -48,6 +48,6 @@ keys_tell_alike code a b key e f of_a of_b at_a at_b =
 pub lawful_alike : (code : Compiled) (limits : Limits) (i j : List Entry) → ComeToOneNode (design_of code) limits i j → Serves (lawful_runs code limits) i j
 lawful_alike code limits i j alike = alike_serve (Holds code) (design_of code) limits i j alike
 
-pub lawful_keyed : (code : Compiled) (limits : Limits) (a b : Place) (i j : List Entry) (key : List ℕ) → IsKey a.machine.value.core a.machine.value.values key → IsKey b.machine.value.core b.machine.value.values key → StandsAt (Holds code) (design_of code) limits a i → StandsAt (Holds code) (design_of code) limits b j → text_of (design_of code) i ≡ text_of (design_of code) j → ComeToOneNode (design_of code) limits i j
+pub lawful_keyed : (code : Compiled) (limits : Limits) (a b : DesignNode) (i j : List Entry) (key : List ℕ) → IsKey a.machine.value.core a.machine.value.values key → IsKey b.machine.value.core b.machine.value.values key → StandsAt (Holds code) (design_of code) limits a i → StandsAt (Holds code) (design_of code) limits b j → text_of (design_of code) i ≡ text_of (design_of code) j → ComeToOneNode (design_of code) limits i j
 lawful_keyed code limits a b i j key of_a of_b at_a at_b text =
     same_text_alike (Holds code) (design_of code) limits a b i j (λ e f held_a held_b. keys_tell_alike code a b key e f of_a of_b held_a held_b) at_a at_b text

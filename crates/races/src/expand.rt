@@ -1,4 +1,4 @@
-//! The ways that go on from a place: each entry that the rules permit, and the ends that a run may have there.
+//! The ways that go on from a node: each entry that the rules permit, and the ends that a run may have there.
 ghost use Rattle.std.specs.Prelude.{◌≡◌, ◌<◌, [], ◌∷◌, None, IfOk, IfErr, OnOk, OnErr, IsTrue};
 ghost use Rattle.std.specs.List.{All};
 ghost use Rattle.model.specs.declared.entry.Entry.{Entry};
@@ -6,21 +6,21 @@ ghost use Rattle.model.specs.declared.end.End.{End};
 ghost use Rattle.model.specs.Runs.{refusal, step};
 ghost use Rattle.explore.specs.declared.Ended.{Ended};
 ghost use Rattle.explore.specs.declared.Next.{Next};
-ghost use Rattle.races.specs.declared.place.Place.{Place};
-ghost use Rattle.seeded.specs.Resting.{GoesOn};
+ghost use Rattle.races.specs.declared.node.DesignNode.{DesignNode};
+ghost use Rattle.seeded.specs.Halting.{GoesOn};
 ghost use Rattle.design.specs.Compiled.{design_of};
 ghost use Rattle.regions.specs.Machine.{most_entries, state_at, IsNotTaken};
 ghost use Rattle.regions.specs.StepLogs.{IsTaken};
 ghost use Rattle.walks.specs.Walking.{HasWalked};
 ghost use Rattle.races.specs.Following.{IsAdded, IsArrived, IsTurnOf, IsWayBy, TellsLong};
-ghost use Rattle.races.specs.SearchPlaces.{AreAllWays, AreBounded, AreWaysFor, IsReady, IsWayOn, IsWayToEnd};
+ghost use Rattle.races.specs.SearchNodes.{AreAllWays, AreBounded, AreWaysFor, IsReady, IsWayOn, IsWayToEnd};
 
-use crate::place::{Place, Room};
+use crate::node::{DesignNode, Room};
 use explore::{Ended, Expanded, Next};
 use model::end::{End, Limits, Why};
 use model::entry::Entry;
 use regions::{Machine, TakeFault};
-use seeded::resting::{end_at, is_timely};
+use seeded::halting::{end_at, is_timely};
 use settling::Networked;
 use std::alloc::{AllocError, Global};
 use turn::TurnLog;
@@ -29,23 +29,23 @@ use walks::{copy_of, tell_long, walk_on};
 /// What one entry leads to.
 #[derive(Drop)]
 pub(crate) enum Way<'d> {
-    /// A place.
-    On(Next<Place<'d>, Entry>),
+    /// A node.
+    On(Next<DesignNode<'d>, Entry>),
     /// The end of a run whose turn is too long.
     Long(Ended<Entry, End>),
     /// Nothing, since the entry advances past the limit of time.
     Past,
 }
 
-/// What following the ways from a place has come to.
+/// What following the ways from a node has come to.
 #[derive(Drop)]
 pub(crate) struct Ways<'d> {
-    successors: Vec<Next<Place<'d>, Entry>>,
+    successors: Vec<Next<DesignNode<'d>, Entry>>,
     ended: Vec<Ended<Entry, End>>,
 }
 
-// The place of a machine that took these entries, with the lines that they printed.
-fn next_of<'d>(machine: Box<Machine<'d>>, moves: Vec<Entry>) -> Next<Place<'d>, Entry>
+// The node of a machine that took these entries, with the lines that they printed.
+fn next_of<'d>(machine: Box<Machine<'d>>, moves: Vec<Entry>) -> Next<DesignNode<'d>, Entry>
     ensures moves { result.moves ≡ moves }
     ensures printed { result.printed.items ≡ machine.entry.value.lines }
     ensures ready { IsReady machine.entry.value.code result.node }
@@ -55,7 +55,7 @@ fn next_of<'d>(machine: Box<Machine<'d>>, moves: Vec<Entry>) -> Next<Place<'d>, 
     let printed = machine.take_lines().into_bytes();
     machine.stands();
     Next {
-        node: Place { machine },
+        node: DesignNode { machine },
         printed,
         moves,
     }
@@ -108,7 +108,7 @@ fn long_of(
     })
 }
 
-// Takes an entry with a log that the machine is lent: each place takes just a few, and needs none of its own.
+// Takes an entry with a log that the machine is lent: each node takes just a few, and needs none of its own.
 fn take_with(log: &mut TurnLog, machine: &mut Machine<'_>, entry: Entry) -> Result<(), TakeFault>
     ensures taken { OnOk result (IsTaken machine.old.code (state_at machine.old) machine.old.lines entry (state_at machine.new) machine.new.lines) }
     ensures code { machine.new.code ≡ machine.old.code }
@@ -213,7 +213,7 @@ fn follow_all<'d>(
 }
 
 // A run may have this end here, and goes on in no way.
-fn rests<'d>(alloc: Global, end: End) -> Result<Expanded<Place<'d>, Entry, End>, AllocError>
+fn halts<'d>(alloc: Global, end: End) -> Result<Expanded<DesignNode<'d>, Entry, End>, AllocError>
     ensures one { IfOk result (λ x. (ended : Ended Entry End) × (x.ended.items ≡ ended ∷ []) × (ended.end ≡ end) × (ended.printed.items ≡ []) × (ended.moves.items ≡ [])) }
     ensures none { IfOk result (λ x. x.successors.items ≡ []) }
 {
@@ -236,7 +236,7 @@ fn branch<'d>(
     limits: Limits,
     log: &mut TurnLog,
     machine: Box<Machine<'d>>,
-) -> Result<Expanded<Place<'d>, Entry, End>, AllocError>
+) -> Result<Expanded<DesignNode<'d>, Entry, End>, AllocError>
     requires silent { machine.value.lines ≡ [] }
     requires some_entry { 0 < limits.max_entries }
     requires goes_on { GoesOn limits (state_at machine.value) }
@@ -260,12 +260,12 @@ fn branch<'d>(
     })
 }
 
-// Goes on by one place, to which the only way leads.
+// Goes on by one node, to which the only way leads.
 fn arrive<'d>(
     alloc: Global,
     machine: Box<Machine<'d>>,
     moves: Vec<Entry>,
-) -> Result<Expanded<Place<'d>, Entry, End>, AllocError>
+) -> Result<Expanded<DesignNode<'d>, Entry, End>, AllocError>
     ensures one { IfOk result (λ x. IsArrived machine.entry.value moves.items x.successors.items) }
     ensures none { IfOk result (λ x. x.ended.items ≡ []) }
 {
@@ -306,7 +306,7 @@ pub(crate) fn expand<'d>(
     limits: Limits,
     room: &mut Room,
     machine: Box<Machine<'d>>,
-) -> Result<Expanded<Place<'d>, Entry, End>, AllocError>
+) -> Result<Expanded<DesignNode<'d>, Entry, End>, AllocError>
     requires code { machine.value.code ≡ networked.now }
     requires silent { machine.value.lines ≡ [] }
     requires bounded { AreBounded limits }
@@ -315,7 +315,7 @@ pub(crate) fn expand<'d>(
     ensures all { IfOk result (λ x. IsTrue x.whole → AreAllWays machine.entry.value.code limits (state_at machine.entry.value) x.successors.items x.ended.items) }
 {
     match end_at(limits, &machine) {
-        Some(end) => return rests(alloc, end),
+        Some(end) => return halts(alloc, end),
         None => {}
     }
     let mut machine = machine;

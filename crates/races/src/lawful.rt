@@ -7,10 +7,10 @@ ghost use Rattle.explore.specs.Search.{AreDistinct, IsShown};
 ghost use Rattle.regions.specs.Machine.{state_at};
 ghost use Rattle.design.specs.Compiled.{design_of};
 ghost use Rattle.walks.specs.JournalsInTime.{AreAllTexts, IsLawfulText};
-ghost use Rattle.races.specs.SearchPlaces.{AreBounded};
+ghost use Rattle.races.specs.SearchNodes.{AreBounded};
 
 use crate::expand::expand;
-use crate::place::{Place, Room};
+use crate::node::{DesignNode, Room};
 use design::Design;
 use explore::{Bounds, Expanded, Explored, Orders, explore};
 use model::end::{End, Limits};
@@ -42,12 +42,12 @@ struct Lawful<'d> {
 impl<'d> Orders for Lawful<'d> {
     ghost use Rattle.std.specs.Prelude.{refl};
     ghost use Rattle.statekeys.specs.Keys.{IsKey};
-    ghost use Rattle.races.specs.SearchPlaces.{lawful_runs};
+    ghost use Rattle.races.specs.SearchNodes.{lawful_runs};
     ghost use Rattle.races.specs.Serving.{lawful_alike, lawful_keyed};
 
     type Move = Entry;
 
-    type Node = Place<'d>;
+    type Node = DesignNode<'d>;
 
     type End = End;
 
@@ -55,12 +55,12 @@ impl<'d> Orders for Lawful<'d> {
 
     ghost runs = { λ o. lawful_runs o.networked o.limits };
 
-    ghost has_key = { λ _ place key. IsKey place.machine.value.core place.machine.value.values key };
+    ghost has_key = { λ _ node key. IsKey node.machine.value.core node.machine.value.values key };
 
-    fn start(&self, alloc: Global) -> Result<Place<'d>, AllocError> {
+    fn start(&self, alloc: Global) -> Result<DesignNode<'d>, AllocError> {
         let machine = start_of(alloc, self.networked.design())?;
         machine.stands();
-        Ok(Place { machine })
+        Ok(DesignNode { machine })
     }
 
     fn room(&self, alloc: Global) -> Room {
@@ -71,13 +71,18 @@ impl<'d> Orders for Lawful<'d> {
         &self,
         alloc: Global,
         room: &mut Room,
-        node: Place<'d>,
-    ) -> Result<Expanded<Place<'d>, Entry, End>, AllocError> {
+        node: DesignNode<'d>,
+    ) -> Result<Expanded<DesignNode<'d>, Entry, End>, AllocError> {
         let expanded = expand(alloc, &self.networked, self.limits, room, node.machine)?;
         Ok(expanded)
     }
 
-    fn key(&self, room: &mut Room, key: &mut Vec<u8>, node: &Place<'d>) -> Result<(), AllocError> {
+    fn key(
+        &self,
+        room: &mut Room,
+        key: &mut Vec<u8>,
+        node: &DesignNode<'d>,
+    ) -> Result<(), AllocError> {
         room.fill_key(key, &node.machine)
     }
 

@@ -1,7 +1,7 @@
 //! The races of a design: its lawful orders, searched.
 //!
-//! 1. A `Place` is where a journal has come to: the machine that took its entries.
-//! 2. `expand` follows each entry that the rules permit from a place, and tells the ends that a run may have there. Where one
+//! 1. A `DesignNode` is where a journal has come to: the machine that took its entries.
+//! 2. `expand` follows each entry that the rules permit from a node, and tells the ends that a run may have there. Where one
 //!    order stands for all, `walk_on` of `walks` goes on by it.
 //! 3. `lawful_orders` gives that to the search of `explore`. What it shows are texts and ends of lawful journals, and where it
 //!    answers that all is covered, those of every lawful journal in time.
@@ -14,7 +14,7 @@
 mod expand;
 mod lawful;
 pub mod laws;
-mod place;
+mod node;
 
 pub use lawful::lawful_orders;
-pub use place::Place;
+pub use node::DesignNode;

@@ -8,7 +8,7 @@ use Rattle.model.specs.declared.end.Limits.{Limits}
 use Rattle.model.specs.States.{Action, Evaluate, Event, State, is_evaluation}
 use Rattle.model.specs.Runs.{action_in, has_any, has_earlier_update, has_earlier, has_future, Inactive, Nonblocking, Monitor, Future, refused_where, turn_refusal, update_refusal, time_refusal, entry_refusal, refusal, least, least_time, last_time}
 use Rattle.model.proofs.RunLaws.{where_none, either_false}
-use Rattle.seeded.specs.Resting.{MayBeNext}
+use Rattle.seeded.specs.Halting.{MayBeNext}
 
 -- an event is found by its number, whatever stands before it
 found_behind : (b : Bool) (e : Event) (es : List Event) (m : ℕ) (a : Action) → eqb e.0 m ≡ b → action_in es m ≡ Some a

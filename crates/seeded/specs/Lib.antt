@@ -1,3 +1,3 @@
-pub mod Resting
+pub mod Halting
 pub mod SeededRun
 pub mod Samples

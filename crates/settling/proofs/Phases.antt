@@ -9,7 +9,7 @@ use Rattle.design.specs.Compiled.{Compiled, design_of}
 use Rattle.phases.specs.Phase.{Block, IsBlock, IsPending, HasSettled, IsOutput, continuation_of, waits_for, updated_in}
 use Rattle.combinational.specs.declared.block.Logic.{Logic}
 use Rattle.combinational.specs.declared.network.Network.{Network}
-use Rattle.combinational.specs.Found.{AreFound, HasLogic, AreApart, block_in, rank_in}
+use Rattle.combinational.specs.Found.{AreFound, HasLogic, AreRanked, block_in, rank_in}
 use Rattle.settling.specs.Settling.{block_or, block_at, IsMember, AreMembers, IsPhaseOf, HaveOutputs}
 
 -- the block of a member is that of its logic
@@ -58,7 +58,7 @@ stands_so : (code : Compiled) (s : State) (network : Network) (p : ℕ) → IsMe
 stands_so code s network p m =
     subst (λ (b : Block). IsPending s p b ⊎ HasSettled (design_of code) s p b) (sym (member_block code network p m.logic m.found)) m.stands
 
-are_apart : (code : Compiled) (s : State) (network : Network) (p q : ℕ) → AreFound code network → p ≢ q → (m : IsMember code s network p) → (n : IsMember code s network q) → AreApart network.ranks.items p q m.logic n.logic
+are_apart : (code : Compiled) (s : State) (network : Network) (p q : ℕ) → AreFound code network → p ≢ q → (m : IsMember code s network p) → (n : IsMember code s network q) → AreRanked network.ranks.items p q m.logic n.logic
 are_apart code s network p q found differ m n = found.apart p q m.logic n.logic differ m.found n.found
 
 is_single : (code : Compiled) (s : State) (network : Network) (p q r : ℕ) → AreFound code network → p ≢ q → IsMember code s network p → IsMember code s network q → contains (block_at code network p).outputs r ≡ true → contains (block_at code network q).outputs r ≡ false

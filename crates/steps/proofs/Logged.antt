@@ -19,7 +19,7 @@ use Rattle.regions.specs.declared.queue.Update.{Update}
 use Rattle.regions.specs.Queue.{update_event}
 use Rattle.regions.specs.Reader.{IsTurnOn}
 use Rattle.regions.specs.Evaluations.{IsEvaluation}
-use Rattle.regions.specs.Machine.{Position, state_at, Stands}
+use Rattle.regions.specs.Machine.{MachineView, state_at, Stands}
 use Rattle.regions.proofs.Given.{given_turn}
 use Rattle.regions.proofs.Evaluated.{turn_of-is, own_state}
 use Rattle.steps.specs.declared.entry_account.Reading.{Reading}
@@ -122,7 +122,7 @@ nothing_comes : (o : Option Refusal) (x : Option Effect) → x ≡ None → unle
 nothing_comes None x is = is
 nothing_comes (Some r) x is = refl
 
-module _ (p : Position) (stands : Stands p.code p.core p.values) (n q : ℕ) (st : ProcState) (e : IsEvaluation p.core n (q, st)) where
+module _ (p : MachineView) (stands : Stands p.code p.core p.values) (n q : ℕ) (st : ProcState) (e : IsEvaluation p.core n (q, st)) where
   own : IsStateOf p.code q st
   own = own_state p.code p.core n q st stands.states e
 
@@ -141,14 +141,14 @@ module _ (p : Position) (stands : Stands p.code p.core p.values) (n q : ℕ) (st
       nothing_comes (refusal s (entries.Turn n)) (effect (design_of p.code) s (entries.Turn n)) nothing
 
 -- the turn of an active evaluation is logged
-pub logged : (p : Position) (code : Compiled) (n q : ℕ) (st : ProcState) (log : LogView) → p.code ≡ code → Stands p.code p.core p.values → IsEvaluation p.core n (q, st)
+pub logged : (p : MachineView) (code : Compiled) (n q : ℕ) (st : ProcState) (log : LogView) → p.code ≡ code → Stands p.code p.core p.values → IsEvaluation p.core n (q, st)
     → IsTurnOn code st p.values p.core.time log → p.core.finished ≡ false → IsLogged code (state_at p) n q log
 logged p code n q st log same stands e on running =
     subst (λ (c : Compiled). IsLogged c (state_at p) n q log) same
     (logged_at p stands n q st e log (subst (λ (c : Compiled). IsTurnOn c st p.values p.core.time log) (sym same) on) running)
 
 -- a turn that is too long has no step
-pub long : (p : Position) (code : Compiled) (n q : ℕ) (st : ProcState) → p.code ≡ code → Stands p.code p.core p.values → IsEvaluation p.core n (q, st)
+pub long : (p : MachineView) (code : Compiled) (n q : ℕ) (st : ProcState) → p.code ≡ code → Stands p.code p.core p.values → IsEvaluation p.core n (q, st)
     → ((r : ℕ) → IsStateOf code r st → short_turn (design_of code) r (remainder_of code st) p.values p.core.time ≡ None) → HasNoTurn code (state_at p) n
 long p code n q st same stands e none =
     subst (λ (c : Compiled). HasNoTurn c (state_at p) n) same

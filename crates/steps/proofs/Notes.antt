@@ -17,7 +17,7 @@ use Rattle.regions.specs.Queue.{update_event, evaluation_event}
 use Rattle.regions.specs.declared.queue.Update as queued
 use Rattle.regions.specs.declared.queue.Evaluation.{Evaluation}
 use Rattle.regions.specs.StepLogs.{IsTaken}
-use Rattle.regions.specs.Machine.{Position, state_at}
+use Rattle.regions.specs.Machine.{MachineView, state_at}
 use Rattle.steps.specs.declared.cells.Cell.{Cell}
 use Rattle.steps.specs.declared.entry_account.Reading.{Reading}
 use Rattle.steps.specs.declared.entry_account.Deed.TheVariants as deeds
@@ -209,7 +209,7 @@ NotedAt old entry cells a =
     → IsNoted old.position.code (state_at old.position) old.cells entry e cells a
 
 -- it was noted and taken, and its lines were taken out
-pub explained : (journal : List Entry) (entry : Entry) (old new : Standing) (mid : Position) (a : Account) → new.position.code ≡ old.position.code → state_at new.position ≡ state_at mid
+pub explained : (journal : List Entry) (entry : Entry) (old new : Standing) (mid : MachineView) (a : Account) → new.position.code ≡ old.position.code → state_at new.position ≡ state_at mid
     → new.position.lines ≡ [] → IsTaken old.position.code (state_at old.position) old.position.lines entry (state_at mid) mid.lines → NotedAt old entry new.cells a
     → TellSame a new.account → new.account.lines ≡ mid.lines → new.account.time ≡ (state_at mid).time → IsBehind journal old → IsExplained journal entry old new
 explained journal entry old new mid a code state quiet taken noted same lines time b =

@@ -5,7 +5,7 @@ use Rattle.model.specs.States.{State}
 use Rattle.model.specs.Runs.{Effect, step}
 use Rattle.design.specs.Compiled.{Compiled, design_of}
 use Rattle.regions.specs.StepLogs.{IsTaken}
-use Rattle.regions.specs.Machine.{Position, state_at}
+use Rattle.regions.specs.Machine.{MachineView, state_at}
 use Rattle.steps.specs.declared.cells.Cell.{Cell}
 use Rattle.steps.specs.Accounts.{Account}
 use Rattle.steps.specs.Cells.{values_at}
@@ -13,16 +13,16 @@ use Rattle.steps.specs.ExplainerStanding.{Standing, IsKept, IsSoundState, IsNote
 use Rattle.steps.proofs.Notes.{TellSame, NotedAt, explained}
 
 -- the parts of where an explainer stands
-abbrev pub stand : Position → List Cell → Account → Standing
+abbrev pub stand : MachineView → List Cell → Account → Standing
 stand p cells a = record { position = p; cells = cells; account = a }
 
-module _ (code : Compiled) (p mid new : Position) (entry : Entry) (same : p.code ≡ code) (kept : mid.code ≡ p.code) (emptied : new ≡ record mid { lines = [] })
+module _ (code : Compiled) (p mid new : MachineView) (entry : Entry) (same : p.code ≡ code) (kept : mid.code ≡ p.code) (emptied : new ≡ record mid { lines = [] })
     (taken : IsTaken p.code (state_at p) p.lines entry (state_at mid) mid.lines) where
   state_same : state_at new ≡ state_at mid
   state_same = ap state_at emptied
 
   code_same : new.code ≡ p.code
-  code_same = ap (λ (q : Position). q.code) emptied ∙ kept
+  code_same = ap (λ (q : MachineView). q.code) emptied ∙ kept
 
   pub step_kept : (cells : List Cell) → length cells ≡ length code.widths → ((e : Effect) → step (design_of code) (state_at p) entry ≡ Some e → IsSoundState code e.state) → IsKept code new cells
   step_kept cells registers sound =
@@ -36,5 +36,5 @@ module _ (code : Compiled) (p mid new : Position) (entry : Entry) (same : p.code
   step_told journal cells cells' first a b noted tell lines time behind =
       let at : NotedAt (stand p cells first) entry cells' a =
       subst (λ (c : Compiled). (e : Effect) → values_at cells ≡ p.values → step (design_of c) (state_at p) entry ≡ Some e → IsNoted c (state_at p) cells entry e cells' a) (sym same) noted in
-      explained journal entry (stand p cells first) (stand new cells' b) mid a code_same state_same (ap (λ (q : Position). q.lines) emptied) taken at tell lines
-      (time ∙ ap (λ (q : Position). q.core.time) emptied) behind
+      explained journal entry (stand p cells first) (stand new cells' b) mid a code_same state_same (ap (λ (q : MachineView). q.lines) emptied) taken at tell lines
+      (time ∙ ap (λ (q : MachineView). q.core.time) emptied) behind

@@ -11,7 +11,7 @@ use Rattle.turn.specs.TurnLogs.{LogView}
 use Rattle.turn.specs.Reads.{AreDeclared}
 use Rattle.regions.specs.StepLogs.{IsLogFor}
 use Rattle.regions.specs.Order.{IsOrdered}
-use Rattle.regions.specs.Machine.{Position, state_at, IsNotTaken}
+use Rattle.regions.specs.Machine.{MachineView, state_at, IsNotTaken}
 use Rattle.steps.specs.declared.cells.Cell.{Cell}
 use Rattle.steps.specs.declared.entry_account.EntryAccount.{EntryAccount}
 use Rattle.steps.specs.declared.fault.StepFault.{StepFault}
@@ -27,12 +27,12 @@ pub record IsCleared (told : EntryAccount) : Type 0 where
 
 -- where an explainer stands: its machine, the registers with their versions, and what it tells of the last entry
 pub record Standing : Type 0 where
-  pub position : Position
+  pub position : MachineView
   pub cells : List Cell
   pub account : Account
 
 -- its parts
-abbrev pub standing_of : Position → List Cell → EntryAccount → Standing
+abbrev pub standing_of : MachineView → List Cell → EntryAccount → Standing
 standing_of position cells told = record { position = position; cells = cells; account = account_of told }
 
 -- the events of a state are in order, those of processes that there are, and updates of registers to values of their widths
@@ -40,7 +40,7 @@ abbrev pub IsSoundState : Compiled → State → Type 0
 IsSoundState code s = IsOrdered code.widths (length s.processes) s
 
 -- The machine is one of this design, with sound events, and there is a cell of each register.
-pub record IsKept (code : Compiled) (position : Position) (cells : List Cell) : Type 0 where
+pub record IsKept (code : Compiled) (position : MachineView) (cells : List Cell) : Type 0 where
   pub code_is : position.code ≡ code
   pub registers : length cells ≡ length code.widths
   pub sound : IsSoundState code (state_at position)
@@ -64,7 +64,7 @@ pub record IsExplained (journal : List Entry) (entry : Entry) (old new : Standin
   pub behind : IsBehind (journal ++ entry ∷ []) new
 
 -- why an entry isn't explained: the machine doesn't take it, or memory is refused to what is told
-abbrev pub IsNotExplained : Position → Entry → StepFault → Type 0
+abbrev pub IsNotExplained : MachineView → Entry → StepFault → Type 0
 IsNotExplained p entry (NotTaken fault) = IsNotTaken p entry fault
 IsNotExplained p entry Memory = Unit {0}
 

@@ -8,12 +8,12 @@ use Rattle.model.specs.declared.entry.Entry.{Entry}
 use Rattle.model.specs.declared.end.Limits.{Limits}
 use Rattle.model.specs.Design.{Design}
 use Rattle.model.specs.Runs.{Effect, joined, step, run_from, AreTimely}
-use Rattle.orders.specs.SearchLaws.{IsOneNode, EndsHere, Visited, FollowsEachMove}
+use Rattle.orders.specs.SearchLaws.{IsOneNode, EndsHere, Visited, FollowsEachTransition}
 use Rattle.orders.proofs.AlikeStates.{alike_states-same}
 use Rattle.orders.proofs.TimelyRuns.{timely_before}
-use Rattle.orders.proofs.SearchLaws.{each_move_covers}
+use Rattle.orders.proofs.SearchLaws.{each_transition_covers}
 use Rattle.walks.specs.JournalsInTime.{ComesOf, ComeToOneNode}
-use Rattle.walks.specs.Cover.{after_moves, nodes_after, LeadOn, FollowMoves, CoveringNodesCover, FollowedMovesCover, EndsAreTheStates, NodesOfWays, PermittedAreFollowed}
+use Rattle.walks.specs.Cover.{after_moves, nodes_after, LeadOn, FollowTransitions, CoveringNodesCover, FollowedTransitionsCover, EndsAreTheStates, NodesOfWays, PermittedAreFollowed}
 use Rattle.walks.proofs.Lists.{from_map, to_map, any_with, some_length}
 use Rattle.walks.proofs.Serving.{comes_on, came_on}
 use Rattle.walks.proofs.LongTurns.{step_is_permitted}
@@ -58,17 +58,17 @@ lands design e w ways other there goes =
     let node : IsOneNode (joined e g) w = subst (λ x. IsOneNode x w) same (refl, alike_states-same w.state) in
     (g, at_g, nodes_of_ways design e (joined e g) w ways (other ∷ []) there goes node))
 
-follows_each : (design : Design) (limits : Limits) (journal : List Entry) (e : Effect) (ways : List (List Entry)) → ComesOf design limits journal e → LeadOn design limits journal ways → FollowMoves design limits e ways → FollowsEachMove design limits (nodes_after design e ways) e
+follows_each : (design : Design) (limits : Limits) (journal : List Entry) (e : Effect) (ways : List (List Entry)) → ComesOf design limits journal e → LeadOn design limits journal ways → FollowTransitions design limits e ways → FollowsEachTransition design limits (nodes_after design e ways) e
 follows_each design limits journal e ways at_e lead follow entry f at_f timely =
     let (other, there, move) = follow entry f at_f timely in
     let (w, at_w) = All-contains (λ way. (x : Effect) × ComesOf design limits (journal ++ way) x) ways (other ∷ []) lead there in
     let (g, at_g, visited) = lands design e w ways other there (came_on design limits journal (other ∷ []) e w at_e at_w).0 in
     (other, g, move, at_g, visited)
 
-pub followed_moves_cover : FollowedMovesCover
-followed_moves_cover design limits journal e ways at_e lead follow =
+pub followed_transitions_cover : FollowedTransitionsCover
+followed_transitions_cover design limits journal e ways at_e lead follow =
     covering_nodes_cover design limits journal e ways at_e lead
-    (each_move_covers design limits (nodes_after design e ways) e (journal, at_e.0) (follows_each design limits journal e ways at_e lead follow))
+    (each_transition_covers design limits (nodes_after design e ways) e (journal, at_e.0) (follows_each design limits journal e ways at_e lead follow))
 
 pub permitted_are_followed : PermittedAreFollowed
 permitted_are_followed design limits e ways there entry f at_f timely =

@@ -17,14 +17,14 @@ use Rattle.model.specs.Laws.{evaluates, evaluations_in}
 use Rattle.model.proofs.RunLaws.{run_from-append}
 use Rattle.orders.specs.Alike.{Alike, Rises, IsInOrder, updates_in}
 use Rattle.orders.specs.Apart.{given, all_given, WakesNone, wakes_any}
-use Rattle.orders.specs.Silent.{AreUpdates, IsSilent, settled}
+use Rattle.orders.specs.Inert.{AreUpdates, IsInert, settled}
 use Rattle.orders.specs.Flat.{IsFlat, HasOneMaker}
 use Rattle.orders.specs.SearchLaws.{IsOneNode, EndsHere}
 use Rattle.orders.proofs.AlikeStates.{alike_states-same}
 use Rattle.orders.proofs.EventLists.{absent, own_evaluation, rises_from}
 use Rattle.orders.proofs.StatesInOrder.{run_is_in_order, run_from_in_order}
 use Rattle.orders.proofs.Stores.{change_quiet}
-use Rattle.orders.proofs.SilentUpdates.{goes_on}
+use Rattle.orders.proofs.InertUpdates.{goes_on}
 use Rattle.walks.specs.Sole.{StandsForAll}
 use Rattle.walks.specs.Walking.{turns_of, updates_of}
 use Rattle.walks.proofs.OneWay.{flat_way_covers, settled_way_covers}
@@ -99,7 +99,7 @@ settles design to ((n, Action.Update r v) ∷ es) s e g state rises none quiet i
     less n r v es none p = omega (arith, none p)
 
 -- updates that wake nobody, once they became active and were taken
-settled_after : (design : Design) (s : State) (y : Effect) → IsInOrder s → IsSilent s → run_from design (silent s) (updates_of s.nonblocking) ≡ Some y → (y.lines ≡ []) × (y.state ≡ settled s)
+settled_after : (design : Design) (s : State) (y : Effect) → IsInOrder s → IsInert s → run_from design (silent s) (updates_of s.nonblocking) ≡ Some y → (y.lines ≡ []) × (y.state ≡ settled s)
 settled_after design s y order still is =
     option_and_then_some (λ x. run_from design (joined (silent s) x) (map (λ e. Update e.0) s.nonblocking)) (step design s ActivateNba) y is
     (λ x at_x later.
@@ -138,7 +138,7 @@ turns_stand design limits s turn maker x flat one some is =
     }
 
 -- the turns and the updates behind them stand for all where these wake nobody
-pub settled_stands : (design : Design) (limits : Limits) (s : State) (turn : ℕ → turns.Turn) (x y : Effect) → IsFlat design s turn → s.active ≢ [] → run_from design (silent s) (turns_of s.active) ≡ Some x → IsSilent x.state → run_from design (silent x.state) (updates_of x.state.nonblocking) ≡ Some y
+pub settled_stands : (design : Design) (limits : Limits) (s : State) (turn : ℕ → turns.Turn) (x y : Effect) → IsFlat design s turn → s.active ≢ [] → run_from design (silent s) (turns_of s.active) ≡ Some x → IsInert x.state → run_from design (silent x.state) (updates_of x.state.nonblocking) ≡ Some y
     → StandsForAll design limits s (turns_of s.active ++ updates_of x.state.nonblocking)
 settled_stands design limits s turn x y flat some is still is' =
     record {

@@ -25,11 +25,11 @@ ends_with design limits journal e end at_e ends =
     subst (λ (o : Option Effect). IsSomeAnd (option_map (λ x. x.state) o) (λ s. EndsIn design limits (length journal) s end)) at_e ends
 
 -- to be quiet or finished asks for no number of entries
-rests_anywhere : (design : Design) (limits : Limits) (n m : ℕ) (s : State) (end : End) → (end ≡ Quiet) ⊎ (end ≡ Stopped Finish) → EndsIn design limits n s end → EndsIn design limits m s end
-rests_anywhere design limits n m s end (inl quiet) ends =
+halts_anywhere : (design : Design) (limits : Limits) (n m : ℕ) (s : State) (end : End) → (end ≡ Quiet) ⊎ (end ≡ Stopped Finish) → EndsIn design limits n s end → EndsIn design limits m s end
+halts_anywhere design limits n m s end (inl quiet) ends =
     let there : EndsIn design limits n s Quiet = subst (λ x. EndsIn design limits n s x) quiet ends in
     subst (λ x. EndsIn design limits m s x) (sym quiet) there
-rests_anywhere design limits n m s end (inr finished) ends =
+halts_anywhere design limits n m s end (inr finished) ends =
     let there : EndsIn design limits n s (Stopped Finish) = subst (λ x. EndsIn design limits n s x) finished ends in
     subst (λ x. EndsIn design limits m s x) (sym finished) there
 
@@ -45,7 +45,7 @@ ends_are_lawful design limits journal end (e, (at_e, timely), (few, memory, here
       ends = λ short.
           ends_by design limits journal e end at_e
           (alike_states_end_alike design limits 0 (length journal) e.state e.state end i i (alike_states-same e.state) few (λ h. short) here);
-      rests = λ rest. ends_by design limits journal e end at_e (rests_anywhere design limits 0 (length journal) e.state end rest here);
+      halts = λ rest. ends_by design limits journal e end at_e (halts_anywhere design limits 0 (length journal) e.state end rest here);
     }
 
 pub printing : (o : Option Effect) (text : List ℕ) → option_map (λ (x : Effect). x.lines) o ≡ Some text → (e : Effect) × (o ≡ Some e) × (e.lines ≡ text)

@@ -6,7 +6,7 @@ use Rattle.model.specs.declared.end.Limits.{Limits}
 use Rattle.model.specs.Design.{Design}
 use Rattle.model.specs.Runs.{Effect, run_from, AreTimely}
 use Rattle.orders.specs.SearchLaws.{Visited, Covers}
-use Rattle.orders.specs.Silent.{settled}
+use Rattle.orders.specs.Inert.{settled}
 use Rattle.orders.proofs.AlikeStates.{alike_states-same}
 use Rattle.orders.proofs.FlatRuns.{flat_covers}
 use Rattle.orders.proofs.OneMaker.{flat_turns_cover}

@@ -13,7 +13,7 @@ use Rattle.design.specs.Compiled.{Compiled, design_of}
 use Rattle.combinational.specs.declared.network.Network.{Network}
 use Rattle.combinational.specs.Found.{rank_in}
 use Rattle.regions.specs.Queue.{Core}
-use Rattle.regions.specs.Machine.{Position, state_at}
+use Rattle.regions.specs.Machine.{MachineView, state_at}
 use Rattle.settling.specs.Settling.{block_at, IsPhaseOf}
 use Rattle.flat.specs.declared.turned.Turned.{Turned}
 use Rattle.flat.specs.Turned.{event_of, turns_in, AreTurned}
@@ -25,7 +25,7 @@ use Rattle.walks.proofs.Settled.{no_turns, sole_settled}
 use Rattle.walks.proofs.Walks.{taken_none, taken_both}
 
 -- where members were found, a machine stands in a phase
-pub found_phase : {V : Type 0} (o : Option V) (items : V → List ℕ) (m : Position) (network : Network) → is_some o ≡ true → IfSome o (λ v. IsPhaseOf m.code (state_at m) network (items v)) → StandsInPhase m
+pub found_phase : {V : Type 0} (o : Option V) (items : V → List ℕ) (m : MachineView) (network : Network) → is_some o ≡ true → IfSome o (λ v. IsPhaseOf m.code (state_at m) network (items v)) → StandsInPhase m
 found_phase None items m network is phase = cc
 found_phase (Some v) items m network is phase = record { network = network; members = items v; phase = phase }
 
@@ -38,10 +38,10 @@ some_active core queue same some none =
 
 -- no event yet, and one more
 
-pub takes_none : (m : Position) (moves : List Entry) → TakesEvents m m moves moves
+pub takes_none : (m : MachineView) (moves : List Entry) → TakesEvents m m moves moves
 takes_none m moves = record { entries = []; events = All-nil TakesEvent; moves = sym (append-nil moves); taken = taken_none m }
 
-pub takes_more : (old mid new : Position) (before moves after : List Entry) (entry : Entry) → TakesEvents old mid before moves → mid.code ≡ old.code → TakesEvent entry → HasAdded mid new moves entry after → TakesEvents old new before after
+pub takes_more : (old mid new : MachineView) (before moves after : List Entry) (entry : Entry) → TakesEvents old mid before moves → mid.code ≡ old.code → TakesEvent entry → HasAdded mid new moves entry after → TakesEvents old new before after
 takes_more old mid new before moves after entry so_far code takes added =
     record {
       entries = so_far.entries ++ entry ∷ [];
@@ -51,13 +51,13 @@ takes_more old mid new before moves after entry so_far code takes added =
     }
 
 -- from a phase in which something is active
-pub sole_phase : (m copy new : Position) (none after : List Entry) → copy ≡ m → none ≡ [] → StandsInPhase m → (state_at m).active ≢ [] → HasPassed copy new none after → IsSoleWay m new after
+pub sole_phase : (m copy new : MachineView) (none after : List Entry) → copy ≡ m → none ≡ [] → StandsInPhase m → (state_at m).active ≢ [] → HasPassed copy new none after → IsSoleWay m new after
 sole_phase m copy new none after same none_is stands some passed =
     let design = design_of m.code in
     let s = state_at m in
     let entries = passed.takes.entries in
     let moves : entries ≡ after = ap (λ (l : List Entry). l ++ entries) (sym none_is) ∙ sym passed.takes.moves in
-    let taken : HasTaken m entries new = subst (λ (p : Position). HasTaken p entries new) same passed.takes.taken in
+    let taken : HasTaken m entries new = subst (λ (p : MachineView). HasTaken p entries new) same passed.takes.taken in
     let over : taken.effect.state.active ≡ [] = ap (λ (t : State). t.active) (sym taken.state_is) ∙ passed.over in
     let ends : EndsPhase design (silent s) entries taken.effect = (passed.takes.events, taken.goes, over) in
     record {
@@ -79,7 +79,7 @@ phase_there code other s t network members same state phase =
 way_behind : (turns moves entries all : List Entry) → turns ≡ moves → (moves ++ ActivateNba ∷ []) ++ entries ≡ all → turns ++ ActivateNba ∷ entries ≡ all
 way_behind turns moves entries all same is = ap (λ (l : List Entry). l ++ ActivateNba ∷ entries) same ∙ (sym (append_assoc moves (ActivateNba ∷ []) entries) ∙ is)
 
-sole_behind : (m mid new : Position) (turns : List Turned) (moves after : List Entry) → moves ≡ turns_of (map event_of turns) → HasTaken m moves mid → mid.code ≡ m.code → HasPassedBehind mid new moves after → AreTurned m.code (state_at m) turns
+sole_behind : (m mid new : MachineView) (turns : List Turned) (moves after : List Entry) → moves ≡ turns_of (map event_of turns) → HasTaken m moves mid → mid.code ≡ m.code → HasPassedBehind mid new moves after → AreTurned m.code (state_at m) turns
     → IsFlat (design_of m.code) (state_at m) (turns_in (design_of m.code) (state_at m)) → turns ≢ [] → IsSoleWay m new after
 sole_behind m mid new turns moves after moves_are first code behind are flat some =
     let design = design_of m.code in
@@ -111,8 +111,8 @@ sole_behind m mid new turns moves after moves_are first code behind are flat som
     }
 
 -- either way behind the turns of a flat state
-pub sole_gone : (m copy mid new : Position) (turns : List Turned) (moves after : List Entry) → copy ≡ m → moves ≡ turns_of (map event_of turns) → HasTaken copy moves mid → mid.code ≡ copy.code → HasGoneBehind mid new moves after → AreTurned m.code (state_at m) turns
+pub sole_gone : (m copy mid new : MachineView) (turns : List Turned) (moves after : List Entry) → copy ≡ m → moves ≡ turns_of (map event_of turns) → HasTaken copy moves mid → mid.code ≡ copy.code → HasGoneBehind mid new moves after → AreTurned m.code (state_at m) turns
     → IsFlat (design_of m.code) (state_at m) (turns_in (design_of m.code) (state_at m)) → turns ≢ [] → IsSoleWay m new after
 sole_gone m copy mid new turns moves after same moves_are taken code (inl settled) are flat some = sole_settled m copy mid new turns moves after same moves_are taken code settled are flat some
 sole_gone m copy mid new turns moves after same moves_are taken code (inr behind) are flat some =
-    sole_behind m mid new turns moves after moves_are (subst (λ (p : Position). HasTaken p moves mid) same taken) (code ∙ ap (λ (p : Position). p.code) same) behind are flat some
+    sole_behind m mid new turns moves after moves_are (subst (λ (p : MachineView). HasTaken p moves mid) same taken) (code ∙ ap (λ (p : MachineView). p.code) same) behind are flat some

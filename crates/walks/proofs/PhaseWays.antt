@@ -17,7 +17,7 @@ use Rattle.model.proofs.RunLaws.{run_from-append}
 use Rattle.orders.specs.Flat.{IsFlat}
 use Rattle.orders.specs.SearchLaws.{EndsHere, Visited}
 use Rattle.orders.proofs.AlikeStates.{alike_states-same}
-use Rattle.orders.proofs.SilentUpdates.{goes_on}
+use Rattle.orders.proofs.InertUpdates.{goes_on}
 use Rattle.phases.specs.Phase.{Block, IsPending, HasSettled, IsPhase, TakesEvent, EndsPhase}
 use Rattle.phases.proofs.PhaseRuns.{phase_covers}
 use Rattle.phases.proofs.FlatPhases.{flat_phase_covers}

@@ -18,7 +18,7 @@ use Rattle.orders.proofs.RaceRows.{race, limits, nodes, shown, begin, written, p
 use Rattle.walks.specs.JournalsInTime.{ComesOf, IsLawfulText, AreAllTexts}
 use Rattle.walks.specs.Cover.{LeadOn, CoverRuns}
 use Rattle.walks.proofs.LawfulTexts.{ends_are_lawful, ends_with, printing}
-use Rattle.walks.proofs.Covering.{followed_moves_cover, permitted_are_followed}
+use Rattle.walks.proofs.Covering.{followed_transitions_cover, permitted_are_followed}
 
 -- a complete search shows all texts
 complete_is_all : (design : Design) (limits : Limits) (nodes : List Effect) (shown : List (List ℕ × End)) → IsComplete design limits nodes shown → AreAllTexts design limits (Shows shown)
@@ -75,5 +75,5 @@ step_there (Advance time) f at_f = cc
 
 pub start_is_covered : CoverRuns race limits [] first_turns
 start_is_covered =
-    followed_moves_cover race limits [] begin first_turns (refl, All-nil (IsTimely limits)) lead_on
+    followed_transitions_cover race limits [] begin first_turns (refl, All-nil (IsTimely limits)) lead_on
     (permitted_are_followed race limits begin first_turns (λ entry f permitted at_f timely. step_there entry f at_f))

@@ -4,12 +4,12 @@ use Rattle.std.proofs.lemmas.List.Elements.{All-append}
 use Rattle.model.specs.declared.entry.Entry.{Entry}
 use Rattle.model.specs.States.{State}
 use Rattle.model.specs.Runs.{silent, run_from, IsTimely, AreTimely}
-use Rattle.orders.specs.Silent.{IsSilent}
+use Rattle.orders.specs.Inert.{IsInert}
 use Rattle.orders.specs.Flat.{IsFlat, HasOneMaker}
 use Rattle.design.specs.Compiled.{Compiled, design_of}
 use Rattle.regions.specs.declared.queue.Update.{Update}
 use Rattle.regions.specs.Queue.{Core, update_event}
-use Rattle.regions.specs.Machine.{Position, state_at}
+use Rattle.regions.specs.Machine.{MachineView, state_at}
 use Rattle.flat.specs.declared.turned.Turned.{Turned}
 use Rattle.flat.specs.Turned.{event_of, turns_in, AreTurned}
 use Rattle.walks.specs.Sole.{StandsForAll}
@@ -22,12 +22,12 @@ no_turns [] none = refl
 no_turns (t ∷ turns) none = cc
 
 -- the turns alone
-pub sole_turns : (m copy new : Position) (turns : List Turned) (moves : List Entry) (maker : ℕ) → copy ≡ m → moves ≡ turns_of (map event_of turns) → HasTaken copy moves new → AreTurned m.code (state_at m) turns
+pub sole_turns : (m copy new : MachineView) (turns : List Turned) (moves : List Entry) (maker : ℕ) → copy ≡ m → moves ≡ turns_of (map event_of turns) → HasTaken copy moves new → AreTurned m.code (state_at m) turns
     → IsFlat (design_of m.code) (state_at m) (turns_in (design_of m.code) (state_at m)) → HasOneMaker (state_at m) (turns_in (design_of m.code) (state_at m)) maker → turns ≢ [] → IsSoleWay m new moves
 sole_turns m copy new turns moves maker same moves_are taken are flat one some =
     let design = design_of m.code in
     let s = state_at m in
-    let taken' : HasTaken m moves new = subst (λ (p : Position). HasTaken p moves new) same taken in
+    let taken' : HasTaken m moves new = subst (λ (p : MachineView). HasTaken p moves new) same taken in
     let way : turns_of s.active ≡ moves = ap turns_of are.active ∙ sym moves_are in
     let goes : run_from design (silent s) (turns_of s.active) ≡ Some taken'.effect = subst (λ (l : List Entry). run_from design (silent s) l ≡ Some taken'.effect) (sym way) taken'.goes in
     record {
@@ -37,18 +37,18 @@ sole_turns m copy new turns moves maker same moves_are taken are flat one some =
     }
 
 -- the turns with the updates behind them
-pub sole_settled : (m copy mid new : Position) (turns : List Turned) (moves longer : List Entry) → copy ≡ m → moves ≡ turns_of (map event_of turns) → HasTaken copy moves mid → mid.code ≡ copy.code → HasSettled mid new moves longer → AreTurned m.code (state_at m) turns
+pub sole_settled : (m copy mid new : MachineView) (turns : List Turned) (moves longer : List Entry) → copy ≡ m → moves ≡ turns_of (map event_of turns) → HasTaken copy moves mid → mid.code ≡ copy.code → HasSettled mid new moves longer → AreTurned m.code (state_at m) turns
     → IsFlat (design_of m.code) (state_at m) (turns_in (design_of m.code) (state_at m)) → turns ≢ [] → IsSoleWay m new longer
 sole_settled m copy mid new turns moves longer same moves_are taken code settled are flat some =
     let design = design_of m.code in
     let s = state_at m in
     let ups = updates_of mid.core.nonblocking in
-    let first : HasTaken m moves mid = subst (λ (p : Position). HasTaken p moves mid) same taken in
-    let code' : mid.code ≡ m.code = code ∙ ap (λ (p : Position). p.code) same in
+    let first : HasTaken m moves mid = subst (λ (p : MachineView). HasTaken p moves mid) same taken in
+    let code' : mid.code ≡ m.code = code ∙ ap (λ (p : MachineView). p.code) same in
     let both : HasTaken m (moves ++ ups) new = taken_both m mid new moves ups first code' settled.taken in
     let turns_are : turns_of s.active ≡ moves = ap turns_of are.active ∙ sym moves_are in
     let goes : run_from design (silent s) (turns_of s.active) ≡ Some first.effect = subst (λ (l : List Entry). run_from design (silent s) l ≡ Some first.effect) (sym turns_are) first.goes in
-    let still : IsSilent first.effect.state = subst IsSilent first.state_is settled.silent in
+    let still : IsInert first.effect.state = subst IsInert first.state_is settled.inert in
     let on : run_from design (silent (state_at mid)) ups ≡ Some settled.taken.effect = subst (λ (k : Compiled). run_from (design_of k) (silent (state_at mid)) ups ≡ Some settled.taken.effect) code' settled.taken.goes in
     let on' : run_from design (silent first.effect.state) (updates_of first.effect.state.nonblocking) ≡ Some settled.taken.effect =
     subst (λ (t : State). run_from design (silent t) (updates_of t.nonblocking) ≡ Some settled.taken.effect) first.state_is on in
@@ -61,12 +61,12 @@ sole_settled m copy mid new turns moves longer same moves_are taken code settled
     }
 
 -- the updates that are next were taken
-pub has_settled : (old new : Position) (queue : Core) (us : List Update) (before after updates longer taken : List Entry) → IsSilent (state_at old) → queue ≡ old.core → map update_event us ≡ queue.nonblocking → updates ≡ updates_of (map update_event us) → longer ≡ updates → taken ≡ updates
+pub has_settled : (old new : MachineView) (queue : Core) (us : List Update) (before after updates longer taken : List Entry) → IsInert (state_at old) → queue ≡ old.core → map update_event us ≡ queue.nonblocking → updates ≡ updates_of (map update_event us) → longer ≡ updates → taken ≡ updates
     → after ≡ before ++ longer → HasTaken old taken new → HasSettled old new before after
 has_settled old new queue us before after updates longer taken still same events is longer_is taken_is after_is has =
     let all : updates ≡ updates_of old.core.nonblocking = is ∙ ap updates_of (events ∙ ap (λ (k : Core). k.nonblocking) same) in
     record {
-      silent = still;
+      inert = still;
       moves = after_is ∙ ap (λ (l : List Entry). before ++ l) (longer_is ∙ all);
       taken = subst (λ (l : List Entry). HasTaken old l new) (taken_is ∙ all) has;
     }

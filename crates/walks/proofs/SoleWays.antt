@@ -16,7 +16,7 @@ use Rattle.orders.specs.SearchLaws.{IsOneNode, EndsHere}
 use Rattle.orders.proofs.AlikeStates.{alike_states-trans}
 use Rattle.orders.proofs.AlikeSteps.{alike_states_step_alike}
 use Rattle.orders.proofs.StatesInOrder.{step_keeps_order, run_is_in_order}
-use Rattle.orders.proofs.TimelyRuns.{timely_move, timely_before}
+use Rattle.orders.proofs.TimelyRuns.{timely_transition, timely_before}
 use Rattle.orders.proofs.SearchLaws.{then_some}
 use Rattle.walks.specs.JournalsInTime.{ComesOf, MayEnd, ComeToOneNode}
 use Rattle.walks.specs.Sole.{StandsForAll, SoleWaysGoOn}
@@ -66,7 +66,7 @@ go_alike design limits e f g (entry ∷ entries) i j (lines, alike) is timely =
     record {
       others = other ∷ more.others;
       effect = more.effect;
-      timely = All-cons (IsTimely limits) other more.others (timely_move e.state f.state limits other entry move (All-head (IsTimely limits) entry entries timely)) more.timely;
+      timely = All-cons (IsTimely limits) other more.others (timely_transition e.state f.state limits other entry move (All-head (IsTimely limits) entry entries timely)) more.timely;
       goes = then_some (λ z. run_from design (joined f z) more.others) (step design f.state other) y more.effect at_y more.goes;
       node = more.node;
       parts = λ first rest split. parts_more x y other at_x at_y more first rest split;

@@ -16,7 +16,7 @@ use Rattle.regions.specs.StepLogs.{IsTaken}
 use Rattle.regions.specs.declared.state.MadeEvent.{MadeEvent}
 use Rattle.regions.specs.declared.machine.TakeFault.{TakeFault}
 use Rattle.regions.specs.declared.machine.TakeFault.TheVariants as faults
-use Rattle.regions.specs.Machine.{Position, state_at, IsNotTaken}
+use Rattle.regions.specs.Machine.{MachineView, state_at, IsNotTaken}
 use Rattle.regions.specs.declared.queue.Update.{Update}
 use Rattle.regions.specs.Queue.{update_event}
 use Rattle.flat.specs.declared.turned.Turned.{Turned}
@@ -29,7 +29,7 @@ use Rattle.walks.proofs.Straight.{no_end, only_way_covers}
 use Rattle.walks.proofs.SoleWays.{sole_ways_go_on}
 
 -- a walk begins with no entry
-pub walk_begins : (limits : Limits) (m : Position) (moves : List Entry) → moves ≡ [] → m.lines ≡ [] → HasWalked limits (state_at m) m moves
+pub walk_begins : (limits : Limits) (m : MachineView) (moves : List Entry) → moves ≡ [] → m.lines ≡ [] → HasWalked limits (state_at m) m moves
 walk_begins limits m moves none silent_is =
     let goes : run_from (design_of m.code) (silent (state_at m)) [] ≡ Some (silent (state_at m)) = refl in
     record {
@@ -60,7 +60,7 @@ both_stand design limits s [] more f before goes timely sole =
 both_stand design limits s (entry ∷ way) more f before goes timely sole = sole_ways_go_on design limits s (entry ∷ way) more f (before (λ none. cc)) goes timely sole
 
 -- a walk goes on by what stands for all
-pub walked_more : (limits : Limits) (s : State) (old new : Position) (moves longer more : List Entry) → HasWalked limits s old moves → HasTaken old more new → AreTimely limits more → StandsForAll (design_of old.code) limits (state_at old) more → new.code ≡ old.code
+pub walked_more : (limits : Limits) (s : State) (old new : MachineView) (moves longer more : List Entry) → HasWalked limits s old moves → HasTaken old more new → AreTimely limits more → StandsForAll (design_of old.code) limits (state_at old) more → new.code ≡ old.code
     → longer ≡ moves ++ more → HasWalked limits s new longer
 walked_more limits s old new moves longer more before taken timely sole code longer_is =
     let design = design_of old.code in
@@ -80,7 +80,7 @@ walked_more limits s old new moves longer more before taken timely sole code lon
     }
 
 -- an entry that a machine took
-pub taken_one : (old new : Position) (entry : Entry) → IsTaken old.code (state_at old) old.lines entry (state_at new) new.lines → HasTaken old (entry ∷ []) new
+pub taken_one : (old new : MachineView) (entry : Entry) → IsTaken old.code (state_at old) old.lines entry (state_at new) new.lines → HasTaken old (entry ∷ []) new
 taken_one old new entry taken =
     record {
       effect = joined (silent (state_at old)) taken.effect;
@@ -90,7 +90,7 @@ taken_one old new entry taken =
     }
 
 -- entries that a machine took, and then others
-pub taken_both : (old mid new : Position) (entries more : List Entry) → HasTaken old entries mid → mid.code ≡ old.code → HasTaken mid more new → HasTaken old (entries ++ more) new
+pub taken_both : (old mid new : MachineView) (entries more : List Entry) → HasTaken old entries mid → mid.code ≡ old.code → HasTaken mid more new → HasTaken old (entries ++ more) new
 taken_both old mid new entries more before code behind =
     let design = design_of old.code in
     let on : run_from design (silent before.effect.state) more ≡ Some behind.effect =
@@ -102,26 +102,26 @@ taken_both old mid new entries more before code behind =
       lines_are = behind.lines_are ∙ (ap (λ l. l ++ behind.effect.lines) before.lines_are ∙ append_assoc old.lines before.effect.lines behind.effect.lines);
     }
 
-pub taken_more : (old mid new : Position) (entries : List Entry) (entry : Entry) → HasTaken old entries mid → mid.code ≡ old.code → IsTaken mid.code (state_at mid) mid.lines entry (state_at new) new.lines → HasTaken old (entries ++ entry ∷ []) new
+pub taken_more : (old mid new : MachineView) (entries : List Entry) (entry : Entry) → HasTaken old entries mid → mid.code ≡ old.code → IsTaken mid.code (state_at mid) mid.lines entry (state_at new) new.lines → HasTaken old (entries ++ entry ∷ []) new
 taken_more old mid new entries entry before code taken = taken_both old mid new entries (entry ∷ []) before code (taken_one mid new entry taken)
 
 -- nothing was taken yet
-pub taken_none : (m : Position) → HasTaken m [] m
+pub taken_none : (m : MachineView) → HasTaken m [] m
 taken_none m = record { effect = silent (state_at m); goes = refl; state_is = refl; lines_are = sym (append-nil m.lines) }
 
 -- a walk goes on by the only entry, which a machine took
-pub walked_on : (limits : Limits) (s : State) (old new : Position) (moves longer : List Entry) (entry : Entry) → HasWalked limits s old moves → IsOnlyEntry limits (state_at old) entry → new.code ≡ old.code → longer ≡ moves ++ entry ∷ []
+pub walked_on : (limits : Limits) (s : State) (old new : MachineView) (moves longer : List Entry) (entry : Entry) → HasWalked limits s old moves → IsOnlyEntry limits (state_at old) entry → new.code ≡ old.code → longer ≡ moves ++ entry ∷ []
     → IsTaken old.code (state_at old) old.lines entry (state_at new) new.lines → HasWalked limits s new longer
 walked_on limits s old new moves longer entry before one code longer_is taken =
     walked_more limits s old new moves longer (entry ∷ []) before (taken_one old new entry taken) (All-cons (IsTimely limits) entry [] one.timely (All-nil (IsTimely limits)))
     (only_stands (design_of old.code) limits (state_at old) entry taken.effect one taken.is_step) code longer_is
 
 -- a walk goes on by the way that stands for all
-pub walked_ahead : (limits : Limits) (s : State) (old new : Position) (moves longer more : List Entry) → HasWalked limits s old moves → IsSoleWay old new more → new.code ≡ old.code → longer ≡ moves ++ more → HasWalked limits s new longer
+pub walked_ahead : (limits : Limits) (s : State) (old new : MachineView) (moves longer more : List Entry) → HasWalked limits s old moves → IsSoleWay old new more → new.code ≡ old.code → longer ≡ moves ++ more → HasWalked limits s new longer
 walked_ahead limits s old new moves longer more before way code longer_is = walked_more limits s old new moves longer more before way.taken (way.timely limits) (way.sole limits) code longer_is
 
 -- a walk of no entry stands where it began
-pub walked_nowhere : (limits : Limits) (s : State) (m : Position) (moves : List Entry) → HasWalked limits s m moves → moves ≡ [] → (state_at m ≡ s) × (m.lines ≡ [])
+pub walked_nowhere : (limits : Limits) (s : State) (m : MachineView) (moves : List Entry) → HasWalked limits s m moves → moves ≡ [] → (state_at m ≡ s) × (m.lines ≡ [])
 walked_nowhere limits s m moves walked none =
     let goes : run_from (design_of m.code) (silent s) [] ≡ Some walked.effect = subst (λ (l : List Entry). run_from (design_of m.code) (silent s) l ≡ Some walked.effect) none walked.goes in
     let same : walked.effect ≡ silent s = cc in
@@ -145,12 +145,12 @@ updates_more us at u es more within is before longer =
     longer ∙ (ap (λ (l : List Entry). l ++ Entry.Update u.number ∷ []) before ∙ sym (ap (λ (l : List Update). updates_of (map update_event l)) (prefix_more us at u within is) ∙ both))
 
 -- why an entry wasn't taken stays so where only what entries made has changed
-still_not_taken : (old : Position) (made : List MadeEvent) (entry : Entry) (fault : TakeFault) → IsNotTaken old entry fault → IsNotTaken (record old { made = made }) entry fault
+still_not_taken : (old : MachineView) (made : List MadeEvent) (entry : Entry) (fault : TakeFault) → IsNotTaken old entry fault → IsNotTaken (record old { made = made }) entry fault
 still_not_taken old made entry (faults.Refused r) h = h
 still_not_taken old made entry faults.TooLong h = h
 still_not_taken old made entry faults.TooMany h = h
 still_not_taken old made entry faults.ApplyMemory h = h
 still_not_taken old made entry faults.Memory h = h
 
-pub not_taken_after : (old new : Position) (entry : Entry) (fault : TakeFault) → new ≡ record old { made = new.made } → IsNotTaken old entry fault → IsNotTaken new entry fault
-not_taken_after old new entry fault same h = subst (λ (p : Position). IsNotTaken p entry fault) (sym same) (still_not_taken old new.made entry fault h)
+pub not_taken_after : (old new : MachineView) (entry : Entry) (fault : TakeFault) → new ≡ record old { made = new.made } → IsNotTaken old entry fault → IsNotTaken new entry fault
+not_taken_after old new entry fault same h = subst (λ (p : MachineView). IsNotTaken p entry fault) (sym same) (still_not_taken old new.made entry fault h)

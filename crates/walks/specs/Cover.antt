@@ -7,7 +7,7 @@ use Rattle.model.specs.declared.end.Limits.{Limits}
 use Rattle.model.specs.declared.end.End.{End}
 use Rattle.model.specs.Design.{Design}
 use Rattle.model.specs.Runs.{Effect, refusal, step, run_from, IsTimely}
-use Rattle.orders.specs.Alike.{move_of}
+use Rattle.orders.specs.Alike.{transition_of}
 use Rattle.orders.specs.SearchLaws.{IsOneNode, EndsHere, Visited, Covers}
 use Rattle.walks.specs.JournalsInTime.{ComesOf, MayEnd, ComeToOneNode}
 
@@ -31,11 +31,11 @@ CoverRuns design limits journal ways =
     → (part : List Entry) × (rest : List Entry) × (0 < length part) × (part ++ rest ≡ entry ∷ entries)
     × Any (λ way. ComeToOneNode design limits (journal ++ part) (journal ++ way)) ways
 
--- whatever entry a step takes in time from an effect, one of the same move is a way by itself
-abbrev pub FollowMoves : Design → Limits → Effect → List (List Entry) → Type 0
-FollowMoves design limits e ways =
+-- whatever entry a step takes in time from an effect, one of the same transition is a way by itself
+abbrev pub FollowTransitions : Design → Limits → Effect → List (List Entry) → Type 0
+FollowTransitions design limits e ways =
     (entry : Entry) (f : Effect) → step design e.state entry ≡ Some f → IsTimely limits entry
-    → (other : Entry) × Contains ways (other ∷ []) × (move_of e.state other ≡ move_of e.state entry)
+    → (other : Entry) × Contains ways (other ∷ []) × (transition_of e.state other ≡ transition_of e.state entry)
 
 -- ways cover the runs from a journal where the nodes to which they lead cover what comes of it
 abbrev pub CoveringNodesCover : Type 0
@@ -43,11 +43,11 @@ CoveringNodesCover =
     (design : Design) (limits : Limits) (journal : List Entry) (e : Effect) (ways : List (List Entry)) → ComesOf design limits journal e
     → LeadOn design limits journal ways → Covers design limits (nodes_after design e ways) e → CoverRuns design limits journal ways
 
--- ways cover the runs from a journal where each move from there is followed
-abbrev pub FollowedMovesCover : Type 0
-FollowedMovesCover =
+-- ways cover the runs from a journal where each transition from there is followed
+abbrev pub FollowedTransitionsCover : Type 0
+FollowedTransitionsCover =
     (design : Design) (limits : Limits) (journal : List Entry) (e : Effect) (ways : List (List Entry)) → ComesOf design limits journal e
-    → LeadOn design limits journal ways → FollowMoves design limits e ways → CoverRuns design limits journal ways
+    → LeadOn design limits journal ways → FollowTransitions design limits e ways → CoverRuns design limits journal ways
 
 -- a run may end at a journal just as it may where that journal leads
 abbrev pub EndsAreTheStates : Type 0
@@ -61,9 +61,9 @@ NodesOfWays =
     (design : Design) (e f g : Effect) (ways : List (List Entry)) (way : List Entry) → Contains ways way
     → run_from design e way ≡ Some g → IsOneNode f g → Visited (nodes_after design e ways) f
 
--- where each entry that is permitted, and takes a step in time, is a way by itself, each move is followed
+-- where each entry that is permitted, and takes a step in time, is a way by itself, each transition is followed
 abbrev pub PermittedAreFollowed : Type 0
 PermittedAreFollowed =
     (design : Design) (limits : Limits) (e : Effect) (ways : List (List Entry))
     → ((entry : Entry) (f : Effect) → refusal e.state entry ≡ None → step design e.state entry ≡ Some f → IsTimely limits entry → Contains ways (entry ∷ []))
-    → FollowMoves design limits e ways
+    → FollowTransitions design limits e ways

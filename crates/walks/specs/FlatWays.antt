@@ -6,7 +6,7 @@ use Rattle.model.specs.Design.{Design}
 use Rattle.model.specs.Turns.{Turn}
 use Rattle.model.specs.Runs.{Effect, run_from, AreTimely}
 use Rattle.orders.specs.SearchLaws.{IsOneNode}
-use Rattle.orders.specs.Silent.{IsSilent, settled}
+use Rattle.orders.specs.Inert.{IsInert, settled}
 use Rattle.orders.specs.Flat.{IsFlat, HasOneMaker}
 use Rattle.walks.specs.JournalsInTime.{ComesOf}
 use Rattle.walks.specs.Cover.{CoverRuns}
@@ -23,6 +23,6 @@ FlatWayCovers =
 abbrev pub SettledWayCovers : Type 0
 SettledWayCovers =
     (design : Design) (limits : Limits) (journal turns way : List Entry) (e f g : Effect) (turn : ℕ → Turn) → ComesOf design limits journal e
-    → IsFlat design e.state turn → length turns ≡ length e.state.active → run_from design e turns ≡ Some f → IsSilent f.state
+    → IsFlat design e.state turn → length turns ≡ length e.state.active → run_from design e turns ≡ Some f → IsInert f.state
     → run_from design e way ≡ Some g → IsOneNode (record f { state = settled f.state }) g → AreTimely limits way
     → CoverRuns design limits journal (way ∷ [])

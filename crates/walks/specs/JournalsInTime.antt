@@ -46,7 +46,7 @@ pub record IsLawfulText (design : Design) (limits : Limits) (journal : List Entr
   pub prints : text ≡ effect.lines
   pub goes_on : (end ≢ Stopped Entries) × (end ≢ Stopped Memory)
   pub ends : length journal < limits.max_entries → Ends design limits journal end
-  pub rests : (end ≡ Quiet) ⊎ (end ≡ Stopped Finish) → Ends design limits journal end
+  pub halts : (end ≡ Quiet) ⊎ (end ≡ Stopped Finish) → Ends design limits journal end
 
 -- the text of a journal and an end that its run may have are those of the journal
 abbrev pub EndsAreLawful : Type 0

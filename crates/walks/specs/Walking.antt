@@ -5,9 +5,9 @@ use Rattle.model.specs.declared.entry.Entry.TheVariants.{Turn, Update, ActivateN
 use Rattle.model.specs.declared.end.Limits.{Limits}
 use Rattle.model.specs.States.{State, Event}
 use Rattle.model.specs.Runs.{Effect, silent, refusal, run_from, IsTimely, AreTimely}
-use Rattle.orders.specs.Silent.{IsSilent}
+use Rattle.orders.specs.Inert.{IsInert}
 use Rattle.design.specs.Compiled.{design_of}
-use Rattle.regions.specs.Machine.{Position, state_at}
+use Rattle.regions.specs.Machine.{MachineView, state_at}
 use Rattle.walks.specs.Sole.{StandsForAll}
 
 -- the rules permit this entry alone, and it is in time
@@ -21,7 +21,7 @@ abbrev pub IsWithoutTurns : State → Type 0
 IsWithoutTurns s = (number : ℕ) → refusal s (Turn number) ≡ None → ⊥
 
 -- A machine took these entries: it stands where they lead, with the lines that they printed behind those that it had.
-pub record HasTaken (old : Position) (entries : List Entry) (new : Position) : Type 0 where
+pub record HasTaken (old : MachineView) (entries : List Entry) (new : MachineView) : Type 0 where
   pub effect : Effect
   pub goes : run_from (design_of old.code) (silent (state_at old)) entries ≡ Some effect
   pub state_is : state_at new ≡ effect.state
@@ -29,7 +29,7 @@ pub record HasTaken (old : Position) (entries : List Entry) (new : Position) : T
 
 -- A walk has gone from a state: its machine stands where its entries lead in time, with the lines that they printed; and where it took
 -- any, they stand for all.
-pub record HasWalked (limits : Limits) (s : State) (m : Position) (moves : List Entry) : Type 0 where
+pub record HasWalked (limits : Limits) (s : State) (m : MachineView) (moves : List Entry) : Type 0 where
   pub effect : Effect
   pub sole : moves ≢ [] → StandsForAll (design_of m.code) limits s moves
   pub goes : run_from (design_of m.code) (silent s) moves ≡ Some effect
@@ -46,13 +46,13 @@ abbrev pub updates_of : List Event → List Entry
 updates_of events = ActivateNba ∷ map (λ e. Update e.0) events
 
 -- Updates that wake nobody were taken: these are next, their entries stand behind those before them, and the machine took them.
-pub record HasSettled (old new : Position) (before after : List Entry) : Type 0 where
-  pub silent : IsSilent (state_at old)
+pub record HasSettled (old new : MachineView) (before after : List Entry) : Type 0 where
+  pub inert : IsInert (state_at old)
   pub moves : after ≡ before ++ updates_of old.core.nonblocking
   pub taken : HasTaken old (updates_of old.core.nonblocking) new
 
 -- A machine took these entries, and within any limits they are in time and stand for all.
-pub record IsSoleWay (old new : Position) (moves : List Entry) : Type 0 where
+pub record IsSoleWay (old new : MachineView) (moves : List Entry) : Type 0 where
   pub taken : HasTaken old moves new
   pub timely : (limits : Limits) → AreTimely limits moves
   pub sole : (limits : Limits) → StandsForAll (design_of old.code) limits (state_at old) moves

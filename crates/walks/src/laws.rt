@@ -1,7 +1,7 @@
 // Laws of the definitions, so that the check asks for their proofs.
 
 ghost use Rattle.walks.specs.JournalsInTime.{AlikeJournalsServe, EndsAreLawful, AllMayEnd, TextGoesOn};
-ghost use Rattle.walks.specs.Cover.{CoveringNodesCover, FollowedMovesCover, EndsAreTheStates, NodesOfWays, PermittedAreFollowed};
+ghost use Rattle.walks.specs.Cover.{CoveringNodesCover, FollowedTransitionsCover, EndsAreTheStates, NodesOfWays, PermittedAreFollowed};
 ghost use Rattle.walks.specs.FlatWays.{FlatWayCovers, SettledWayCovers};
 ghost use Rattle.walks.specs.Going.{StepGoesOn, WaysGoOn};
 ghost use Rattle.walks.specs.LongTurns.{StuckIsLongTurn, LongTurnIsStuck};
@@ -21,11 +21,11 @@ pub fn texts_go_on()
     ensures ways { WaysGoOn }
 {}
 
-/// Ways cover the runs from a journal where the nodes to which they lead cover what comes of it, and so where each move is
+/// Ways cover the runs from a journal where the nodes to which they lead cover what comes of it, and so where each transition is
 /// followed. Each is followed where each permitted entry that takes a step in time is a way.
-pub fn followed_moves_cover()
+pub fn followed_transitions_cover()
     ensures nodes { CoveringNodesCover }
-    ensures moves { FollowedMovesCover }
+    ensures transitions { FollowedTransitionsCover }
     ensures permitted { PermittedAreFollowed }
     ensures ways { NodesOfWays }
 {}

@@ -8,7 +8,7 @@ ghost use Rattle.walks.specs.PhasePassing.{HasGoneBehind};
 ghost use Rattle.walks.specs.Walking.{HasTaken, IsSoleWay, turns_of, updates_of};
 
 use crate::phase::{phase_way, take_phase};
-use flat::{Logs, Turned, flat_turns, is_silent, one_maker};
+use flat::{Logs, Turned, flat_turns, is_inert, one_maker};
 use model::entry::Entry;
 use regions::{Machine, TakeFault, Update};
 use settling::Networked;
@@ -83,7 +83,7 @@ fn take_behind(
     ensures code { machine.new.code ≡ machine.old.code }
     ensures behind { IfOk result (λ all. all ≡ true → HasGoneBehind machine.old machine.new moves.old.items moves.new.items) }
 {
-    if !is_silent(alloc, networked.design(), machine)? {
+    if !is_inert(alloc, networked.design(), machine)? {
         return take_phase(alloc, networked, machine, moves);
     }
     let updates = update_entries(alloc, machine.state().nonblocking())?;

@@ -12,7 +12,7 @@ use flat::Logs;
 use model::end::Limits;
 use model::entry::Entry;
 use regions::{Machine, TakeFault};
-use seeded::resting::is_timely;
+use seeded::halting::is_timely;
 use settling::Networked;
 use std::alloc::{AllocError, Global};
 use std::mem;
@@ -39,7 +39,7 @@ pub fn tell_long(machine: &Machine<'_>, entry: Entry, fault: TakeFault) -> Resul
 
 // The change of the regions that is due, where it is in time: nothing else is permitted where nothing is active.
 fn only_change(limits: Limits, machine: &Machine<'_>) -> Option<Entry>
-    requires rests { machine.now.core.active ≡ [] }
+    requires idle { machine.now.core.active ≡ [] }
     ensures { IfSome result (IsOnlyEntry limits (state_at machine.now)) }
 {
     match machine.due() {

@@ -9,7 +9,7 @@ use Rattle.model.specs.Expressions.{Store}
 use Rattle.model.specs.States.{State}
 use Rattle.model.specs.Runs.{Effect}
 use Rattle.design.specs.Compiled.{Compiled, design_of}
-use Rattle.regions.specs.Machine.{Position, state_at}
+use Rattle.regions.specs.Machine.{MachineView, state_at}
 use Rattle.replay.specs.JournalFaults.{IsFaultOf}
 use Rattle.replay.specs.Replays.{IsBehind}
 use Rattle.waves.specs.declared.wave.Change.{Change}
@@ -70,16 +70,16 @@ IsToldBefore ActivateMonitor design journal count s changes values = IsTold desi
 IsToldBefore (Advance time) design journal count s changes values = IsToldWhole design journal count s changes × (values ≡ s.store)
 
 -- a machine stands behind so many entries of a journal
-pub record IsAt (journal : List Entry) (count : ℕ) (p : Position) : Type 0 where
+pub record IsAt (journal : List Entry) (count : ℕ) (p : MachineView) : Type 0 where
   pub run : IsBehind (take count journal) p
   pub entries : p.core.entries ≡ count
 
 -- a machine stands behind so many entries of a journal, and this was told
-pub record HasTold (journal : List Entry) (count : ℕ) (p : Position) (told : Recorded) : Type 0 where
+pub record HasTold (journal : List Entry) (count : ℕ) (p : MachineView) (told : Recorded) : Type 0 where
   pub at : IsAt journal count p
   pub told_is : IsTold (design_of p.code) journal count (state_at p) told.changes.items told.values.items
 
 -- a machine stands behind a journal, and all of it was told
-pub record HasToldAll (journal : List Entry) (p : Position) (told : Recorded) : Type 0 where
+pub record HasToldAll (journal : List Entry) (p : MachineView) (told : Recorded) : Type 0 where
   pub run : IsBehind journal p
   pub told_is : IsToldWhole (design_of p.code) journal (length journal) (state_at p) told.changes.items

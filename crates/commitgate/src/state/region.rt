@@ -3,7 +3,7 @@ ghost use Rattle.std.specs.Prelude.{◌≡◌, ◌↔◌, length, IsTrue, IfSome
 ghost use Rattle.model.specs.Runs.{IsTimely};
 ghost use Rattle.runstate.specs.Ledger.{entries_of};
 ghost use Rattle.runstate.specs.GateState.{state_in};
-ghost use Rattle.commitgate.specs.GateAnswers.{IsResting, MustWait, stopped_for_memory};
+ghost use Rattle.commitgate.specs.GateAnswers.{IsBetweenRegions, MustWait, stopped_for_memory};
 ghost use Rattle.commitgate.specs.DueRegions.{IsDueChange, IsPassed};
 ghost use Rattle.commitgate.specs.Closing.{IsEndOf};
 ghost use Rattle.commitgate.specs.Replies.{RestAnswered};
@@ -80,7 +80,7 @@ impl<'d, K: Naming> GateState<'d, K> {
 
     /// The first change of the regions that is due, where nothing is active and an event is left (11.4).
     fn due_change(&self) -> Entry
-        requires { IsResting K.named.code self.now }
+        requires { IsBetweenRegions K.named.code self.now }
         ensures { IsDueChange (state_in K.named.code self.now) result }
     {
         let regions = &self.run_state.regions;

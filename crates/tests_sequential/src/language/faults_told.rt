@@ -3,7 +3,7 @@
 use crate::claims::{fail, holds};
 use diagnosis::diagnose::diagnose;
 use diagnosis::render::render;
-use places::{Place, processes};
+use locations::{Location, processes};
 use std::alloc::{AllocError, Global};
 use std::process::Abort;
 
@@ -32,9 +32,9 @@ pub fn is_told(rt: &impl Abort, alloc: Global) -> bool {
     }
 }
 
-fn assert_place(rt: &impl Abort, place: Place, line: usize, column: usize) {
-    holds(rt, place.line == line, "a line");
-    holds(rt, place.column == column, "a column");
+fn assert_location(rt: &impl Abort, location: Location, line: usize, column: usize) {
+    holds(rt, location.line == line, "a line");
+    holds(rt, location.column == column, "a column");
 }
 
 #[test]
@@ -43,8 +43,8 @@ fn processes_stand_at_their_words(rt: HostRuntime) {
     match processes(rt.alloc(), source) {
         Ok(found) => match found.as_slice() {
             [first, second] => {
-                assert_place(&rt, first.place, 2, 3);
-                assert_place(&rt, second.place, 3, 9);
+                assert_location(&rt, first.location, 2, 3);
+                assert_location(&rt, second.location, 3, 9);
                 holds(&rt, second.always && !first.always, "their words");
             }
             _ => fail(&rt, "two processes"),

@@ -1,6 +1,6 @@
 -- Lexemes of what is left complete those that were found.
 use Rattle.std.proofs.Common.{◌≡◌, ◌-◌, ◌≤◌, ◌++◌, List, map, length}
-use Rattle.places.specs.Spots.{skip_len}
+use Rattle.locations.specs.Spots.{skip_len}
 use Rattle.diagnosis.specs.Lexemes.{PlainLexeme, AreLexemes}
 use Rattle.diagnosis.specs.PlainLexemes.{plain_lexeme}
 use Rattle.diagnosis.proofs.lexemes.lexemes.Given as goal

@@ -1,6 +1,6 @@
 -- A token at the front, or behind it.
 use Rattle.std.proofs.Common.{arith}
-use Rattle.diagnosis.specs.FaultPlaces.{wants}
+use Rattle.diagnosis.specs.FaultLocations.{wants}
 use Rattle.diagnosis.proofs.Tellings.{front_found, front_later}
 use Rattle.diagnosis.proofs.wanted.find.Goals as goal
 

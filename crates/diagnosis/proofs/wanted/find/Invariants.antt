@@ -1,7 +1,7 @@
 -- A token of what is left is one of all.
 use Rattle.std.proofs.Common.{ℕ, map, length}
-use Rattle.places.specs.PlainSpots.{plain_spot}
-use Rattle.diagnosis.specs.FaultPlaces.{wants, IsSpotAt}
+use Rattle.locations.specs.PlainSpots.{plain_spot}
+use Rattle.diagnosis.specs.FaultLocations.{wants, IsSpotAt}
 use Rattle.diagnosis.proofs.wanted.find.Given as goal
 
 abbrev pub invariant-loop-left : goal.invariant-loop-left

@@ -1,7 +1,7 @@
 -- What is found is what the fault tells.
 use Rattle.std.proofs.Common.{◌≡◌, true, subst}
-use Rattle.places.specs.SourcePlaces.{is_process}
-use Rattle.diagnosis.specs.FaultPlaces.{is_named, is_long, is_name, is_call, tells}
+use Rattle.locations.specs.SourceLocations.{is_process}
+use Rattle.diagnosis.specs.FaultLocations.{is_named, is_long, is_name, is_call, tells}
 use Rattle.diagnosis.proofs.Tellings.{told_wider}
 use Rattle.diagnosis.proofs.wanted.told_byte.Goals as goal
 

@@ -1,7 +1,7 @@
 -- By the processes of the source.
 use Rattle.std.proofs.Common.{List, refl, sym, subst}
-use Rattle.places.specs.declared.place.Process.{Process}
-use Rattle.places.specs.SourcePlaces.{AreProcesses}
+use Rattle.locations.specs.declared.location.Process.{Process}
+use Rattle.locations.specs.SourceLocations.{AreProcesses}
 use Rattle.explain.specs.declared.telling.Telling.{Telling}
 use Rattle.explain.proofs.Ends.{explains_if, explains_fault_if}
 use Rattle.explain.proofs.telling.explain_on.Goals as goal

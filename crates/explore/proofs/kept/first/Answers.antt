@@ -10,14 +10,14 @@ pub returns-clause-kept : goal.returns-clause-kept
 returns-clause-kept g c =
     let orders = c.args.orders.now in
     let visit : ℕ × List ℕ = (0, c.as_slice.result.now) in
-    let p : Pending g.row.O-Node.Denot = record { node = c.in_ok-node.node; place = record { number = 0; text = 0 } } in
-    AreKept-first (g.O.Orders.runs orders) (g.O.Orders.has_key orders) _ p visit c.new.ensures.trail c.new.ensures.ways c.new-2.ensures.ok c.new-2.ensures.texts c.in_ok-_new.ensures.whole
+    let p : Pending g.row.O-Node.Denot = record { node = c.in_ok-node.node; reached = record { number = 0; text = 0 } } in
+    AreKept-first (g.O.Orders.runs orders) (g.O.Orders.has_key orders) _ p visit c.new.ensures.lineage c.new.ensures.ways c.new-2.ensures.ok c.new-2.ensures.texts c.in_ok-_new.ensures.whole
     (keys_first c.in_ok-_new._new (pieces c.new-visited.result.visits) (pieces c.add.new.self.visits) visit c.new-visited.ensures.none c.in_ok-_new.ensures.there c.in_ok-_new.ensures.added)
     (c.in_ok-push.ensures.items ∙ ap (λ (l : List (Pending g.row.O-Node.Denot)). l ++ p ∷ []) c.new-pending.ensures.items)
     refl refl c.in_ok-node.ensures (subst (g.O.Orders.has_key orders c.in_ok-node.node) (sym c.as_slice.ensures.value) c.in_ok-key.ensures) (g.met.O.Orders.silent orders)
 
 pub returns-clause-waits : goal.returns-clause-waits
 returns-clause-waits g c =
-    let p : Pending g.row.O-Node.Denot = record { node = c.in_ok-node.node; place = record { number = 0; text = 0 } } in
-    subst (λ (l : List (Pending g.row.O-Node.Denot)). Any (λ x. x.place.number ≡ 0) l) (sym c.in_ok-push.ensures.items)
-    (Any-push (λ (x : Pending g.row.O-Node.Denot). x.place.number ≡ 0) c.new-pending.result.items p refl)
+    let p : Pending g.row.O-Node.Denot = record { node = c.in_ok-node.node; reached = record { number = 0; text = 0 } } in
+    subst (λ (l : List (Pending g.row.O-Node.Denot)). Any (λ x. x.reached.number ≡ 0) l) (sym c.in_ok-push.ensures.items)
+    (Any-push (λ (x : Pending g.row.O-Node.Denot). x.reached.number ≡ 0) c.new-pending.result.items p refl)

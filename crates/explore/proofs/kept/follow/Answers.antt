@@ -1,7 +1,7 @@
 use Rattle.std.proofs.Common.{◌≡◌, ℕ, List, [], ◌++◌, get_or, refl, sym, ap, ◌∙◌, subst}
 use Rattle.explore.specs.Grown.{grown}
 use Rattle.explore.specs.NumberedTexts.{texts}
-use Rattle.explore.specs.Trail.{ways}
+use Rattle.explore.specs.Lineage.{ways}
 use Rattle.explore.specs.declared.kept.Pending.{Pending}
 use Rattle.explore.proofs.Keeping.{AreKept-texts, Grows-texts, there_leads, IsText-next, IsVisited-next, IsPending-next, AreKept-push, Grows-push, pushed_leads}
 use Rattle.explore.proofs.kept.follow.Goals as goal
@@ -20,9 +20,9 @@ returns-then-number-scope-clause-leads g c there =
     let old = c.args.kept.now in
     let next = c.args.next in
     let visit : ℕ × List ℕ = (c.in_ok-text.text, c.as_slice-bytes.result.now) in
-    let text : get_or (texts c.longer.new.self) visit.0 [] ≡ runs.text (get_or (ways old.trail) c.args.from.number [] ++ next.moves.items) =
+    let text : get_or (texts c.longer.new.self) visit.0 [] ≡ runs.text (get_or (ways old.lineage) c.args.from.number [] ++ next.moves.items) =
     c.in_ok-text.ensures.text ∙ (ap (λ l. get_or (texts old.texts) c.args.from.text [] ++ l) c.deref.ensures.value ∙ (ap (λ l. l ++ next.printed.items) c.requires.from.same ∙ sym c.requires.next.1)) in
-    there_leads runs (g.O.Orders.has_key orders) old (texts c.longer.new.self) next.node (get_or (ways old.trail) c.args.from.number [] ++ next.moves.items) visit
+    there_leads runs (g.O.Orders.has_key orders) old (texts c.longer.new.self) next.node (get_or (ways old.lineage) c.args.from.number [] ++ next.moves.items) visit
     (λ a b i j k of_a of_b at bt t. g.met.O.Orders.alike orders i j (g.met.O.Orders.keyed orders a b i j k of_a of_b at bt t))
     c.requires.kept c.in_ok-text.ensures.grows c.requires.next.0 (subst (g.O.Orders.has_key orders next.node) (sym c.as_slice-bytes.ensures.value) c.in_ok-key.ensures) text (c.contains.ensures there)
 
@@ -40,9 +40,9 @@ returns-then-not-new-clause-leads g c _ =
     let old = c.args.kept.now in
     let next = c.args.next in
     let visit : ℕ × List ℕ = (c.in_ok-text.text, c.as_slice-bytes.result.now) in
-    let text : get_or (texts c.longer.new.self) visit.0 [] ≡ runs.text (get_or (ways old.trail) c.args.from.number [] ++ next.moves.items) =
+    let text : get_or (texts c.longer.new.self) visit.0 [] ≡ runs.text (get_or (ways old.lineage) c.args.from.number [] ++ next.moves.items) =
     c.in_ok-text.ensures.text ∙ (ap (λ l. get_or (texts old.texts) c.args.from.text [] ++ l) c.deref.ensures.value ∙ (ap (λ l. l ++ next.printed.items) c.requires.from.same ∙ sym c.requires.next.1)) in
-    there_leads runs (g.O.Orders.has_key orders) old (texts c.longer.new.self) next.node (get_or (ways old.trail) c.args.from.number [] ++ next.moves.items) visit
+    there_leads runs (g.O.Orders.has_key orders) old (texts c.longer.new.self) next.node (get_or (ways old.lineage) c.args.from.number [] ++ next.moves.items) visit
     (λ a b i j k of_a of_b at bt t. g.met.O.Orders.alike orders i j (g.met.O.Orders.keyed orders a b i j k of_a of_b at bt t))
     c.requires.kept c.in_ok-text.ensures.grows c.requires.next.0 (subst (g.O.Orders.has_key orders next.node) (sym c.as_slice-bytes.ensures.value) c.in_ok-key.ensures) text (c.in_ok-new.ensures.there c.if-not-new.true).1
 
@@ -56,25 +56,25 @@ returns-clause-kept g c =
     let new = ways c.push.new.self in
     let told = texts c.longer.new.self in
     let visit : ℕ × List ℕ = (c.in_ok-text.text, c.as_slice-bytes.result.now) in
-    let p : Pending g.row.O-Node.Denot = record { node = next.node; place = record { number = c.len-number.result; text = c.in_ok-text.text } } in
-    let added : new ≡ grown (ways old.trail) c.args.from.number next.moves.items = c.in_ok-push.ensures.ways ∙ ap (λ (l : List g.row.O-Move.Denot). grown (ways old.trail) c.args.from.number l) c.deref-2.ensures.value in
+    let p : Pending g.row.O-Node.Denot = record { node = next.node; reached = record { number = c.len-number.result; text = c.in_ok-text.text } } in
+    let added : new ≡ grown (ways old.lineage) c.args.from.number next.moves.items = c.in_ok-push.ensures.ways ∙ ap (λ (l : List g.row.O-Move.Denot). grown (ways old.lineage) c.args.from.number l) c.deref-2.ensures.value in
     let text = c.in_ok-text.ensures.text ∙ ap (λ l. get_or (texts old.texts) c.args.from.text [] ++ l) c.deref.ensures.value in
-    let at = IsText-next runs (ways old.trail) new (texts old.texts) told c.args.from c.in_ok-text.text next.moves.items next.printed.items c.requires.from c.requires.next.1 added c.in_ok-text.ensures.within text in
-    AreKept-push runs HasKey old _ c.args.from.number c.in_ok-text.text next.moves.items visit p c.requires.kept c.in_ok-push.ensures.trail added c.in_ok-text.ensures.ok c.in_ok-text.ensures.grows c.in_ok-new.ensures.whole (c.in_ok-new.ensures.added c.if-not-new.false) c.in_ok-push-2.ensures.items
-    (IsVisited-next runs HasKey (ways old.trail) new told next.node c.args.from.number c.in_ok-text.text next.moves.items c.as_slice-bytes.result.now added c.requires.next.0 (subst (g.O.Orders.has_key orders next.node) (sym c.as_slice-bytes.ensures.value) c.in_ok-key.ensures) at)
-    (IsPending-next runs (ways old.trail) new told p c.args.from.number next.moves.items added c.requires.next.0 c.len-number.ensures at)
+    let at = IsText-next runs (ways old.lineage) new (texts old.texts) told c.args.from c.in_ok-text.text next.moves.items next.printed.items c.requires.from c.requires.next.1 added c.in_ok-text.ensures.within text in
+    AreKept-push runs HasKey old _ c.args.from.number c.in_ok-text.text next.moves.items visit p c.requires.kept c.in_ok-push.ensures.lineage added c.in_ok-text.ensures.ok c.in_ok-text.ensures.grows c.in_ok-new.ensures.whole (c.in_ok-new.ensures.added c.if-not-new.false) c.in_ok-push-2.ensures.items
+    (IsVisited-next runs HasKey (ways old.lineage) new told next.node c.args.from.number c.in_ok-text.text next.moves.items c.as_slice-bytes.result.now added c.requires.next.0 (subst (g.O.Orders.has_key orders next.node) (sym c.as_slice-bytes.ensures.value) c.in_ok-key.ensures) at)
+    (IsPending-next runs (ways old.lineage) new told p c.args.from.number next.moves.items added c.requires.next.0 c.len-number.ensures at)
 
 pub returns-clause-grows : goal.returns-clause-grows
 returns-clause-grows g c =
     let old = c.args.kept.now in
     let next = c.args.next in
-    let p : Pending g.row.O-Node.Denot = record { node = next.node; place = record { number = c.len-number.result; text = c.in_ok-text.text } } in
-    let added : ways c.push.new.self ≡ grown (ways old.trail) c.args.from.number next.moves.items = c.in_ok-push.ensures.ways ∙ ap (λ (l : List g.row.O-Move.Denot). grown (ways old.trail) c.args.from.number l) c.deref-2.ensures.value in
+    let p : Pending g.row.O-Node.Denot = record { node = next.node; reached = record { number = c.len-number.result; text = c.in_ok-text.text } } in
+    let added : ways c.push.new.self ≡ grown (ways old.lineage) c.args.from.number next.moves.items = c.in_ok-push.ensures.ways ∙ ap (λ (l : List g.row.O-Move.Denot). grown (ways old.lineage) c.args.from.number l) c.deref-2.ensures.value in
     Grows-push old _ c.args.from.number next.moves.items p added c.in_ok-text.ensures.grows c.in_ok-push-2.ensures.items c.len-number.ensures
 
 pub returns-clause-leads : goal.returns-clause-leads
 returns-clause-leads g c _ =
     let old = c.args.kept.now in
     let next = c.args.next in
-    let added : ways c.push.new.self ≡ grown (ways old.trail) c.args.from.number next.moves.items = c.in_ok-push.ensures.ways ∙ ap (λ (l : List g.row.O-Move.Denot). grown (ways old.trail) c.args.from.number l) c.deref-2.ensures.value in
-    pushed_leads (g.O.Orders.runs c.args.orders.now) (ways old.trail) (ways c.push.new.self) c.args.from.number next.moves.items added
+    let added : ways c.push.new.self ≡ grown (ways old.lineage) c.args.from.number next.moves.items = c.in_ok-push.ensures.ways ∙ ap (λ (l : List g.row.O-Move.Denot). grown (ways old.lineage) c.args.from.number l) c.deref-2.ensures.value in
+    pushed_leads (g.O.Orders.runs c.args.orders.now) (ways old.lineage) (ways c.push.new.self) c.args.from.number next.moves.items added

@@ -4,7 +4,7 @@ use Rattle.std.proofs.lemmas.List.{append-nil}
 use Rattle.std.specs.List.{All}
 use Rattle.explore.specs.SearchKept.{Leads}
 use Rattle.explore.specs.Search.{IsNext}
-use Rattle.explore.specs.Trail.{ways}
+use Rattle.explore.specs.Lineage.{ways}
 use Rattle.explore.specs.declared.Next.{Next}
 use Rattle.explore.proofs.Growing.{get_or-extends}
 use Rattle.explore.proofs.Complete.{taken_more, all_taken, both_true}
@@ -14,32 +14,32 @@ use Rattle.explore.proofs.kept.follow_all.Goals as goal
 pub loop-next-init : goal.loop-next-init
 loop-next-init g c =
     let runs = g.O.Orders.runs c.args.orders.now in
-    let way = get_or (ways c.args.kept.now.trail) c.args.from.number [] in
+    let way = get_or (ways c.args.kept.now.lineage) c.args.from.number [] in
     record {
       kept = c.requires.kept;
       grows = Grows-itself c.args.kept.now;
       room = c.requires.room;
       left = c.requires.successors;
-      done = ([], sym (append-nil c.args.successors.items), λ _. All-nil (λ (next : Next g.row.O-Node.Denot g.row.O-Move.Denot). Leads runs (ways c.args.kept.now.trail) (way ++ next.moves.items)));
+      done = ([], sym (append-nil c.args.successors.items), λ _. All-nil (λ (next : Next g.row.O-Node.Denot g.row.O-Move.Denot). Leads runs (ways c.args.kept.now.lineage) (way ++ next.moves.items)));
     }
 
 pub follow-requires-clause-next : goal.follow-requires-clause-next
 follow-requires-clause-next g c =
     let runs = g.O.Orders.runs c.args.orders.now in
-    let way = get_or (ways c.args.kept.now.trail) c.args.from.number [] in
+    let way = get_or (ways c.args.kept.now.lineage) c.args.from.number [] in
     let next = c.in-Some.next in
-    subst (λ (l : List g.row.O-Move.Denot). IsNext runs l next) (sym (get_or-extends (ways c.args.kept.now.trail) (ways c.loop-next.kept.trail) c.args.from.number [] c.loop-next.invariant.grows.trail c.requires.from.way))
+    subst (λ (l : List g.row.O-Move.Denot). IsNext runs l next) (sym (get_or-extends (ways c.args.kept.now.lineage) (ways c.loop-next.kept.lineage) c.args.from.number [] c.loop-next.invariant.grows.lineage c.requires.from.way))
     (All-pop (IsNext runs way) c.loop-next.left.items c.pop.new.self.items (Some next) c.in-Some.ensures.items c.loop-next.invariant.left).1
 
 pub loop-next-preserved : goal.loop-next-preserved
 loop-next-preserved g c =
     let runs = g.O.Orders.runs c.args.orders.now in
-    let way = get_or (ways c.args.kept.now.trail) c.args.from.number [] in
+    let way = get_or (ways c.args.kept.now.lineage) c.args.from.number [] in
     let next = c.in-Some.next in
     let popped = c.in-Some.ensures.items in
     let before = c.loop-next.invariant.done in
-    let new = ways c.follow.new.kept.trail in
-    let same = get_or-extends (ways c.args.kept.now.trail) (ways c.loop-next.kept.trail) c.args.from.number [] c.loop-next.invariant.grows.trail c.requires.from.way in
+    let new = ways c.follow.new.kept.lineage in
+    let same = get_or-extends (ways c.args.kept.now.lineage) (ways c.loop-next.kept.lineage) c.args.from.number [] c.loop-next.invariant.grows.lineage c.requires.from.way in
     record {
       kept = c.in_ok-there.ensures.kept;
       grows = Grows-through c.args.kept.now c.loop-next.kept c.follow.new.kept c.loop-next.invariant.grows c.in_ok-there.ensures.grows;
@@ -49,7 +49,7 @@ loop-next-preserved g c =
         next ∷ before.0,
         taken_more c.args.successors.items c.loop-next.left.items c.pop.new.self.items before.0 next before.1 popped,
         λ all. let both = both_true c.loop-next.all c.in_ok-there.there all in
-            leads_more runs (ways c.loop-next.kept.trail) new way before.0 next c.in_ok-there.ensures.grows.trail (before.2 both.0)
+            leads_more runs (ways c.loop-next.kept.lineage) new way before.0 next c.in_ok-there.ensures.grows.lineage (before.2 both.0)
             (subst (λ (l : List g.row.O-Move.Denot). Leads runs new (l ++ next.moves.items)) same (c.in_ok-there.ensures.leads both.1)),
       );
     }
@@ -57,8 +57,8 @@ loop-next-preserved g c =
 pub returns-clause-leads : goal.returns-clause-leads
 returns-clause-leads g c all =
     let runs = g.O.Orders.runs c.args.orders.now in
-    let way = get_or (ways c.args.kept.now.trail) c.args.from.number [] in
+    let way = get_or (ways c.args.kept.now.lineage) c.args.from.number [] in
     let done = c.loop-next.invariant.done in
     let none : length c.loop-next.left.items ≡ 0 = omega (arith, c.in_default.ensures.cases.0) in
     let same = all_taken c.args.successors.items c.loop-next.left.items done.0 done.1 none in
-    subst (λ (xs : List (Next g.row.O-Node.Denot g.row.O-Move.Denot)). All (λ next. Leads runs (ways c.loop-next.kept.trail) (way ++ next.moves.items)) xs) (sym same) (done.2 all)
+    subst (λ (xs : List (Next g.row.O-Node.Denot g.row.O-Move.Denot)). All (λ next. Leads runs (ways c.loop-next.kept.lineage) (way ++ next.moves.items)) xs) (sym same) (done.2 all)

@@ -3,20 +3,20 @@ use Rattle.std.specs.List.{All}
 use Rattle.explore.specs.declared.Next.{Next}
 use Rattle.explore.specs.SearchKept.{AreKept, Grows, Leads}
 use Rattle.explore.specs.Search.{IsNext}
-use Rattle.explore.specs.Trail.{ways}
+use Rattle.explore.specs.Lineage.{ways}
 use Rattle.explore.proofs.kept.follow_all.Given as goal
 
 abbrev pub invariant-loop-next : goal.invariant-loop-next
 invariant-loop-next g l =
     let runs = g.O.Orders.runs l.orders in
-    let way = get_or (ways l.fn.kept.trail) l.from.number [] in
+    let way = get_or (ways l.fn.kept.lineage) l.from.number [] in
     record {
       kept : AreKept runs (g.O.Orders.has_key l.orders) l.kept;
       grows : Grows l.fn.kept l.kept;
-      room : length (ways l.kept.trail) ≤ l.scope.bounds.nodes;
+      room : length (ways l.kept.lineage) ≤ l.scope.bounds.nodes;
       left : All (IsNext runs way) l.left.items;
       done : (did : List (Next g.row.O-Node.Denot g.row.O-Move.Denot)) × (l.fn.successors.items ≡ l.left.items ++ did)
-          × (IsTrue l.all → All (λ next. Leads runs (ways l.kept.trail) (way ++ next.moves.items)) did);
+          × (IsTrue l.all → All (λ next. Leads runs (ways l.kept.lineage) (way ++ next.moves.items)) did);
     }
 
 abbrev pub decreases-loop-next : goal.decreases-loop-next

@@ -2,13 +2,13 @@ use Rattle.std.proofs.Common.{◌≡◌, ℕ, ◌<◌, ◌≤◌, ◌+◌, ◌-�
 use Rattle.std.specs.List.{All, AllPairs, Any}
 use Rattle.explore.specs.SearchKept.{AreKept}
 use Rattle.explore.specs.Search.{IsOfRun, AreDistinct, IsShown, IsFollowed, Serves}
-use Rattle.explore.specs.Trail.{ways}
+use Rattle.explore.specs.Lineage.{ways}
 use Rattle.explore.proofs.search.search.Given as goal
 
 abbrev pub invariant-loop-at : goal.invariant-loop-at
 invariant-loop-at g l =
     let runs = g.O.Orders.runs l.orders in
-    let reached = ways l.kept.trail in
+    let reached = ways l.kept.lineage in
     record {
       kept : AreKept runs (g.O.Orders.has_key l.orders) l.kept;
       some : 0 < length reached;
@@ -17,8 +17,8 @@ invariant-loop-at g l =
       few : l.nodes ≤ l.scope.bounds.nodes;
       sound : All (IsOfRun runs) l.shown.items;
       distinct : AllPairs AreDistinct l.shown.items;
-      followed : IsTrue l.covered → (k : ℕ) → k < length reached → Any (λ p. p.place.number ≡ k) l.kept.pending.items ⊎ IsFollowed runs (IsShown l.shown.items) (Serves runs) reached (get_or reached k []);
+      followed : IsTrue l.covered → (k : ℕ) → k < length reached → Any (λ p. p.reached.number ≡ k) l.kept.pending.items ⊎ IsFollowed runs (IsShown l.shown.items) (Serves runs) reached (get_or reached k []);
     }
 
 abbrev pub decreases-loop-at : goal.decreases-loop-at
-decreases-loop-at g l = 2 * (l.scope.bounds.nodes - length (ways l.kept.trail)) + length l.kept.pending.items
+decreases-loop-at g l = 2 * (l.scope.bounds.nodes - length (ways l.kept.lineage)) + length l.kept.pending.items

@@ -5,7 +5,7 @@ use Rattle.std.proofs.lemmas.List.Elements.{All-push}
 use Rattle.std.specs.List.{AllPairs}
 use Rattle.explore.specs.Search.{IsShown, IsOfRun, AreDistinct, Differs}
 use Rattle.explore.specs.NumberedTexts.{texts}
-use Rattle.explore.specs.Trail.{ways}
+use Rattle.explore.specs.Lineage.{ways}
 use Rattle.explore.specs.declared.Shown.{Shown}
 use Rattle.explore.proofs.Shows.{shown_pushed, distinct_pushed}
 use Rattle.explore.proofs.show.show.Goals as goal
@@ -13,10 +13,10 @@ use Rattle.explore.proofs.show.show.Goals as goal
 pub returns-then-is_shown-clause-there : goal.returns-then-is_shown-clause-there
 returns-then-is_shown-clause-there g c _ =
     let runs = g.O.Orders.runs c.args.orders.now in
-    let way = get_or (ways c.args.run.trail.now) c.args.run.place.number [] in
+    let way = get_or (ways c.args.run.lineage.now) c.args.run.reached.number [] in
     let printed = c.args.ended.printed.items in
     let text : c.in_ok-text.text.items ≡ runs.text way ++ printed =
-    c.in_ok-text.ensures ∙ (ap (λ l. get_or (texts c.args.run.texts.now) c.args.run.place.text [] ++ l) c.deref.ensures.value ∙ ap (λ l. l ++ printed) c.requires.run.text.same) in
+    c.in_ok-text.ensures ∙ (ap (λ l. get_or (texts c.args.run.texts.now) c.args.run.reached.text [] ++ l) c.deref.ensures.value ∙ ap (λ l. l ++ printed) c.requires.run.text.same) in
     subst (λ (t : List ℕ). IsShown c.args.shown.now.items t c.args.ended.end) text
     (subst (λ (xs : List (Shown g.row.O-Move.Denot g.row.O-End.Denot)). IsShown xs c.in_ok-text.text.items c.args.ended.end) c.deref-2.ensures.value (c.is_shown.ensures.there c.if-is_shown.true))
 
@@ -26,10 +26,10 @@ returns-in_err-push-clause-grows g c = ([], c.in_err-push.ensures.items ∙ sym 
 pub returns-clause-sound : goal.returns-clause-sound
 returns-clause-sound g c =
     let runs = g.O.Orders.runs c.args.orders.now in
-    let way = get_or (ways c.args.run.trail.now) c.args.run.place.number [] in
+    let way = get_or (ways c.args.run.lineage.now) c.args.run.reached.number [] in
     let printed = c.args.ended.printed.items in
     let text : c.in_ok-text.text.items ≡ runs.text way ++ printed =
-    c.in_ok-text.ensures ∙ (ap (λ l. get_or (texts c.args.run.texts.now) c.args.run.place.text [] ++ l) c.deref.ensures.value ∙ ap (λ l. l ++ printed) c.requires.run.text.same) in
+    c.in_ok-text.ensures ∙ (ap (λ l. get_or (texts c.args.run.texts.now) c.args.run.reached.text [] ++ l) c.deref.ensures.value ∙ ap (λ l. l ++ printed) c.requires.run.text.same) in
     let e : way ++ c.args.ended.moves.items ≡ c.extend_from_slice.new.self.items =
     sym (c.in_ok-extend_from_slice.ensures.items ∙ (ap (λ (l : List g.row.O-Move.Denot). l ++ c.deref-3.result.now) c.in_ok-moves.ensures ∙ ap (λ (l : List g.row.O-Move.Denot). way ++ l) c.deref-3.ensures.value)) in
     let new : Shown g.row.O-Move.Denot g.row.O-End.Denot = record { text = c.in_ok-text.text; end = c.args.ended.end; moves = c.extend_from_slice.new.self } in
@@ -45,10 +45,10 @@ returns-clause-distinct g c =
 pub returns-clause-there : goal.returns-clause-there
 returns-clause-there g c _ =
     let runs = g.O.Orders.runs c.args.orders.now in
-    let way = get_or (ways c.args.run.trail.now) c.args.run.place.number [] in
+    let way = get_or (ways c.args.run.lineage.now) c.args.run.reached.number [] in
     let printed = c.args.ended.printed.items in
     let text : c.in_ok-text.text.items ≡ runs.text way ++ printed =
-    c.in_ok-text.ensures ∙ (ap (λ l. get_or (texts c.args.run.texts.now) c.args.run.place.text [] ++ l) c.deref.ensures.value ∙ ap (λ l. l ++ printed) c.requires.run.text.same) in
+    c.in_ok-text.ensures ∙ (ap (λ l. get_or (texts c.args.run.texts.now) c.args.run.reached.text [] ++ l) c.deref.ensures.value ∙ ap (λ l. l ++ printed) c.requires.run.text.same) in
     let new : Shown g.row.O-Move.Denot g.row.O-End.Denot = record { text = c.in_ok-text.text; end = c.args.ended.end; moves = c.extend_from_slice.new.self } in
     subst (λ (t : List ℕ). IsShown c.push.new.self.items t c.args.ended.end) text
     (subst (λ (xs : List (Shown g.row.O-Move.Denot g.row.O-End.Denot)). IsShown xs new.text.items new.end) (sym c.in_ok-push.ensures.items) (shown_pushed c.args.shown.now.items new))

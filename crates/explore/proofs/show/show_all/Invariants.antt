@@ -3,13 +3,13 @@ use Rattle.std.specs.List.{All, AllPairs}
 use Rattle.explore.specs.declared.Ended.{Ended}
 use Rattle.explore.specs.Grown.{Extends}
 use Rattle.explore.specs.Search.{IsOfRun, IsEnded, AreDistinct, IsShown}
-use Rattle.explore.specs.Trail.{ways}
+use Rattle.explore.specs.Lineage.{ways}
 use Rattle.explore.proofs.show.show_all.Given as goal
 
 abbrev pub invariant-loop-one : goal.invariant-loop-one
 invariant-loop-one g l =
     let runs = g.O.Orders.runs l.orders in
-    let way = get_or (ways l.run.trail.now) l.run.place.number [] in
+    let way = get_or (ways l.run.lineage.now) l.run.reached.number [] in
     record {
       sound : All (IsOfRun runs) l.shown.items;
       distinct : AllPairs AreDistinct l.shown.items;

@@ -66,7 +66,7 @@ returns-in-Ok-clause-told g c =
 
 pub returns-in-Err-clause-done : goal.returns-in-Err-clause-done
 returns-in-Err-clause-done g c =
-    refused_done (texts_of c.args.words.now) c.in-Err.refusal c.refuse.result (g.O.Write.contents (held c.args.out.now)) (g.O.Write.contents (held c.refuse.new.out))
+    refused_done (texts_of c.args.words.now) c.in-Err.no_request c.refuse.result (g.O.Write.contents (held c.args.out.now)) (g.O.Write.contents (held c.refuse.new.out))
     (g.F.Files.made c.args.files.now) c.in-Err.ensures.refused c.refuse.ensures.status c.refuse.ensures.helped
 
 pub returns-in-Err-clause-told : goal.returns-in-Err-clause-told

@@ -2,13 +2,13 @@
 use Rattle.std.proofs.Common.{[], ◌∷◌, ◌++◌, ap, ◌∙◌, List}
 use Rattle.model.specs.declared.entry.Entry.{Entry}
 use Rattle.explore.specs.declared.Next.{Next}
-use Rattle.races.specs.declared.place.Place.{Place}
+use Rattle.races.specs.declared.node.DesignNode.{DesignNode}
 use Rattle.races.proofs.expand.arrive.Goals as goal
 
 pub returns-clause-one : goal.returns-clause-one
 returns-clause-one c = (
   c.next_of-next.result,
-  c.in_ok-push.ensures.items ∙ ap (λ (l : List (Next Place Entry)). l ++ c.next_of-next.result ∷ []) c.new-successors.ensures.items,
+  c.in_ok-push.ensures.items ∙ ap (λ (l : List (Next DesignNode Entry)). l ++ c.next_of-next.result ∷ []) c.new-successors.ensures.items,
   ap (λ v. v.items) c.next_of-next.ensures.moves,
   c.next_of-next.ensures.printed,
   c.next_of-next.ensures.ready,

@@ -1,33 +1,33 @@
--- Where a run rests, branches, or goes on with no choice.
+-- Where a run halts, branches, or goes on with no choice.
 use Rattle.std.proofs.Common.{◌≡◌, ◌<◌, ◌∙◌, ap, length, sym, subst}
 use Rattle.std.proofs.lemmas.Result.{IfOk-weaker}
 use Rattle.design.specs.Compiled.{design_of}
-use Rattle.regions.specs.Machine.{Position, state_at}
-use Rattle.seeded.specs.Resting.{GoesOn, RestsAt}
+use Rattle.regions.specs.Machine.{MachineView, state_at}
+use Rattle.seeded.specs.Halting.{GoesOn, HaltsAt}
 use Rattle.walks.specs.Walking.{HasWalked}
 use Rattle.walks.proofs.Walks.{walked_nowhere}
-use Rattle.races.proofs.Expansions.{both_ok, no_elements, empty_is_none, not_empty_is_some, rested_sound, rested_all, branched_next, branched_sound, branched_all, arrived_next, arrived_all}
+use Rattle.races.proofs.Expansions.{both_ok, no_elements, empty_is_none, not_empty_is_some, halted_sound, halted_all, branched_next, branched_sound, branched_all, arrived_next, arrived_all}
 use Rattle.races.proofs.expand.expand.Goals as goal
 
 pub returns-in-Some-clause-sound : goal.returns-in-Some-clause-sound
 returns-in-Some-clause-sound c =
     let m = c.args.machine.value in
-    let rests = subst (λ (p : Position). RestsAt (design_of p.code) c.args.limits (state_at p) c.in-Some.end) c.deref.ensures c.in-Some.ensures.rests in
-    IfOk-weaker c.rests.result _ _ (λ x is. rested_sound m.code c.args.limits (state_at m) c.in-Some.end x.ended.items c.requires.bounded.some_entry rests is) c.rests.ensures.one
+    let halts = subst (λ (p : MachineView). HaltsAt (design_of p.code) c.args.limits (state_at p) c.in-Some.end) c.deref.ensures c.in-Some.ensures.halts in
+    IfOk-weaker c.halts.result _ _ (λ x is. halted_sound m.code c.args.limits (state_at m) c.in-Some.end x.ended.items c.requires.bounded.some_entry halts is) c.halts.ensures.one
 
 pub returns-in-Some-clause-all : goal.returns-in-Some-clause-all
 returns-in-Some-clause-all c =
     let m = c.args.machine.value in
-    let rests = subst (λ (p : Position). RestsAt (design_of p.code) c.args.limits (state_at p) c.in-Some.end) c.deref.ensures c.in-Some.ensures.rests in
-    IfOk-weaker c.rests.result _ _ (λ x (is, none) whole. rested_all m.code c.args.limits (state_at m) c.in-Some.end x.successors.items x.ended.items rests is none)
-    (both_ok c.rests.result _ _ c.rests.ensures.one c.rests.ensures.none)
+    let halts = subst (λ (p : MachineView). HaltsAt (design_of p.code) c.args.limits (state_at p) c.in-Some.end) c.deref.ensures c.in-Some.ensures.halts in
+    IfOk-weaker c.halts.result _ _ (λ x (is, none) whole. halted_all m.code c.args.limits (state_at m) c.in-Some.end x.successors.items x.ended.items halts is none)
+    (both_ok c.halts.result _ _ c.halts.ensures.one c.halts.ensures.none)
 
 pub branch-alloc-requires-clause-goes_on : goal.branch-alloc-requires-clause-goes_on
 branch-alloc-requires-clause-goes_on c =
     let moves = c.in_ok-moves.moves in
     let none : length moves.items ≡ 0 = empty_is_none moves c.is_empty.result c.is_empty.ensures c.if-is_empty.true in
     let there = walked_nowhere c.args.limits (state_at c.deref_mut.result.now) c.walk_with.new.machine moves.items c.in_ok-moves.ensures.walked (no_elements moves.items none) in
-    let on = subst (λ (p : Position). GoesOn c.args.limits (state_at p)) (c.deref.ensures ∙ sym c.deref_mut.ensures.value) c.in-None.ensures.goes_on in
+    let on = subst (λ (p : MachineView). GoesOn c.args.limits (state_at p)) (c.deref.ensures ∙ sym c.deref_mut.ensures.value) c.in-None.ensures.goes_on in
     subst (GoesOn c.args.limits) (sym there.0) on
 
 pub branch-alloc-requires-clause-silent : goal.branch-alloc-requires-clause-silent
@@ -44,7 +44,7 @@ returns-then-is_empty-clause-next c =
     let moves = c.in_ok-moves.moves in
     let none : length moves.items ≡ 0 = empty_is_none moves c.is_empty.result c.is_empty.ensures c.if-is_empty.true in
     let there = walked_nowhere c.args.limits (state_at c.deref_mut.result.now) c.walk_with.new.machine moves.items c.in_ok-moves.ensures.walked (no_elements moves.items none) in
-    let code : new.code ≡ m.code = c.walk_with.ensures.code ∙ ap (λ (p : Position). p.code) c.deref_mut.ensures.value in
+    let code : new.code ≡ m.code = c.walk_with.ensures.code ∙ ap (λ (p : MachineView). p.code) c.deref_mut.ensures.value in
     let state : state_at new ≡ state_at m = there.0 ∙ ap state_at c.deref_mut.ensures.value in
     IfOk-weaker c.branch-alloc.result _ _ (λ x on. branched_next m.code new.code c.args.limits (state_at m) (state_at new) x.successors.items code state on) c.branch-alloc.ensures.next
 
@@ -55,7 +55,7 @@ returns-then-is_empty-clause-sound c =
     let moves = c.in_ok-moves.moves in
     let none : length moves.items ≡ 0 = empty_is_none moves c.is_empty.result c.is_empty.ensures c.if-is_empty.true in
     let there = walked_nowhere c.args.limits (state_at c.deref_mut.result.now) c.walk_with.new.machine moves.items c.in_ok-moves.ensures.walked (no_elements moves.items none) in
-    let code : new.code ≡ m.code = c.walk_with.ensures.code ∙ ap (λ (p : Position). p.code) c.deref_mut.ensures.value in
+    let code : new.code ≡ m.code = c.walk_with.ensures.code ∙ ap (λ (p : MachineView). p.code) c.deref_mut.ensures.value in
     let state : state_at new ≡ state_at m = there.0 ∙ ap state_at c.deref_mut.ensures.value in
     IfOk-weaker c.branch-alloc.result _ _ (λ x to. branched_sound m.code new.code c.args.limits (state_at m) (state_at new) x.ended.items code state to) c.branch-alloc.ensures.sound
 
@@ -66,7 +66,7 @@ returns-then-is_empty-clause-all c =
     let moves = c.in_ok-moves.moves in
     let none : length moves.items ≡ 0 = empty_is_none moves c.is_empty.result c.is_empty.ensures c.if-is_empty.true in
     let there = walked_nowhere c.args.limits (state_at c.deref_mut.result.now) c.walk_with.new.machine moves.items c.in_ok-moves.ensures.walked (no_elements moves.items none) in
-    let code : new.code ≡ m.code = c.walk_with.ensures.code ∙ ap (λ (p : Position). p.code) c.deref_mut.ensures.value in
+    let code : new.code ≡ m.code = c.walk_with.ensures.code ∙ ap (λ (p : MachineView). p.code) c.deref_mut.ensures.value in
     let state : state_at new ≡ state_at m = there.0 ∙ ap state_at c.deref_mut.ensures.value in
     IfOk-weaker c.branch-alloc.result _ _ (λ x all whole. branched_all m.code new.code c.args.limits (state_at m) (state_at new) x.successors.items x.ended.items code state (all whole)) c.branch-alloc.ensures.all
 
@@ -75,8 +75,8 @@ returns-clause-next c =
     let m = c.args.machine.value in
     let new = c.walk_with.new.machine in
     let moves = c.in_ok-moves.moves in
-    let walked = subst (λ (p : Position). HasWalked c.args.limits (state_at p) new moves.items) c.deref_mut.ensures.value c.in_ok-moves.ensures.walked in
-    let code : new.code ≡ m.code = c.walk_with.ensures.code ∙ ap (λ (p : Position). p.code) c.deref_mut.ensures.value in
+    let walked = subst (λ (p : MachineView). HasWalked c.args.limits (state_at p) new moves.items) c.deref_mut.ensures.value c.in_ok-moves.ensures.walked in
+    let code : new.code ≡ m.code = c.walk_with.ensures.code ∙ ap (λ (p : MachineView). p.code) c.deref_mut.ensures.value in
     IfOk-weaker c.arrive.result _ _ (λ x one. arrived_next m.code c.args.limits (state_at m) new moves.items x.successors.items code walked one) c.arrive.ensures.one
 
 pub returns-clause-all : goal.returns-clause-all
@@ -85,6 +85,6 @@ returns-clause-all c =
     let new = c.walk_with.new.machine in
     let moves = c.in_ok-moves.moves in
     let some : 0 < length moves.items = not_empty_is_some moves c.is_empty.result c.is_empty.ensures c.if-is_empty.false in
-    let walked = subst (λ (p : Position). HasWalked c.args.limits (state_at p) new moves.items) c.deref_mut.ensures.value c.in_ok-moves.ensures.walked in
-    let code : new.code ≡ m.code = c.walk_with.ensures.code ∙ ap (λ (p : Position). p.code) c.deref_mut.ensures.value in
+    let walked = subst (λ (p : MachineView). HasWalked c.args.limits (state_at p) new moves.items) c.deref_mut.ensures.value c.in_ok-moves.ensures.walked in
+    let code : new.code ≡ m.code = c.walk_with.ensures.code ∙ ap (λ (p : MachineView). p.code) c.deref_mut.ensures.value in
     IfOk-weaker c.arrive.result _ _ (λ x one whole. arrived_all m.code c.args.limits (state_at m) new moves.items x.successors.items x.ended.items code walked some one) c.arrive.ensures.one

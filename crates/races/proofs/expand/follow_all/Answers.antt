@@ -2,15 +2,15 @@
 use Rattle.std.proofs.Common.{◌≡◌, List, None, [], ◌∷◌, ◌++◌, sym, subst}
 use Rattle.model.specs.declared.entry.Entry.{Entry}
 use Rattle.model.specs.Runs.{refusal}
-use Rattle.regions.specs.Machine.{Position, state_at}
+use Rattle.regions.specs.Machine.{MachineView, state_at}
 use Rattle.std.specs.List.{All}
-use Rattle.races.specs.SearchPlaces.{AreWaysFor}
+use Rattle.races.specs.SearchNodes.{AreWaysFor}
 use Rattle.races.proofs.Ways.{front_and_last, more_ways_for}
 use Rattle.races.proofs.expand.follow_all.Goals as goal
 
 pub follow_each-requires-clause-permitted : goal.follow_each-requires-clause-permitted
 follow_each-requires-clause-permitted c =
-    subst (λ (p : Position). All (λ entry. refusal (state_at p) entry ≡ None) c.in-Some.others.now) (sym c.deref.ensures)
+    subst (λ (p : MachineView). All (λ entry. refusal (state_at p) entry ≡ None) c.in-Some.others.now) (sym c.deref.ensures)
     (front_and_last (λ entry. refusal (state_at c.args.machine.value) entry ≡ None) c.args.entries.now c.in-Some.others.now c.in-Some.last.now c.in-Some.ensures.cases.0 c.requires.permitted).0
 
 pub way_by-requires-clause-permitted : goal.way_by-requires-clause-permitted
@@ -23,6 +23,6 @@ returns-in-Some c =
     let ways = c.in_ok-ways-in-Some.ways in
     let new = c.add.new.ways in
     let before : AreWaysFor m.code c.args.limits (state_at m) c.in-Some.others.now ways.successors.items ways.ended.items =
-    subst (λ (p : Position). AreWaysFor p.code c.args.limits (state_at p) c.in-Some.others.now ways.successors.items ways.ended.items) c.deref.ensures c.in_ok-ways-in-Some.ensures in
+    subst (λ (p : MachineView). AreWaysFor p.code c.args.limits (state_at p) c.in-Some.others.now ways.successors.items ways.ended.items) c.deref.ensures c.in_ok-ways-in-Some.ensures in
     subst (λ (l : List Entry). AreWaysFor m.code c.args.limits (state_at m) l new.successors.items new.ended.items) (sym c.in-Some.ensures.cases.0)
     (more_ways_for m.code c.args.limits (state_at m) c.in-Some.others.now c.in-Some.last.now ways.successors.items new.successors.items ways.ended.items new.ended.items c.in_ok-way-in-Some.way before c.in_ok-way-in-Some.ensures c.in_ok-add-in-Some.ensures)

@@ -3,9 +3,9 @@ use Rattle.std.proofs.Common.{take, get_or, sym, subst, List, arith}
 use Rattle.std.proofs.lemmas.List.{take_more}
 use Rattle.model.specs.declared.entry.Entry.{Entry}
 use Rattle.model.specs.declared.entry.Entry.TheVariants.{Turn}
-use Rattle.regions.specs.Machine.{Position, state_at}
+use Rattle.regions.specs.Machine.{MachineView, state_at}
 use Rattle.races.specs.Following.{IsWayBy}
-use Rattle.races.specs.SearchPlaces.{AreWaysFor}
+use Rattle.races.specs.SearchNodes.{AreWaysFor}
 use Rattle.races.proofs.Ways.{more_ways_for}
 use Rattle.races.proofs.expand.follow_each.Goals as goal
 
@@ -17,4 +17,4 @@ loop-entry-preserved c =
     subst (λ (l : List Entry). AreWaysFor c.args.machine.now.code c.args.limits (state_at c.args.machine.now) l c.add.new.ways.successors.items c.add.new.ways.ended.items) (sym more)
     (more_ways_for c.args.machine.now.code c.args.limits (state_at c.args.machine.now) (take at entries) (get_or entries at (Turn 0)) c.loop-entry.ways.successors.items c.add.new.ways.successors.items c.loop-entry.ways.ended.items c.add.new.ways.ended.items c.in_ok-way.way
     c.loop-entry.invariant
-    (subst (λ (p : Position). IsWayBy p.code c.args.limits (state_at p) (get_or entries at (Turn 0)) c.in_ok-way.way) c.in_ok-copy.ensures c.in_ok-way.ensures) c.in_ok-add.ensures)
+    (subst (λ (p : MachineView). IsWayBy p.code c.args.limits (state_at p) (get_or entries at (Turn 0)) c.in_ok-way.way) c.in_ok-copy.ensures c.in_ok-way.ensures) c.in_ok-add.ensures)

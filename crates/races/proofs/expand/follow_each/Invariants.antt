@@ -1,6 +1,6 @@
 use Rattle.std.proofs.Common.{take}
 use Rattle.regions.specs.Machine.{state_at}
-use Rattle.races.specs.SearchPlaces.{AreWaysFor}
+use Rattle.races.specs.SearchNodes.{AreWaysFor}
 use Rattle.races.proofs.expand.follow_each.Given as goal
 
 abbrev pub invariant-loop-entry : goal.invariant-loop-entry

@@ -1,7 +1,7 @@
 -- The step that a machine took, or why it took none.
 use Rattle.std.proofs.Common.{◌≡◌, ◌<◌, None, ap, sym, ◌∙◌, subst}
 use Rattle.model.specs.Runs.{refusal}
-use Rattle.regions.specs.Machine.{Position, state_at, most_entries, IsNotTaken}
+use Rattle.regions.specs.Machine.{MachineView, state_at, most_entries, IsNotTaken}
 use Rattle.races.specs.Following.{TellsLong}
 use Rattle.races.proofs.Ways.{taken_is_way, long_is_way, untaken, still_not_taken}
 use Rattle.races.proofs.expand.way_by.Goals as goal
@@ -16,23 +16,23 @@ returns-in-Ok c =
 pub long_of-requires-clause-permitted : goal.long_of-requires-clause-permitted
 long_of-requires-clause-permitted c =
     let same = untaken c.args.machine.value c.deref_mut.result.now c.take_with.new.machine c.deref.result.now c.deref_mut.ensures.value c.in-Err.ensures.err c.deref.ensures in
-    subst (λ (p : Position). refusal (state_at p) c.args.entry ≡ None) (sym same) c.requires.permitted
+    subst (λ (p : MachineView). refusal (state_at p) c.args.entry ≡ None) (sym same) c.requires.permitted
 
 pub long_of-requires-clause-few : goal.long_of-requires-clause-few
 long_of-requires-clause-few c =
     let same = untaken c.args.machine.value c.deref_mut.result.now c.take_with.new.machine c.deref.result.now c.deref_mut.ensures.value c.in-Err.ensures.err c.deref.ensures in
-    subst (λ (p : Position). p.core.entries < most_entries) (sym same) c.requires.few
+    subst (λ (p : MachineView). p.core.entries < most_entries) (sym same) c.requires.few
 
 pub long_of-requires-clause-fault : goal.long_of-requires-clause-fault
 long_of-requires-clause-fault c =
     let same = untaken c.args.machine.value c.deref_mut.result.now c.take_with.new.machine c.deref.result.now c.deref_mut.ensures.value c.in-Err.ensures.err c.deref.ensures in
     still_not_taken c.args.machine.value c.deref.result.now c.take_with.new.machine c.args.entry c.in-Err.fault same
-    (subst (λ (p : Position). IsNotTaken p c.args.entry c.in-Err.fault) c.deref_mut.ensures.value c.in-Err.ensures.stop)
+    (subst (λ (p : MachineView). IsNotTaken p c.args.entry c.in-Err.fault) c.deref_mut.ensures.value c.in-Err.ensures.stop)
 
 pub returns : goal.returns
 returns c =
     let m = c.args.machine.value in
     let ended = c.in_ok-ended-in-Err.ended in
     let same = untaken m c.deref_mut.result.now c.take_with.new.machine c.deref.result.now c.deref_mut.ensures.value c.in-Err.ensures.err c.deref.ensures in
-    let tells : TellsLong m.code (state_at m) c.args.entry ended = subst (λ (p : Position). TellsLong p.code (state_at p) c.args.entry ended) same c.in_ok-ended-in-Err.ensures.long in
+    let tells : TellsLong m.code (state_at m) c.args.entry ended = subst (λ (p : MachineView). TellsLong p.code (state_at p) c.args.entry ended) same c.in_ok-ended-in-Err.ensures.long in
     (long_is_way m.code c.args.limits (state_at m) c.args.entry ended c.requires.permitted c.requires.some_entry tells c.in_ok-ended-in-Err.ensures.moves, tells)

@@ -7,7 +7,7 @@ use Rattle.design.specs.Compiled.{Compiled, design_of}
 use Rattle.explore.specs.Search.{IsShown}
 use Rattle.explore.specs.declared.Shown.{Shown}
 use Rattle.walks.specs.JournalsInTime.{AreAllTexts, IsLawfulText}
-use Rattle.races.specs.SearchPlaces.{Holds}
+use Rattle.races.specs.SearchNodes.{Holds}
 use Rattle.races.proofs.Searches.{shown_of_run, all_of_runs}
 use Rattle.races.proofs.lawful.lawful_orders.Goals as goal
 

@@ -11,6 +11,6 @@ pub returns-clause-behind : goal.returns-clause-behind
 returns-clause-behind c =
     IfOk-weaker c.take_all.result _ _
     (λ all taken on.
-    inl (has_settled c.args.machine.now c.take_all.new.machine c.state.result.now c.nonblocking.result.now.items c.args.moves.now.items c.extend_from_slice.new.self.items c.in_ok-updates.updates.items c.deref.result.now c.deref-2.result.now (c.in_ok-is_silent.ensures c.if-not-branch.false)
+    inl (has_settled c.args.machine.now c.take_all.new.machine c.state.result.now c.nonblocking.result.now.items c.args.moves.now.items c.extend_from_slice.new.self.items c.in_ok-updates.updates.items c.deref.result.now c.deref-2.result.now (c.in_ok-is_inert.ensures c.if-not-branch.false)
     c.state.ensures c.nonblocking.ensures c.in_ok-updates.ensures c.deref.ensures.value c.deref-2.ensures.value c.in_ok-extend_from_slice.ensures.items (taken on)))
     c.take_all.ensures.taken

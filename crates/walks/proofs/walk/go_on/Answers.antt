@@ -1,7 +1,7 @@
 -- A walk goes on by the only entry, or else by the way ahead that stands for all.
 use Rattle.std.proofs.Common.{◌≡◌, Option, ap, subst, sym, ◌++◌, ◌∙◌}
 use Rattle.std.specs.Prelude.{IfSome}
-use Rattle.regions.specs.Machine.{Position}
+use Rattle.regions.specs.Machine.{MachineView}
 use Rattle.walks.specs.Walking.{IsSoleWay}
 use Rattle.walks.specs.declared.settle.Ahead.{Ahead}
 use Rattle.walks.proofs.Walks.{walked_ahead}
@@ -17,7 +17,7 @@ returns-clause-walked c = λ s before.
     subst (λ (o : Option Ahead). IfSome o (λ a. IsSoleWay old a.machine.value a.moves.items)) c.in-Some.is c.in_ok-ahead.ensures.sole in
     let code : ahead.machine.value.code ≡ old.code = subst (λ (o : Option Ahead). IfSome o (λ a. a.machine.value.code ≡ old.code)) c.in-Some.is c.in_ok-ahead.ensures.code in
     walked_ahead c.args.limits s old new c.step.new.moves.items c.extend_from_slice.new.self.items ahead.moves.items (c.in_ok-step.ensures.walked s before)
-    (subst (λ (p : Position). IsSoleWay old p ahead.moves.items) (sym same) sole) (ap (λ (p : Position). p.code) same ∙ code)
+    (subst (λ (p : MachineView). IsSoleWay old p ahead.moves.items) (sym same) sole) (ap (λ (p : MachineView). p.code) same ∙ code)
     (c.in_ok-extend_from_slice.ensures.items ∙ ap (λ l. c.step.new.moves.items ++ l) c.deref-2.ensures.value)
 
 pub returns-clause-code : goal.returns-clause-code
@@ -25,4 +25,4 @@ returns-clause-code c =
     let old = c.step.new.machine in
     let ahead : Ahead = c.in-Some.ahead in
     let code : ahead.machine.value.code ≡ old.code = subst (λ (o : Option Ahead). IfSome o (λ a. a.machine.value.code ≡ old.code)) c.in-Some.is c.in_ok-ahead.ensures.code in
-    ap (λ (p : Position). p.code) (c.swap.ensures.x_after ∙ c.deref_mut.ensures.value) ∙ (code ∙ c.in_ok-step.ensures.code)
+    ap (λ (p : MachineView). p.code) (c.swap.ensures.x_after ∙ c.deref_mut.ensures.value) ∙ (code ∙ c.in_ok-step.ensures.code)

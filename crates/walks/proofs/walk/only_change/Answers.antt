@@ -5,4 +5,4 @@ use Rattle.walks.proofs.walk.only_change.Goals as goal
 
 pub returns-then-is_timely : goal.returns-then-is_timely
 returns-then-is_timely c =
-    only_due c.args.limits (state_at c.args.machine.now) c.due.result c.in-Some.change c.due.ensures c.requires.rests c.in-Some.is (c.is_timely.ensures.0 c.if-is_timely.true)
+    only_due c.args.limits (state_at c.args.machine.now) c.due.result c.in-Some.change c.due.ensures c.requires.idle c.in-Some.is (c.is_timely.ensures.0 c.if-is_timely.true)

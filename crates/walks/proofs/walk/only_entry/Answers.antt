@@ -22,4 +22,4 @@ only_change-requires c =
     let es = c.active.result.1.now in
     let none : deque_len es ≡ 0 = eqb-true (deque_len es) 0 (sym c.is_empty.ensures ∙ c.if-is_empty.true) in
     let none' : deque_len us ≡ 0 = eqb-true (deque_len us) 0 (sym c.is_empty-then-is_empty.ensures ∙ c.if-is_empty-2.true) in
-    record { rests = nothing_active m.core.active us.items es.items (c.active.ensures ∙ ap (λ (k : Core). k.active) c.state.ensures) (omega (arith, none', us.ok.0)) (omega (arith, none, es.ok.0)) }
+    record { idle = nothing_active m.core.active us.items es.items (c.active.ensures ∙ ap (λ (k : Core). k.active) c.state.ensures) (omega (arith, none', us.ok.0)) (omega (arith, none, es.ok.0)) }

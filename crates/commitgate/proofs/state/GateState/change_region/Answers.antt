@@ -6,7 +6,7 @@ use Rattle.model.specs.Runs.{has_any, is_quiet, IsTimely}
 use Rattle.runstate.specs.GateState.{GateState, state_in}
 use Rattle.regcells.specs.Meetings.{Rises}
 use Rattle.commitgate.specs.Seats.{SeatView}
-use Rattle.commitgate.specs.GateAnswers.{IsResting, FullRest, IsRestStopped, IsGranted}
+use Rattle.commitgate.specs.GateAnswers.{IsBetweenRegions, FullRest, IsRestStopped, IsGranted}
 use Rattle.commitgate.specs.DueRegions.{IsPassed}
 use Rattle.commitgate.specs.SeatAnswers.{RestCauses}
 use Rattle.commitgate.proofs.Rests.{due_stops}
@@ -19,7 +19,7 @@ returns-then-is_full-clause-state g c =
     let n = g.K.Naming.named in
     let mid = c.greet.new.self in
     let idle : has_any mid.core.active ≡ false = ap (λ (h : GateState). has_any h.core.active) (sym c.self.view_is) ∙ sym c.if-is_active.ensures in
-    let rests : IsResting n.code mid = record { running = c.in-Running.ensures.0; idle = idle; left = c.in-Running.ensures.1 } in
+    let rests : IsBetweenRegions n.code mid = record { running = c.in-Running.ensures.0; idle = idle; left = c.in-Running.ensures.1 } in
     subst (λ (h : GateState). IsRestStopped n.code n.limits c.args.seat.now.worker h Entries c.stop.new.self) c.greet.ensures.same
     (subst (λ (k : ℕ). IsRestStopped n.code n.limits k mid Entries c.stop.new.self) (ap (λ (v : SeatView). v.worker) c.greet.ensures.seat)
     (inr (rests, FullRest (c.is_full.ensures.full.0 c.if-is_full.true), c.stop.ensures.state)))
@@ -29,7 +29,7 @@ returns-in-Some-clause-state g c =
     let n = g.K.Naming.named in
     let mid = c.greet.new.self in
     let idle : has_any mid.core.active ≡ false = ap (λ (h : GateState). has_any h.core.active) (sym c.self.view_is) ∙ sym c.if-is_active.ensures in
-    let rests : IsResting n.code mid = record { running = c.in-Running.ensures.0; idle = idle; left = c.in-Running.ensures.1 } in
+    let rests : IsBetweenRegions n.code mid = record { running = c.in-Running.ensures.0; idle = idle; left = c.in-Running.ensures.1 } in
     let passed = subst (λ (l : Limits). IsPassed l c.due_change-change.result c.in-Some.why) c.self.invariant.limits_is c.in-Some.ensures in
     let stops = due_stops n.code n.limits mid c.due_change-change.result c.in-Some.why c.if-is_full.ensures.room c.due_change-change.ensures passed in
     subst (λ (h : GateState). IsRestStopped n.code n.limits c.args.seat.now.worker h c.in-Some.why c.stop-in-Some.new.self) c.greet.ensures.same

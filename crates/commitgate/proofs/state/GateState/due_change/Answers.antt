@@ -6,7 +6,7 @@ use Rattle.model.specs.Runs.{refusal, is_idle, least_time}
 use Rattle.design.specs.DesignInvariant.{remainder_of}
 use Rattle.runstate.specs.GateState.{GateState, state_in}
 use Rattle.runstate.specs.RunState.{gate_state_of}
-use Rattle.commitgate.specs.GateAnswers.{IsResting}
+use Rattle.commitgate.specs.GateAnswers.{IsBetweenRegions}
 use Rattle.commitgate.proofs.Rests.{only_future, some_time}
 use Rattle.commitgate.proofs.state.GateState.due_change.Goals as goal
 
@@ -32,7 +32,7 @@ pub unreachable-requires : goal.unreachable-requires
 unreachable-requires g c =
     let n = g.K.Naming.named in
     let run_state = c.self.inside.run_state in
-    let rests = subst (λ (h : GateState). IsResting n.code h) (sym c.self.view_is) c.requires in
+    let rests = subst (λ (h : GateState). IsBetweenRegions n.code h) (sym c.self.view_is) c.requires in
     some_time (state_in n.code (gate_state_of run_state))
     (only_future n.code n.limits (gate_state_of run_state) c.legal.result c.legal-2.result c.legal-3.result c.self.invariant.guarded rests
     (c.legal.ensures (remainder_of n.code) (map last_value run_state.holder.seen)) c.if-legal.false
@@ -44,7 +44,7 @@ pub returns : goal.returns
 returns g c =
     let n = g.K.Naming.named in
     let run_state = c.self.inside.run_state in
-    let rests = subst (λ (h : GateState). IsResting n.code h) (sym c.self.view_is) c.requires in
+    let rests = subst (λ (h : GateState). IsBetweenRegions n.code h) (sym c.self.view_is) c.requires in
     let idle =
     only_future n.code n.limits (gate_state_of run_state) c.legal.result c.legal-2.result c.legal-3.result c.self.invariant.guarded rests
     (c.legal.ensures (remainder_of n.code) (map last_value run_state.holder.seen)) c.if-legal.false

@@ -1,5 +1,5 @@
--- The ways from a place are those of a search.
-use Rattle.races.proofs.Ways.{place_next, place_ended, place_covered}
+-- The ways from a node are those of a search.
+use Rattle.races.proofs.Ways.{node_next, node_ended, node_covered}
 use Rattle.races.proofs.lawful.LawfulOrders.expand.Goals as goal
 
 pub expand-requires-clause-code : goal.expand-requires-clause-code
@@ -10,12 +10,12 @@ expand-requires-clause-silent c = c.requires.1.2.ready.silent
 
 pub returns-clause-next : goal.returns-clause-next
 returns-clause-next c run stands =
-    place_next c.args.self.now.networked c.args.self.now.limits c.args.node run c.in_ok-expanded.expanded.successors.items stands c.in_ok-expanded.ensures.next
+    node_next c.args.self.now.networked c.args.self.now.limits c.args.node run c.in_ok-expanded.expanded.successors.items stands c.in_ok-expanded.ensures.next
 
 pub returns-clause-sound : goal.returns-clause-sound
 returns-clause-sound c run stands =
-    place_ended c.args.self.now.networked c.args.self.now.limits c.args.node run c.in_ok-expanded.expanded.ended.items stands c.in_ok-expanded.ensures.sound
+    node_ended c.args.self.now.networked c.args.self.now.limits c.args.node run c.in_ok-expanded.expanded.ended.items stands c.in_ok-expanded.ensures.sound
 
 pub returns-clause-cover : goal.returns-clause-cover
 returns-clause-cover c whole run stands =
-    place_covered c.args.self.now.networked c.args.self.now.limits c.args.node run c.in_ok-expanded.expanded.successors.items c.in_ok-expanded.expanded.ended.items stands (c.in_ok-expanded.ensures.all whole)
+    node_covered c.args.self.now.networked c.args.self.now.limits c.args.node run c.in_ok-expanded.expanded.successors.items c.in_ok-expanded.expanded.ended.items stands (c.in_ok-expanded.ensures.all whole)

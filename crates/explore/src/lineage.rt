@@ -1,0 +1,87 @@
+//! The moves of the runs that were reached, each told by the run that it goes on from.
+ghost use Rattle.std.specs.Prelude.{◌≡◌, ◌<◌, ◌++◌, [], ◌∷◌, length, reverse, get_or, IfOk, OnOk};
+ghost use Rattle.explore.specs.Grown.{grown};
+ghost use Rattle.explore.specs.Lineage.{ways, IsLineage};
+
+use crate::pieces::Pieces;
+use std::alloc::{AllocError, Global};
+
+/// Runs by their numbers. The run of number 0 has no moves, and the others have a step each: the number of the run that they go on
+/// from, and their further moves.
+#[derive(Drop)]
+pub(crate) struct Lineage<M> {
+    pub(crate) steps: Pieces<M>,
+}
+
+/// Adds moves, the last of them first.
+fn push_back_to_front<M: Copy>(
+    alloc: Global,
+    back: &mut Vec<M>,
+    moves: &[M],
+) -> Result<(), AllocError>
+    ensures { OnOk result (back.new.items ≡ back.old.items ++ reverse moves.now) }
+{
+    let mut turned = Vec::new(alloc);
+    turned.extend_from_slice(moves)?;
+    turned.reverse();
+    back.extend_from_slice(&turned)?;
+    Ok(())
+}
+
+impl<M: Copy> Lineage<M> {
+    /// The run that has no moves, alone.
+    pub(crate) fn new(alloc: Global) -> Self
+        ensures lineage { IsLineage result }
+        ensures ways { ways result ≡ [] ∷ [] }
+    {
+        Lineage {
+            steps: Pieces::new(alloc),
+        }
+    }
+
+    /// How many runs there are.
+    pub(crate) fn len(&self) -> usize
+        ensures { result ≡ length (ways self.now) }
+    {
+        self.steps.len() + 1
+    }
+
+    /// Adds a run that goes on from another by these moves.
+    pub(crate) fn push(&mut self, from: usize, moves: &[M]) -> Result<(), AllocError>
+        requires lineage { IsLineage self.old }
+        requires from { from < length (ways self.old) }
+        ensures lineage { OnOk result (IsLineage self.new) }
+        ensures ways { OnOk result (ways self.new ≡ grown (ways self.old) from moves.now) }
+    {
+        self.steps.push(from, moves)?;
+        Ok(())
+    }
+
+    /// The run that the one with a number goes on from, and its further moves.
+    fn last_step(&self, number: usize) -> (usize, &[M])
+        requires lineage { IsLineage self.now }
+        requires moved { 0 < number }
+        requires within { number < length (ways self.now) }
+        ensures from { result.0 < number }
+        ensures way { get_or (ways self.now) number [] ≡ get_or (ways self.now) result.0 [] ++ result.1.now }
+    {
+        self.steps.piece(number - 1)
+    }
+
+    /// The moves of the run with a number.
+    pub(crate) fn way(&self, alloc: Global, number: usize) -> Result<Vec<M>, AllocError>
+        requires lineage { IsLineage self.now }
+        requires within { number < length (ways self.now) }
+        ensures { IfOk result (λ moves. moves.items ≡ get_or (ways self.now) number []) }
+    {
+        let mut back = Vec::new(alloc);
+        let mut k = number;
+        while k != 0 {
+            let (from, moves) = self.last_step(k);
+            push_back_to_front(alloc, &mut back, moves)?;
+            k = from;
+        }
+        back.reverse();
+        Ok(back)
+    }
+}

@@ -1,0 +1,4 @@
+pub mod TextLines
+pub mod Spots
+pub mod PlainSpots
+pub mod SourceLocations

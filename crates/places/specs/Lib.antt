@@ -1,4 +1,0 @@
-pub mod TextLines
-pub mod Spots
-pub mod PlainSpots
-pub mod SourcePlaces
