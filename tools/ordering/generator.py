@@ -2,7 +2,8 @@
 
 A design has two to four processes over a few registers, and each has one of the roles below, so that each kind of race comes often: blocking
 assignments of one register, lines of two processes, a stimulus at the edge of a clock, nonblocking assignments of one register, strobes beside
-displays, delays of zero, and values taken before a wait and assigned behind it. Every always construct waits once in its body at least.
+displays, delays of zero, values taken before a wait and assigned behind it, and now and then a loop without an end. Every always construct waits once in
+its body at least.
 
 A part of the designs are synchronous: a clock, processes that assign at its edge, and combinational ones that react to what these assign. Some of their
 processes are then made a little otherwise, so that a race is near.
@@ -46,10 +47,20 @@ class Generator:
         processes += [self.pick(roles)() for _ in range(self.pick((0, 1, 1, 2)))]
         if len(processes) < 4 and self.chance(0.7):
             processes.append(self.last())
+        if self.chance(0.12):
+            processes.append(self.endless())
         self.random.shuffle(processes)
         return Module("t", tuple(self.tops.items()), tuple(processes))
 
     # Roles of processes
+
+    def endless(self):
+        """Goes round at one time for ever, where a register has a value."""
+        name = self.pick(self.names)
+        digits = "".join(self.pick("01") for _ in range((self.tops[name] or 0) + 1))
+        loop = ("while", ("literal", "1"), (("delay", 0, ("empty",)),))
+        once = ("if", ("binary", "===", ("name", name), ("literal", digits)), (loop,), None)
+        return Process(False, ("delay", self.pick((0, 1, 2)), once) if self.chance(0.5) else ("block", (once,)))
 
     def stimulus(self):
         """Gives values to registers, with delays between them."""
