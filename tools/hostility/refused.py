@@ -3,14 +3,15 @@
 An allocator of this folder (refuse.c, built with `cc`) is put before the program's own. A run on one worker asks for the same memory each time, so
 the sweep goes on until a run is refused nothing. Its answer is the run's own, or tells of memory. Where it was stopped for memory, its
 journal is a beginning of the whole one, and replays to the lines that were printed. With all later allocations refused too, the journal may be cut
-where no memory was left to write it. Runs on more workers are refused at every place of the run on one."""
+where no memory was left to write it. Runs on more workers are refused at every place of the run on one. A run that has no end of its own ends where
+a thread is refused: the workers that had begun are stopped."""
 import os
 import shutil
 import subprocess
 from collections import Counter
 
 from hostility.answers import Answer, called, entries_of, fault_of, kind_of, shown
-from hostility.sources import BUSY, SMALL, STROBES
+from hostility.sources import BUSY, ENDLESS, SMALL, STROBES
 
 # A run that was stopped for memory.
 STOPPED = b"vsimtx: stopped: memory\n"
@@ -21,6 +22,9 @@ TOLD = {
 }
 # More runs than any of the sources has allocations.
 MOST = 20000
+NO_WORKER = Answer(6, b"", b"vsimtx: cannot start worker\n")
+# A stopped worker ends with its turn, in some thousandths of a second. A run that isn't stopped goes on for days.
+SOON = 60
 
 
 def built(room):
@@ -145,10 +149,31 @@ def swept(sweep, verb, how, is_one_journal):
     return tried + 1, wrong + 1
 
 
+def stopped(hostile, library):
+    """Refuses each thread of runs without end; gives the number of calls and of those that went wrong."""
+    came, wrong, source = Counter(), 0, f"{hostile.room}/endless.v"
+    with open(source, "wb") as file:
+        file.write(ENDLESS)
+    cases = [(workers, thread) for workers in (2, 3, 4, 16) for thread in range(1, workers)]
+
+    def one(case, room):
+        words = ["run", source, "--max-entries", str(2**32 - 1), "--workers", str(case[0])]
+        env = {"LD_PRELOAD": library, "REFUSE_THREAD": str(case[1])}
+        return called(hostile.program, *words, env=env, seconds=SOON)
+
+    for (workers, thread), answer in hostile.over(cases, one):
+        came[kind_of(answer)] += 1
+        if answer != NO_WORKER:
+            wrong += 1
+            hostile.tell(f"a run without end, {workers} workers, thread {thread}: {shown(answer)}: the workers that had begun weren't stopped")
+    hostile.say("a run without end, 2 to 16 workers, each thread", came)
+    return len(cases), wrong
+
+
 def run(hostile):
     library = built(hostile.room)
     sources = {**{name: source for name, (source, _) in SMALL.items()}, "strobes": STROBES, "busy": BUSY}
-    tried = wrong = 0
+    tried, wrong = stopped(hostile, library)
     for name, source in sources.items():
         for workers in (1, 2, 4):
             sweep = Sweep(hostile, library, name, source, workers)

@@ -24,6 +24,9 @@ BUSY = (
     + b" initial begin n=8'd0; s=32'd0; c=1'b0; while (n<8'd6) begin #1 c=~c; n=n+8'd1; end $finish; end endmodule\n"
 )
 
+# Turns without end, each of which takes long, so that a run of them takes little memory.
+ENDLESS = b"module t; reg [11:0] n; always begin n=12'd0; while (n<12'd4000) begin n=n+12'd1; end #1 ; end endmodule\n"
+
 # By name: a source, and the lines that any of its runs prints, where all print the same.
 SMALL = {
     "swap": (SWAP, SWAP_LINES),
