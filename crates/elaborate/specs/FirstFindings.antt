@@ -69,6 +69,19 @@ IsFaultOf (told.BadIndex name) f = f ≡ model.BadIndex (string_bytes name)
 IsFaultOf told.LongDelay f = f ≡ model.LongDelay
 IsFaultOf told.Memory f = Unit {0}
 
+-- the fault that is told of a finding with no name in it, for which no memory is taken
+abbrev pub told_of : Option Fault → Option ElabFault
+told_of None = None
+told_of (Some (model.Undeclared name)) = None
+told_of (Some (model.DeclaredTwice name)) = None
+told_of (Some (model.BadRange name)) = None
+told_of (Some model.TooManyRegisters) = Some told.TooManyRegisters
+told_of (Some model.TooManyProcesses) = Some told.TooManyProcesses
+told_of (Some model.BadFormat) = Some told.BadFormat
+told_of (Some model.WideConcat) = Some told.WideConcat
+told_of (Some (model.BadIndex name)) = None
+told_of (Some model.LongDelay) = Some told.LongDelay
+
 -- the first of some names that isn't declared
 abbrev pub unknown_among : List Declared → List Text → Option Fault
 unknown_among ds [] = None

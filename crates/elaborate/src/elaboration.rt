@@ -1,9 +1,10 @@
 //! From a module to its design.
-ghost use Rattle.std.specs.Prelude.{◌≡◌, [], None, map, length, IfOk, IfErr, OnOk};
+ghost use Rattle.std.specs.Prelude.{◌≡◌, [], None, Some, Err, map, length, IfOk, IfErr, OnOk};
 ghost use Rattle.design.specs.Compiled.{design_of};
 ghost use Rattle.design.specs.Sound.{IsSound};
 ghost use Rattle.elaborate.specs.ModuleFaults.{IsFirstFault};
-ghost use Rattle.elaborate.specs.FirstFindings.{first_finding, found_among, found_few};
+ghost use Rattle.elaborate.specs.FirstFindings.{first_finding, found_among, found_few, told_of, IsFirstOf};
+ghost use Rattle.elaborate.specs.declared.fault.ElabFault.{ElabFault};
 ghost use Rattle.elaborate.specs.Formed.{AreFormedProcesses};
 ghost use Rattle.elaborate.specs.Small.{AreSmallProcesses};
 ghost use Rattle.model.specs.Elaboration as model;
@@ -66,10 +67,21 @@ fn registers_of(alloc: Global, source: &Module) -> Result<Names, ElabFault>
     ensures fault { IfErr result (λ f. IsFirstFault f (faults (module_of source.now))) }
 {
     let names = registers::registers(alloc, source.regs.as_slice())?;
-    if let Err(finding) = allowed(&names, source.procs.as_slice()) {
+    told(alloc, &names, source.procs.as_slice())?;
+    Ok(names)
+}
+
+// The first thing that is wrong with the processes of a module is told, and not want of memory where it has no name in it.
+fn told(alloc: Global, names: &Names, processes: &[Process]) -> Result<(), ElabFault>
+    ensures fault { IfErr result (λ f. IsFirstOf f (found_among names.now (map process_of processes.now))) }
+    ensures none { OnOk result (found_among names.now (map process_of processes.now) ≡ None) }
+    ensures formed { OnOk result (AreFormedProcesses (map process_of processes.now)) }
+    ensures certain { (f : ElabFault) → told_of (found_among names.now (map process_of processes.now)) ≡ Some f → result ≡ Err f }
+{
+    if let Err(finding) = allowed(names, processes) {
         return Err(finding.fault(alloc));
     }
-    Ok(names)
+    Ok(())
 }
 
 /// Refuses the first thing that is wrong with the processes of a module.

@@ -1,6 +1,7 @@
 //! What a walk over the tree finds first, with the name as it stands in the tree.
-ghost use Rattle.std.specs.Prelude.{IfOk};
-ghost use Rattle.elaborate.specs.FirstFindings.{IsFaultOf, plain};
+ghost use Rattle.std.specs.Prelude.{◌≡◌, Ok, Some, IfOk};
+ghost use Rattle.elaborate.specs.FirstFindings.{IsFaultOf, plain, told_of};
+ghost use Rattle.elaborate.specs.declared.fault.ElabFault.{ElabFault};
 
 use crate::fault::ElabFault;
 use std::alloc::{AllocError, Global};
@@ -22,7 +23,9 @@ pub enum Finding<'a> {
 impl Finding<'_> {
     /// The fault that is told. Where memory is refused for the name, that is the fault.
     pub fn fault(self, alloc: Global) -> ElabFault
-        ensures { IsFaultOf result (plain self.entry) }
+        ensures found { IsFaultOf result (plain self.entry) }
+        // A fault with no name in it is told whatever memory there is.
+        ensures certain { (f : ElabFault) → told_of (Some (plain self.entry)) ≡ Some f → result ≡ f }
     {
         match self.owned(alloc) {
             Ok(fault) => fault,
@@ -31,7 +34,8 @@ impl Finding<'_> {
     }
 
     fn owned(self, alloc: Global) -> Result<ElabFault, AllocError>
-        ensures { IfOk result (λ f. IsFaultOf f (plain self.entry)) }
+        ensures found { IfOk result (λ f. IsFaultOf f (plain self.entry)) }
+        ensures certain { (f : ElabFault) → told_of (Some (plain self.entry)) ≡ Some f → result ≡ Ok f }
     {
         Ok(match self {
             Finding::Undeclared(name) => ElabFault::Undeclared(String::from_str(alloc, name)?),

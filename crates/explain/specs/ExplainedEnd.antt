@@ -7,7 +7,7 @@ use Rattle.model.specs.States.{Action, Evaluate, Update, Event, State}
 use Rattle.model.specs.Runs.{is_quiet, refusal}
 use Rattle.regions.specs.Machine.{AreInOrder}
 use Rattle.replay.specs.declared.fault.Cause.{Cause}
-use Rattle.replay.specs.declared.fault.Cause.TheVariants.{Refused, TooLong, TooMany, ApplyMemory, Memory}
+use Rattle.replay.specs.declared.fault.Cause.TheVariants.{Refused, TooLong, TooMany, ApplyMemory, Memory, Start}
 use Rattle.replay.specs.declared.fault.ReplayFault.{ReplayFault}
 use Rattle.explain.specs.declared.phrases.Names.{Names}
 use Rattle.explain.specs.Phrases.{process_text}
@@ -57,6 +57,7 @@ said_text TooLong = codes " isn't lawful"
 said_text TooMany = codes " isn't taken"
 said_text ApplyMemory = codes " isn't taken"
 said_text Memory = codes " isn't taken"
+said_text (Start refused) = codes " isn't taken"
 
 -- the name of a cause, behind a colon; of a refusal it is the rule that the entry breaks (11.4)
 abbrev pub code_text : Cause → List ℕ
@@ -70,6 +71,7 @@ code_text TooLong = codes ": turn too long"
 code_text TooMany = codes ": too many entries"
 code_text ApplyMemory = codes ": memory"
 code_text Memory = codes ": memory"
+code_text (Start refused) = codes ": memory"
 
 -- that rule in words, or what else is the cause
 abbrev pub rule_text : Cause → List ℕ
@@ -83,6 +85,7 @@ rule_text TooLong = codes "a turn has at most 65536 counted steps"
 rule_text TooMany = codes "a machine takes at most 4294967295 entries"
 rule_text ApplyMemory = codes "memory was refused"
 rule_text Memory = codes "memory was refused"
+rule_text (Start refused) = codes "memory was refused"
 
 -- what an event does
 abbrev pub action_text : Names → Action → List ℕ

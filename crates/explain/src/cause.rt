@@ -13,7 +13,7 @@ pub(crate) fn said(cause: Cause) -> &'static str
 {
     match cause {
         Cause::Refused(_) | Cause::TooLong => " isn't lawful",
-        Cause::TooMany | Cause::ApplyMemory | Cause::Memory => " isn't taken",
+        Cause::TooMany | Cause::ApplyMemory | Cause::Memory | Cause::Start(_) => " isn't taken",
     }
 }
 
@@ -25,7 +25,7 @@ pub fn cause_code(cause: Cause) -> &'static str
         Cause::Refused(refusal) => refusal_code(refusal),
         Cause::TooLong => ": turn too long",
         Cause::TooMany => ": too many entries",
-        Cause::ApplyMemory | Cause::Memory => ": memory",
+        Cause::ApplyMemory | Cause::Memory | Cause::Start(_) => ": memory",
     }
 }
 
@@ -58,6 +58,6 @@ pub(crate) fn cause_rule(cause: Cause) -> &'static str
         Cause::Refused(Refusal::PastLimit) => "no time goes past 281474976710656",
         Cause::TooMany => "a machine takes at most 4294967295 entries",
         Cause::Refused(Refusal::Finished) => "nothing follows $finish",
-        Cause::ApplyMemory | Cause::Memory => "memory was refused",
+        Cause::ApplyMemory | Cause::Memory | Cause::Start(_) => "memory was refused",
     }
 }

@@ -2,7 +2,7 @@
 use Rattle.std.specs.Prelude.{◌≡◌, ℕ, List, [], map}
 use Rattle.tokens.specs.Lexing.{Stops, stray, bad_number}
 use Rattle.model.specs.Syntax.{Module}
-use Rattle.model.specs.Elaboration.{declared, faults}
+use Rattle.model.specs.Elaboration.{Fault, declared, faults}
 use Rattle.model.specs.Elaboration as model
 use Rattle.vparse.specs.Spells.{Spells, IsUnspelledAt, IsDeepText, IsDeepTextAt}
 use Rattle.vparse.specs.declared.parser.ParseFault.{ParseFault}
@@ -39,6 +39,11 @@ pub record HasModuleFault (source : List ℕ) (fault : ElabFault) : Type 0 where
   pub spells : Spells parsed source
   pub shallow : ¬ (IsDeepText source)
   pub is_first : IsFirstFault fault (faults parsed)
+
+-- what is told of a module with these faults: their first, and no fault of a text
+abbrev pub IsFaultOfModule : List Fault → SourceFault → Type 0
+IsFaultOfModule faults (Parse fault) = ⊥
+IsFaultOfModule faults (Elaborate fault) = IsFirstFault fault faults
 
 -- a fault of a source
 abbrev pub IsSourceFault : List ℕ → SourceFault → Type 0

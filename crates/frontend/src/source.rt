@@ -1,9 +1,14 @@
 //! From the bytes of a source to its design.
-ghost use Rattle.std.specs.Prelude.{IfOk, IfErr};
-ghost use Rattle.frontend.specs.Sources.{IsDesignOf, IsSourceFault};
+ghost use Rattle.std.specs.Prelude.{◌≡◌, [], map, IfOk, IfErr};
+ghost use Rattle.model.specs.Elaboration as model;
+ghost use Rattle.model.specs.Elaboration.{declared, faults};
+ghost use Rattle.model.specs.SourceTrees.{module_of};
+ghost use Rattle.design.specs.Compiled.{design_of};
+ghost use Rattle.frontend.specs.Sources.{IsDesignOf, IsSourceFault, IsFaultOfModule};
 
 use design::Design;
 use elaborate::{ElabFault, elaborate_owned};
+use model::tree::Module;
 use std::alloc::Global;
 use thiserror::Error;
 use vparse::{ParseFault, parse};
@@ -31,7 +36,17 @@ pub fn read_design(alloc: Global, source: &[u8]) -> Result<Design, SourceFault>
         Ok(module) => module,
         Err(fault) => return Err(SourceFault::Parse(fault)),
     };
-    match elaborate_owned(alloc, module) {
+    designed(alloc, module)
+}
+
+// The design of a module that a source spells, or its first fault, which is told as none of the text.
+fn designed(alloc: Global, parsed: Module) -> Result<Design, SourceFault>
+    ensures faultless { IfOk result (λ d. faults (module_of parsed) ≡ []) }
+    ensures design { IfOk result (λ d. design_of d ≡ model.design_of (module_of parsed)) }
+    ensures names { IfOk result (λ d. d.names ≡ map (λ x. x.0) (declared (module_of parsed))) }
+    ensures fault { IfErr result (IsFaultOfModule (faults (module_of parsed))) }
+{
+    match elaborate_owned(alloc, parsed) {
         Ok(design) => Ok(design),
         Err(fault) => Err(SourceFault::Elaborate(fault)),
     }

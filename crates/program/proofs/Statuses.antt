@@ -47,6 +47,7 @@ read_has f = refl
 cause_has : (c : Cause) → is_fault_status (cause_status_of c) ≡ true
 cause_has cause.ApplyMemory = refl
 cause_has cause.Memory = refl
+cause_has (cause.Start refused) = refl
 cause_has c = refl
 
 replay_has : (f : BytesFault) → is_fault_status (replay_status_of f) ≡ true
@@ -93,6 +94,7 @@ read_few f = omega arith
 cause_few : (c : Cause) → cause_status_of c ≤ 7
 cause_few cause.ApplyMemory = omega arith
 cause_few cause.Memory = omega arith
+cause_few (cause.Start refused) = omega arith
 cause_few c = omega arith
 
 replay_few : (f : BytesFault) → replay_status_of f ≤ 7

@@ -50,6 +50,7 @@ read_status_of f = 5
 abbrev pub cause_status_of : Cause → ℕ
 cause_status_of cause.ApplyMemory = 6
 cause_status_of cause.Memory = 6
+cause_status_of (cause.Start refused) = 6
 cause_status_of c = 5
 
 -- a fault of the source or of the journal, or one of output

@@ -158,7 +158,7 @@ fn cause_status(cause: Cause) -> u8
     ensures { result ≡ cause_status_of cause }
 {
     match cause {
-        Cause::ApplyMemory | Cause::Memory => 6,
+        Cause::ApplyMemory | Cause::Memory | Cause::Start(_) => 6,
         _ => 5,
     }
 }

@@ -1,6 +1,6 @@
 -- Worked examples (Rows), and lemmas of a replay entry by entry, to its lines.
 pub mod Rows
 pub mod Runs
-pub mod Starting
+pub mod AtStart
 pub mod Printed
 pub mod Sent

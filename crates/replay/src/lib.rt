@@ -16,8 +16,10 @@ mod bytes;
 mod fault;
 mod laws;
 mod replayed;
+mod starting;
 
 pub use bytes::{replay_bytes, replay_bytes_telling};
 pub use fault::{BytesFault, Cause, ReplayFault};
 pub use laws::faults_are_just;
 pub use replayed::{Replayed, replay, replay_telling, take_next};
+pub use starting::{NoStart, start};

@@ -77,7 +77,7 @@ const FAULTS: &[(u64, Cause, &str)] = &[
         Cause::TooMany,
         "entry 4294967296: too many entries",
     ),
-    (0, Cause::Memory, "entry 0: memory"),
+    (3, Cause::Memory, "entry 3: memory"),
     (7, Cause::ApplyMemory, "entry 7: memory"),
 ];
 

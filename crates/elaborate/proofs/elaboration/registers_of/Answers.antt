@@ -1,9 +1,9 @@
-use Rattle.std.proofs.Common.{◌≡◌, [], None, Some, map, sym, ap, subst, ◌∙◌, rules}
+use Rattle.std.proofs.Common.{◌≡◌, [], None, map, sym, ap, subst, ◌∙◌, rules}
 use Rattle.model.specs.Elaboration.{declared}
 use Rattle.model.specs.SourceTrees as trees
 use Rattle.model.specs.SourceTrees.{module_of, declaration_of}
 use Rattle.elaborate.specs.Registers.{all_declared}
-use Rattle.elaborate.specs.FirstFindings.{plain, found_names, found_among, IsFirstOf}
+use Rattle.elaborate.specs.FirstFindings.{found_names, found_among, IsFirstOf}
 use Rattle.elaborate.specs.Formed.{AreFormedProcesses}
 use Rattle.elaborate.proofs.Whole.{of_names, of_processes, told_first, faultless, small_processes, sound_module}
 use Rattle.elaborate.proofs.elaboration.registers_of.Goals as goal
@@ -16,16 +16,16 @@ returns-in_err-names-clause-fault c =
     let is = told_first m c.in_err-names.field-0.0 (of_names m c.in_err-names.field-0.0 told) in
     search rules
 
-pub returns-in-Err-clause-fault : goal.returns-in-Err-clause-fault
-returns-in-Err-clause-fault c =
+pub returns-in_err-told-clause-fault : goal.returns-in_err-told-clause-fault
+returns-in_err-told-clause-fault c =
     let m = module_of c.args.source.now in
     let same : c.in_ok-names.names ≡ declared m = c.in_ok-names.ensures.registers ∙ ap (λ ds. all_declared (map declaration_of ds)) c.as_slice.ensures.value in
     let none : found_names [] (declared m) ≡ None =
     subst (λ ds. found_names [] (all_declared (map declaration_of ds)) ≡ None) c.as_slice.ensures.value c.in_ok-names.ensures.allowed in
-    let q : Some (plain c.in-Err.finding) ≡ found_among (declared m) m.processes =
-    c.in-Err.ensures.found ∙ ap (λ ps. found_among c.in_ok-names.names (map trees.process_of ps)) c.as_slice-2.ensures.value ∙ ap (λ ds. found_among ds m.processes) same in
-    let told = of_processes m c.fault.result none (subst (IsFirstOf c.fault.result) q c.fault.ensures) in
-    told_first m c.fault.result told
+    let q : found_among c.in_ok-names.names (map trees.process_of c.as_slice-2.result.now) ≡ found_among (declared m) m.processes =
+    ap (λ ps. found_among c.in_ok-names.names (map trees.process_of ps)) c.as_slice-2.ensures.value ∙ ap (λ ds. found_among ds m.processes) same in
+    let is = told_first m c.in_err-told.field-0.0 (of_processes m c.in_err-told.field-0.0 none (subst (IsFirstOf c.in_err-told.field-0.0) q c.in_err-told.ensures.fault)) in
+    search rules
 
 pub returns-clause-small : goal.returns-clause-small
 returns-clause-small c =
@@ -34,7 +34,7 @@ returns-clause-small c =
     let none : found_names [] (declared m) ≡ None =
     subst (λ ds. found_names [] (all_declared (map declaration_of ds)) ≡ None) c.as_slice.ensures.value c.in_ok-names.ensures.allowed in
     let among : found_among c.in_ok-names.names m.processes ≡ None =
-    subst (λ ps. found_among c.in_ok-names.names (map trees.process_of ps) ≡ None) c.as_slice-2.ensures.value (sym c.in_default.ensures.found) in
+    subst (λ ps. found_among c.in_ok-names.names (map trees.process_of ps) ≡ None) c.as_slice-2.ensures.value c.in_ok-told.ensures.none in
     small_processes m c.in_ok-names.names same none among
 
 pub returns-clause-sound : goal.returns-clause-sound
@@ -44,8 +44,8 @@ returns-clause-sound c =
     let none : found_names [] (declared m) ≡ None =
     subst (λ ds. found_names [] (all_declared (map declaration_of ds)) ≡ None) c.as_slice.ensures.value c.in_ok-names.ensures.allowed in
     let among : found_among c.in_ok-names.names m.processes ≡ None =
-    subst (λ ps. found_among c.in_ok-names.names (map trees.process_of ps) ≡ None) c.as_slice-2.ensures.value (sym c.in_default.ensures.found) in
-    let formed : AreFormedProcesses m.processes = subst (λ ps. AreFormedProcesses (map trees.process_of ps)) c.as_slice-2.ensures.value c.in_default.ensures.formed in
+    subst (λ ps. found_among c.in_ok-names.names (map trees.process_of ps) ≡ None) c.as_slice-2.ensures.value c.in_ok-told.ensures.none in
+    let formed : AreFormedProcesses m.processes = subst (λ ps. AreFormedProcesses (map trees.process_of ps)) c.as_slice-2.ensures.value c.in_ok-told.ensures.formed in
     sound_module m c.in_ok-names.names same none among formed
 
 pub returns-clause-faultless : goal.returns-clause-faultless
@@ -55,7 +55,7 @@ returns-clause-faultless c =
     let none : found_names [] (declared m) ≡ None =
     subst (λ ds. found_names [] (all_declared (map declaration_of ds)) ≡ None) c.as_slice.ensures.value c.in_ok-names.ensures.allowed in
     let among : found_among c.in_ok-names.names m.processes ≡ None =
-    subst (λ ps. found_among c.in_ok-names.names (map trees.process_of ps) ≡ None) c.as_slice-2.ensures.value (sym c.in_default.ensures.found) in
+    subst (λ ps. found_among c.in_ok-names.names (map trees.process_of ps) ≡ None) c.as_slice-2.ensures.value c.in_ok-told.ensures.none in
     faultless m c.in_ok-names.names same none among
 
 pub returns-clause-names : goal.returns-clause-names
