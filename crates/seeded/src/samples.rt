@@ -1,5 +1,5 @@
 //! Runs of several seeds, and the texts and ends that they gave.
-ghost use Rattle.std.specs.Prelude.{◌≡◌, ◌+◌, ◌≤◌, ◌⊎◌, ◌<◌, false, length, IsTrue, IfSome, IfNone, OnOk, slice_index_or, vec_len, vec_capacity};
+ghost use Rattle.std.specs.Prelude.{◌≡◌, ◌+◌, ◌≤◌, ◌⊎◌, ◌<◌, false, length, IsTrue, IfSome, IfNone, OnOk, OnErr, slice_index_or, vec_len, vec_capacity};
 ghost use Rattle.std.specs.List.{All, AllPairs, Contains};
 ghost use Rattle.model.specs.Runs.{last_time};
 ghost use Rattle.seeded.specs.SeededRun.{IsRun};
@@ -98,6 +98,7 @@ fn keep(kept: &mut Vec<SeededRun>, run: SeededRun) -> Result<(), AllocError>
     ensures whole { AreStillIn kept.old.items kept.new.items }
     ensures told { OnOk result (IsTold kept.new.items run) }
     ensures few { vec_len kept.new ≤ vec_len kept.old + 1 }
+    ensures stay { OnErr result (vec_len kept.new ≡ vec_len kept.old) }
 {
     if is_told(kept.as_slice(), &run) {
         return Ok(());

@@ -1,0 +1,20 @@
+-- What is kept once a run more was made.
+use Rattle.std.proofs.Common.{arith}
+use Rattle.std.proofs.lemmas.Grind.{common_steps}
+use Rattle.seeded.specs.declared.run.SeededRun.{SeededRun}
+use Rattle.seeded.specs.SeededRun.{IsRun}
+use Rattle.seeded.specs.Samples.{WantsNoMemory}
+use Rattle.seeded.proofs.Keeping.{all_from}
+use Rattle.seeded.proofs.samples.sample.Goals as goal
+
+pub loop-made-preserved : goal.loop-made-preserved
+loop-made-preserved g c =
+    let before = c.loop-made.invariant in
+    let run : SeededRun = c.run_seeded-run.result in
+    record {
+      runs = all_from (IsRun c.args.design.now c.args.limits) c.loop-made.kept.items c.keep.new.kept.items run before.runs c.run_seeded-run.ensures c.keep.ensures.from;
+      apart = c.keep.ensures.apart;
+      ended = all_from WantsNoMemory c.loop-made.kept.items c.keep.new.kept.items run before.ended (c.wants_memory.ensures c.if-wants_memory.false) c.keep.ensures.from;
+      most = grind (arith, common_steps);
+      kept = grind (arith, common_steps);
+    }
