@@ -16,7 +16,7 @@ mod role;
 mod split;
 mod witness;
 
-pub use confirm::is_confirmed;
+pub use confirm::{is_confirmed, is_cut_off, is_held_back};
 pub use deeds::fill;
 pub use pair::Pair;
 pub use role::{Does, Role, Site};
