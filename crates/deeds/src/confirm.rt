@@ -1,4 +1,5 @@
-//! Whether two entries of a run do what a pair says of them, and come the other way round in a second run.
+//! Whether two entries of a run do what a pair says of them, and come the other way round in a second run, or one of them finishes
+//! one of the runs before the other one comes.
 ghost use Rattle.std.specs.Prelude.{IsTrue, IfOk};
 ghost use Rattle.design.specs.Compiled.{design_of};
 ghost use Rattle.deeds.specs.Roles.{HasBothOrders};

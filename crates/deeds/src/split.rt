@@ -1,4 +1,4 @@
-//! A journal, split at two of its entries.
+//! A journal, split at two of its entries, and that of a second run, split at theirs.
 ghost use Rattle.std.specs.Prelude.{◌≡◌, IsTrue, IfSome};
 ghost use Rattle.std.specs.List.{All};
 ghost use Rattle.deeds.specs.Roles as roles;
