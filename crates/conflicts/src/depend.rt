@@ -23,13 +23,12 @@ struct Chain {
     depending: StepSet,
 }
 
-/// The steps between two that a second run takes before the later one, and then the earlier one: all that don't depend on the earlier one,
-/// where none of those that do ties the two together. Else all that don't need it, and those that the later one needs, with which another
-/// second run takes it first alone.
+/// The steps between two that a second run takes before them: all that don't depend on the earlier one, where none of those that do ties the
+/// two together, and else all that don't need it.
 #[derive(Drop)]
 pub(crate) struct Before {
     pub(crate) steps: StepSet,
-    pub(crate) alone: Option<StepSet>,
+    pub(crate) is_tied: bool,
 }
 
 impl Marks {
@@ -138,39 +137,8 @@ fn others(alloc: Global, set: &StepSet, width: usize) -> Result<StepSet, AllocEr
     Ok(others)
 }
 
-// Puts a step behind the earlier one into a set, if there is one.
-fn put(set: &mut StepSet, earlier: usize, step: Option<usize>) {
-    if let Some(at) = step {
-        if at > earlier {
-            set.insert(at - earlier);
-        }
-    }
-}
-
-// The steps between two that the later one needs.
-fn needed(
-    alloc: Global,
-    stretch: &Stretch,
-    earlier: usize,
-    later: usize,
-) -> Result<StepSet, AllocError> {
-    let width = later.saturating_sub(earlier);
-    let mut needed = StepSet::new(alloc, width)?;
-    needed.insert(width);
-    for behind in (1..width.saturating_add(1)).rev() {
-        if needed.contains(behind) {
-            if let Some(step) = stretch.step_at(earlier.saturating_add(behind)) {
-                put(&mut needed, earlier, step.cause);
-                put(&mut needed, earlier, step.before);
-            }
-        }
-    }
-    Ok(needed)
-}
-
 impl Stretch {
-    /// The steps between two that a second run takes before the later one and then the earlier one. None where the later one needs
-    /// the earlier one.
+    /// The steps between two that a second run takes before them. None where the later one needs the earlier one.
     pub(crate) fn swapped(
         &self,
         alloc: Global,
@@ -186,16 +154,14 @@ impl Stretch {
         if chain.needs(last) {
             return Ok(None);
         }
-        if chain.is_linked(last, self.accesses_of(later)) {
-            let alone = needed(alloc, self, earlier, later)?;
-            let steps = others(alloc, &chain.needing, width)?;
-            return Ok(Some(Before {
-                steps,
-                alone: Some(alone),
-            }));
-        }
-        let steps = others(alloc, &chain.depending, width)?;
-        Ok(Some(Before { steps, alone: None }))
+        let is_tied = chain.is_linked(last, self.accesses_of(later));
+        let left_out = if is_tied {
+            &chain.needing
+        } else {
+            &chain.depending
+        };
+        let steps = others(alloc, left_out, width)?;
+        Ok(Some(Before { steps, is_tied }))
     }
 
     /// The steps between two that a second run takes before the later one, which finishes it: all that don't need the earlier one. None where
@@ -215,6 +181,9 @@ impl Stretch {
             return Ok(None);
         }
         let steps = others(alloc, &chain.needing, later.saturating_sub(earlier))?;
-        Ok(Some(Before { steps, alone: None }))
+        Ok(Some(Before {
+            steps,
+            is_tied: false,
+        }))
     }
 }

@@ -6,7 +6,6 @@ ghost use Rattle.conflicts.specs.RunEndings.{EndsAt};
 use crate::conflicts::{Conflict, Turning};
 use crate::follow::{follow_made, follow_on, follow_stretch, lead_all, repeat};
 use crate::run::Run;
-use crate::step_set::StepSet;
 use crate::task::Task;
 use crate::transitions::{Guide, next_change};
 use deeds::{Pair, lead};
@@ -87,6 +86,23 @@ pub(crate) struct Lead<'a> {
     pub(crate) most: u64,
 }
 
+/// Whether the entries of a pair are turned, or keep their order.
+#[derive(Clone, Copy)]
+pub(crate) enum Order {
+    Turned,
+    Kept,
+}
+
+// The transitions of the first run behind a pair's earlier entry, but for those that were taken before.
+fn guide_behind<'a>(task: Task<'a>, lead: Lead<'a>) -> Guide<'a> {
+    Guide {
+        transitions: task.transitions,
+        at: lead.pair.earlier.saturating_add(1),
+        taken: lead.places,
+        later: lead.pair.later,
+    }
+}
+
 // Takes the entries of the first run before a pair. The answer is whether all were taken.
 fn repeat_before(task: Task<'_>, run: &mut Run<'_>, pair: Pair) -> bool
     requires come { HasComeTo task.limits run.old.journal.items run.old.machine }
@@ -112,12 +128,7 @@ fn go_on<P: Progress>(
     ensures code { run.new.machine.code ≡ run.old.machine.code }
     ensures ends { IfOk result (λ end. IfSome end (EndsAt task.entry.limits run.new.journal.items run.new.machine)) }
 {
-    let mut guide = Guide {
-        transitions: task.transitions,
-        at: turned.pair.earlier.saturating_add(1),
-        taken: turned.places,
-        later: turned.pair.later,
-    };
+    let mut guide = guide_behind(task, turned);
     let end = follow_stretch(run, task.limits, &mut guide, MOST_STEPS);
     if end.is_some() {
         return Ok(end);
@@ -204,22 +215,44 @@ fn lead_held_back<P: Progress>(
     follow_on(run, task.limits, &mut guide, turned.most, progress)
 }
 
-// The places of what a second run takes in the place of a conflict's earlier entry: those of a set between the two, the later one, and the
-// earlier one, unless that is cut off.
-fn places_of(
-    alloc: Global,
-    conflict: &Conflict,
-    steps: &StepSet,
-) -> Result<Vec<usize>, AllocError> {
+// Takes the entries of the first run before a pair, and those in its place, in which the two keep their order, and goes on. None where one
+// may not be taken, or it has as many entries as it may have.
+fn lead_kept<P: Progress>(
+    task: Task<'_>,
+    run: &mut Run<'_>,
+    kept: Lead<'_>,
+    progress: &P,
+) -> Option<End>
+    requires come { HasComeTo task.limits run.old.journal.items run.old.machine }
+    ensures come { HasComeTo task.entry.limits run.new.journal.items run.new.machine }
+    ensures code { run.new.machine.code ≡ run.old.machine.code }
+    ensures ends { IfSome result (EndsAt task.entry.limits run.new.journal.items run.new.machine) }
+{
+    if !repeat_before(task, run, kept.pair) {
+        return None;
+    }
+    if !lead_all(run, task.limits, task.transitions, kept.places) {
+        return None;
+    }
+    let mut guide = guide_behind(task, kept);
+    follow_on(run, task.limits, &mut guide, kept.most, progress)
+}
+
+// The places of what a second run takes in the place of a conflict's earlier entry: those of the steps between the two, and then the two,
+// in this order, but the earlier one only where it isn't cut off.
+fn places_of(alloc: Global, conflict: &Conflict, order: Order) -> Result<Vec<usize>, AllocError> {
     let Pair { earlier, later, .. } = conflict.pair;
     let mut places = Vec::new(alloc);
     for behind in 1..later.saturating_sub(earlier) {
-        if steps.contains(behind) {
+        if conflict.before.steps.contains(behind) {
             places.push(earlier.saturating_add(behind))?;
         }
     }
+    if let Order::Kept = order {
+        places.push(earlier)?;
+    }
     places.push(later)?;
-    if let Turning::Swapped = conflict.turning {
+    if let (Order::Turned, Turning::Swapped) = (order, conflict.turning) {
         places.push(earlier)?;
     }
     Ok(places)
@@ -245,13 +278,13 @@ fn lead_turned<P: Progress>(
     }
 }
 
-/// A second run, in which the order of a conflict's entries is turned, and these steps between them come before both. What it takes is taken
-/// off the entries that are left to second runs. None where it can't be made, where it comes to where the first run came, with the same text,
-/// or where no entries are left.
+/// A second run, in which the order of a conflict's entries is turned or kept, and the steps before them come before both. What it takes is
+/// taken off the entries that are left to second runs. None where it can't be made, where no entries are left, or, of a run in which the order
+/// is turned, where it comes to where the first run came, with the same text.
 pub(crate) fn exchange<P: Progress>(
     task: Task<'_>,
     conflict: &Conflict,
-    steps: &StepSet,
+    order: Order,
     left: &mut u64,
     progress: &P,
 ) -> Result<Option<SeededRun>, AllocError>
@@ -262,14 +295,17 @@ pub(crate) fn exchange<P: Progress>(
         *left = 0;
         return Ok(None);
     }
-    let places = places_of(task.alloc, conflict, steps)?;
+    let places = places_of(task.alloc, conflict, order)?;
     let mut run = Run::start(task.alloc, task.design)?;
-    let turned = Lead {
+    let lead = Lead {
         pair: conflict.pair,
         places: &places,
         most,
     };
-    let end = lead_turned(task, &mut run, conflict.turning, turned, progress);
+    let end = match order {
+        Order::Turned => lead_turned(task, &mut run, conflict.turning, lead, progress),
+        Order::Kept => Ok(lead_kept(task, &mut run, lead, progress)),
+    };
     *left = most.saturating_sub(run.journal.len() as u64);
     match end {
         Ok(Some(end)) => Ok(Some(run.told(task.alloc, task.limits, end))),

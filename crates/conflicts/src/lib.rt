@@ -9,10 +9,10 @@
 //!    with the events that it leaves behind (`conflicts`).
 //! 4. A conflict is tried by a second run (`exchange`, and `follow` for its parts), in which the order of the two alone is turned: the first run
 //!    up to the earlier entry, what stands between the two and doesn't depend on the earlier one (`depend`), the later one, the earlier
-//!    one, and then the transitions of the first run as far as they may be taken. Where entries between the two tie them together, no run
-//!    turns their order alone: then two are made, each of which moves one of the two alone. They are lawful since a machine made
+//!    one, and then the transitions of the first run as far as they may be taken. Where entries between the two tie them together, it is compared
+//!    with another one too, in which the two keep their order behind the same entries. They are lawful since a machine made
 //!    them.
-//! 5. Where the second run, or each of the two, is apart from the first, a machine that is led to the two entries in the first
+//! 5. Where the second run is apart from the first, a machine that is led to the two entries in the first
 //!    run confirms what each does there, and one led to them in the second that they come the other way round (the crate `deeds`).
 //!    Then it is a race (`trials`).
 //!

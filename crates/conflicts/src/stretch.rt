@@ -431,7 +431,10 @@ impl Stretch {
     // No steps.
     fn nothing(&self) -> Result<Option<Before>, AllocError> {
         let steps = StepSet::new(self.alloc, 0)?;
-        Ok(Some(Before { steps, alone: None }))
+        Ok(Some(Before {
+            steps,
+            is_tied: false,
+        }))
     }
 }
 

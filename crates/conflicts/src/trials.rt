@@ -8,8 +8,7 @@ ghost use Rattle.conflicts.specs.Races.{AreOfSame, AreOthers, IsNewBeside, IsOf,
 ghost use Rattle.conflicts.specs.declared.told.Bound.TheVariants.{Races, Pairs};
 
 use crate::conflicts::{Conflict, Conflicts, Turning};
-use crate::exchange::exchange;
-use crate::step_set::StepSet;
+use crate::exchange::{Order, exchange};
 use crate::task::Task;
 use crate::told::{Bound, Race};
 use deeds::{Pair, Site, is_confirmed, is_cut_off, is_held_back};
@@ -115,21 +114,22 @@ fn cut_before(conflicts: &Conflicts) -> Option<Bound>
     }
 }
 
-// A second run of a conflict, if it is apart from the first run. Fails where it wants memory.
+// A second run of a conflict with its entries in this order, if it is apart from another run. Fails where it wants memory.
 fn apart_run<P: Progress>(
     task: Task<'_>,
     conflict: &Conflict,
-    steps: &StepSet,
+    order: Order,
+    from: &SeededRun,
     left: &mut u64,
     progress: &P,
 ) -> Result<Option<SeededRun>, AllocError>
-    ensures { IfOk result (λ made. IfSome made (IsSecond task.entry.design.now task.entry.limits task.entry.original.now)) }
+    ensures { IfOk result (λ made. IfSome made (IsSecond task.entry.design.now task.entry.limits from.now)) }
 {
-    match exchange(task, conflict, steps, left, progress) {
+    match exchange(task, conflict, order, left, progress) {
         Ok(Some(exchanged)) => {
             if wants_memory(&exchanged) {
                 Err(AllocError)
-            } else if are_apart(task.original, &exchanged) {
+            } else if are_apart(from, &exchanged) {
                 Ok(Some(exchanged))
             } else {
                 Ok(None)
@@ -209,50 +209,76 @@ impl Trials {
         None
     }
 
-    // Makes a second run, if one is left. None where it isn't apart from the first run.
+    // Makes a second run, if one is left. None where it isn't apart from another run.
     fn second_run<P: Progress>(
         &mut self,
         task: Task<'_>,
         conflict: &Conflict,
-        steps: &StepSet,
+        order: Order,
+        from: &SeededRun,
         progress: &P,
     ) -> Result<Option<SeededRun>, AllocError>
         requires within { IsWithin task.bounds self.old.races.items self.old.tried self.old.cut }
         ensures within { IsWithin task.entry.bounds self.new.races.items self.new.tried self.new.cut }
         ensures same { self.new.races ≡ self.old.races }
-        ensures made { IfOk result (λ made. IfSome made (IsSecond task.entry.design.now task.entry.limits task.entry.original.now)) }
+        ensures made { IfOk result (λ made. IfSome made (IsSecond task.entry.design.now task.entry.limits from.now)) }
         ensures room { IfOk result (λ made. IfSome made (λ _. vec_len self.new.races < task.entry.bounds.races)) }
         ensures more { IfOk result (λ made. IfSome made (λ _. vec_len self.new.races < self.new.tried)) }
+        ensures grown { self.old.tried ≤ self.new.tried }
     {
         if let Some(bound) = self.met(task) {
             self.cut_by(task, bound);
             return Ok(None);
         }
         self.tried += 1;
-        let made = apart_run(task, conflict, steps, &mut self.left, progress)?;
+        let made = apart_run(task, conflict, order, from, &mut self.left, progress)?;
         if made.is_none() && self.left == 0 {
             self.cut_by(task, Bound::Entries);
         }
         Ok(made)
     }
 
-    // Whether the second run in which the later entry of a conflict comes first alone is apart from the first run, where it is to be made.
-    fn is_apart_alone<P: Progress>(
+    // Whether the run in which the entries of a conflict are turned is apart from that in which they keep their order behind the same
+    // entries. Where nothing ties the two together, that is the first run.
+    fn is_apart_kept<P: Progress>(
         &mut self,
         task: Task<'_>,
         conflict: &Conflict,
+        turned: &SeededRun,
         progress: &P,
     ) -> Result<bool, AllocError>
         requires within { IsWithin task.bounds self.old.races.items self.old.tried self.old.cut }
         ensures within { IsWithin task.entry.bounds self.new.races.items self.new.tried self.new.cut }
         ensures same { self.new.races ≡ self.old.races }
+        ensures grown { self.old.tried ≤ self.new.tried }
     {
-        match &conflict.before.alone {
-            Some(alone) => {
-                let made = self.second_run(task, conflict, alone, progress)?;
-                Ok(made.is_some())
-            }
-            None => Ok(true),
+        if !conflict.before.is_tied {
+            return Ok(true);
+        }
+        let made = self.second_run(task, conflict, Order::Kept, turned, progress)?;
+        Ok(made.is_some())
+    }
+
+    // The race that a conflict shows by its second run, if it shows one.
+    fn race_by<P: Progress>(
+        &mut self,
+        task: Task<'_>,
+        conflict: &Conflict,
+        turned: SeededRun,
+        progress: &P,
+    ) -> Result<Option<Race>, AllocError>
+        requires within { IsWithin task.bounds self.old.races.items self.old.tried self.old.cut }
+        requires second { IsSecond task.design.now task.limits task.original.now turned }
+        ensures within { IsWithin task.entry.bounds self.new.races.items self.new.tried self.new.cut }
+        ensures same { self.new.races ≡ self.old.races }
+        ensures grown { self.old.tried ≤ self.new.tried }
+        ensures shown { IfOk result (λ race. IfSome race (IsShown task.entry.design.now task.entry.limits task.entry.original.now)) }
+        ensures of { IfOk result (λ race. IfSome race (IsOf conflict.now.pair)) }
+    {
+        match self.is_apart_kept(task, conflict, &turned, progress) {
+            Ok(true) => race_of(task, conflict, turned),
+            Ok(false) => Ok(None),
+            Err(error) => Err(error),
         }
     }
 
@@ -271,11 +297,8 @@ impl Trials {
         ensures room { IfOk result (λ race. IfSome race (λ _. vec_len self.new.races < task.entry.bounds.races)) }
         ensures more { IfOk result (λ race. IfSome race (λ _. vec_len self.new.races < self.new.tried)) }
     {
-        if !self.is_apart_alone(task, conflict, progress)? {
-            return Ok(None);
-        }
-        match self.second_run(task, conflict, &conflict.before.steps, progress)? {
-            Some(exchanged) => race_of(task, conflict, exchanged),
+        match self.second_run(task, conflict, Order::Turned, task.original, progress)? {
+            Some(turned) => self.race_by(task, conflict, turned, progress),
             None => Ok(None),
         }
     }
