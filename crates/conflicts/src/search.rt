@@ -1,4 +1,5 @@
 //! The search for races.
+ghost use Rattle.std.specs.Prelude.{◌≡◌, []};
 ghost use Rattle.std.specs.List.{All, AllPairs};
 ghost use Rattle.seeded.specs.SeededRun.{IsRun};
 ghost use Rattle.conflicts.specs.RunEndings.{HasTimeLimit, IsOfAnyDesign};

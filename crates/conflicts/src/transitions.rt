@@ -141,6 +141,14 @@ impl<'m> Guide<'m> {
         }
     }
 
+    // The change of the regions that is the transition at a place.
+    fn change_at(&self, place: usize) -> Option<Entry> {
+        match self.transitions.get(place).copied() {
+            Some(Transition::Change(change)) => Some(change),
+            _ => None,
+        }
+    }
+
     // Goes past what isn't a turn that may be wanted, up to the next change of the regions.
     fn skip(&mut self) {
         for _ in self.at..self.transitions.len() {
@@ -174,7 +182,7 @@ impl<'m> Guide<'m> {
     // Goes past a change of the regions, and the transitions before it. It stays before one that is due later.
     fn change(&mut self, change: Entry) {
         for place in self.at..self.transitions.len() {
-            if let Transition::Change(other) = self.transitions[place] {
+            if let Some(other) = self.change_at(place) {
                 if other == change {
                     self.at = place.saturating_add(1);
                     return;
