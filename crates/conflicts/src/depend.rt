@@ -155,12 +155,11 @@ impl Stretch {
             return Ok(None);
         }
         let is_tied = chain.is_linked(last, self.accesses_of(later));
-        let left_out = if is_tied {
-            &chain.needing
+        let steps = if is_tied {
+            others(alloc, &chain.needing, width)?
         } else {
-            &chain.depending
+            others(alloc, &chain.depending, width)?
         };
-        let steps = others(alloc, left_out, width)?;
         Ok(Some(Before { steps, is_tied }))
     }
 

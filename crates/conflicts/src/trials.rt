@@ -1,5 +1,5 @@
 //! The tries of conflicts, and the races that they show.
-ghost use Rattle.std.specs.Prelude.{◌≡◌, ◌<◌, [], false, IfOk, IfNone, IfSome, IsTrue, Some, vec_len};
+ghost use Rattle.std.specs.Prelude.{◌≡◌, ◌<◌, ◌≤◌, [], false, IfOk, IfNone, IfSome, IsTrue, Some, vec_len};
 ghost use Rattle.std.specs.List.{All, AllPairs};
 ghost use Rattle.seeded.specs.Samples.{WantsNoMemory};
 ghost use Rattle.deeds.specs.Roles.{HasBothOrders};
