@@ -2,7 +2,7 @@
 use Rattle.std.specs.Prelude.{◌≡◌, ℕ, List, Some, codes, slice_get}
 use Rattle.design.specs.Compiled.{Compiled}
 use Rattle.deeds.specs.declared.role.Does.{Does}
-use Rattle.deeds.specs.declared.role.Does.TheVariants.{Writes, Assigns, Updates, Reads, Waits, Prints, Strobes, Finishes}
+use Rattle.deeds.specs.declared.role.Does.TheVariants.{Writes, Assigns, Updates, Reads, Waits, Prints, Strobes, Finishes, Runs}
 use Rattle.deeds.specs.declared.role.Site as found
 use Rattle.deeds.specs.declared.role.Site.TheVariants as sites
 use Rattle.verdict.specs.declared.race.Site as told
@@ -18,11 +18,14 @@ word_of Waits = codes "waits for it"
 word_of Prints = codes "prints"
 word_of Strobes = codes "strobes"
 word_of Finishes = codes "finishes the run"
+word_of Runs = codes "takes a turn"
 
 -- for what two entries race: a register of the design is told by its name
 abbrev pub IsSiteTold : Compiled → found.Site → told.Site → Type 0
 IsSiteTold code (sites.Register r) (lines.Register name) = (known : List ℕ) → slice_get code.names r ≡ Some known → name.now ≡ known
 IsSiteTold code (sites.Register r) lines.Printing = ⊥
 IsSiteTold code (sites.Register r) lines.Strobing = ⊥
+IsSiteTold code (sites.Register r) lines.Finishing = ⊥
 IsSiteTold code sites.Printing site = site ≡ lines.Printing
 IsSiteTold code sites.Strobing site = site ≡ lines.Strobing
+IsSiteTold code sites.Finishing site = site ≡ lines.Finishing

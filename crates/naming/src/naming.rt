@@ -20,10 +20,11 @@ use std::alloc::{AllocError, Global};
 use tokens::cut::CutFault;
 use verdict::{Process, Race, Role, Run, first_difference, push_race};
 
-/// How many second runs are made to name races, and how many races are named at most.
+/// How many second runs are made to name races, how many races are named at most, and how many entries these runs have together.
 const TRIES: Tries = Tries {
     pairs: 1000,
     races: 64,
+    entries: 20_000_000,
 };
 
 /// What races are named by: the source, its design, the limits of its runs, and the texts that were found, of which the

@@ -52,16 +52,28 @@ some_run [] [] j h lt = absurd (omega (arith, lt))
 some_run [] (s ∷ ss) j h lt = absurd h
 some_run (r ∷ rs) ss j h lt = r
 
-all_apart : (rs : List SeededRun) (ss : List (Shown Entry End)) → AreOf rs ss → AllPairs seeded.AreDistinct rs → AllPairs AreDistinct ss
+-- behind a front, a byte stands at its place
+at_front : (before : List ℕ) (byte : ℕ) (behind : List ℕ) → get_or (before ++ byte ∷ behind) (length before) 0 ≡ byte
+at_front [] byte behind = refl
+at_front (b ∷ bs) byte behind = at_front bs byte behind
+
+-- runs that are apart have other lines or another end
+distinct_of : (a b : SeededRun) → seeded.AreApart a b → seeded.AreDistinct a b
+distinct_of a b (inl parted) text end =
+    parted.differ (sym (at_front parted.before parted.byte parted.behind)
+    ∙ (ap (λ xs. get_or xs (length parted.before) 0) (sym parted.one_is ∙ (text ∙ parted.other_is)) ∙ at_front parted.before parted.other_byte parted.other_behind))
+distinct_of a b (inr whole) text end = whole.2 text end
+
+all_apart : (rs : List SeededRun) (ss : List (Shown Entry End)) → AreOf rs ss → AllPairs seeded.AreApart rs → AllPairs AreDistinct ss
 all_apart rs ss h apart i j d lt in_range text end =
     let c = some_run rs ss j h in_range in
     let one = at_place rs ss i c d h (omega (arith, lt, in_range)) in
     let other = at_place rs ss j c d h in_range in
     let there : j < length rs = omega (arith, in_range, same_length rs ss h) in
-    apart i j c lt there (sym one.0 ∙ (text ∙ other.0)) (sym one.1 ∙ (end ∙ other.1))
+    distinct_of (get_or rs i c) (get_or rs j c) (apart i j c lt there) (sym one.0 ∙ (text ∙ other.0)) (sym one.1 ∙ (end ∙ other.1))
 
 pub samples_found : (n asked : ℕ) (code : Compiled) (extent : Extent) (rs : List SeededRun) (ss : List (Shown Entry End)) → extent.samples ≡ Some asked → n ≤ asked → length rs ≤ n
-    → AreOf rs ss → All (IsRun code (limits_in extent)) rs → AllPairs seeded.AreDistinct rs → AreFound code extent (Sampled n) ss
+    → AreOf rs ss → All (IsRun code (limits_in extent)) rs → AllPairs seeded.AreApart rs → AreFound code extent (Sampled n) ss
 samples_found n asked code extent rs ss some few enough h all apart = record {
   sound = all_found n code (limits_in extent) rs ss h all;
   distinct = all_apart rs ss h apart;

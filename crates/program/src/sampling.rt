@@ -12,7 +12,7 @@ use model::end::{End, Limits};
 use model::entry::Entry;
 use progress::Progress;
 use seeded::run::SeededRun;
-use seeded::samples::{Seeds, sample};
+use seeded::samples::{SampleBounds, Seeds, sample};
 use std::alloc::{AllocError, Global};
 use verdict::Claim;
 
@@ -32,12 +32,15 @@ pub fn sampled<P: Progress>(
         until: extent.until,
         max_entries: extent.max_entries,
     };
-    let most = extent.max_texts as usize;
+    let bounds = SampleBounds {
+        kept: extent.max_texts as usize,
+        entries: u64::MAX,
+    };
     let seeds = Seeds {
         first: extent.seed,
         count,
     };
-    let samples = sample(alloc, design, limits, seeds, most, progress);
+    let samples = sample(alloc, design, limits, seeds, bounds, progress);
     progress.end();
     let claim = Claim::Sampled(samples.made);
     let shown = shown_of(alloc, samples.kept)?;
