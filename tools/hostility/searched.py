@@ -1,7 +1,7 @@
 """searched: searches for races whose allocations are refused, each in turn, alone and with all after it, and searches in little memory.
 
 A search that wants memory tells no race, no text and no status that it doesn't tell with enough: its races are among those of the whole search, and so are
-the texts of its journals; `every lawful run` is said where the whole search says it of the same texts; and the status is that of the whole search, or 6."""
+the texts of its journals; `every lawful run` is said where the whole search says it of the same texts; and the status is that of the whole search, 4 or 6."""
 import glob
 import os
 import re
@@ -78,7 +78,7 @@ class Search:
             return None
         if answer.status == 6 and not answer.err.startswith(b"vsimtx: "):
             return "status 6 without a line"
-        if answer.status not in (6, self.own.status):
+        if answer.status not in (4, 6, self.own.status):
             return "a status that isn't the search's own"
         if answer.status != 6 and answer.err:
             return "a line on standard error"
