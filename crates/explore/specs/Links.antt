@@ -27,6 +27,10 @@ IsLinked steps edges from to = IsStep steps from to ⊎ Any (IsEdge from to) edg
 abbrev pub IsUnmarked : List Bool → ℕ → Type 0
 IsUnmarked marks k = get_or marks k true ≡ false
 
+-- where the node at the beginning of an edge has no mark, that at its end has none
+abbrev pub GoesBack : List Bool → Edge → Type 0
+GoesBack marks edge = IsUnmarked marks edge.from → IsUnmarked marks edge.to
+
 -- At no node without a mark may a run end, and the ways from such a node lead to such nodes alone.
 pub record AreClosed {Move : Type 0} (steps : List (ℕ × List Move)) (links : Links) (marks : List Bool) : Type 0 where
   pub ends : (k : ℕ) → IsUnmarked marks k → IsUnmarked links.may_end.items k

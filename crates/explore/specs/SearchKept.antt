@@ -87,5 +87,5 @@ abbrev pub AreContinued : {Move Node End : Type 0} → Runs Move Node End → Ke
 AreContinued runs kept = (k : ℕ) → IsUnmarked kept.links.may_end.items k → IsContinued runs kept k
 
 -- a node at which no run ends now was one before
-abbrev pub StayOpen : {Node Move : Type 0} → KeptNodes Node Move → KeptNodes Node Move → Type 0
-StayOpen old new = (k : ℕ) → IsUnmarked new.links.may_end.items k → IsUnmarked old.links.may_end.items k
+abbrev pub StayUnmarked : {Node Move : Type 0} → KeptNodes Node Move → KeptNodes Node Move → Type 0
+StayUnmarked old new = (k : ℕ) → IsUnmarked new.links.may_end.items k → IsUnmarked old.links.may_end.items k

@@ -2,10 +2,10 @@
 //!
 //! A node has a mark where an end may be reached from it. Marks begin at the nodes at which a run may end, for all that is
 //! known, and go back by steps and edges. That none was left out is seen by one more look at each step and each edge.
-ghost use Rattle.std.specs.Prelude.{◌≡◌, ◌<◌, ℕ, [], length, suc, true, get_or, IsTrue, IfOk, IfSome, Some};
-ghost use Rattle.std.specs.List.{Any};
+ghost use Rattle.std.specs.Prelude.{◌≡◌, ◌<◌, ℕ, length, true, get_or, IsTrue, IfOk, IfSome};
+ghost use Rattle.std.specs.List.{All};
 ghost use Rattle.explore.specs.Lineage.{ways, IsLineage};
-ghost use Rattle.explore.specs.Links.{AreClosed, IsEdge, IsNeverEnding, IsStep, IsUnmarked};
+ghost use Rattle.explore.specs.Links.{AreClosed, GoesBack, IsNeverEnding, IsStep, IsUnmarked};
 ghost use Rattle.explore.specs.Pieces.{pieces};
 
 use crate::lineage::Lineage;
@@ -138,18 +138,18 @@ fn goes_back(marks: &[bool], from: usize, to: usize) -> bool
 }
 
 /// Whether a node at which a run may end has a mark.
-fn has_mark(may_end: &[bool], marks: &[bool], number: usize) -> bool
-    ensures { IsTrue result → IsUnmarked marks.now number → IsUnmarked may_end.now number }
+fn has_mark(links: &Links, marks: &[bool], number: usize) -> bool
+    ensures { IsTrue result → IsUnmarked marks.now number → IsUnmarked links.now.may_end.items number }
 {
-    is_marked(marks, number) | !is_marked(may_end, number)
+    is_marked(marks, number) | !links.may_end_at(number)
 }
 
 /// Whether each node at which a run may end has a mark.
-fn are_ends_marked(may_end: &[bool], marks: &[bool]) -> bool
-    ensures { IsTrue result → (k : ℕ) → IsUnmarked marks.now k → IsUnmarked may_end.now k }
+fn are_ends_marked(links: &Links, marks: &[bool]) -> bool
+    ensures { IsTrue result → (k : ℕ) → k < length marks.now → IsUnmarked marks.now k → IsUnmarked links.now.may_end.items k }
 {
     for number in 0..marks.len() {
-        if !has_mark(may_end, marks, number) {
+        if !has_mark(links, marks, number) {
             return false;
         }
     }
@@ -159,7 +159,7 @@ fn are_ends_marked(may_end: &[bool], marks: &[bool]) -> bool
 /// Whether marks go back by all steps.
 fn are_steps_marked<M: Copy>(lineage: &Lineage<M>, marks: &[bool]) -> bool
     requires lineage { IsLineage lineage.now }
-    ensures { IsTrue result → (from to : ℕ) → IsStep (pieces lineage.now.steps) from to → IsUnmarked marks.now from → IsUnmarked marks.now to }
+    ensures { IsTrue result → (from to : ℕ) → to < length (ways lineage.now) → IsStep (pieces lineage.now.steps) from to → IsUnmarked marks.now from → IsUnmarked marks.now to }
 {
     for number in 1..lineage.len() {
         let (from, _) = lineage.last_step(number);
@@ -172,7 +172,7 @@ fn are_steps_marked<M: Copy>(lineage: &Lineage<M>, marks: &[bool]) -> bool
 
 /// Whether marks go back by all edges.
 fn are_edges_marked(edges: &[Edge], marks: &[bool]) -> bool
-    ensures { IsTrue result → (from to : ℕ) → Any (IsEdge from to) edges.now → IsUnmarked marks.now from → IsUnmarked marks.now to }
+    ensures { IsTrue result → All (GoesBack marks.now) edges.now }
 {
     for edge in edges {
         if !goes_back(marks, edge.from as usize, edge.to as usize) {
@@ -187,7 +187,7 @@ fn are_closed<M: Copy>(lineage: &Lineage<M>, links: &Links, marks: &[bool]) -> b
     requires lineage { IsLineage lineage.now }
     ensures { IsTrue result → AreClosed (pieces lineage.now.steps) links.now marks.now }
 {
-    if !are_ends_marked(&links.may_end, marks) {
+    if !are_ends_marked(links, marks) {
         return false;
     }
     if !are_steps_marked(lineage, marks) {
@@ -208,6 +208,28 @@ fn first_unmarked(marks: &[bool]) -> Option<usize>
     None
 }
 
+/// The moves of the first run whose node has no mark, where no end is reached from such a node.
+fn unmarked_way<M: Copy>(
+    alloc: Global,
+    lineage: &Lineage<M>,
+    links: &Links,
+    marks: &[bool],
+) -> Result<Option<Vec<M>>, AllocError>
+    requires lineage { IsLineage lineage.now }
+    requires known { (k : ℕ) → IsUnmarked links.now.may_end.items k → k < length (ways lineage.now) }
+    ensures { IfOk result (λ found. IfSome found (λ moves. IsNeverEnding lineage.now links.now moves.items)) }
+{
+    let number = match first_unmarked(marks) {
+        Some(number) => number,
+        None => return Ok(None),
+    };
+    if !are_closed(lineage, links, marks) {
+        return Ok(None);
+    }
+    let moves = lineage.way(alloc, number)?;
+    Ok(Some(moves))
+}
+
 /// The moves of a run from which no end is reached, where there is one: the first that was reached.
 pub(crate) fn find_endless<M: Copy>(
     alloc: Global,
@@ -219,13 +241,6 @@ pub(crate) fn find_endless<M: Copy>(
     ensures { IfOk result (λ found. IfSome found (λ moves. IsNeverEnding lineage.now links.now moves.items)) }
 {
     let marks = marks_of(alloc, lineage, links)?;
-    let number = match first_unmarked(&marks) {
-        Some(number) => number,
-        None => return Ok(None),
-    };
-    if !are_closed(lineage, links, &marks) {
-        return Ok(None);
-    }
-    let moves = lineage.way(alloc, number)?;
-    Ok(Some(moves))
+    let found = unmarked_way(alloc, lineage, links, &marks)?;
+    Ok(found)
 }

@@ -1,7 +1,7 @@
 //! What a search keeps of the nodes that it reached.
 ghost use Rattle.std.specs.Prelude.{◌≡◌, ◌<◌, ◌≤◌, ◌++◌, [], ◌∷◌, false, true, length, get_or, IsTrue, IfOk, OnOk};
 ghost use Rattle.std.specs.List.{All, Any};
-ghost use Rattle.explore.specs.SearchKept.{AreKept, Grows, IsText, LeadsOn, StayOpen};
+ghost use Rattle.explore.specs.SearchKept.{AreKept, Grows, IsText, LeadsOn, StayUnmarked};
 ghost use Rattle.explore.specs.Search.{IsNext};
 ghost use Rattle.explore.specs.NumberedTexts.{texts};
 ghost use Rattle.explore.specs.Lineage.{ways};
@@ -49,14 +49,14 @@ pub(crate) fn first<O: Orders>(
     ensures kept { IfOk result (λ kept. AreKept (O.runs orders.now) (O.has_key orders.now) kept) }
     ensures ways { IfOk result (λ kept. ways kept.lineage ≡ [] ∷ []) }
     ensures one { IfOk result (λ kept. length kept.pending.items ≡ 1) }
-    ensures open { IfOk result (λ kept. kept.links.may_end.items ≡ true ∷ []) }
+    ensures unmarked { IfOk result (λ kept. kept.links.may_end.items ≡ true ∷ []) }
     ensures waits { IfOk result (λ kept. Any (λ pending. pending.reached.number ≡ 0) kept.pending.items) }
 {
     let node = orders.start(alloc)?;
     let mut key = Vec::new(alloc);
     orders.key(room, &mut key, &node)?;
     let mut visited = Visited::new(alloc);
-    let _new = visited.add(alloc, 0, key.as_slice())?;
+    let _there = visited.add(alloc, 0, key.as_slice())?;
     let mut links = Links::new(alloc);
     links.add()?;
     let mut pending = Vec::new(alloc);
@@ -91,7 +91,7 @@ fn follow<O: Orders>(
     ensures kept { OnOk result (AreKept (O.runs orders.now) (O.has_key orders.now) kept.new) }
     ensures grows { OnOk result (Grows kept.old kept.new) }
     ensures room { OnOk result (length (ways kept.new.lineage) ≤ scope.bounds.nodes) }
-    ensures open { OnOk result (StayOpen kept.old kept.new) }
+    ensures unmarked { OnOk result (StayUnmarked kept.old kept.new) }
     ensures full { IfOk result (λ there. there ≡ false → length (ways kept.new.lineage) ≡ scope.bounds.nodes) }
     ensures leads { IfOk result (λ there. IsTrue there → LeadsOn (O.runs orders.now) kept.new from.number (get_or (ways kept.old.lineage) from.number [] ++ next.moves.items)) }
 {
@@ -106,10 +106,12 @@ fn follow<O: Orders>(
     let number = kept.lineage.len();
     if number >= scope.bounds.nodes {
         let there = kept.visited.find(text, bytes);
-        return kept.links.join(from.number, there);
+        let known = kept.links.join(from.number, there)?;
+        return Ok(known);
     }
     let there = kept.visited.add(scope.alloc, text, bytes)?;
-    if kept.links.join(from.number, there)? {
+    let joined = kept.links.join(from.number, there)?;
+    if joined {
         return Ok(true);
     }
     kept.lineage.push(from.number, &moves)?;
@@ -138,7 +140,7 @@ pub(crate) fn follow_all<O: Orders>(
     ensures kept { OnOk result (AreKept (O.runs orders.now) (O.has_key orders.now) kept.new) }
     ensures grows { OnOk result (Grows kept.old kept.new) }
     ensures room { OnOk result (length (ways kept.new.lineage) ≤ scope.bounds.nodes) }
-    ensures open { OnOk result (StayOpen kept.old kept.new) }
+    ensures unmarked { OnOk result (StayUnmarked kept.old kept.new) }
     ensures full { IfOk result (λ all. all ≡ false → length (ways kept.new.lineage) ≡ scope.bounds.nodes) }
     ensures leads { IfOk result (λ all. IsTrue all → All (λ next. LeadsOn (O.runs orders.now) kept.new from.number (get_or (ways kept.old.lineage) from.number [] ++ next.moves.items)) successors.items) }
 {

@@ -43,6 +43,17 @@ impl Links {
         Ok(())
     }
 
+    /// Whether a run may come to an end at the node with a number, for all that is known. It may at one that isn't there.
+    pub(crate) fn may_end_at(&self, number: usize) -> bool
+        ensures { result ≡ get_or self.now.may_end.items number true }
+    {
+        if number < self.may_end.len() {
+            self.may_end[number]
+        } else {
+            true
+        }
+    }
+
     /// Adds the edge from a node to another, where that is there. The answer is whether it is.
     pub(crate) fn join(&mut self, from: usize, to: Option<usize>) -> Result<bool, AllocError>
         ensures edges { OnOk result (Extends self.old.edges.items self.new.edges.items) }

@@ -1,5 +1,5 @@
 //! The search.
-ghost use Rattle.std.specs.Prelude.{◌≡◌, ◌<◌, ◌≤◌, ◌⊎◌, [], length, get_or, None, Some, IsTrue, IfOk, IfSome, OnOk};
+ghost use Rattle.std.specs.Prelude.{◌≡◌, ◌<◌, ◌≤◌, ◌⊎◌, [], true, false, length, get_or, None, Some, IsTrue, IfOk, IfSome, OnOk};
 ghost use Rattle.std.specs.List.{All, AllPairs};
 ghost use Rattle.explore.specs.Grown.{Extends};
 ghost use Rattle.explore.specs.SearchKept.{AreContinued, AreKept, Grows, IsPending};
@@ -211,7 +211,7 @@ pub fn explore<O: Orders, P: Progress>(
             nodes,
             endless,
         },
-        Err(AllocError) => Explored {
+        Err(_) => Explored {
             shown,
             stopped: Some(Stopped::Memory),
             nodes,

@@ -90,11 +90,10 @@ fn visit_in(visits: &Pieces<u8>, slot: u64, text: usize, key: &[u8]) -> Option<u
         return None;
     }
     let (other, bytes) = visits.piece(number);
-    if other != text {
-        return None;
-    }
-    if bytes == key {
-        return Some(number);
+    if other == text {
+        if bytes == key {
+            return Some(number);
+        }
     }
     None
 }
