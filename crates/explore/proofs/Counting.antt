@@ -1,6 +1,6 @@
 -- The runs that the number of nodes counts.
 use Rattle.std.proofs.Common.{◌≡◌, ℕ, ◌<◌, ◌++◌, List, [], length, get_or, Some, None, Option, refl, sym, subst, arith, inl, inr, Vec, Global}
-use Rattle.std.specs.Prelude.{IfSome}
+use Rattle.std.specs.Prelude.{IfSome, IsErrAnd, Result, Ok, Err}
 use Rattle.std.specs.List.{All}
 use Rattle.std.proofs.lemmas.List.{get_or_default}
 use Rattle.std.proofs.lemmas.List.Elements.{All-nil}
@@ -12,7 +12,9 @@ use Rattle.explore.specs.Search.{Serves, IsShown, IsFollowed, AreCounted, IsEndl
 use Rattle.explore.specs.Lineage.{ways}
 use Rattle.explore.specs.Links.{IsNeverEnding}
 use Rattle.explore.specs.declared.Shown.{Shown}
+use Rattle.explore.specs.Outcome.{stopped_of}
 use Rattle.explore.specs.declared.kept.KeptNodes.{KeptNodes}
+use Rattle.explore.specs.declared.search.Outcome.{Outcome}
 use Rattle.explore.specs.declared.stopped.Stopped.{Stopped}
 use Rattle.explore.specs.declared.stopped.Stopped.TheVariants.{Memory}
 use Rattle.explore.proofs.Complete.{AreFollowed}
@@ -75,3 +77,8 @@ is_endless {M} runs HasKey kept moves known continued found =
 pub endless_of : {M N E : Type 0} (runs : Runs M N E) (HasKey : N → List ℕ → Type 0) (kept : KeptNodes N M) (found : Option (Vec M Global)) → AreKept runs HasKey kept → AreContinued runs kept → IfSome found (λ moves. IsNeverEnding kept.lineage kept.links moves.items) → IfSome found (λ moves. IsEndless runs moves.items)
 endless_of runs HasKey kept None known continued found = tt
 endless_of runs HasKey kept (Some moves) known continued found = is_endless runs HasKey kept moves.items known continued found
+
+-- where a search fails, a refusal of memory stopped it
+pub by_memory : {M F : Type 0} (r : Result (Outcome M) F) (R : F → Type 0) → IsErrAnd r R → stopped_of r ≡ Some Memory
+by_memory (Ok outcome) R never = absurd never
+by_memory (Err fault) R is = refl

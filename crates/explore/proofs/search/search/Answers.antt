@@ -1,16 +1,16 @@
-use Rattle.std.proofs.Common.{◌≡◌, ℕ, ◌<◌, ◌≤◌, [], List, length, get_or, Some, arith, refl, sym, ap, ◌∙◌, subst, inl, inr}
+use Rattle.std.proofs.Common.{◌≡◌, ℕ, ◌<◌, ◌≤◌, [], List, length, get_or, Option, Some, arith, refl, sym, ap, ◌∙◌, subst, inl, inr}
 use Rattle.std.proofs.lemmas.List.Elements.{All-nil}
 use Rattle.std.specs.List.{All, Any}
-use Rattle.explore.specs.Search.{IsOfRun}
+use Rattle.explore.specs.Search.{IsOfRun, AreCounted}
 use Rattle.explore.specs.Lineage.{ways}
 use Rattle.explore.specs.Pieces.{pieces}
 use Rattle.explore.specs.declared.Shown.{Shown}
-use Rattle.explore.specs.declared.kept.KeptNodes.{KeptNodes}
+use Rattle.explore.specs.declared.stopped.Stopped.{Stopped}
 use Rattle.explore.specs.declared.stopped.Stopped.TheVariants as stop
 use Rattle.explore.proofs.Growing.{Extends-itself, get_or-extends, length-extends}
 use Rattle.explore.proofs.Complete.{all_shown}
 use Rattle.explore.proofs.Continuing.{AreContinued-more}
-use Rattle.explore.proofs.Counting.{counted, none_counted, is_endless, some_none, none_some}
+use Rattle.explore.proofs.Counting.{counted, none_counted, endless_of, by_memory, some_none, none_some}
 use Rattle.explore.proofs.Edges.{none_unmarked}
 use Rattle.explore.proofs.Keeping.{AreKept-pop, known_more, all_followed}
 use Rattle.explore.proofs.search.search.Goals as goal
@@ -67,11 +67,11 @@ loop-at-preserved g c =
       starts = get_or-extends old new 0 [] more before.some ∙ before.starts;
       room = room;
       nodes = c.len-reached.ensures;
-      most = λ at. elim c.earlier.ensures.which [
+      most = λ at. elim c.earlier-stopped.ensures.which [
         | inl one ↦ let full : length old ≡ c.args.scope.bounds.nodes = before.most (sym one ∙ at) in omega (arith, full, longer, room)
         | inr other ↦ c.in_ok-left.ensures.nodes (sym other ∙ at)
       ];
-      apart = λ at. elim c.earlier.ensures.which [
+      apart = λ at. elim c.earlier-stopped.ensures.which [
         | inl one ↦ before.apart (sym one ∙ at)
         | inr other ↦ c.is_full.ensures.others c.if-is_full.false (sym other ∙ at)
       ];
@@ -79,23 +79,29 @@ loop-at-preserved g c =
       sound = c.in_ok-left.ensures.sound;
       distinct = c.in_ok-left.ensures.distinct;
       followed = λ none k less.
-          let both = c.earlier.ensures.none none in
+          let both = c.earlier-stopped.ensures.none none in
           known_more runs c.loop-at.kept (record { lineage = c.loop-at.kept.lineage; texts = c.loop-at.kept.texts; visited = c.loop-at.kept.visited; links = c.loop-at.kept.links; pending = c.pop.new.self; key = c.loop-at.kept.key }) c.turn.new.kept c.in-Some.at c.loop-at.shown.items c.turn.new.shown.items k refl c.in-Some.ensures.items
           c.in_ok-left.ensures.grows c.in_ok-left.ensures.shown (c.in_ok-left.ensures.followed both.1) (before.followed both.0) less;
     }
 
 pub returns-in_err-kept-clause-counted : goal.returns-in_err-kept-clause-counted
-returns-in_err-kept-clause-counted g c = none_counted (g.O.Orders.runs c.args.orders.now) c.args.shown.now.items c.args.nodes.now c.requires.begun
+returns-in_err-kept-clause-counted g c =
+    let runs = g.O.Orders.runs c.args.orders.now in
+    subst (λ (s : Option Stopped). AreCounted runs c.args.shown.now.items s c.args.nodes.now) (sym (by_memory c.from_residual.result _ c.from_residual.ensures.1)) (none_counted runs c.args.shown.now.items c.args.nodes.now c.requires.begun)
 
 pub returns-in_err-left-clause-counted : goal.returns-in_err-left-clause-counted
 returns-in_err-left-clause-counted g c =
     let before = c.loop-at.invariant in
-    counted (g.O.Orders.runs c.args.orders.now) (g.O.Orders.has_key c.args.orders.now) c.loop-at.kept c.turn.new.shown.items (Some stop.Memory) c.loop-at.nodes before.kept before.nodes before.some before.starts (λ none. absurd (some_none stop.Memory none))
+    let runs = g.O.Orders.runs c.args.orders.now in
+    subst (λ (s : Option Stopped). AreCounted runs c.turn.new.shown.items s c.loop-at.nodes) (sym (by_memory c.from_residual-in_err-left.result _ c.from_residual-in_err-left.ensures.1))
+    (counted runs (g.O.Orders.has_key c.args.orders.now) c.loop-at.kept c.turn.new.shown.items (Some stop.Memory) c.loop-at.nodes before.kept before.nodes before.some before.starts (λ none. absurd (some_none stop.Memory none)))
 
 pub returns-in_err-endless-clause-counted : goal.returns-in_err-endless-clause-counted
 returns-in_err-endless-clause-counted g c =
     let before = c.loop-at.invariant in
-    counted (g.O.Orders.runs c.args.orders.now) (g.O.Orders.has_key c.args.orders.now) c.loop-at.kept c.loop-at.shown.items (Some stop.Memory) c.loop-at.nodes before.kept before.nodes before.some before.starts (λ none. absurd (some_none stop.Memory none))
+    let runs = g.O.Orders.runs c.args.orders.now in
+    subst (λ (s : Option Stopped). AreCounted runs c.loop-at.shown.items s c.loop-at.nodes) (sym (by_memory c.from_residual-in_err-endless.result _ c.from_residual-in_err-endless.ensures.1))
+    (counted runs (g.O.Orders.has_key c.args.orders.now) c.loop-at.kept c.loop-at.shown.items (Some stop.Memory) c.loop-at.nodes before.kept before.nodes before.some before.starts (λ none. absurd (some_none stop.Memory none)))
 
 pub returns-then-is_full-clause-counted : goal.returns-then-is_full-clause-counted
 returns-then-is_full-clause-counted g c =
