@@ -8,7 +8,7 @@ use Rattle.std.proofs.lemmas.List.Elements.{All-cons}
 use Rattle.explore.specs.Grown.{Extends, grown}
 use Rattle.explore.specs.Pieces.{pieces}
 use Rattle.explore.specs.Links.{IsEdge, IsStep, IsLinked, IsUnmarked, AreClosed}
-use Rattle.explore.specs.SearchKept.{AreKept, Grows, Leads, LeadsOn, GoesOnBy, IsContinued, AreContinued, StayUnmarked}
+use Rattle.explore.specs.SearchKept.{AreKept, Grows, Leads, LeadsOn, IsContinued, AreContinued, StayUnmarked}
 use Rattle.explore.specs.SearchedRuns.{Runs}
 use Rattle.explore.specs.Search.{Serves, IsCovered, NeverEnds}
 use Rattle.explore.specs.NumberedTexts.{texts}

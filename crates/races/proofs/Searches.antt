@@ -20,6 +20,8 @@ use Rattle.walks.specs.JournalsInTime.{ComesOf, text_of, MayEnd, ComeToOneNode, 
 use Rattle.walks.specs.Cover.{LeadOn, CoverRuns, FollowTransitions}
 use Rattle.races.specs.DesignRuns.{runs_of, IsEndlessJournal, AlikeRunsServe, KeyedRunsAreAlike, RunsBeginSilent, ShownIsLawful, AllShownAreAll}
 use Rattle.walks.specs.Going.{GoesOnTo}
+use Rattle.design.specs.Compiled.{Compiled, design_of}
+use Rattle.races.specs.SearchNodes.{Holds, counted_runs}
 use Rattle.races.specs.Expanding.{EntriesLeadToNext, EntriesLeadToEnd, ways_to, TellsEnds, CoveringIsCovered, FollowingIsCovered}
 use Rattle.walks.proofs.Lists.{all_map, any_of_map}
 use Rattle.walks.proofs.RunParts.{runs_on}
@@ -29,7 +31,7 @@ use Rattle.walks.proofs.Covering.{followed_transitions_cover, ends_are_the_state
 use Rattle.walks.proofs.LawfulTexts.{ends_are_lawful, all_may_end}
 
 pub shown_of_run : {Node : Type 0} (Holds : Node → Effect → Type 0) (design : Design) (limits : Limits) (shown : Shown Entry End) → IsOfRun (runs_of Holds design limits) shown → IsLawfulText design limits shown.moves.items shown.text.items shown.end
-shown_of_run Holds design limits shown (ends, text, within) =
+shown_of_run Holds design limits shown (ends, text, _) =
     subst (λ t. IsLawfulText design limits shown.moves.items t shown.end) (sym text) (ends_are_lawful design limits shown.moves.items shown.end ends)
 
 pub all_of_runs : {Node : Type 0} (Holds : Node → Effect → Type 0) (design : Design) (limits : Limits) (shown : List (Shown Entry End)) → AreAllShown (runs_of Holds design limits) shown → AreAllTexts design limits (IsShown shown)
@@ -37,15 +39,20 @@ all_of_runs Holds design limits shown all journal text end is timely ends few me
     let (found, may, same) = all_may_end design limits journal text end is timely ends few memory in
     subst (λ t. IsShown shown t end) same (all found end may)
 
-endless_journal : {Node : Type 0} (Holds : Node → Effect → Type 0) (design : Design) (limits : Limits) (journal : List Entry) → IsEndless (runs_of Holds design limits) journal → IsEndlessJournal design limits journal
-endless_journal Holds design limits journal endless =
-    let (e, at_e, holds) = endless.stands in
-    record { effect = e; lawful = at_e; never = endless.never }
+-- what is shown of a run with no more entries than it may have
+pub shown_within : (code : Compiled) (limits : Limits) (shown : Shown Entry End) → IsOfRun (counted_runs code limits) shown → IsLawfulText (design_of code) limits shown.moves.items shown.text.items shown.end
+shown_within code limits shown (ends, text, _) = shown_of_run (Holds code) (design_of code) limits shown (ends, text, tt)
+
+endless_journal : (code : Compiled) (limits : Limits) (journal : List Entry) → IsEndless (counted_runs code limits) journal → IsEndlessJournal (design_of code) limits journal
+endless_journal code limits journal endless =
+    let at = endless.stands.0 in
+    let counts = endless.stands.1 in
+    record { effect = at.0; lawful = at.1; within = counts.within; never = endless.never }
 
 -- a run from which no end is reached is a lawful journal of which that is so
-pub endless_of_runs : {Node : Type 0} (Holds : Node → Effect → Type 0) (design : Design) (limits : Limits) (found : Option (Vec Entry Global)) → IfSome found (λ moves. IsEndless (runs_of Holds design limits) moves.items) → IfSome found (λ moves. IsEndlessJournal design limits moves.items)
-endless_of_runs Holds design limits None endless = tt
-endless_of_runs Holds design limits (Some moves) endless = endless_journal Holds design limits moves.items endless
+pub endless_of_runs : (code : Compiled) (limits : Limits) (found : Option (Vec Entry Global)) → IfSome found (λ moves. IsEndless (counted_runs code limits) moves.items) → IfSome found (λ moves. IsEndlessJournal (design_of code) limits moves.items)
+endless_of_runs code limits None endless = tt
+endless_of_runs code limits (Some moves) endless = endless_journal code limits moves.items endless
 
 -- where entries lead, and what they print
 goes_on : (design : Design) (limits : Limits) (run moves : List Entry) (e g : Effect) → ComesOf design limits run e → GoesOnTo design limits e moves g → ComesOf design limits (run ++ moves) (joined e g)

@@ -1,4 +1,4 @@
-use Rattle.std.proofs.Common.{◌≡◌, ℕ, ◌<◌, ◌≤◌, arith, sym, subst, inl, inr}
+use Rattle.std.proofs.Common.{◌≡◌, ℕ, arith, sym, subst, inl, inr}
 use Rattle.std.proofs.lemmas.Bool.{cases_lt}
 use Rattle.explore.specs.Links.{IsUnmarked}
 use Rattle.explore.proofs.endless.are_ends_marked.Goals as goal

@@ -32,7 +32,7 @@ returns-clause-counted c = λ begun before.
     let entries = ap (λ (p : MachineView). p.core.entries) same in
     let count = sole.taken.count in
     let here = ap (λ (k : Core). k.entries) c.state.ensures in
-    let there = ap (λ (p : MachineView). p.core.entries) c.deref.ensures.value in
+    let there = ap (λ (p : MachineView). p.core.entries) c.deref.ensures in
     counts_on c.args.limits begun old new c.step.new.moves.items c.extend_from_slice.new.self.items ahead.moves.items (c.in_ok-step.ensures.counted begun before) (entries ∙ count)
     (omega (arith, entries, here, there)) (c.in_ok-extend_from_slice.ensures.items ∙ ap (λ l. c.step.new.moves.items ++ l) c.deref-2.ensures.value)
 
