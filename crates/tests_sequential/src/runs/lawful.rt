@@ -117,7 +117,7 @@ const ROWS: &[Row<'static>] = &[
     },
     // where the first process is the last, it shows a line and then waits for no time again and again
     Row {
-        source: b"module t; reg a, b; initial if (a===1'b1 && b===1'b1) begin $display(\"bad\"); while (1'b1) begin #0 ; end end else $display(\"good\"); initial a=1'b1; initial b=1'b1; endmodule",
+        source: b"module t; reg a, b; initial begin if (a===1'b1 && b===1'b1) begin $display(\"bad\"); while (1'b1) begin #0 ; end end else begin $display(\"good\"); end end initial a=1'b1; initial b=1'b1; endmodule",
         texts: &["good\n"],
         shown: 1,
         endless: true,
@@ -125,7 +125,7 @@ const ROWS: &[Row<'static>] = &[
     },
     // a process that waits for no time again and again: no order comes to an end
     Row {
-        source: b"module t; initial while (1'b1) begin #0 ; end endmodule",
+        source: b"module t; initial begin while (1'b1) begin #0 ; end end endmodule",
         texts: &[],
         shown: 0,
         endless: true,
