@@ -121,6 +121,7 @@ const ROWS: &[Row<'static>] = &[
         texts: &["good\n"],
         shown: 1,
         endless: true,
+        entries: 10_000,
         ..PLAIN
     },
     // a process that waits for no time again and again: no order comes to an end
@@ -129,6 +130,7 @@ const ROWS: &[Row<'static>] = &[
         texts: &[],
         shown: 0,
         endless: true,
+        entries: 10_000,
         ..PLAIN
     },
     // a clock that is cut by the most entries
