@@ -5,7 +5,7 @@ use Rattle.verdict.specs.declared.race.Race.{Race}
 use Rattle.verdict.specs.declared.race.Role.{Role}
 use Rattle.verdict.specs.declared.race.Run.{Run}
 use Rattle.verdict.specs.declared.race.Site.{Site}
-use Rattle.verdict.specs.declared.race.Site.TheVariants.{Register, Printing, Strobing}
+use Rattle.verdict.specs.declared.race.Site.TheVariants.{Register, Printing, Strobing, Finishing}
 use Rattle.verdict.specs.declared.race.Process.{Process}
 
 -- for what two processes race
@@ -13,6 +13,7 @@ abbrev pub site_text : Site → List ℕ
 site_text (Register name) = codes ": register " ++ name.now ++ codes ", time "
 site_text Printing = codes ": the order of lines, time "
 site_text Strobing = codes ": the order of strobes, time "
+site_text Finishing = codes ": the end of the run, time "
 
 -- with which word a process begins
 abbrev pub begin_word : Bool → List ℕ

@@ -6,12 +6,14 @@ ghost use Rattle.verdict.specs.RaceLines.{begin_text, in_quotes, journal_text, l
 use crate::phrases::push_number;
 use std::alloc::AllocError;
 
-/// What two processes race for: a register, the order of the lines that they print, or that of their strobes' lines.
+/// What two processes race for: a register, the order of the lines that they print, that of their strobes' lines, or the end of
+/// the run.
 #[derive(Clone, Copy, Debug)]
 pub enum Site<'a> {
     Register(&'a str),
     Printing,
     Strobing,
+    Finishing,
 }
 
 /// Where a process begins: whether with `always` or with `initial`, and in which line of the source, counted from 1.
@@ -96,6 +98,7 @@ fn push_site(text: &mut Vec<u8>, site: Site<'_>) -> Result<(), AllocError>
         }
         Site::Printing => text.extend_from_slice(b": the order of lines, time "),
         Site::Strobing => text.extend_from_slice(b": the order of strobes, time "),
+        Site::Finishing => text.extend_from_slice(b": the end of the run, time "),
     }
 }
 
@@ -136,7 +139,7 @@ fn push_run(
     push_difference(text, race.line, run.line)
 }
 
-fn push_journal(
+pub(crate) fn push_journal(
     text: &mut Vec<u8>,
     prefix: Option<&str>,
     journal: Option<usize>,
