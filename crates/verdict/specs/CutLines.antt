@@ -1,5 +1,5 @@
 -- The line on a list of races that was cut.
-use Rattle.std.specs.Prelude.{List, ◌++◌, codes}
+use Rattle.std.specs.Prelude.{ℕ, List, ◌++◌, codes}
 use Rattle.verdict.specs.Verdicts.{limit_text}
 use Rattle.verdict.specs.declared.cut.Cut.{Cut}
 use Rattle.verdict.specs.declared.cut.Cut.TheVariants.{Races, Runs, Entries, Steps, Memory}
