@@ -101,14 +101,10 @@ fn tell_texts<F: Files, O: Write>(
     } = texts;
     let found = Finding::of(claim, shown.len());
     let journals = with_endless(alloc, shown, endless)?;
+    let all = journals.as_slice();
+    let (file, prefix) = (request.file, request.journals);
     show_bytes(out, last)?;
-    save_all(
-        alloc,
-        journals.as_slice(),
-        request.file,
-        request.journals,
-        files,
-    )?;
+    save_all(alloc, all, file, prefix, files)?;
     Ok(found)
 }
 
