@@ -37,5 +37,6 @@ abbrev pub IsSiteTold : Compiled → found.Site → told.Site → Type 0
 IsSiteTold code (sites.Register r) (lines.Register name) = (known : List ℕ) → slice_get code.names r ≡ Some known → name.now ≡ known
 IsSiteTold code (sites.Register r) lines.Printing = ⊥
 IsSiteTold code (sites.Register r) lines.Strobing = ⊥
+IsSiteTold code (sites.Register r) lines.Finishing = ⊥
 IsSiteTold code sites.Printing site = site ≡ lines.Printing
 IsSiteTold code sites.Strobing site = site ≡ lines.Strobing

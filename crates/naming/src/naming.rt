@@ -168,11 +168,33 @@ fn begin_of(processes: &[locations::Process], number: u32) -> Option<Process>
     }
 }
 
+/// Whether two entries are the same.
+fn is_same(one: Entry, other: Entry) -> bool
+    ensures { IsTrue result ↔ (one ≡ other) }
+{
+    one == other
+}
+
+/// Whether two journals are the same.
+fn are_same(one: &[Entry], other: &[Entry]) -> bool
+    ensures { IsTrue result ↔ (one.now ≡ other.now) }
+{
+    if one.len() != other.len() {
+        return false;
+    }
+    for place in 0..one.len() {
+        if !is_same(one[place], other[place]) {
+            return false;
+        }
+    }
+    true
+}
+
 /// Whether the journal beside a text is that of a run.
 fn is_journal(shown: &Shown<Entry, End>, run: &SeededRun) -> bool
     ensures { IsTrue result ↔ HasJournal run.now shown.now }
 {
-    shown.moves.as_slice() == run.journal.as_slice()
+    are_same(shown.moves.as_slice(), run.journal.as_slice())
 }
 
 /// The number of the journal that is that of a run, from 1.
