@@ -73,7 +73,7 @@ told_never items P (Some s) found (Some j) is h = cc
 
 -- a search wasn't stopped, and each of its texts was put behind those that are known
 not_stopped : {E : Type 0} (s : Option Stopped) (added : Result Bool E) → stop_of s added ≡ None → (s ≡ None) × IfOk added (λ all. IsTrue all)
-not_stopped None (Ok true) h = (refl, tt)
+not_stopped None (Ok true) h = (refl, refl)
 not_stopped None (Ok false) h = cc
 not_stopped None (Err e) h = cc
 not_stopped (Some s) added h = cc
