@@ -31,4 +31,4 @@ mod transitions;
 mod watch;
 
 pub use search::find_races;
-pub use told::{Bound, Found, Race, Tries};
+pub use told::{Found, Race, Tries};

@@ -10,7 +10,7 @@ use crate::conflicts::{Conflict, Conflicts, Group, MOST_OF_A_GROUP};
 use crate::exchange::exchange;
 use crate::run::Run;
 use crate::task::Task;
-use crate::told::{Bound, Found, Race, Tries};
+use crate::told::{Found, Race, Tries};
 use crate::watch::{Watch, watch_run};
 use deeds::is_confirmed;
 use design::Design;
@@ -182,10 +182,6 @@ fn try_all<P: Progress>(task: Task<'_>, conflicts: &Conflicts, progress: &P) -> 
     trials
 }
 
-fn cut_of(complete: bool) -> Option<Bound> {
-    if complete { None } else { Some(Bound::Memory) }
-}
-
 /// Searches for the races of a design that show in one run of it, and in the runs in which two entries of that one are
 /// exchanged. Each race is told once for each register, or for printing or strobing, and for each two processes.
 ///
@@ -214,7 +210,7 @@ pub fn find_races<P: Progress>(
                 original: nothing(alloc),
                 races: Vec::new(alloc),
                 tried: 0,
-                cut: None,
+                complete: false,
             };
         }
     };
@@ -238,6 +234,6 @@ pub fn find_races<P: Progress>(
         original,
         races,
         tried,
-        cut: cut_of(complete),
+        complete,
     }
 }

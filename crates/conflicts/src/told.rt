@@ -19,17 +19,6 @@ pub struct Race {
 pub struct Tries {
     pub pairs: usize,
     pub races: usize,
-    pub entries: u64,
-}
-
-/// stub
-#[derive(Clone, Copy)]
-pub enum Bound {
-    Races,
-    Pairs,
-    Entries,
-    Steps,
-    Memory,
 }
 
 /// What a search for races has found: the first run, the races, how many second runs were made, and whether each site with
@@ -39,5 +28,5 @@ pub struct Found {
     pub original: SeededRun,
     pub races: Vec<Race>,
     pub tried: usize,
-    pub cut: Option<Bound>,
+    pub complete: bool,
 }
