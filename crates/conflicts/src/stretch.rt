@@ -1,10 +1,14 @@
 //! What the entries between two changes of the regions did, and which of them conflict.
 
-use crate::conflicts::{Conflict, Conflicts};
+use crate::conflicts::{Conflict, Conflicts, Turning};
 use crate::counts::Counts;
+use crate::depend::Before;
+use crate::step_set::StepSet;
+use crate::told::Bound;
 use deeds::{Does, Pair, Role, Site};
 use design::RegId;
 use logic4::bits::Bits;
+use model::entry::Entry;
 use std::alloc::{AllocError, Global};
 
 // The most steps of a stretch that are looked at, and the most of their accesses.
@@ -37,21 +41,23 @@ impl Actor {
 }
 
 /// An entry, and the steps that it needs: that which made its event, and the one before it of the same process, or the update
-/// before it.
+/// before it. Its accesses begin at a place, and it may make nonblocking assignments, whose order is that of their updates.
 #[derive(Clone, Copy)]
-struct Step {
+pub(crate) struct Step {
     actor: Actor,
-    cause: Option<usize>,
-    before: Option<usize>,
+    pub(crate) cause: Option<usize>,
+    pub(crate) before: Option<usize>,
+    accesses: usize,
+    pub(crate) assigns: bool,
 }
 
 /// What a step does at a site, and whether it changes what stands there.
 #[derive(Clone, Copy)]
-struct Access {
+pub(crate) struct Access {
     step: usize,
     site: Site,
     does: Does,
-    changes: bool,
+    pub(crate) changes: bool,
 }
 
 /// The last nonblocking assignment that a step makes to a register for a time.
@@ -78,8 +84,19 @@ pub(crate) struct Stretch {
     turns_by: Counts,
     accesses_to: Counts,
     assigns_to: Counts,
-    /// Whether there were too many to look at, or memory was refused to a note of them.
-    is_cut: bool,
+    /// More than the number of each site that was accessed.
+    sites: usize,
+    /// The step that finishes the run, if one does.
+    finishing: Option<usize>,
+    /// Why there is no room for more: there were too many to look at, or memory was refused to a note of them.
+    cut: Option<Bound>,
+}
+
+impl Access {
+    /// The number of its site.
+    pub(crate) fn site_number(self) -> usize {
+        number_of(self.site)
+    }
 }
 
 impl Stretch {
@@ -94,7 +111,9 @@ impl Stretch {
             turns_by: Counts::new(alloc),
             accesses_to: Counts::new(alloc),
             assigns_to: Counts::new(alloc),
-            is_cut: false,
+            sites: 0,
+            finishing: None,
+            cut: None,
         }
     }
 
@@ -108,7 +127,15 @@ impl Stretch {
         self.turns_by.clear();
         self.accesses_to.clear();
         self.assigns_to.clear();
-        self.is_cut = false;
+        self.finishing = None;
+        self.cut = None;
+    }
+
+    // Notes whether memory was refused to a note.
+    fn noted(&mut self, note: Result<(), AllocError>) {
+        if note.is_err() {
+            self.cut = Some(Bound::Memory);
+        }
     }
 
     // The last step that keeps its order with one of this actor in every run, if there is one.
@@ -119,9 +146,10 @@ impl Stretch {
         }
     }
 
-    // Counts the turns of each process.
-    fn count_turn(&mut self, actor: Actor) -> Result<(), AllocError> {
-        match actor {
+    // Keeps a step, and counts the turns of each process.
+    fn keep(&mut self, step: Step) -> Result<(), AllocError> {
+        self.steps.push(step)?;
+        match step.actor {
             Actor::Turn(process) => self.turns_by.add(process as usize),
             Actor::Update(_) => Ok(()),
         }
@@ -129,28 +157,42 @@ impl Stretch {
 
     /// One more entry, whose event the entry at this place of the journal made.
     pub(crate) fn step(&mut self, actor: Actor, maker: Option<usize>) {
-        let cause = maker.and_then(|place| place.checked_sub(self.begin));
-        let before = self.last_ordered(actor);
         let step = Step {
             actor,
-            cause,
-            before,
+            cause: maker.and_then(|place| place.checked_sub(self.begin)),
+            before: self.last_ordered(actor),
+            accesses: self.accesses.len(),
+            assigns: false,
         };
-        self.is_cut = self.is_cut | self.steps.push(step).is_err();
-        self.is_cut = self.is_cut | self.count_turn(actor).is_err();
+        let kept = self.keep(step);
+        self.noted(kept);
     }
 
     /// Whether there is no room for one more entry. Then there is none until the next change of the regions.
     pub(crate) fn is_full(&mut self) -> bool {
-        if self.steps.len() >= MOST_STEPS || self.accesses.len() >= MOST_ACCESSES {
-            self.is_cut = true;
+        let is_long = self.steps.len() >= MOST_STEPS || self.accesses.len() >= MOST_ACCESSES;
+        if is_long && self.cut.is_none() {
+            self.cut = Some(Bound::Steps);
         }
-        self.is_cut
+        self.cut.is_some()
+    }
+
+    /// The last entry finishes the run.
+    pub(crate) fn finish(&mut self) {
+        self.finishing = self.steps.len().checked_sub(1);
+    }
+
+    // Keeps an access, and counts those to each site.
+    fn keep_access(&mut self, access: Access) -> Result<(), AllocError> {
+        let number = access.site_number();
+        self.sites = self.sites.max(number.saturating_add(1));
+        self.accesses.push(access)?;
+        self.accesses_to.add(number)
     }
 
     /// What the last entry does at a site.
     pub(crate) fn access(&mut self, site: Site, does: Does, changes: bool) {
-        if self.is_cut {
+        if self.cut.is_some() {
             return;
         }
         let access = Access {
@@ -159,27 +201,67 @@ impl Stretch {
             does,
             changes,
         };
-        self.is_cut = self.is_cut | self.accesses.push(access).is_err();
-        self.is_cut = self.is_cut | self.accesses_to.add(number_of(site)).is_err();
+        let kept = self.keep_access(access);
+        self.noted(kept);
+    }
+
+    // Keeps an assignment, in place of an earlier one of the same step, and counts those to each register.
+    fn keep_assign(&mut self, assign: Assign) -> Result<(), AllocError> {
+        let Assign {
+            step,
+            register,
+            due,
+            ..
+        } = assign;
+        if self.assigns_to.of(register as usize) > 0 {
+            self.assigns.retain(|a| a.step != step || a.register != register || a.due != due);
+        }
+        self.assigns.push(assign)?;
+        self.assigns_to.add(register as usize)
     }
 
     /// A nonblocking assignment of the last entry.
     pub(crate) fn assign(&mut self, register: RegId, value: Bits, due: u64) {
-        if self.is_cut {
+        if self.cut.is_some() {
             return;
         }
-        let step = self.steps.len().saturating_sub(1);
-        if self.assigns_to.of(register as usize) > 0 {
-            self.assigns.retain(|a| a.step != step || a.register != register || a.due != due);
+        if let Some(last) = self.steps.last_mut() {
+            last.assigns = true;
         }
         let assign = Assign {
-            step,
+            step: self.steps.len().saturating_sub(1),
             register,
             value,
             due,
         };
-        self.is_cut = self.is_cut | self.assigns.push(assign).is_err();
-        self.is_cut = self.is_cut | self.assigns_to.add(register as usize).is_err();
+        let kept = self.keep_assign(assign);
+        self.noted(kept);
+    }
+
+    /// The step at a place, if there is one.
+    pub(crate) fn step_at(&self, at: usize) -> Option<Step> {
+        self.steps.get(at).copied()
+    }
+
+    /// More than the number of each site that was accessed.
+    pub(crate) fn sites(&self) -> usize {
+        self.sites
+    }
+
+    /// What a step does at the sites.
+    pub(crate) fn accesses_of(&self, step: usize) -> &[Access] {
+        let from = match self.steps.get(step) {
+            Some(step) => step.accesses,
+            None => return &[],
+        };
+        let until = match self.steps.get(step.saturating_add(1)) {
+            Some(next) => next.accesses,
+            None => self.accesses.len(),
+        };
+        match self.accesses.get(from..until) {
+            Some(accesses) => accesses,
+            None => &[],
+        }
     }
 
     // The role of a step.
@@ -188,29 +270,42 @@ impl Stretch {
         Some(Role { process, does })
     }
 
-    // The places of what a step needs behind an earlier one, of itself, and of that one; none where it needs that one.
-    fn order(&self, earlier: usize, later: usize) -> Result<Option<Vec<usize>>, AllocError> {
-        let mut needed = vec![in self.alloc; false; self.steps.len()]?;
-        let mut order = Vec::new(self.alloc);
-        order.push(self.begin.saturating_add(earlier))?;
-        mark(&mut needed, Some(later));
-        for at in (earlier.saturating_add(1)..later.saturating_add(1)).rev() {
-            if needed.get(at).copied() == Some(true) {
-                order.push(self.begin.saturating_add(at))?;
-                if let Some(step) = self.steps.get(at) {
-                    mark(&mut needed, step.cause);
-                    mark(&mut needed, step.before);
-                }
-            }
-        }
-        if needed.get(earlier).copied() == Some(true) {
-            return Ok(None);
-        }
-        order.reverse();
-        Ok(Some(order))
+    // The pair of two steps.
+    fn pair(&self, site: Site, earlier: (usize, Does), later: (usize, Does)) -> Option<Pair> {
+        Some(Pair {
+            site,
+            time: self.time,
+            first: self.role(earlier.0, earlier.1)?,
+            second: self.role(later.0, later.1)?,
+            earlier: self.begin.saturating_add(earlier.0),
+            later: self.begin.saturating_add(later.0),
+        })
     }
 
-    // Keeps the conflict of two steps, if neither needs the other.
+    // Keeps a conflict of a round with the steps that its second run takes, if there are some.
+    fn keep_conflict(
+        &self,
+        conflicts: &mut Conflicts,
+        pair: Pair,
+        round: usize,
+        turning: Turning,
+        before: Result<Option<Before>, AllocError>,
+    ) {
+        match before {
+            Ok(Some(before)) => conflicts.add(
+                Conflict {
+                    pair,
+                    turning,
+                    before,
+                },
+                round,
+            ),
+            Ok(None) => {}
+            Err(_) => conflicts.cut_by(Bound::Memory),
+        }
+    }
+
+    // Keeps the conflict of two steps, if the later one doesn't need the earlier one. Behind one that finishes the run there is none.
     fn add(
         &self,
         conflicts: &mut Conflicts,
@@ -218,26 +313,14 @@ impl Stretch {
         earlier: (usize, Does),
         later: (usize, Does),
     ) {
-        let (first, second) = match (self.role(earlier.0, earlier.1), self.role(later.0, later.1)) {
-            (Some(first), Some(second)) => (first, second),
-            _ => return,
-        };
-        let pair = Pair {
-            site,
-            time: self.time,
-            first,
-            second,
-            earlier: self.begin.saturating_add(earlier.0),
-            later: self.begin.saturating_add(later.0),
-        };
-        let round = match conflicts.round(pair) {
-            Some(round) => round,
-            None => return,
-        };
-        match self.order(earlier.0, later.0) {
-            Ok(Some(order)) => conflicts.add(Conflict { pair, order, round }),
-            Ok(None) => {}
-            Err(_) => conflicts.complete = false,
+        if self.finishing == Some(later.0) {
+            return;
+        }
+        if let Some(pair) = self.pair(site, earlier, later) {
+            if let Some(round) = conflicts.round_of(pair) {
+                let before = self.swapped(self.alloc, earlier.0, later.0);
+                self.keep_conflict(conflicts, pair, round, Turning::Swapped, before);
+            }
         }
     }
 
@@ -270,9 +353,11 @@ impl Stretch {
 
     /// Keeps the conflicts of the entries since the last change of the regions.
     pub(crate) fn find_conflicts(&self, conflicts: &mut Conflicts) {
-        conflicts.complete = conflicts.complete & !self.is_cut;
+        if let Some(bound) = self.cut {
+            conflicts.cut_by(bound);
+        }
         for one in self.accesses.iter() {
-            if one.changes && self.accesses_to.of(number_of(one.site)) > 1 {
+            if one.changes && self.accesses_to.of(one.site_number()) > 1 {
                 self.conflicts_of(conflicts, *one);
             }
         }
@@ -282,22 +367,83 @@ impl Stretch {
             }
         }
     }
+
+    // What a step loses that comes no more once the run has finished: what it prints, its update, or else its turn.
+    fn lost(&self, step: usize) -> (Site, Does) {
+        for access in self.accesses_of(step) {
+            match access.does {
+                Does::Prints => return (Site::Finishing, Does::Prints),
+                Does::Updates => return (access.site, Does::Updates),
+                _ => {}
+            }
+        }
+        (Site::Finishing, Does::Runs)
+    }
+
+    // Keeps the conflict of a step with a later one that finishes the run, which might cut it off.
+    fn add_cut_off(&self, conflicts: &mut Conflicts, earlier: usize, last: usize) {
+        let (site, does) = self.lost(earlier);
+        if let Some(pair) = self.pair(site, (earlier, does), (last, Does::Finishes)) {
+            if let Some(round) = conflicts.round_of(pair) {
+                let before = self.cut_off(self.alloc, earlier, last);
+                self.keep_conflict(conflicts, pair, round, Turning::CutOff, before);
+            }
+        }
+    }
+
+    /// Keeps the conflicts of the entry that finishes the run, if one does, with those before it.
+    pub(crate) fn find_cut_off(&self, conflicts: &mut Conflicts) {
+        if let Some(last) = self.finishing {
+            for earlier in 0..last {
+                self.add_cut_off(conflicts, earlier, last);
+            }
+        }
+    }
+
+    /// Keeps the conflict of the last entry, which finishes the run, with an event of a process that it leaves behind.
+    pub(crate) fn add_held_back(
+        &self,
+        conflicts: &mut Conflicts,
+        site: Site,
+        second: Role,
+        other: Entry,
+    ) {
+        let last = self.steps.len().saturating_sub(1);
+        let place = self.begin.saturating_add(last);
+        let first = match self.role(last, Does::Finishes) {
+            Some(first) => first,
+            None => return,
+        };
+        let pair = Pair {
+            site,
+            time: self.time,
+            first,
+            second,
+            earlier: place,
+            later: place,
+        };
+        if let Some(round) = conflicts.round_of(pair) {
+            let before = self.nothing();
+            self.keep_conflict(conflicts, pair, round, Turning::HeldBack(other), before);
+        }
+    }
+
+    // No steps.
+    fn nothing(&self) -> Result<Option<Before>, AllocError> {
+        let steps = StepSet::new(self.alloc, 0)?;
+        Ok(Some(Before {
+            steps,
+            is_tied: false,
+        }))
+    }
 }
 
 // The number of a site, by which its accesses are counted.
 fn number_of(site: Site) -> usize {
     match site {
-        Site::Register(register) => (register as usize).saturating_add(2),
+        Site::Register(register) => (register as usize).saturating_add(3),
         Site::Printing => 0,
         Site::Strobing => 1,
-    }
-}
-
-// Marks a step, if there is one.
-fn mark(needed: &mut [bool], step: Option<usize>) {
-    if let Some(at) = step {
-        if at < needed.len() {
-            needed[at] = true;
-        }
+        Site::Finishing => 2,
     }
 }

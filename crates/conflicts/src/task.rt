@@ -2,6 +2,7 @@
 ghost use Rattle.std.specs.Prelude.{◌≤◌};
 ghost use Rattle.std.specs.Option.{ForSome};
 ghost use Rattle.model.specs.Runs.{last_time};
+ghost use Rattle.seeded.specs.Samples.{WantsNoMemory};
 
 use crate::told::Tries;
 use crate::transitions::Transition;
@@ -10,7 +11,8 @@ use model::end::Limits;
 use seeded::run::SeededRun;
 use std::alloc::Global;
 
-/// A search: its design, limits and bounds, and its first run with the transitions of that. The limit of time isn't past the last time.
+/// A search: its design, limits and bounds, and its first run with the transitions of that. The limit of time isn't past the last time, and the first
+/// run wants no memory.
 #[derive(Clone, Copy)]
 pub(crate) struct Task<'a> {
     pub(crate) alloc: Global,
@@ -20,4 +22,5 @@ pub(crate) struct Task<'a> {
     pub(crate) original: &'a SeededRun,
     pub(crate) transitions: &'a [Transition],
     ghost until: { ForSome limits.until (λ until. until ≤ last_time) },
+    ghost remembered: { WantsNoMemory original.now },
 }

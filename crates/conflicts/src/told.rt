@@ -4,7 +4,7 @@ use deeds::{Role, Site};
 use seeded::run::SeededRun;
 
 /// A race: what for, at which time, who comes first in the first run and who second, and a run in which they come the other
-/// way round, which has other lines or another end.
+/// way round, which is apart from the first one.
 #[derive(Drop)]
 pub struct Race {
     pub site: Site,
@@ -14,19 +14,32 @@ pub struct Race {
     pub exchanged: SeededRun,
 }
 
-/// How far a search for races goes: the most second runs that it makes, and the most races that it tells.
+/// How far a search for races goes: the most second runs that it makes, the most races that it tells, and the most entries of
+/// all second runs together, each counted with those that it repeats of the first run.
 #[derive(Clone, Copy)]
 pub struct Tries {
     pub pairs: usize,
     pub races: usize,
+    pub entries: u64,
 }
 
-/// What a search for races has found: the first run, the races, how many second runs were made, and whether each site with
-/// a conflict was tried. A site is tried in the first conflicts there, and not in all of them.
+/// By what a list of races was cut: the most races, the most second runs, the most entries of these, too many entries between
+/// two changes of the regions to look at, or memory that was refused.
+#[derive(Clone, Copy)]
+pub enum Bound {
+    Races,
+    Pairs,
+    Entries,
+    Steps,
+    Memory,
+}
+
+/// What a search for races has found: the first run, the races, how many second runs were made, and by what the list of races
+/// was cut, the first that was met. None where each conflict that was found was tried.
 #[derive(Drop)]
 pub struct Found {
     pub original: SeededRun,
     pub races: Vec<Race>,
     pub tried: usize,
-    pub complete: bool,
+    pub cut: Option<Bound>,
 }

@@ -8,8 +8,9 @@ ghost use Rattle.conflicts.specs.RunEndings.{HasTimeLimit, EndsAt};
 use crate::conflicts::Conflicts;
 use crate::run::Run;
 use crate::stretch::{Actor, Stretch};
-use crate::transitions::Transition;
-use deeds::{Does, Site, fill};
+use crate::told::{Bound, Tries};
+use crate::transitions::{Transition, first_entry};
+use deeds::{Does, Role, Site, fill};
 use design::Design;
 use model::end::{End, Limits, Why};
 use model::entry::Entry;
@@ -18,6 +19,9 @@ use regions::Machine;
 use seeded::run::SeededRun;
 use std::alloc::Global;
 use turn::{Suspend, TurnLog};
+
+// The most events that are looked at which a run leaves behind as it finishes.
+const MOST_LEFT: usize = 1_024;
 
 /// Who made events, from a number on: the process of a turn, or that of the turn that made an update, and its place in the journal.
 #[derive(Clone, Copy)]
@@ -50,14 +54,14 @@ pub(crate) struct Noted {
 }
 
 impl Watch {
-    pub(crate) fn start(alloc: Global, design: &Design, most_groups: usize) -> Watch {
+    pub(crate) fn start(alloc: Global, design: &Design, bounds: Tries) -> Watch {
         Watch {
             log: TurnLog::new(alloc),
             stretch: Stretch::new(alloc),
             next_event: u64::from(design.processes()),
             makers: Vec::new(alloc),
             transitions: Vec::new(alloc),
-            conflicts: Conflicts::new(alloc, most_groups),
+            conflicts: Conflicts::new(alloc, bounds),
         }
     }
 
@@ -87,9 +91,6 @@ impl Watch {
     fn note_lines(&mut self) {
         if !self.log.lines().is_empty() {
             self.stretch.access(Site::Printing, Does::Prints, true);
-        }
-        if self.log.is_finish() {
-            self.stretch.access(Site::Printing, Does::Finishes, true);
         }
         if !self.log.strobes().is_empty() {
             self.stretch.access(Site::Strobing, Does::Strobes, true);
@@ -129,11 +130,74 @@ impl Watch {
             self.note_lines();
             self.note_wait(design);
         }
-        Some(Noted {
+        let noted = Noted {
             wanted: Transition::Turn(process),
             process: Some(process),
             own: self.own_events(),
-        })
+        };
+        if self.log.is_finish() {
+            self.note_finish(design, machine, number);
+        }
+        Some(noted)
+    }
+
+    // Notes that the turn of the last step finishes the run, and which events it leaves behind.
+    fn note_finish(&mut self, design: &Design, machine: &Machine<'_>, number: u64)
+        requires { machine.now.code ≡ design.now }
+    {
+        if self.stretch.is_full() {
+            return;
+        }
+        self.stretch.finish();
+        for place in 0..machine.choices().len().min(MOST_LEFT) {
+            match machine.choices().get(place) {
+                Some(Entry::Turn(other)) => if other != number {
+                    self.note_left_turn(design, machine, other);
+                },
+                Some(Entry::Update(other)) => self.note_left_update(machine, other),
+                _ => {}
+            }
+        }
+    }
+
+    // Notes an evaluation that is left behind.
+    fn note_left_turn(&mut self, design: &Design, machine: &Machine<'_>, number: u64)
+        requires { machine.now.code ≡ design.now }
+    {
+        let process = match fill(&mut self.log, design, machine, number) {
+            Some(process) => process,
+            None => return,
+        };
+        let does = if self.log.lines().is_empty() {
+            Does::Runs
+        } else {
+            Does::Prints
+        };
+        self.stretch.add_held_back(
+            &mut self.conflicts,
+            Site::Finishing,
+            Role { process, does },
+            Entry::Turn(number),
+        );
+    }
+
+    // Notes an update that is left behind.
+    fn note_left_update(&mut self, machine: &Machine<'_>, number: u64) {
+        let process = match self.maker(number) {
+            Some(maker) => maker.process,
+            None => return,
+        };
+        if let Some((register, _)) = machine.state().first_updated() {
+            self.stretch.add_held_back(
+                &mut self.conflicts,
+                Site::Register(register),
+                Role {
+                    process,
+                    does: Does::Updates,
+                },
+                Entry::Update(number),
+            );
+        }
     }
 
     // Notes an update. None where there is none.
@@ -210,18 +274,11 @@ impl Watch {
         }
     }
 
-    // Finds the conflicts of the last entries.
+    /// Finds the conflicts of the last entries.
     pub(crate) fn finish(&mut self) {
         self.stretch.find_conflicts(&mut self.conflicts);
+        self.stretch.find_cut_off(&mut self.conflicts);
     }
-}
-
-// The first entry that may be next.
-fn first_entry(machine: &Machine<'_>) -> Option<Entry>
-    ensures { IfSome result (λ entry. refusal (state_at machine.now) entry ≡ None) }
-{
-    let choices = machine.choices();
-    choices.get(0)
 }
 
 // Takes the first entry that may be next, or else answers how the run ends here.

@@ -1,4 +1,4 @@
--- What an entry of a run does at a register, or where lines are printed.
+-- What an entry of a run does at a register, where lines are printed, or where the run ends.
 use Rattle.std.specs.Prelude.{◌≡◌, ℕ, Bool, true, false, ◌==◌, List, [], ◌∷◌, ◌++◌, Some}
 use Rattle.std.specs.List.{All, list_any}
 use Rattle.logic4.specs.Vector.{Vector}
@@ -10,9 +10,9 @@ use Rattle.model.specs.States.{Evaluate, Update, State}
 use Rattle.model.specs.Runs.{action_in, has_any, turn_of, after}
 use Rattle.regions.specs.Machine.{IsChange}
 use Rattle.deeds.specs.declared.role.Site.{Site}
-use Rattle.deeds.specs.declared.role.Site.TheVariants.{Register, Printing, Strobing}
+use Rattle.deeds.specs.declared.role.Site.TheVariants.{Register, Printing, Strobing, Finishing}
 use Rattle.deeds.specs.declared.role.Does.{Does}
-use Rattle.deeds.specs.declared.role.Does.TheVariants.{Writes, Assigns, Updates, Reads, Waits, Prints, Strobes, Finishes}
+use Rattle.deeds.specs.declared.role.Does.TheVariants.{Writes, Assigns, Updates, Reads, Waits, Prints, Strobes, Finishes, Runs}
 use Rattle.deeds.specs.declared.role.Role.{Role}
 
 -- whether a process waits for changes of a register (9.7)
@@ -22,8 +22,8 @@ waits_for r Ended = false
 waits_for r Inactive = false
 waits_for r (Until time) = false
 
--- whether a turn does this to a register: writes it, assigns it by a nonblocking assignment, reads it before it writes it, or
--- goes on to wait for a change of it
+-- whether a turn does this to a register: writes it, assigns it by a nonblocking assignment, reads it before it writes it, goes
+-- on to wait for a change of it, or meets $finish, behind which no update of it comes
 abbrev pub does_to : ℕ → Does → Turn → Bool
 does_to r Writes turn = list_any (λ w. w.0 == r) turn.writes
 does_to r Assigns turn = list_any (λ l. l.register == r) turn.nbas
@@ -32,9 +32,10 @@ does_to r Reads turn = list_any (λ u. r == u) turn.uses
 does_to r Waits turn = waits_for r turn.wait
 does_to r Prints turn = false
 does_to r Strobes turn = false
-does_to r Finishes turn = false
+does_to r Finishes turn = turn.finish
+does_to r Runs turn = false
 
--- whether a turn does this where lines are printed: prints one, or meets $finish, behind which none is printed
+-- whether a turn does this where lines are printed: prints one
 abbrev pub does_print : Does → Turn → Bool
 does_print Writes turn = false
 does_print Assigns turn = false
@@ -43,7 +44,8 @@ does_print Reads turn = false
 does_print Waits turn = false
 does_print Prints turn = has_any turn.lines
 does_print Strobes turn = false
-does_print Finishes turn = turn.finish
+does_print Finishes turn = false
+does_print Runs turn = false
 
 -- whether a turn does this where the lines of $strobe statements are put in order: meets one
 abbrev pub does_strobe : Does → Turn → Bool
@@ -55,12 +57,26 @@ does_strobe Waits turn = false
 does_strobe Prints turn = false
 does_strobe Strobes turn = has_any turn.strobes
 does_strobe Finishes turn = false
+does_strobe Runs turn = false
+
+-- whether a turn does this where the run ends: meets $finish, behind which no entry comes, prints a line, or is any turn
+abbrev pub does_finish : Does → Turn → Bool
+does_finish Writes turn = false
+does_finish Assigns turn = false
+does_finish Updates turn = false
+does_finish Reads turn = false
+does_finish Waits turn = false
+does_finish Prints turn = has_any turn.lines
+does_finish Strobes turn = false
+does_finish Finishes turn = turn.finish
+does_finish Runs turn = true
 
 -- whether a turn does this at a site
 abbrev pub does_at : Site → Does → Turn → Bool
 does_at (Register r) does turn = does_to r does turn
 does_at Printing does turn = does_print does turn
 does_at Strobing does turn = does_strobe does turn
+does_at Finishing does turn = does_finish does turn
 
 -- The event with a number is an evaluation of the role's process, and the turn that it has here does at the site what the role
 -- says.
@@ -138,8 +154,39 @@ pub record IsExchanged (design : Design) (before : List Entry) (one : Entry) (ex
   pub is_second : IsOneBehind design (before ++ needed) other site time second
   pub is_first : IsOneBehind design ((before ++ needed) ++ other ∷ []) one site time first
 
--- Two entries of a journal do at a site what two roles say, the first role's first, and in another journal they come the other
--- way round.
-pub record HasBothOrders (design : Design) (journal exchanged : List Entry) (site : Site) (time : ℕ) (first second : Role) : Type 0 where
-  pub pair : HasPair design journal site time first second
-  pub order : IsExchanged design pair.before pair.one exchanged site time first second
+-- A journal ends before an entry that another one had: behind the same entries, and then some with no change of the regions, comes
+-- one that finishes, as the second role says, and is the last, and behind it the entry itself is left, one of the first role.
+pub record IsCutOff (design : Design) (before : List Entry) (one : Entry) (exchanged : List Entry) (site : Site) (time : ℕ) (first second : Role) : Type 0 where
+  pub needed : List Entry
+  pub other : Entry
+  pub exchanged_is : exchanged ≡ before ++ (needed ++ other ∷ [])
+  pub stretch : All IsEvent needed
+  pub finishes : second.does ≡ Finishes
+  pub is_second : IsRoleBehind design (before ++ needed) other site time second
+  pub is_first : IsOneBehind design ((before ++ needed) ++ other ∷ []) one site time first
+
+-- A journal's last entry finishes, as the first role says, and another journal has it later: behind the same entries comes one that
+-- does what the second role says, then some with no change of the regions, and then the entry itself, which is one of the first role
+-- there too.
+pub record IsHeldBack (design : Design) (journal exchanged : List Entry) (site : Site) (time : ℕ) (first second : Role) : Type 0 where
+  pub before : List Entry
+  pub one : Entry
+  pub other : Entry
+  pub between : List Entry
+  pub behind : List Entry
+  pub journal_is : journal ≡ before ++ one ∷ []
+  pub finishes : first.does ≡ Finishes
+  pub is_first : IsRoleBehind design before one site time first
+  pub exchanged_is : exchanged ≡ before ++ ((other ∷ between) ++ (one ∷ behind))
+  pub stretch : All IsEvent (other ∷ between)
+  pub is_second : IsRoleBehind design before other site time second
+  pub is_first_again : IsOneBehind design (before ++ (other ∷ between)) one site time first
+
+-- In one journal the first role's entry comes before the second role's, and in another one the other way round.
+pub data HasBothOrders (design : Design) (journal exchanged : List Entry) (site : Site) (time : ℕ) (first second : Role) : Type 0 where
+  -- Both entries are in both journals.
+  swapped : (pair : HasPair design journal site time first second) → IsExchanged design pair.before pair.one exchanged site time first second → HasBothOrders design journal exchanged site time first second
+  -- Both are in the first one, and in the other the second role's finishes before the first one's comes.
+  cut_off : (pair : HasPair design journal site time first second) → IsCutOff design pair.before pair.one exchanged site time first second → HasBothOrders design journal exchanged site time first second
+  -- In the first one the first role's finishes before the second one's comes, and both are in the other.
+  held_back : IsHeldBack design journal exchanged site time first second → HasBothOrders design journal exchanged site time first second

@@ -35,6 +35,11 @@ pub record SeesBoth (design : Design) (before stretch : List Entry) (one other :
   pub first : IsRoleBehind design before one p.site p.time p.first
   pub second : IsRoleBehind design (before ++ stretch) other p.site p.time p.second
 
+-- A second journal has, behind these entries, some without a change of the regions, and then what is left.
+pub record IsParted (exchanged before middle behind : List Entry) : Type 0 where
+  pub exchanged_is : exchanged ≡ before ++ (middle ++ behind)
+  pub events : All IsEvent middle
+
 -- An entry stands in a second journal behind the same entries, then these, without a change of the regions, and then another one.
 pub record IsSwapped (exchanged before needed : List Entry) (other one : Entry) : Type 0 where
   pub behind : List Entry
@@ -49,3 +54,30 @@ IsOneAt s entry site time role = (s.time ≡ time) × IsOfRole s entry site role
 pub record SeesSwapped (design : Design) (before needed : List Entry) (other one : Entry) (p : Pair) : Type 0 where
   pub second : IsOneBehind design (before ++ needed) other p.site p.time p.second
   pub first : IsOneBehind design ((before ++ needed) ++ other ∷ []) one p.site p.time p.first
+
+-- An entry is the last of a second journal, behind the same entries and then these, without a change of the regions.
+pub record IsCut (exchanged before needed : List Entry) (other : Entry) : Type 0 where
+  pub exchanged_is : exchanged ≡ before ++ (needed ++ other ∷ [])
+  pub events : All IsEvent needed
+
+-- Two entries, the second role's behind these journals and the first one's left behind it, are of the roles of a pair, and the
+-- second one does what its role says.
+pub record SeesCut (design : Design) (before needed : List Entry) (other one : Entry) (p : Pair) : Type 0 where
+  pub second : IsRoleBehind design (before ++ needed) other p.site p.time p.second
+  pub first : IsOneBehind design ((before ++ needed) ++ other ∷ []) one p.site p.time p.first
+
+-- An entry is the last of a journal, behind these, and in a second one it stands behind the same entries and then a stretch that
+-- another one begins, without a change of the regions.
+pub record IsHeld (journal exchanged before stretch : List Entry) (one other : Entry) : Type 0 where
+  pub between : List Entry
+  pub behind : List Entry
+  pub journal_is : journal ≡ before ++ one ∷ []
+  pub stretch_is : stretch ≡ other ∷ between
+  pub exchanged_is : exchanged ≡ before ++ (stretch ++ (one ∷ behind))
+  pub events : All IsEvent stretch
+
+-- two entries do behind a journal what a pair says, and the first one is of its role behind that with this stretch too
+pub record SeesHeld (design : Design) (before stretch : List Entry) (one other : Entry) (p : Pair) : Type 0 where
+  pub first : IsRoleBehind design before one p.site p.time p.first
+  pub second : IsRoleBehind design before other p.site p.time p.second
+  pub again : IsOneBehind design (before ++ stretch) one p.site p.time p.first

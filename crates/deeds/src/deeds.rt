@@ -86,7 +86,8 @@ fn does_to(log: &TurnLog, controls: &[Control], register: RegId, does: Does) -> 
         Does::Assigns => assigns(log, register),
         Does::Reads => reads(log, register),
         Does::Waits => waits(log, controls, register),
-        Does::Updates | Does::Prints | Does::Strobes | Does::Finishes => false,
+        Does::Finishes => log.is_finish(),
+        Does::Updates | Does::Prints | Does::Strobes | Does::Runs => false,
     }
 }
 
@@ -96,9 +97,8 @@ fn does_print(log: &TurnLog, controls: &[Control], does: Does) -> bool
 {
     match does {
         Does::Prints => !log.lines().is_empty(),
-        Does::Finishes => log.is_finish(),
         Does::Writes | Does::Assigns | Does::Updates | Does::Reads => false,
-        Does::Waits | Does::Strobes => false,
+        Does::Waits | Does::Strobes | Does::Finishes | Does::Runs => false,
     }
 }
 
@@ -109,7 +109,20 @@ fn does_strobe(log: &TurnLog, controls: &[Control], does: Does) -> bool
     match does {
         Does::Strobes => !log.strobes().is_empty(),
         Does::Writes | Does::Assigns | Does::Updates | Does::Reads => false,
-        Does::Waits | Does::Prints | Does::Finishes => false,
+        Does::Waits | Does::Prints | Does::Finishes | Does::Runs => false,
+    }
+}
+
+// Whether a turn does this where the run ends.
+fn does_finish(log: &TurnLog, controls: &[Control], does: Does) -> bool
+    ensures { (turn : Turn) → IsLogged controls.now log.now turn → result ≡ roles.does_finish does turn }
+{
+    match does {
+        Does::Finishes => log.is_finish(),
+        Does::Prints => !log.lines().is_empty(),
+        Does::Runs => true,
+        Does::Writes | Does::Assigns | Does::Updates | Does::Reads => false,
+        Does::Waits | Does::Strobes => false,
     }
 }
 
@@ -121,6 +134,7 @@ pub(crate) fn does_at(log: &TurnLog, controls: &[Control], site: Site, does: Doe
         Site::Register(register) => does_to(log, controls, register, does),
         Site::Printing => does_print(log, controls, does),
         Site::Strobing => does_strobe(log, controls, does),
+        Site::Finishing => does_finish(log, controls, does),
     }
 }
 

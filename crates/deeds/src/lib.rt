@@ -1,12 +1,13 @@
 //! What the entries of a run do.
 //!
-//! 1. `role` has the words: a site, which is a register or where lines are printed, and what an entry does there.
+//! 1. `role` has the words: a site, which is a register, where lines are printed, or where the run ends, and what an entry does there.
 //! 2. `deeds` makes the turn that an entry has where it stands, and tells what that does at a site.
 //! 3. `pair` is two entries of a journal with what each is said to do. `split` finds them in it, and in that of a second run, where
-//!    they come the other way round.
+//!    they come the other way round; where one of them finishes the run, one journal may have it alone.
 //! 4. `witness` leads a machine to both and sees whether they do it, and `confirm` asks it of both journals.
 //!
-//! What the layer above uses: `fill`, `lead`, and the contract of `is_confirmed`, whose `HasBothOrders` of `specs/Roles` speaks of the journals alone.
+//! What the layer above uses: `fill`, `lead`, and the contract of `is_confirmed`, `is_cut_off` and `is_held_back`, whose `HasBothOrders` of
+//! `specs/Roles` speaks of the journals alone.
 #![tactic(auto)]
 
 mod confirm;
@@ -16,7 +17,7 @@ mod role;
 mod split;
 mod witness;
 
-pub use confirm::is_confirmed;
+pub use confirm::{is_confirmed, is_cut_off, is_held_back};
 pub use deeds::fill;
 pub use pair::Pair;
 pub use role::{Does, Role, Site};

@@ -1,8 +1,8 @@
-//! A journal, split at two of its entries.
+//! A journal, split at two of its entries, and that of a second run, split at theirs.
 ghost use Rattle.std.specs.Prelude.{◌≡◌, IsTrue, IfSome};
 ghost use Rattle.std.specs.List.{All};
 ghost use Rattle.deeds.specs.Roles as roles;
-ghost use Rattle.deeds.specs.Witnesses.{IsPair, IsSwapped};
+ghost use Rattle.deeds.specs.Witnesses.{IsPair, IsParted, IsSwapped, IsCut, IsHeld};
 
 use crate::pair::Pair;
 use model::entry::Entry;
@@ -17,11 +17,28 @@ pub(crate) struct Split<'j> {
     pub(crate) other: Entry,
 }
 
-/// A second journal, split at the same two entries, the later one first: what stands before it behind the same entries, and it.
+/// A second journal, split at its entry of the later one's role: what stands before it behind the same entries, and it.
 #[derive(Clone, Copy)]
-pub(crate) struct Swapped<'j> {
+pub(crate) struct Exchanged<'j> {
     pub(crate) needed: &'j [Entry],
     pub(crate) other: Entry,
+}
+
+/// Two journals, split at the last entry of the first one: what stands before it in both, what stands from another one on before
+/// it in the second, and the two.
+#[derive(Clone, Copy)]
+pub(crate) struct Held<'j> {
+    pub(crate) before: &'j [Entry],
+    pub(crate) stretch: &'j [Entry],
+    pub(crate) one: Entry,
+    pub(crate) other: Entry,
+}
+
+// A second journal, split behind the same entries, and behind some more.
+#[derive(Clone, Copy)]
+struct Parted<'j> {
+    middle: &'j [Entry],
+    behind: &'j [Entry],
 }
 
 fn is_event(entry: Entry) -> bool
@@ -92,30 +109,100 @@ fn are_same(one: &[Entry], other: &[Entry]) -> bool
     true
 }
 
+// Splits a second journal behind the same entries, and behind so many more without a change of the regions.
+fn parted_of<'j>(exchanged: &'j [Entry], before: &[Entry], count: usize) -> Option<Parted<'j>>
+    ensures { IfSome result (λ p. IsParted exchanged.entry.now before.now p.middle.now p.behind.now) }
+{
+    if before.len() > exchanged.len() {
+        return None;
+    }
+    let (same, rest) = exchanged.split_at(before.len());
+    if count > rest.len() || !are_same(same, before) {
+        return None;
+    }
+    let (middle, behind) = rest.split_at(count);
+    if !are_events(middle) {
+        return None;
+    }
+    Some(Parted { middle, behind })
+}
+
 /// A second journal, split where it has the earlier entry of a first one right behind another one, and so many entries, with no
 /// change of the regions, before that.
 pub(crate) fn swapped_of<'j>(
     exchanged: &'j [Entry],
     split: Split<'_>,
     needed: usize,
-) -> Option<Swapped<'j>>
+) -> Option<Exchanged<'j>>
     ensures { IfSome result (λ s. IsSwapped exchanged.entry.now split.entry.before.now s.needed.now s.other split.entry.one) }
 {
-    if split.before.len() > exchanged.len() {
-        return None;
-    }
-    let (before, rest) = exchanged.split_at(split.before.len());
-    if needed > rest.len() || !are_same(before, split.before) {
-        return None;
-    }
-    let (needed, behind) = rest.split_at(needed);
-    if !are_events(needed) {
-        return None;
-    }
-    match behind {
-        [other, one, ..] if is_same(*one, split.one) => Some(Swapped {
-            needed,
+    let parted = match parted_of(exchanged, split.before, needed) {
+        Some(parted) => parted,
+        None => return None,
+    };
+    match parted.behind {
+        [other, one, ..] if is_same(*one, split.one) => Some(Exchanged {
+            needed: parted.middle,
             other: *other,
+        }),
+        _ => None,
+    }
+}
+
+/// A second journal, split at its last entry, where it has so many entries, with no change of the regions, before that and behind
+/// those that come before the earlier entry of a first one.
+pub(crate) fn cut_of<'j>(
+    exchanged: &'j [Entry],
+    split: Split<'_>,
+    needed: usize,
+) -> Option<Exchanged<'j>>
+    ensures { IfSome result (λ s. IsCut exchanged.entry.now split.entry.before.now s.needed.now s.other) }
+{
+    let parted = match parted_of(exchanged, split.before, needed) {
+        Some(parted) => parted,
+        None => return None,
+    };
+    match parted.behind {
+        [other] => Some(Exchanged {
+            needed: parted.middle,
+            other: *other,
+        }),
+        _ => None,
+    }
+}
+
+/// A journal, split at its last entry, which has this place, and a second one, where that entry comes again behind another one and
+/// so many entries, with no change of the regions.
+pub(crate) fn held_of<'j>(
+    journal: &'j [Entry],
+    exchanged: &'j [Entry],
+    place: usize,
+    between: usize,
+) -> Option<Held<'j>>
+    ensures { IfSome result (λ h. IsHeld journal.entry.now exchanged.entry.now h.before.now h.stretch.now h.one h.other) }
+{
+    if place >= journal.len() || between >= exchanged.len() {
+        return None;
+    }
+    let (before, last) = journal.split_at(place);
+    let one = match last {
+        [one] => *one,
+        _ => return None,
+    };
+    let parted = match parted_of(exchanged, before, between + 1) {
+        Some(parted) => parted,
+        None => return None,
+    };
+    let other = match parted.middle {
+        [other, ..] => *other,
+        [] => return None,
+    };
+    match parted.behind {
+        [again, ..] if is_same(*again, one) => Some(Held {
+            before,
+            stretch: parted.middle,
+            one,
+            other,
         }),
         _ => None,
     }

@@ -1,15 +1,17 @@
 //! Runs of several seeds, and the texts and ends that they gave.
-ghost use Rattle.std.specs.Prelude.{◌≡◌, ◌≤◌, ◌↔◌, false, IsTrue, IfSome, string_bytes, vec_len};
-ghost use Rattle.std.specs.List.{All, AllPairs};
+ghost use Rattle.std.specs.Prelude.{◌≡◌, ◌+◌, ◌≤◌, ◌⊎◌, ◌<◌, false, length, IsTrue, IfSome, IfNone, OnOk, OnErr, slice_index_or, vec_len, vec_capacity};
+ghost use Rattle.std.specs.List.{All, AllPairs, Contains};
 ghost use Rattle.model.specs.Runs.{last_time};
 ghost use Rattle.seeded.specs.SeededRun.{IsRun};
-ghost use Rattle.seeded.specs.Samples.{AreDistinct, WantsNoMemory};
+ghost use Rattle.seeded.specs.declared.run.SeededRun.{SeededRun};
+ghost use Rattle.seeded.specs.Samples.{AreApart, AreLike, AreStillIn, GivesWay, IsTold, IsWhole, WantsNoMemory};
 
+use crate::compared::{are_apart, is_same, is_whole};
 use crate::run::{SeededRun, run_seeded};
 use design::Design;
 use model::end::{End, Limits, Why};
 use progress::{HowFar, Progress, Untold};
-use std::alloc::Global;
+use std::alloc::{AllocError, Global};
 
 /// The seeds of several runs: this one, and those that follow it (past the greatest, 0 follows).
 #[derive(Clone, Copy)]
@@ -18,33 +20,93 @@ pub struct Seeds {
     pub count: u32,
 }
 
-/// One run of each text and end that several seeds gave, and how many runs were made.
+/// How far the runs of several seeds go: the most that are kept, and the entries of all together behind which none is begun.
+#[derive(Clone, Copy)]
+pub struct SampleBounds {
+    pub kept: usize,
+    pub entries: u64,
+}
+
+/// The runs of several seeds that are apart, and how many runs were made.
 #[derive(Drop)]
 pub struct Samples {
     pub kept: Vec<SeededRun>,
     pub made: u32,
 }
 
-/// Whether two runs have the same lines and the same end.
-pub fn is_same(one: &SeededRun, other: &SeededRun) -> bool
-    ensures { IsTrue result ↔ ((string_bytes one.now.lines ≡ string_bytes other.now.lines) × (one.now.end ≡ other.now.end)) }
+// Whether a kept run stands for another one: the two are the same, or the other one was cut off and isn't apart from it.
+fn stands_for(one: &SeededRun, run: &SeededRun) -> bool
+    ensures like { IsTrue result → IsWhole run.now → AreLike one.now run.now }
+    ensures other { result ≡ false → AreApart one.now run.now ⊎ GivesWay one.now run.now }
 {
-    if one.end != other.end {
-        return false;
+    if is_whole(run) {
+        return is_same(one, run);
     }
-    one.lines.as_str() == other.lines.as_str()
+    !are_apart(one, run)
 }
 
-// Whether a run with the lines and the end of this one is kept.
-fn is_kept(kept: &[SeededRun], run: &SeededRun) -> bool
-    ensures apart { result ≡ false → All (λ one. AreDistinct one run.now) kept.now }
+// Whether a kept run stands for this one.
+fn is_told(kept: &[SeededRun], run: &SeededRun) -> bool
+    ensures like { IsTrue result → IsTold kept.now run.now }
+    ensures other { result ≡ false → All (λ one. AreApart one run.now ⊎ GivesWay one run.now) kept.now }
 {
     for one in kept.iter() {
-        if is_same(one, run) {
+        if stands_for(one, run) {
             return true;
         }
     }
     false
+}
+
+// The place of the first kept run from which this one isn't apart.
+fn first_close(kept: &[SeededRun], run: &SeededRun) -> Option<usize>
+    requires { All (λ one. AreApart one run.now ⊎ GivesWay one run.now) kept.now }
+    ensures within { IfSome result (λ place. place < length kept.now) }
+    ensures cut { IfSome result (λ place. (d : SeededRun) → IsWhole (slice_index_or kept.now place d) → ⊥) }
+    ensures apart { IfNone result (All (λ one. AreApart one run.now) kept.now) }
+{
+    for (place, one) in kept.iter().enumerate() {
+        if !are_apart(one, run) {
+            return Some(place);
+        }
+    }
+    None
+}
+
+// Takes out the kept runs from which this one isn't apart. They were cut off, and it wasn't.
+fn give_way(kept: &mut Vec<SeededRun>, run: &SeededRun)
+    requires other { All (λ one. AreApart one run.now ⊎ GivesWay one run.now) kept.old.items }
+    requires apart { AllPairs AreApart kept.old.items }
+    ensures apart { AllPairs AreApart kept.new.items }
+    ensures close { All (λ one. AreApart one run.now) kept.new.items }
+    ensures from { All (Contains kept.old.items) kept.new.items }
+    ensures whole { AreStillIn kept.old.items kept.new.items }
+    ensures few { vec_len kept.new ≤ vec_len kept.old }
+    ensures capacity { vec_capacity kept.new ≡ vec_capacity kept.old }
+{
+    while let Some(place) = first_close(kept.as_slice(), run) {
+        kept.remove(place);
+    }
+}
+
+// Keeps a run unless a kept one stands for it. Those that were cut off give way to it where they aren't apart from it. Fails
+// where memory is refused, and then those that were kept stay.
+fn keep(kept: &mut Vec<SeededRun>, run: SeededRun) -> Result<(), AllocError>
+    requires apart { AllPairs AreApart kept.old.items }
+    ensures apart { AllPairs AreApart kept.new.items }
+    ensures from { All (λ one. Contains kept.old.items one ⊎ (one ≡ run)) kept.new.items }
+    ensures whole { AreStillIn kept.old.items kept.new.items }
+    ensures told { OnOk result (IsTold kept.new.items run) }
+    ensures few { vec_len kept.new ≤ vec_len kept.old + 1 }
+    ensures stay { OnErr result (vec_len kept.new ≡ vec_len kept.old) }
+{
+    if is_told(kept.as_slice(), &run) {
+        return Ok(());
+    }
+    kept.reserve(1)?;
+    give_way(kept, &run);
+    kept.push_reserved(run);
+    Ok(())
 }
 
 // Whether a run ended for want of memory.
@@ -57,8 +119,9 @@ fn wants_memory(run: &SeededRun) -> bool
     }
 }
 
-/// Runs of several seeds. Of each text and end it keeps the first run, and it stops once `most` are kept. A run that ends for
-/// want of memory isn't kept, and ends it. How many were made, is told as it goes on.
+/// Runs of several seeds. It keeps those that are apart, the first of each text and end: of a run that was cut off only what it
+/// printed is compared, and it gives way to one that came to its end. It stops once the bounds are met. A run that ends for want of memory
+/// isn't kept, and ends it. How many were made, is told as it goes on.
 ///
 /// The limit of time isn't past the last time, as for every run.
 pub fn sample<P: Progress>(
@@ -66,23 +129,24 @@ pub fn sample<P: Progress>(
     design: &Design,
     limits: Limits,
     seeds: Seeds,
-    most: usize,
+    bounds: SampleBounds,
     progress: &P,
 ) -> Samples
     requires until { IfSome limits.until (λ until. until ≤ last_time) }
     ensures runs { All (IsRun design.now limits) result.kept.items }
-    ensures distinct { AllPairs AreDistinct result.kept.items }
+    ensures apart { AllPairs AreApart result.kept.items }
     ensures ended { All WantsNoMemory result.kept.items }
-    ensures most { vec_len result.kept ≤ most }
+    ensures most { vec_len result.kept ≤ bounds.kept }
     ensures kept { vec_len result.kept ≤ result.made }
     ensures made { result.made ≤ seeds.count }
 {
     let mut kept = Vec::new(alloc);
+    let mut entries: u64 = 0;
     for made in 0..seeds.count {
         progress.tell(HowFar::Runs {
             made: u64::from(made),
         });
-        if kept.len() >= most {
+        if kept.len() >= bounds.kept || entries >= bounds.entries {
             return Samples { kept, made };
         }
         let seed = seeds.first.wrapping_add(u64::from(made));
@@ -90,10 +154,8 @@ pub fn sample<P: Progress>(
         if wants_memory(&run) {
             return Samples { kept, made };
         }
-        if is_kept(kept.as_slice(), &run) {
-            continue;
-        }
-        match kept.push(run) {
+        entries = entries.saturating_add(run.journal.len() as u64);
+        match keep(&mut kept, run) {
             Ok(()) => {}
             Err(_) => return Samples { kept, made },
         }

@@ -1,5 +1,5 @@
 -- All of them.
-use Rattle.std.proofs.Common.{arith, sym, ◌∙◌}
+use Rattle.std.proofs.Common.{arith}
 use Rattle.std.proofs.lemmas.List.{same_lists}
 use Rattle.deeds.proofs.split.are_same.Goals as goal
 

@@ -1,8 +1,0 @@
--- None of those that were looked at is like this one.
-use Rattle.std.proofs.Common.{ℕ, ◌<◌, get_or}
-use Rattle.seeded.specs.declared.run.SeededRun.{SeededRun}
-use Rattle.seeded.specs.Samples.{AreDistinct}
-use Rattle.seeded.proofs.samples.is_kept.Given as goal
-
-abbrev pub invariant-loop-one : goal.invariant-loop-one
-invariant-loop-one l = (k : ℕ) (d : SeededRun) → k < l.one-index → AreDistinct (get_or l.kept k d) l.run
