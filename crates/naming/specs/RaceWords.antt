@@ -5,7 +5,7 @@ use Rattle.conflicts.specs.declared.told.Bound.{Bound}
 use Rattle.conflicts.specs.declared.told.Bound.TheVariants as bounds
 use Rattle.conflicts.specs.declared.told.Tries.{Tries}
 use Rattle.deeds.specs.declared.role.Does.{Does}
-use Rattle.deeds.specs.declared.role.Does.TheVariants.{Writes, Assigns, Updates, Reads, Waits, Prints, Strobes, Finishes}
+use Rattle.deeds.specs.declared.role.Does.TheVariants.{Writes, Assigns, Updates, Reads, Waits, Prints, Strobes, Finishes, Runs}
 use Rattle.deeds.specs.declared.role.Site as found
 use Rattle.deeds.specs.declared.role.Site.TheVariants as sites
 use Rattle.verdict.specs.declared.cut.Cut.{Cut}
@@ -23,6 +23,7 @@ word_of Waits = codes "waits for it"
 word_of Prints = codes "prints"
 word_of Strobes = codes "strobes"
 word_of Finishes = codes "finishes the run"
+word_of Runs = codes "takes a turn"
 
 -- by what a list of races was cut, with the bound that was met
 abbrev pub cut_of : Tries → Bound → Cut
@@ -40,3 +41,4 @@ IsSiteTold code (sites.Register r) lines.Strobing = ⊥
 IsSiteTold code (sites.Register r) lines.Finishing = ⊥
 IsSiteTold code sites.Printing site = site ≡ lines.Printing
 IsSiteTold code sites.Strobing site = site ≡ lines.Strobing
+IsSiteTold code sites.Finishing site = site ≡ lines.Finishing

@@ -37,6 +37,7 @@ pub(crate) fn word_of(does: Does) -> &'static str
         Does::Prints => "prints",
         Does::Strobes => "strobes",
         Does::Finishes => "finishes the run",
+        Does::Runs => "takes a turn",
     }
 }
 
@@ -48,6 +49,7 @@ pub(crate) fn site_of<'a>(design: &'a Design, site: deeds::Site) -> Site<'a>
         deeds::Site::Register(register) => named(design, register),
         deeds::Site::Printing => Site::Printing,
         deeds::Site::Strobing => Site::Strobing,
+        deeds::Site::Finishing => Site::Finishing,
     }
 }
 

@@ -12,6 +12,9 @@ use Rattle.explore.specs.Grown.{Extends}
 use Rattle.explore.specs.Search.{AreDistinct, IsShown}
 use Rattle.walks.specs.JournalsInTime.{AreAllTexts, IsLawfulText}
 use Rattle.races.specs.DesignRuns as orders
+use Rattle.conflicts.specs.declared.told.Found.{Found}
+use Rattle.conflicts.specs.declared.told.Tries.{Tries}
+use Rattle.naming.specs.Naming.{TellsBehind, TellsRaces}
 use Rattle.verdict.specs.declared.claim.Claim.{Claim}
 use Rattle.verdict.specs.declared.claim.Claim.TheVariants.{Every, SoFar, Sampled}
 use Rattle.verdict.specs.declared.claim.Met.TheVariants.{States, Texts, Entries, Memory}
@@ -140,6 +143,11 @@ one_journal_more ss all one journal is more =
 
 pub journals_alone : (ss : List (Shown Entry End)) → map (λ s. s.moves.items) ss ≡ journals_of ss None
 journals_alone ss = sym (none_behind (map (λ s. s.moves.items) ss))
+
+-- lines that tell races behind a text that is empty
+pub tells_alone : (source : List ℕ) (code : Compiled) (shown : List (Shown Entry End)) (prefix : Option (List ℕ)) (tries : Tries) (found : Found) (begun lines : List ℕ) → begun ≡ []
+    → TellsBehind source code shown prefix tries found begun lines → TellsRaces source code shown prefix tries found lines
+tells_alone source code shown prefix tries found begun lines empty h = subst (TellsRaces source code shown prefix tries found) (sym (h.new_is ∙ ap (λ l. l ++ h.lines) empty)) h.tells
 
 -- a search that was told first and last, with the journals of what was found
 pub search_shown : (source : List ℕ) (code : Compiled) (extent : Extent) (prefix : Option (List ℕ)) (known : List (Shown Entry End)) (claim : Claim) (shown : List (Shown Entry End)) (endless : Option (List Entry)) (a b c : Option (List ℕ))

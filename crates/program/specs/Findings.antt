@@ -17,6 +17,7 @@ use Rattle.walks.specs.JournalsInTime.{AreAllTexts, IsLawfulText}
 use Rattle.races.specs.DesignRuns as orders
 use Rattle.conflicts.specs.Races as conflicts
 use Rattle.conflicts.specs.declared.told.Found.{Found}
+use Rattle.conflicts.specs.declared.told.Tries.{Tries}
 use Rattle.verdict.specs.declared.claim.Claim.{Claim}
 use Rattle.verdict.specs.declared.claim.Claim.TheVariants.{Every, SoFar, Sampled}
 use Rattle.verdict.specs.declared.claim.Met.{Met}
@@ -152,10 +153,13 @@ abbrev pub HaveSomeEnds : List (Shown Entry End) → Bool → Type 0
 HaveSomeEnds shown false = HaveOneEnd shown
 HaveSomeEnds shown true = HaveOneEnd shown → ⊥
 
--- What a search for races has found in a design: a first run, and races of it, each of which a second run shows.
-pub record AreRaces (design : Compiled) (limits : Limits) (found : Found) : Type 0 where
+-- What a search for races has found in a design: a first run, and races of it, each of which a second run shows. No two are for one site and of the same two processes, and
+-- the bounds hold within which they were looked for.
+pub record AreRaces (design : Compiled) (limits : Limits) (tries : Tries) (found : Found) : Type 0 where
   pub original : seeded.IsRun design limits found.original
   pub races : All (conflicts.IsShown design limits found.original) found.races.items
+  pub distinct : AllPairs conflicts.AreOthers found.races.items
+  pub within : conflicts.IsWithin tries found.races.items found.tried found.cut
 
 -- where a run came to its end, its text and its end are among these, unless as many as may be are
 abbrev pub IsKnown : ℕ → List (Shown Entry End) → SeededRun → Type 0

@@ -119,10 +119,10 @@ pub record HasRun (words : List Text) (old new : Option (List ℕ)) (files files
 
 -- What is told before a search: the races that were found in the design of a source, with the numbers of journals of texts that are known from then on.
 pub record IsToldFirst (source : List ℕ) (design : Compiled) (extent : Extent) (prefix : Option (List ℕ)) (known : List (Shown Entry End)) (first : List ℕ) : Type 0 where
-  pub found : Found
-  pub are_races : AreRaces design (limits_in extent) found
-  pub are_known : AreKnown design extent found known
   pub tries : Tries
+  pub found : Found
+  pub are_races : AreRaces design (limits_in extent) tries found
+  pub are_known : AreKnown design extent found known
   pub tells : TellsRaces source design known prefix tries found first
 
 -- What is said of texts behind a search: what they are, and whether their ends tell them apart too.

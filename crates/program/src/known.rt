@@ -9,6 +9,7 @@ ghost use Rattle.explore.specs.Grown.{Extends};
 ghost use Rattle.explore.specs.Search.{AreDistinct, Differs, IsShown};
 ghost use Rattle.seeded.specs.SeededRun.{IsRun};
 ghost use Rattle.arguments.specs.Options.{CanSearch};
+ghost use Rattle.conflicts.specs.declared.told.Tries.{Tries};
 ghost use Rattle.program.specs.Findings.{AreKnown, AreRaces, IsKnown, IsLawful, IsOf, limits_in};
 
 use arguments::Extent;
@@ -191,7 +192,7 @@ pub fn known_texts<P: Progress>(
     progress: &P,
 ) -> Result<Vec<Shown<Entry, End>>, AllocError>
     requires can { CanSearch extent }
-    requires races { AreRaces design.now (limits_in extent) found.now }
+    requires races { (tries : Tries) × AreRaces design.now (limits_in extent) tries found.now }
     ensures { IfOk result (λ known. AreKnown design.now extent found.now known.items) }
 {
     match extent.samples {
@@ -209,7 +210,7 @@ fn known_first<P: Progress>(
 ) -> Result<Vec<Shown<Entry, End>>, AllocError>
     requires can { CanSearch extent }
     requires all { extent.samples ≡ None }
-    requires races { AreRaces design.now (limits_in extent) found.now }
+    requires races { (tries : Tries) × AreRaces design.now (limits_in extent) tries found.now }
     ensures { IfOk result (λ known. AreKnown design.now extent found.now known.items) }
 {
     let most = extent.max_texts as usize;

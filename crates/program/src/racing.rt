@@ -46,49 +46,42 @@ pub fn tell_races<O: Write, P: Progress>(
         until: request.extent.until,
         max_entries: request.extent.max_entries,
     };
-    let found = races_of(alloc, design, limits, progress);
+    let tries = TRIES;
+    let found = races_of(alloc, design, limits, tries, progress);
     let known = known_texts(alloc, design, request.extent, &found, progress)?;
-    let lines = race_lines(
-        alloc,
+    let names = Names {
         source,
         design,
-        request.journals,
-        known.as_slice(),
-        &found,
-    )?;
+        tries,
+        prefix: request.journals,
+        shown: known.as_slice(),
+    };
+    let lines = race_lines(alloc, &names, &found)?;
     show_bytes(out, lines.as_slice())?;
     Ok(known)
 }
 
 /// The races of a design.
-fn races_of<P: Progress>(alloc: Global, design: &Design, limits: Limits, progress: &P) -> Found
+fn races_of<P: Progress>(
+    alloc: Global,
+    design: &Design,
+    limits: Limits,
+    tries: Tries,
+    progress: &P,
+) -> Found
     requires { IfSome limits.until (λ until. until ≤ last_time) }
-    ensures { AreRaces design.now limits result }
+    ensures { AreRaces design.now limits tries result }
 {
-    let found = find_races(alloc, design, limits, TRIES, progress);
+    let found = find_races(alloc, design, limits, tries, progress);
     progress.end();
     found
 }
 
 /// The lines on races that were found.
-fn race_lines(
-    alloc: Global,
-    source: &[u8],
-    design: &Design,
-    prefix: Option<&str>,
-    known: &[Shown<Entry, End>],
-    found: &Found,
-) -> Result<Vec<u8>, AllocError>
-    ensures { IfOk result (λ lines. (tries : Tries) × TellsRaces source.now design.now known.now (option_map (λ path. path.now) prefix.entry) tries found.now lines.items) }
+fn race_lines<'a>(alloc: Global, names: &Names<'a>, found: &'a Found) -> Result<Vec<u8>, AllocError>
+    ensures { IfOk result (λ lines. TellsRaces names.entry.now.source.now names.entry.now.design.now names.entry.now.shown.now (option_map (λ path. path.now) names.entry.now.prefix) names.entry.now.tries found.entry.now lines.items) }
 {
-    let names = Names {
-        source,
-        design,
-        tries: TRIES,
-        prefix,
-        shown: known,
-    };
     let mut lines = Vec::new(alloc);
-    push_races(alloc, &mut lines, &names, found)?;
+    push_races(alloc, &mut lines, names, found)?;
     Ok(lines)
 }
