@@ -26,9 +26,10 @@ words =
     (codes "not", advice.Gate) ∷ (codes "buf", advice.Gate) ∷
     (codes "integer", advice.Register) ∷ (codes "real", advice.Register) ∷ (codes "realtime", advice.Register) ∷ (codes "time", advice.Register) ∷
     (codes "task", advice.Subroutine) ∷ (codes "endtask", advice.Subroutine) ∷ (codes "function", advice.Subroutine) ∷ (codes "endfunction", advice.Subroutine) ∷ (codes "automatic", advice.Subroutine) ∷
-    (codes "event", advice.Subroutine) ∷
-    (codes "fork", advice.Parallel) ∷ (codes "join", advice.Parallel) ∷ (codes "wait", advice.Parallel) ∷ (codes "disable", advice.Parallel) ∷
-    (codes "signed", advice.Unsigned) ∷ []
+    (codes "event", advice.NamedEvent) ∷
+    (codes "fork", advice.Parallel) ∷ (codes "join", advice.Parallel) ∷ (codes "wait", advice.Wait) ∷ (codes "disable", advice.Parallel) ∷
+    (codes "signed", advice.Unsigned) ∷
+    (codes "$monitor", advice.Monitor) ∷ (codes "$monitorb", advice.Monitor) ∷ (codes "$monitoro", advice.Monitor) ∷ (codes "$monitorh", advice.Monitor) ∷ []
 
 -- What a table has for a word.
 abbrev pub advice_in : Table → List ℕ → Option Advice
@@ -44,10 +45,18 @@ first (b ∷ bs) = b
 abbrev pub is_system_word : List ℕ → Bool
 is_system_word w = first w == 36 && not (bytes_eq w (codes "$display") || bytes_eq w (codes "$strobe") || bytes_eq w (codes "$finish"))
 
--- What is written instead of a word that the language lacks, of another system name, or of a directive, which a backquote
--- begins; none for every other text.
+-- What is written instead of a directive, which a backquote begins, or of a system name; none for every other text.
+abbrev pub advice_by_mark : List ℕ → Option Advice
+advice_by_mark w = if first w == 96 then Some advice.Directive else (if is_system_word w then Some advice.SystemName else None)
+
+-- The first of two advices, where there is one, else the second.
+abbrev pub first_advice : Option Advice → Option Advice → Option Advice
+first_advice (Some one) other = Some one
+first_advice None other = other
+
+-- What is written instead of a word of the table, of another system name that the language lacks, or of a directive; none for every other text.
 unfoldable pub advice_of : List ℕ → Option Advice
-advice_of w = if first w == 96 then Some advice.Directive else (if is_system_word w then Some advice.SystemName else advice_in words w)
+advice_of w = first_advice (advice_in words w) (advice_by_mark w)
 
 -- A large letter, or _.
 abbrev pub is_large : ℕ → Bool

@@ -21,11 +21,17 @@ pub enum Advice {
     Gate,
     /// For other variables than `reg` (4.8).
     Register,
-    /// For tasks, functions and named events (9.7.3, 10).
+    /// For tasks and functions (10).
     Subroutine,
-    /// For parallel blocks, `wait` and `disable` (9.7.6, 9.8.2, 10.3).
+    /// For named events (9.7.3).
+    NamedEvent,
+    /// For parallel blocks and `disable` (9.8.2, 10.3).
     Parallel,
-    /// For system names (17).
+    /// For `wait` (9.7.6).
+    Wait,
+    /// For `$monitor` and its kin (17.1.3).
+    Monitor,
+    /// For the other system names (17).
     SystemName,
     /// For directives (19).
     Directive,
@@ -61,26 +67,34 @@ impl fmt::Display for Advice {
             Advice::Choice => "no `case`: write `if` and `else`, each with `begin` and `end`",
             Advice::Loop => "this loop is not in the language: write `while`",
             Advice::OneModule => "no ports, parameters or instances: write one module of `reg`s",
-            Advice::Net => "no nets: write a `reg` and `always @(a or b) y = a & b;`",
-            Advice::Gate => "no gates: write `~`, `&`, `|` and `^`",
-            Advice::Register => "no `integer`, `real` or `time`: write `reg [31:0]`",
-            Advice::Subroutine => {
-                "no tasks, functions or events: write the statements where they are used"
-            }
-            Advice::Parallel => "not in the language: write a process for each, and `@(..)`",
+            Advice::Net => "no nets: write a `reg`, and `always begin y = a & b; @(a or b); end`",
+            Advice::Gate =>
+                "no gates: write a `reg`, and `always begin y = ~(a & b); @(a or b); end`",
+            Advice::Register =>
+                "no `integer`, `real` or `time`: write `reg [31:0]` or `reg [63:0]`, which are unsigned",
+            Advice::Subroutine => "no tasks or functions: write the statements where they are used",
+            Advice::NamedEvent =>
+                "no named events: write a `reg e`, change it by `e = e !== 1'b1;`, and wait by `@(e)`",
+            Advice::Parallel =>
+                "not in the language: write a process for each; `while ({a, b} !== 2'b11) begin @(a or b); end` waits for two",
+            Advice::Wait => "no `wait`: write `while ((a == b) !== 1'b1) begin @(a or b); end`",
+            Advice::Monitor =>
+                "no `$monitor`: write `always @(posedge clk) $strobe(\"%b\", a);`, which prints what the values have come to",
             Advice::SystemName => {
                 "of the system names the language has `$display`, `$strobe` and `$finish` alone"
             }
             Advice::Directive => "no directives: delays are in units of the simulation time",
             Advice::Unsigned => "all values are unsigned",
-            Advice::Triggers => "write the registers by their names, as in `@(a or b)`",
+            Advice::Triggers =>
+                "write the registers by their names, behind the body: `always begin y = a & b; @(a or b); end`",
             Advice::Block => "a body is a block: write `begin` and `end`",
             Advice::Size => "a number has a size: write it as in `32'd1`",
             Advice::Conversion => "a format has `%b`, `%h`, `%0d` and `%%`",
             Advice::Operator => "no `*`, `/` or `%`: write shifts and sums",
             Advice::Index => "an index is a plain number: write shifts and concatenations",
             Advice::Digits => "digits and the base of a number are small letters, without `_`",
-            Advice::Value => "a declaration has no value: write it in an `initial`",
+            Advice::Value =>
+                "a declaration has no value: write `initial a <= 1'b0;`, a change at time 0 that each `@(a)` sees",
             Advice::Memory => "no memories: write a `reg` for each word",
             Advice::BlockName => "a block has no name",
             Advice::Format => "a format comes first, as in `$display(\"%b\", m)`",
@@ -144,12 +158,16 @@ const WORDS: &[(&[u8], Advice)] = &[
     (b"function", Advice::Subroutine),
     (b"endfunction", Advice::Subroutine),
     (b"automatic", Advice::Subroutine),
-    (b"event", Advice::Subroutine),
+    (b"event", Advice::NamedEvent),
     (b"fork", Advice::Parallel),
     (b"join", Advice::Parallel),
-    (b"wait", Advice::Parallel),
+    (b"wait", Advice::Wait),
     (b"disable", Advice::Parallel),
     (b"signed", Advice::Unsigned),
+    (b"$monitor", Advice::Monitor),
+    (b"$monitorb", Advice::Monitor),
+    (b"$monitoro", Advice::Monitor),
+    (b"$monitorh", Advice::Monitor),
 ];
 
 /// The advice on a word of the table.
@@ -172,10 +190,9 @@ pub(crate) fn is_same(text: &[u8], word: &[u8]) -> bool
     text == word
 }
 
-/// What to write instead of a word, where the language lacks it.
-#[tactic(auto, unfolding(crate::specs::LackedWords::advice_of))]
-pub(crate) fn advice_of(text: &[u8]) -> Option<Advice>
-    ensures { result ≡ spec.advice_of text.now }
+/// The advice on a directive, and on any system name that the language lacks.
+fn advice_by_mark(text: &[u8]) -> Option<Advice>
+    ensures { result ≡ spec.advice_by_mark text.now }
 {
     match text {
         [b'`', ..] => Some(Advice::Directive),
@@ -183,6 +200,17 @@ pub(crate) fn advice_of(text: &[u8]) -> Option<Advice>
             if !(is_same(text, b"$display")
                 || is_same(text, b"$strobe")
                 || is_same(text, b"$finish")) => Some(Advice::SystemName),
-        _ => advice_in_table(text),
+        _ => None,
+    }
+}
+
+/// What to write instead of a word, where the language lacks it.
+#[tactic(auto, unfolding(crate::specs::LackedWords::advice_of))]
+pub(crate) fn advice_of(text: &[u8]) -> Option<Advice>
+    ensures { result ≡ spec.advice_of text.now }
+{
+    match advice_in_table(text) {
+        Some(advice) => Some(advice),
+        None => advice_by_mark(text),
     }
 }

@@ -19,6 +19,7 @@ mod system;
 mod writing;
 
 pub use begun::{Begun, begin, begin_at, finish_at, spare_source};
+pub use beside::{Beside, begin_beside};
 pub use fault::FileFault;
 pub use files::Files;
 pub use reading::{Retrying, open_file, read_file};

@@ -1,5 +1,5 @@
 -- What the requests of the words, the files and the statuses tell of a command that ended.
-use Rattle.std.proofs.Common.{◌≡◌, ◌≢◌, ◌⊎◌, ◌==◌, ◌||◌, Bool, true, false, string_bytes, ◌++◌, ◌∙◌, ap, append_assoc, sym, subst, inl, inr, refl, ℕ, List, [], Option, Some, None, IfOk, IfErr, OnOk, OnErr, Result, Ok, Err, map, option_map, codes, drop, arith}
+use Rattle.std.proofs.Common.{◌≡◌, ◌≢◌, ◌⊎◌, ◌==◌, ◌||◌, Bool, true, false, string_bytes, ◌++◌, ◌∙◌, ap, append_assoc, sym, subst, inl, inr, refl, ℕ, List, Option, Some, None, IfOk, IfErr, OnOk, OnErr, Result, Ok, Err, map, option_map, codes, drop, arith}
 use Rattle.std.specs.Io.KnownBytes.{Appends, Keeps}
 use Rattle.model.specs.declared.entry.Entry.{Entry}
 use Rattle.arguments.specs.declared.options.Options.{Options}
@@ -336,15 +336,6 @@ pub source_status : (words : List Text) (n : ℕ) → IsUnprinted words n → Is
 source_status words n (inl e) = inl e
 source_status words n (inr (inl e)) = inr (inl e)
 source_status words n (inr (inr (e, other))) = inr (inr e)
-
--- where there are no words, no journal is told
-no_words : (word : Text) → Begins [] word → ⊥
-no_words word begins = cc
-
-pub unprinted_without : (n : ℕ) → (n ≡ 2) ⊎ ((n ≡ 3) ⊎ (n ≡ 5)) → IsUnprinted [] n
-unprinted_without n (inl e) = inl e
-unprinted_without n (inr (inl e)) = inr (inl e)
-unprinted_without n (inr (inr e)) = inr (inr (e, λ begins. no_words (codes "explain") begins))
 
 pub nothing_by_status : (words : List Text) (old new : Option (List ℕ)) (files files' : Option (List Made)) (ended : Result Ending Fault)
     → IfOk ended (HasEnded words old new files files') → IfErr ended (λ f. IsUnprinted words (status_of f) → Keeps old new)

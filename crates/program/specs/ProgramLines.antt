@@ -21,6 +21,10 @@ use Rattle.program.specs.declared.fault.Fault.TheVariants as fault
 use Rattle.program.specs.declared.fault.Stop.{Stop}
 use Rattle.program.specs.declared.fault.Stop.TheVariants as stop
 
+-- words of the command line that can't be read
+abbrev pub unread_line : List ℕ
+unread_line = line (codes "a word of the command line isn't UTF-8") [] []
+
 -- a text that is no module: bytes are counted from 0 and tokens from 1
 abbrev pub parse_line : ParseFault → List ℕ
 parse_line (parsing.Byte place) = line (codes "P1 byte not allowed at ") (decimal place) []

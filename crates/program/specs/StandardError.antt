@@ -1,7 +1,7 @@
 -- What is told on standard error of how a command ended.
 use Rattle.std.specs.Prelude.{◌≡◌, ◌⊎◌, ℕ, List, Option, Some, Result, Ok, Err, codes, string_bytes}
 use Rattle.journal.specs.declared.counted.Counted.{Counted}
-use Rattle.telling.specs.FaultLines.{Tells}
+use Rattle.telling.specs.FaultLines.{Tells, shown_lines}
 use Rattle.clap.specs.Words.{Text}
 use Rattle.arguments.specs.CommandWords.{AreWrong, Begins}
 use Rattle.program.specs.declared.ending.Ending.{Ending}
@@ -36,12 +36,12 @@ abbrev pub IsEndTold : {E : Type 0} → (E → Option (List ℕ)) → Counted E 
 IsEndTold contents old new (Ok e) = IsEndingTold contents old new e
 IsEndTold contents old new (Err f) = Tells contents old new (fault_line f)
 
--- What is told at a status: the line of a fault that has it, or of a stop; at 2 the text of wrong words; at 3, of a check, what is
--- wrong with a source; and nothing at 0 and 7, and at 4 where a search met a limit.
+-- What is told at a status: the line of a fault that has it, or of a stop; at 2 a text of wrong words, its control characters escaped;
+-- at 3, of a check, what is wrong with a source; and nothing at 0 and 7, and at 4 where a search met a limit.
 pub data IsTold {E : Type 0} (contents : E → Option (List ℕ)) (old new : Counted E) (words : List Text) (status : ℕ) : Type 0 where
   of_fault : (f : Fault) → status ≡ status_of f → Tells contents old new (fault_line f) → IsTold contents old new words status
   of_stop : (s : Stop) → status ≡ stop_status s → Tells contents old new (stop_line s) → IsTold contents old new words status
-  of_words : AreWrong words → status ≡ 2 → (text : List ℕ) → Tells contents old new text → IsTold contents old new words status
+  of_words : AreWrong words → status ≡ 2 → (text : List ℕ) → Tells contents old new (shown_lines text) → IsTold contents old new words status
   of_source : Begins words (codes "check") → status ≡ 3 → (text : List ℕ) → Tells contents old new text → IsTold contents old new words status
   nothing : (status ≡ 0) ⊎ ((status ≡ 4) ⊎ (status ≡ 7)) → new ≡ old → IsTold contents old new words status
 

@@ -16,6 +16,9 @@ ghost use Rattle.program.specs.Program.{IsNoRequestStatus, ended_status, help_te
 ghost use Rattle.files.specs.Saved.{KeepsFiles};
 ghost use Rattle.program.specs.StandardError.{HasExplainedTold, IsTold, IsUnfinished, IsWanting};
 ghost use Rattle.program.specs.declared.ending.Ending.TheVariants as Ending;
+ghost use Rattle.program.specs.declared.fault.Fault.TheVariants.{Memory};
+ghost use Rattle.program.specs.ProgramLines.{fault_line, unread_line};
+ghost use Rattle.telling.specs.FaultLines.{Tells};
 
 use crate::checking::check;
 use crate::ending::{Ending, finish, tell_fault};
@@ -35,7 +38,7 @@ use std::io;
 use std::io::{ErrorKind, Write};
 use std::sync::Wait;
 use std::thread::Threads;
-use telling::{show_path, tell_text};
+use telling::{Line, show_path, tell, tell_lines};
 
 /// The whole program; it answers the exit status. The first word is the program's name.
 pub fn command<R: Threads + Wait + Sync, F: Files, O: Write, E: Write>(
@@ -188,26 +191,18 @@ fn perform_version<O: Write>(out: &mut O) -> Result<Ending, Fault<'static>>
     Ok(Ending::Done)
 }
 
-/// Answers arguments that can't be had: want of memory as such, any other error as wrong words.
-pub fn without_words<R: Threads + Wait + Sync, F: Files, O: Write, E: Write>(
-    rt: &R,
-    alloc: Global,
-    error: &io::Error,
-    files: &mut F,
-    out: &mut Counted<O>,
-    err: &mut Counted<E>,
-) -> u8
-    ensures told { IsTold E.contents err.old err.new [] result }
-    ensures range { result ≤ 7 }
-    ensures done { result ≡ 0 → IsDone [] (O.contents (held out.old)) (O.contents (held out.new)) (F.made files.old) (F.made files.new) }
-    ensures wanting { result ≡ 6 → IsWanting [] (O.contents (held out.old)) (O.contents (held out.new)) (F.made files.old) (F.made files.new) E.contents err.old err.new }
-    ensures nothing { (result ≡ 2) ⊎ ((result ≡ 3) ⊎ (result ≡ 5)) → Keeps (O.contents (held out.old)) (O.contents (held out.new)) }
-    ensures unsaved { (result ≡ 2) ⊎ ((result ≡ 3) ⊎ (result ≡ 5)) → KeepsFiles (F.made files.old) (F.made files.new) }
-    ensures silent { (result ≡ 0) ⊎ (result ≡ 7) → err.new ≡ err.old }
+/// Answers words that can't be had: want of memory as such, and else that one isn't UTF-8.
+pub fn without_words<E: Write>(error: &io::Error, err: &mut Counted<E>) -> u8
+    ensures status { (result ≡ 2) ⊎ (result ≡ 6) }
+    ensures unread { result ≡ 2 → Tells E.contents err.old err.new unread_line }
+    ensures memory { result ≡ 6 → Tells E.contents err.old err.new (fault_line Memory) }
 {
     match error.kind() {
         ErrorKind::OutOfMemory => tell_fault(Fault::Memory, err),
-        _ => command(rt, alloc, &[], files, out, err),
+        _ => {
+            tell(err, &Line::plain("a word of the command line isn't UTF-8"));
+            2
+        }
     }
 }
 
@@ -227,7 +222,7 @@ fn refuse<O: Write, E: Write>(no_request: NoRequest, out: &mut O, err: &mut Coun
             Err(fault) => tell_fault(Fault::Files(fault), err),
         },
         NoRequest::Usage(text) => {
-            tell_text(err, text.as_str());
+            tell_lines(err, text.as_str());
             2
         }
         NoRequest::Memory => tell_fault(Fault::Memory, err),

@@ -1,5 +1,5 @@
 -- What is told on standard error, and what the writer has of it.
-use Rattle.std.specs.Prelude.{◌≡◌, ◌⊎◌, ℕ, List, [], ◌∷◌, ◌++◌, Option, Bool, true, false, codes, decimal, chars, if◌then◌else◌}
+use Rattle.std.specs.Prelude.{◌≡◌, ◌⊎◌, ◌==◌, ℕ, List, [], ◌∷◌, ◌++◌, Option, Bool, true, false, codes, decimal, chars, if◌then◌else◌}
 use Rattle.std.specs.Char.{encode_utf8, is_control}
 use Rattle.std.specs.Char.Escape.{escape_default}
 use Rattle.std.specs.Io.KnownBytes.{Appends}
@@ -26,6 +26,14 @@ shown_letter c = if is_control c then spelled encode_utf8 (escape_default c) els
 -- a path as it is shown
 abbrev pub shown_path : List ℕ → List ℕ
 shown_path path = spelled shown_letter (chars path)
+
+-- a character of a text of several lines as it is shown: a newline as it is
+abbrev pub shown_in_lines : ℕ → List ℕ
+shown_in_lines c = if c == 10 then 10 ∷ [] else shown_letter c
+
+-- a text of several lines as it is shown
+abbrev pub shown_lines : List ℕ → List ℕ
+shown_lines text = spelled shown_in_lines (chars text)
 
 -- a number in decimal, a name as it is, a path as it is shown, or nothing
 abbrev pub subject_text : Subject → List ℕ

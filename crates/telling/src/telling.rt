@@ -3,7 +3,7 @@
 ghost use Rattle.std.specs.Prelude.{◌++◌, decimal};
 ghost use Rattle.std.specs.Char.{encode_utf8};
 ghost use Rattle.std.specs.Char.Escape.{escape_default};
-ghost use Rattle.telling.specs.FaultLines.{Sends, Tells, end_of, head_of, line_of, rest_of, shown_letter, shown_path, spelled, subject_text};
+ghost use Rattle.telling.specs.FaultLines.{Sends, Tells, end_of, head_of, line_of, rest_of, shown_in_lines, shown_letter, shown_lines, shown_path, spelled, subject_text};
 
 use crate::line::{Line, Subject};
 use itoa::Buffer;
@@ -26,6 +26,14 @@ pub fn tell_text<E: Write>(err: &mut Counted<E>, text: &str)
     ensures { Tells E.contents err.old err.new text.now }
 {
     let _whole = send(err, text);
+}
+
+/// Tells a text of several lines that may hold what others wrote: each control character but a newline is escaped. Nobody is left to
+/// hear of a write that fails.
+pub fn tell_lines<E: Write>(err: &mut Counted<E>, text: &str)
+    ensures { Tells E.contents err.old err.new (shown_lines text.now) }
+{
+    let _whole = send_lines(err, text);
 }
 
 /// Shows a path, its control characters escaped, and a text behind it, up to the first write that fails; it answers whether none
@@ -78,6 +86,28 @@ fn send_path<E: Write>(err: &mut Counted<E>, path: &str) -> bool
         }
     }
     true
+}
+
+/// Sends a text of several lines as it is shown.
+fn send_lines<E: Write>(err: &mut Counted<E>, text: &str) -> bool
+    ensures { Sends result E.contents err.old err.new (shown_lines text.now) }
+{
+    for letter in text.chars() {
+        if !send_in_lines(err, letter) {
+            return false;
+        }
+    }
+    true
+}
+
+fn send_in_lines<E: Write>(err: &mut Counted<E>, letter: char) -> bool
+    ensures { Sends result E.contents err.old err.new (shown_in_lines letter) }
+{
+    if letter == '\n' {
+        send(err, NEWLINE)
+    } else {
+        send_shown(err, letter)
+    }
 }
 
 fn send_escape<E: Write>(err: &mut Counted<E>, letter: char) -> bool

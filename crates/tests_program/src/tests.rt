@@ -22,6 +22,7 @@ mod bounds;
 mod claims;
 mod counts;
 mod cut;
+mod flushed;
 mod journals;
 mod placing;
 mod probes;
@@ -34,6 +35,7 @@ mod spared;
 mod starved;
 mod threads;
 mod tries;
+mod unsynced;
 mod words;
 
 /// A run that keeps its journal.
@@ -77,10 +79,11 @@ impl Read for Source<'_> {
     }
 }
 
-/// A writer that takes one byte a call, and fails after its room.
+/// A writer that takes one byte a call, and fails after its room. Its flushes fail or don't.
 #[derive(Drop)]
 struct Target {
     room: usize,
+    flushes: bool,
     written: Shared,
 }
 
@@ -101,13 +104,17 @@ impl Write for Target {
     }
 
     fn flush(&mut self) -> io::Result<()> {
-        Ok(())
+        if self.flushes {
+            Ok(())
+        } else {
+            Err(io::Error::from(ErrorKind::Other))
+        }
     }
 }
 
 /// Files in memory. Of a source and of a journal there is a whole one, and others that break off after
-/// the same bytes; `LINK` and `LINKED.1.journal` lead to the source, and `COPY` to the journal. `folder` isn't there, and any other new
-/// file has the room that is given.
+/// the same bytes; `LINK` and `LINKED.1.journal` lead to the source, and `COPY` to the journal. `folder` isn't there, for `UNBEGUN` there is
+/// no memory when it is begun, for `UNFINISHED` none when it is finished, and any new file has the room that is given.
 #[derive(Drop)]
 struct Memory<'a> {
     alloc: Global,
@@ -115,6 +122,7 @@ struct Memory<'a> {
     journal: &'a [u8],
     made: Shared,
     room: usize,
+    flushes: bool,
 }
 
 impl<'a> Files for Memory<'a> {
@@ -149,14 +157,21 @@ impl<'a> Files for Memory<'a> {
         if path.starts_with("folder/") {
             return Err(io::Error::from(ErrorKind::NotFound));
         }
+        if path == "UNBEGUN" {
+            return Err(io::Error::from(ErrorKind::OutOfMemory));
+        }
         let bytes = RefCell::new(Vec::new(self.alloc));
         Ok(Target {
             room: self.room,
+            flushes: self.flushes,
             written: Rc::new(self.alloc, bytes)?,
         })
     }
 
-    fn finish(&mut self, _path: &str, target: Target) -> io::Result<()> {
+    fn finish(&mut self, path: &str, target: Target) -> io::Result<()> {
+        if path == "UNFINISHED" {
+            return Err(io::Error::from(ErrorKind::OutOfMemory));
+        }
         match (self.made.try_borrow_mut(), target.written.try_borrow_mut()) {
             (Ok(mut made), Ok(mut written)) => mem::swap(&mut *made, &mut *written),
             _ => return Err(io::Error::from(ErrorKind::Other)),
@@ -174,13 +189,15 @@ impl<'a> Files for Memory<'a> {
 }
 
 /// The source and the journal that a command line finds, and the room of standard output and of a new
-/// file.
+/// file, and whether their flushes go well.
 #[derive(Clone, Copy)]
 struct Setting<'a> {
     source: &'a str,
     journal: &'a [u8],
     out_room: usize,
+    out_flushes: bool,
     room: usize,
+    flushes: bool,
 }
 
 /// A source, no journal, and room for all that is written.
@@ -194,7 +211,9 @@ fn over_journal<'a>(source: &'a str, journal: &'a [u8]) -> Setting<'a> {
         source,
         journal,
         out_room: usize::MAX,
+        out_flushes: true,
         room: usize::MAX,
+        flushes: true,
     }
 }
 
@@ -341,12 +360,16 @@ fn files_in<'a>(
         journal: setting.journal,
         made: made.clone().expect(rt, "memory"),
         room: setting.room,
+        flushes: setting.flushes,
     }
 }
 
-fn output(rt: &impl Abort, room: usize, shown: &Shared) -> Counted<Target> {
-    let written = shown.clone().expect(rt, "memory");
-    Counted::new(Target { room, written })
+fn output(rt: &impl Abort, setting: &Setting<'_>, shown: &Shared) -> Counted<Target> {
+    Counted::new(Target {
+        room: setting.out_room,
+        flushes: setting.out_flushes,
+        written: shown.clone().expect(rt, "memory"),
+    })
 }
 
 /// The status of a command line. Tests share this call of `command`, since it is dear to prove.
@@ -372,7 +395,7 @@ fn run_in<R: Abort + Threads + Wait + Sync>(
     let made = shared(rt, alloc, OLD);
     let shown = shared(rt, alloc, b"");
     let mut files = files_in(rt, alloc, setting, &made);
-    let mut out = output(rt, setting.out_room, &shown);
+    let mut out = output(rt, setting, &shown);
     let mut err = Counted::new(Vec::new(alloc));
     let status = status_of(rt, alloc, &mut files, words.as_slice(), &mut out, &mut err);
     Left {

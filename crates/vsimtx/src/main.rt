@@ -20,7 +20,7 @@ fn main(rt: HostRuntime) -> ExitCode {
     let mut err = Counted::new(rt.stderr());
     let status = match words(&rt, alloc) {
         Ok(words) => command(&rt, alloc, words.as_slice(), &mut files, &mut out, &mut err),
-        Err(error) => without_words(&rt, alloc, &error, &mut files, &mut out, &mut err),
+        Err(error) => without_words(&error, &mut err),
     };
     ExitCode::from(status)
 }

@@ -25,8 +25,8 @@ const REFUSED: &[(&str, &str)] = &[
     ("vsimtx races t.v --journals folder/OUT", HI),
 ];
 
-/// Command lines over a faulty source or none, or over a journal that a dump can't be made of, or whose OUT can't be begun, and
-/// what each tells.
+/// Command lines over a faulty source or none, or over a journal that a dump can't be made of, or whose OUT can't be begun or put into
+/// its place, and what each tells: want of memory for that as such.
 const FAULTY: &[(&str, &str, &[u8], u8, &str)] = &[
     (SAVE, "", b"", 3, "vsimtx: P2 syntax at token 1\n"),
     (
@@ -49,6 +49,27 @@ const FAULTY: &[(&str, &str, &[u8], u8, &str)] = &[
         NO_ENTRY,
         1,
         CANNOT_WRITE,
+    ),
+    (
+        "vsimtx run t.v --journal UNBEGUN",
+        HI,
+        b"",
+        6,
+        "vsimtx: memory\n",
+    ),
+    (
+        "vsimtx run t.v --journal UNFINISHED",
+        HI,
+        b"",
+        6,
+        "vsimtx: memory\n",
+    ),
+    (
+        "vsimtx waves t.v JOURNAL --out UNFINISHED",
+        HI,
+        NO_ENTRY,
+        6,
+        "vsimtx: memory\n",
     ),
     (WAVES, HI, b"", 5, "vsimtx: Q1 journal header\n"),
     (

@@ -139,6 +139,7 @@ impl<'a> Files for Starved<'a> {
         self.marks.pass(b'O');
         Ok(Target {
             room: LONGEST,
+            flushes: true,
             written: self.made.clone()?,
         })
     }
@@ -207,6 +208,7 @@ fn has(place: &Shared, wanted: &[u8]) -> bool {
 fn target(rt: &impl Abort, place: &Shared) -> Target {
     Target {
         room: LONGEST,
+        flushes: true,
         written: place.clone().expect(rt, "a count"),
     }
 }

@@ -1,8 +1,12 @@
 //! Command lines that give no run.
 
 use super::sources::EMPTY;
-use super::{assert_line, joined, prints, tells};
+use super::{assert_bytes, assert_line, assert_status, joined, prints, tells};
+use journal::Counted;
+use program::without_words;
 use std::alloc::Global;
+use std::io;
+use std::io::ErrorKind;
 use std::process::Abort;
 use std::sync::Wait;
 use std::thread::Threads;
@@ -77,6 +81,12 @@ const WRONG: &[(&str, &str, &str)] = &[
     (
         "vsimtx run t.v --workers two",
         "invalid value 'two' for '--workers <N>': invalid digit found in string",
+        "",
+    ),
+    // no control character of a word reaches a terminal
+    (
+        "vsimtx run t.v --workers \u{1b}[2J\u{9b}2\t",
+        "invalid value '\\u{1b}[2J\\u{9b}2\\t' for '--workers <N>': invalid digit found in string",
         "",
     ),
     (
@@ -160,4 +170,20 @@ fn refuses_wrong_words(rt: HostRuntime) {
         assert_refused(&rt, rt.alloc(), line, why, usage);
     }
     assert_line(&rt, rt.alloc(), "vsimtx", EMPTY, tells(2, WHOLE));
+}
+
+/// What is told of words that can't be had for this reason.
+fn assert_unread(rt: &impl Abort, alloc: Global, why: ErrorKind, status: u8, told: &str) {
+    let mut err = Counted::new(Vec::new(alloc));
+    let found = without_words(&io::Error::from(why), &mut err);
+    assert_status(rt, told, found, status);
+    assert_bytes(rt, told, err.into_inner().as_slice(), told.as_bytes());
+}
+
+#[test]
+fn tells_that_words_cannot_be_read(rt: HostRuntime) {
+    let unread = "vsimtx: a word of the command line isn't UTF-8\n";
+    assert_unread(&rt, rt.alloc(), ErrorKind::InvalidData, 2, unread);
+    let memory = "vsimtx: memory\n";
+    assert_unread(&rt, rt.alloc(), ErrorKind::OutOfMemory, 6, memory);
 }

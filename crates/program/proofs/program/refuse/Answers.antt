@@ -10,7 +10,7 @@ returns-in-Help-clause-told g c = λ words is. of_fault (fault.Files c.in-Err.fa
 
 pub returns-in-Usage-clause-told : goal.returns-in-Usage-clause-told
 returns-in-Usage-clause-told g c = λ words is.
-    of_words (wrong_usage words c.args.no_request c.in-Usage.text c.in-Usage.is is) refl c.as_str-in-Usage.result.now c.tell_text.ensures
+    of_words (wrong_usage words c.args.no_request c.in-Usage.text c.in-Usage.is is) refl c.as_str-in-Usage.result.now c.tell_lines.ensures
 
 pub returns-clause-told : goal.returns-clause-told
 returns-clause-told g c = λ words is. of_fault fault.Memory c.tell_fault-in-Memory.ensures.status c.tell_fault-in-Memory.ensures.told

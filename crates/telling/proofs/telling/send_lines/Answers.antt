@@ -1,0 +1,27 @@
+-- One character more, or the end.
+use Rattle.std.proofs.Common.{◌≡◌, true, false, length, rules}
+use Rattle.std.proofs.lemmas.Iterator.{YieldsList-from_chars}
+use Rattle.std.proofs.lemmas.Iterator.Consumers.{YieldsList-turn, YieldsList-end}
+use Rattle.std.specs.Str.{chars}
+use Rattle.telling.specs.FaultLines.{shown_in_lines}
+use Rattle.telling.proofs.Sent.{one_broken, all_sent, whole_sent}
+use Rattle.telling.proofs.telling.send_lines.Goals as goal
+
+pub returns-then-not-send_in_lines : goal.returns-then-not-send_in_lines
+returns-then-not-send_in_lines g c =
+    let t = YieldsList-turn (YieldsList-from_chars c.args.text.now c.utf8.text cc) c.loop-letter.yielded _ c.loop-letter.yielded_by _ _ c.in-Some.letter c.in-Some.is c.next.ensures.steps in
+    let failed : c.send_in_lines.result ≡ false = search rules in
+    one_broken g.E.Write.contents c.args.err.now c.loop-letter.err c.send_in_lines.new.err shown_in_lines (chars c.args.text.now) (length c.loop-letter.yielded) c.in-Some.letter
+    c.send_in_lines.result t.0 t.1 c.loop-letter.invariant c.send_in_lines.ensures failed
+
+pub loop-letter-preserved : goal.loop-letter-preserved
+loop-letter-preserved g c =
+    let t = YieldsList-turn (YieldsList-from_chars c.args.text.now c.utf8.text cc) c.loop-letter.yielded _ c.loop-letter.yielded_by _ _ c.in-Some.letter c.in-Some.is c.next.ensures.steps in
+    let sent : c.send_in_lines.result ≡ true = search rules in
+    whole_sent g.E.Write.contents c.args.err.now c.loop-letter.err c.send_in_lines.new.err shown_in_lines (chars c.args.text.now) c.loop-letter.yielded c.in-Some.letter
+    c.send_in_lines.result t.0 t.1 c.loop-letter.invariant c.send_in_lines.ensures sent
+
+pub returns : goal.returns
+returns g c =
+    let t = YieldsList-end (YieldsList-from_chars c.args.text.now c.utf8.text cc) c.loop-letter.yielded _ c.loop-letter.yielded_by _ _ c.in-None.is c.next.ensures.steps in
+    all_sent g.E.Write.contents c.args.err.now c.loop-letter.err shown_in_lines (chars c.args.text.now) (length c.loop-letter.yielded) t.1 c.loop-letter.invariant
