@@ -71,19 +71,23 @@ claim_number items extent (Some stopped.Memory) nodes count found (Some j) numbe
 told_never : {J : Type 0} (items : J → List Entry) (P : List Entry → Type 0) (s : Option Stopped) (found told : Option J) → told ≡ unless_stopped s found → IfSome found (λ j. P (items j))
     → IfSome (option_map items told) P
 told_never items P s found None is h = tt
-told_never items P None found (Some j) is h = subst (λ (o : Option J). IfSome o (λ k. P (items k))) (sym is) h
+told_never items P None None (Some j) is h = cc
+told_never items P None (Some k) (Some j) is h =
+    let same : k ≡ j = cc in
+    subst (λ x. P (items x)) same h
 told_never items P (Some s) found (Some j) is h = cc
 
 -- a search wasn't stopped, and each of its texts was put behind those that are known
-not_stopped : {E : Type 0} (s : Option Stopped) (added : Result Bool E) → stop_of s added ≡ None → (s ≡ None) × IfOk added (λ all. IsTrue all)
+not_stopped : {E : Type 0} (s : Option Stopped) (added : Result Bool E) → stop_of s added ≡ None → (s ≡ None) × (added ≡ Ok true)
 not_stopped None (Ok true) h = (refl, refl)
 not_stopped None (Ok false) h = cc
 not_stopped None (Err e) h = cc
 not_stopped (Some s) added h = cc
 
-added_all : {E : Type 0} (added : Result Bool E) (P : Type 0) → IfOk added (λ all. IsTrue all) → IfOk added (λ all. IsTrue all → P) → P
-added_all (Ok all) P is h = h is
-added_all (Err e) P is h = absurd is
+added_all : {E : Type 0} (added : Result Bool E) (P : Type 0) → added ≡ Ok true → IfOk added (λ all. IsTrue all → P) → P
+added_all (Ok true) P is h = h refl
+added_all (Ok false) P is h = cc
+added_all (Err e) P is h = cc
 
 -- what is shown of texts is shown where each of them is
 all_there : (design : Compiled) (limits : Limits) (others ss : List (Shown Entry End)) → AreAllTexts (design_of design) limits (IsShown others) → All (λ s. IsShown ss s.text.items s.end) others
@@ -119,7 +123,7 @@ searched_found items code extent s t nodes found told number claim added known o
       numbered = claim_number items extent t nodes (length ss) found told number tells counted;
     })
   where
-    every : (s ≡ None) × IfOk added (λ all. IsTrue all) → AreAllTexts (design_of code) (limits_in extent) (IsShown ss)
+    every : (s ≡ None) × (added ≡ Ok true) → AreAllTexts (design_of code) (limits_in extent) (IsShown ss)
     every (is, full) = all_there code (limits_in extent) others ss (all is) (added_all added (All (λ o. IsShown ss o.text.items o.end) others) full there)
 
 -- the journals of texts and of one run more

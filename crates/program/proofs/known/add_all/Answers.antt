@@ -50,3 +50,13 @@ returns-clause-there c _ =
     let none : length c.loop-one.left.items ≡ 0 = omega (arith, c.in_default.ensures.cases.0) in
     let same = all_taken c.args.others.items c.loop-one.left.items done.0 done.1 none in
     subst (λ (xs : List (Shown Entry End)). All (λ s. IsShown c.loop-one.shown.items s.text.items s.end) xs) (sym same) done.2
+
+pub returns-in_err-there-clause-lawful : goal.returns-in_err-there-clause-lawful
+returns-in_err-there-clause-lawful c = λ code limits all known.
+    c.in_err-there.ensures.lawful code limits
+    (All-pop (IsLawful code limits) c.loop-one.left.items c.pop.new.self.items (Some c.in-Some.one) c.in-Some.ensures.items (c.loop-one.invariant.left code limits all)).1 (c.loop-one.invariant.lawful code limits all known)
+
+pub returns-then-not-there-clause-lawful : goal.returns-then-not-there-clause-lawful
+returns-then-not-there-clause-lawful c = λ code limits all known.
+    c.in_ok-there.ensures.lawful code limits
+    (All-pop (IsLawful code limits) c.loop-one.left.items c.pop.new.self.items (Some c.in-Some.one) c.in-Some.ensures.items (c.loop-one.invariant.left code limits all)).1 (c.loop-one.invariant.lawful code limits all known)
