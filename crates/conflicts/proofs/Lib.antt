@@ -1,2 +1,2 @@
--- Lemmas of lists.
+-- Lemmas of lists, and of races beside others.
 pub mod Kept
