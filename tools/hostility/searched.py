@@ -1,15 +1,15 @@
 """searched: searches for races whose allocations are refused, each in turn, alone and with all after it, and searches in little memory.
 
 A search that wants memory tells no race, no text and no status that it doesn't tell with enough: its races are among those of the whole search, and so are
-the texts of its journals; `every lawful run` is said where the whole search says it of the same texts; and the status is that of the whole search, 4 or 6."""
+the texts of its journals; `every lawful run` is said where the whole search says it of the same texts; and the status is that of the whole search, or 6."""
 import glob
 import os
 import re
 from collections import Counter
 
 from hostility.answers import called, kind_of, shown
-from hostility.refused import MOST, built
-from hostility.short import PAGE, floor
+from hostility.refused import built
+from hostility.short import PAGE, floor, is_loaded
 
 # By name: a source, and the words besides.
 SEARCHED = {
@@ -27,10 +27,17 @@ SEARCHED = {
     "a finish at a print": (b'module m; initial begin #5 $display("a"); end initial begin #5 $finish; end endmodule\n', ()),
     "no race": (b"module t; reg a, b; initial begin a=1'b0; b=1'b1; #1 a<=b; b<=a; #1 $display(\"%b %b\",a,b); end endmodule\n", ()),
     "a clock that never stops": (b"module t; reg c; initial c = 1'b0; always #5 c = ~c; always @(posedge c) $display(\"tick\"); endmodule\n", ("--max-entries", "60")),
+    "a long run": (
+        b"module t; reg f; reg [31:0] n; initial begin n = 32'd0; if (f === 1'b1) begin $display(\"x\"); $finish; end else begin\n"
+        b"while (n < 32'd1000) begin #1 n = n + 32'd1; end $display(\"x\"); $finish; end end initial f = 1'b1; endmodule\n",
+        (),
+    ),
     "random orders": (b'module t; initial $display("x"); initial $display("y"); endmodule\n', ("--samples", "4")),
 }
 # The steps of memory in which each source is searched.
 LEVELS = 100
+# So many allocations of a source are refused at most, and no more where it makes more.
+MOST = 4000
 VERDICT = re.compile(rb"^(?:no|one|\d+) texts?\b.*", re.MULTILINE)
 
 
@@ -78,7 +85,7 @@ class Search:
             return None
         if answer.status == 6 and not answer.err.startswith(b"vsimtx: "):
             return "status 6 without a line"
-        if answer.status not in (4, 6, self.own.status):
+        if answer.status not in (6, self.own.status):
             return "a status that isn't the search's own"
         if answer.status != 6 and answer.err:
             return "a line on standard error"
@@ -125,7 +132,7 @@ def in_little(hostile, search):
 
     def one(level, room):
         answer = search.call(room, room=least + level * step)
-        return answer, search.fault(room, answer)
+        return answer, search.fault(room, answer) if is_loaded(answer) else None
 
     for level, (answer, fault) in hostile.over(range(LEVELS), one):
         came[kind_of(answer)] += 1

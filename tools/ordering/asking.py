@@ -1,16 +1,16 @@
 """What the program is asked of a design whose lawful journals are all known, and how its answers are compared.
 
-Each function is given the program, the design, the journal of each pair of a text and an end, the last time, a folder that has the source, and a
-generator of the library `random`. What the program says otherwise is a `Difference`.
+Each function is given the program, the design, what was found (the journal of each pair of a text and an end, and whether a state was found from which no
+end is reached), the last time, a folder that has the source, and a generator of the library `random`. What the program says otherwise is a `Difference`.
 """
 import glob
 import os
 import re
 
 from hostility.answers import Answer, called, shown
-from ordering.model import Design, Fault, journal_of, journal_text, replayed
+from ordering.model import Design, Fault, journal_of, journal_text, replayed, start, step
 from ordering.parser import parsed
-from ordering.search import merging
+from ordering.search import key_of, merging, search
 
 # So many journals of a design are replayed, and so many seeds tried.
 MOST_REPLAYS = 16
@@ -92,13 +92,13 @@ def changed(entries, random):
 
 def ask_replays(program, design, found, until, room, random):
     """Lawful journals print their texts, and others are refused where the model refuses them, for the same reason."""
-    pairs = list(found)
+    pairs = list(found.found)
     for pair in random.sample(pairs, min(MOST_REPLAYS, len(pairs))):
-        write(f"{room}/journal", journal_text(found[pair]))
+        write(f"{room}/journal", journal_text(found.found[pair]))
         expect(called(program, "replay", f"{room}/source.v", f"{room}/journal"), answer_of(pair[0]), "replay")
-        if not found[pair]:
+        if not found.found[pair]:
             continue
-        other = changed(found[pair], random)
+        other = changed(found.found[pair], random)
         write(f"{room}/journal", journal_text(other))
         try:
             wanted = answer_of(replayed(design, other, until)[0])
@@ -119,7 +119,7 @@ def run_once(program, design, found, until, room, *words):
     end = lines.get(answer.err.decode())
     if end is None or answer.status != (4 if answer.err else 0) or answer.out.decode() != text:
         raise Difference(f"{what}: {shown(answer)}, and its journal has {text!r} and ends by {ends}")
-    if (text, end) not in found:
+    if (text, end) not in found.found:
         raise Difference(f"{what}: {shown(answer)}, which no lawful journal that was made has")
     return read(path)
 
@@ -142,34 +142,58 @@ def try_all_texts(program, room):
     for name, source in ALL_TEXTS.items():
         write(f"{room}/source.v", source)
         design = Design(parsed(source))
-        found = merging(design, 10).found
-        missing, seeds = {text for text, end in found}, 0
+        found = merging(design, 10)
+        missing, seeds = {text for text, end in found.found}, 0
         while missing and seeds < MOST_SEEDS:
             run_once(program, design, found, 10, room, "--seed", str(seeds))
             missing.discard(replayed(design, journal_of(read(f"{room}/journal")), 10)[0])
             seeds += 1
-        print(f"{name}: {len(found) - len(missing)} of {len(found)} texts in {seeds} seeds", flush=True)
+        print(f"{name}: {len(found.found) - len(missing)} of {len(found.found)} texts in {seeds} seeds", flush=True)
         if missing:
             raise Difference(f"{name}: no seed up to {seeds} has the text {min(missing)!r}")
 
 
 def verdict_fault(out, found, until):
     """What is wrong with the verdict that `races` prints, if anything is."""
-    told = re.search(rb"^(no|one|\d+) texts?( and ends)?: (?:every|no) lawful run up to time (\d+) ", out, re.MULTILINE)
+    told = re.search(rb"^(no|one|\d+) texts?( and ends)?: (?:every|no) lawful run up to time (\d+) (that )?comes to an end", out, re.MULTILINE)
     if not told:
         return "there is no verdict of every lawful run"
     count = {b"no": 0, b"one": 1}.get(told[1])
-    if (int(told[1]) if count is None else count) != len(found) or int(told[3]) != until:
+    if (int(told[1]) if count is None else count) != len(found) or int(told[3]) != until or bool(told[4]) != bool(found):
         return f"the verdict is {told[0]!r}"
     if bool(told[2]) != (len({end for text, end in found}) > 1):
         return f"the verdict is {told[0]!r}, and the ends are {sorted({end for text, end in found})}"
     return None if len(found) != 1 or out.endswith(next(iter(found))[0].encode()) else "the only text isn't shown"
 
 
+def endless_of(program, design, out, until, room):
+    """The journal that leads to where no end is reached, if one is told of; no end is reached from there."""
+    told = re.search(rb"^(?:some lawful runs don't come|no text: no lawful run up to time \d+ comes) to an end \((\S+)\)$", out, re.MULTILINE)
+    if not told:
+        if b"some lawful runs don't" in out:
+            raise Difference(f"races: it tells of runs without an end in other words: {out!r}")
+        return None
+    path = told[1].decode()
+    what = f"races, {os.path.basename(path)}"
+    text, _ = taken(design, path, until, what)
+    expect(called(program, "replay", f"{room}/source.v", path), answer_of(text), f"replay of {what}")
+    s = start(design)
+    for entry in journal_of(read(path)):
+        s, _ = step(design, s, entry)
+    left = search(design, until, 60000, 1000, key_of, s)
+    if left is None or left.found:
+        raise Difference(f"{what}: runs come to an end behind it: {left and list(left.found)}")
+    return path
+
+
 def ask_races(program, design, found, until, room, random):
-    """The texts and ends of `races` are those of the lawful journals."""
+    """The texts and ends of `races` are those of the lawful journals, and it tells of runs that come to no end where there are any."""
+    endless, found = found.endless, found.found
     answer = called(program, "races", f"{room}/source.v", "--until", str(until), "--max-texts", "1000000", "--journals", f"{room}/shown")
-    paths = [it for it in glob.glob(f"{room}/shown.*.journal") if os.path.getsize(it)]
+    own_endless = endless_of(program, design, answer.out, until, room)
+    if bool(own_endless) != endless:
+        raise Difference(f"races: {shown(answer)}: {'some' if endless else 'no'} states come to no end")
+    paths = [it for it in glob.glob(f"{room}/shown.*.journal") if os.path.getsize(it) and it != own_endless]
     pairs = set()
     for path in paths:
         what = f"races, {os.path.basename(path)}"
@@ -184,7 +208,7 @@ def ask_races(program, design, found, until, room, random):
         raise Difference(f"races: {shown(answer)}: {len(pairs)} texts and ends of {len(found)}; not {min(left)}")
     if len(paths) != len(found):
         raise Difference(f"races: {shown(answer)}: {len(paths)} journals for {len(found)} texts and ends")
-    if answer.err or answer.status != {0: 4, 1: 0}.get(len(found), 7):
+    if answer.err or answer.status != {0: 4, 1: 4 if endless else 0}.get(len(found), 7):
         raise Difference(f"races: {shown(answer)}, and there are {len(found)} texts and ends")
     fault = verdict_fault(answer.out, found, until)
     if fault:

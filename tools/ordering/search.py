@@ -3,8 +3,9 @@ from collections import namedtuple
 
 from ordering.model import ends, entries, is_evaluation, start, step
 
-# `found` has a journal for each pair of a text and an end; `steps` counts the entries that were taken; `states` those that were kept.
-Found = namedtuple("Found", "found steps states")
+# `found` has a journal for each pair of a text and an end; `steps` counts the entries that were taken; `states` those that were kept; `endless` says
+# whether a state was kept from which no end is reached, where states are merged.
+Found = namedtuple("Found", "found steps states endless")
 
 
 def journal_to(way):
@@ -16,16 +17,30 @@ def journal_to(way):
     return entries[::-1]
 
 
-def search(design, until, most_steps, most_entries, key_of=None):
-    """Every lawful journal in time, but for those that come to a state with a key that was there, with the same text. None where there are
-    more steps than these, or a journal has more entries."""
-    first = start(design)
+def has_endless(ended, before):
+    """Whether one of these states comes to no end: `ended` are those at which a run may end, `before` has those that lead to each one."""
+    reached, waiting = set(ended), list(ended)
+    while waiting:
+        for key in before.get(waiting.pop(), ()):
+            if key not in reached:
+                reached.add(key)
+                waiting.append(key)
+    return any(key not in reached for key in before)
+
+
+def search(design, until, most_steps, most_entries, key_of=None, first=None):
+    """Every lawful journal in time, from the start or from a state, but for those that come to a state with a key that was there, with the same text.
+    None where there are more steps than these, or a journal has more entries."""
+    first = first or start(design)
     found, steps, seen = {}, 0, {(key_of(first), "")} if key_of else set()
+    ended, before = set(), {key_of(first): set()} if key_of else {}
     waiting = [(first, "", None, 0)]
     while waiting:
         s, text, way, length = waiting.pop()
         for end in ends(design, s, until):
             found.setdefault((text, end), way)
+            if key_of:
+                ended.add(key_of(s))
         for entry in entries(design, s, until):
             steps += 1
             if steps > most_steps or length == most_entries:
@@ -33,11 +48,12 @@ def search(design, until, most_steps, most_entries, key_of=None):
             after, more = step(design, s, entry)
             if key_of:
                 key = (key_of(after), text + more)
+                before.setdefault(key[0], set()).add(key_of(s))
                 if key in seen:
                     continue
                 seen.add(key)
             waiting.append((after, text + more, (way, entry), length + 1))
-    return Found({pair: journal_to(way) for pair, way in found.items()}, steps, len(seen))
+    return Found({pair: journal_to(way) for pair, way in found.items()}, steps, len(seen), has_endless(ended, before))
 
 
 def updates_of(events):

@@ -29,7 +29,7 @@ pub Serves-itself : {M N E : Type 0} (runs : Runs M N E) (i : List M) → Serves
 Serves-itself runs i moves end ends = (moves, refl, ends, refl)
 
 -- what is as long as the rest of some moves is shorter than they are
-shorter : {M : Type 0} (moves part rest others : List M) (n : ℕ) → moves ≡ part ++ rest → 0 < length part → length others ≡ length rest → length moves < suc n → length others < n
+pub shorter : {M : Type 0} (moves part rest others : List M) (n : ℕ) → moves ≡ part ++ rest → 0 < length part → length others ≡ length rest → length moves < suc n → length others < n
 shorter moves part rest others n split moved same less = omega (arith, ap length split, length-append part rest)
 
 -- the run with each number is followed

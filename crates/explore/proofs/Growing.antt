@@ -47,10 +47,10 @@ pub length-grown_all : {X : Type 0} (lists : List (List X)) (steps : List (ℕ �
 length-grown_all lists [] = omega arith
 length-grown_all lists (s ∷ steps) = omega (arith, length-grown_all (grown lists s.0 s.1) steps, length-grown lists s.0 s.1)
 
-some_same : {X : Type 0} (x y : X) → ◌≡◌ {A = Option X} (Some x) (Some y) → x ≡ y
+pub some_same : {X : Type 0} (x y : X) → ◌≡◌ {A = Option X} (Some x) (Some y) → x ≡ y
 some_same x y e = cc
 
-none_some : {X : Type 0} (y : X) → ◌≡◌ {A = Option X} None (Some y) → ⊥
+pub none_some : {X : Type 0} (y : X) → ◌≡◌ {A = Option X} None (Some y) → ⊥
 none_some y e = cc
 
 -- after a push, what has a number had it before or is what was pushed
@@ -79,3 +79,12 @@ get_or-grown_all lists (s ∷ steps) (suc k) step e less =
     let one = length-grown lists s.0 s.1 in
     ap (λ n. get_or (grown_all (grown lists s.0 s.1) steps) n []) (omega (arith, one))
     ∙ get_or-grown_all (grown lists s.0 s.1) steps k step e (omega (arith, one))
+
+before_added : {X : Type 0} (xs added : List X) (k : ℕ) (x : X) → slice_get xs k ≡ Some x → slice_get (xs ++ added) k ≡ Some x
+before_added [] added k x at = absurd (none_some x at)
+before_added (y ∷ xs) added zero x at = at
+before_added (y ∷ xs) added (suc k) x at = before_added xs added k x at
+
+-- what stands at a place stands there where more is added
+pub slice_get-extends : {X : Type 0} (xs ys : List X) (k : ℕ) (x : X) → Extends xs ys → slice_get xs k ≡ Some x → slice_get ys k ≡ Some x
+slice_get-extends {X} xs ys k x more at = ap (λ (l : List X). slice_get l k) more.1 ∙ before_added xs more.0 k x at

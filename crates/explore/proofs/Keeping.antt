@@ -1,28 +1,27 @@
 -- How what is kept grows.
-use Rattle.std.proofs.Common.{◌≡◌, ℕ, suc, ◌<◌, ◌≤◌, List, [], ◌∷◌, ◌++◌, length, get_or, Some, refl, sym, ap, ◌∙◌, subst, arith, length-append, ◌⊎◌, inl, inr, Bool, true, false}
-use Rattle.std.specs.Prelude.{slice_get}
+use Rattle.std.proofs.Common.{◌≡◌, ℕ, suc, ◌<◌, ◌≤◌, List, [], ◌∷◌, ◌++◌, length, get_or, Some, refl, sym, ap, ◌∙◌, subst, arith, length-append, ◌⊎◌, inl, inr}
+use Rattle.std.specs.Prelude.{slice_get, None, Option, IfSome}
 use Rattle.std.specs.List.{All, Any}
-use Rattle.std.proofs.lemmas.List.Elements.{All-push, All-nil, All-pop, All-cons}
+use Rattle.std.proofs.lemmas.List.Elements.{All-push, All-nil, All-pop}
 use Rattle.std.proofs.lemmas.List.Quantifiers.{Any-push}
 use Rattle.std.proofs.lemmas.Bool.{cases_lt}
-use Rattle.std.proofs.lemmas.Option.{slice_get-get_or}
-use Rattle.std.proofs.lemmas.List.{get_or_default, get_or_append_left}
+use Rattle.std.proofs.lemmas.List.{get_or_append_left}
 use Rattle.std.proofs.Math.Seq.{get_or-append_seam}
 use Rattle.explore.specs.Grown.{Extends, grown}
 use Rattle.explore.specs.Pieces.{pieces, ArePieces}
-use Rattle.explore.specs.SearchKept.{IsText, IsVisited, IsPending, AreKept, Grows, Leads}
+use Rattle.explore.specs.SearchKept.{IsText, IsVisited, IsPending, AreKept, Grows}
 use Rattle.explore.specs.SearchedRuns.{Runs}
 use Rattle.explore.specs.Search.{IsPrinted, Serves, IsShown, IsFollowed}
 use Rattle.explore.specs.NumberedTexts.{texts, IsTexts}
 use Rattle.explore.specs.Lineage.{ways, IsLineage}
 use Rattle.explore.specs.Visited.{IsThere}
-use Rattle.explore.specs.declared.Next.{Next}
 use Rattle.explore.specs.declared.Shown.{Shown}
 use Rattle.explore.specs.declared.kept.KeptNodes.{KeptNodes}
 use Rattle.explore.specs.declared.kept.Pending.{Pending}
 use Rattle.explore.specs.declared.kept.Reached.{Reached}
-use Rattle.explore.proofs.Growing.{Extends-itself, Extends-through, length-extends, get_or-extends, length-grown, get_or-grown, slice_get_push}
-use Rattle.explore.proofs.Complete.{Any-extends, Serves-itself, IsFollowed-more, AreFollowed}
+use Rattle.explore.specs.declared.lineage.Lineage.{Lineage}
+use Rattle.explore.proofs.Growing.{Extends-itself, Extends-through, length-extends, get_or-extends, length-grown, get_or-grown, slice_get_push, none_some}
+use Rattle.explore.proofs.Complete.{Any-extends, IsFollowed-more, AreFollowed}
 
 -- a run's text stays its text
 pub IsText-more : {M N E : Type 0} (runs : Runs M N E) (old new : List (List M)) (told told' : List (List ℕ)) (reached : Reached) → Extends old new → Extends told told' → IsText runs old told reached → IsText runs new told' reached
@@ -68,11 +67,13 @@ AreKept-texts {M} {N} runs HasKey old new kept lineage ok longer whole keys pend
     }
 
 -- what is kept grows where texts are added
-pub Grows-texts : {M N : Type 0} (old new : KeptNodes N M) → new.lineage ≡ old.lineage → Extends (texts old.texts) (texts new.texts) → new.pending.items ≡ old.pending.items → Grows old new
-Grows-texts {M} {N} old new lineage longer pending =
+pub Grows-texts : {M N : Type 0} (old new : KeptNodes N M) → new.lineage ≡ old.lineage → Extends old.links.edges.items new.links.edges.items → Extends (texts old.texts) (texts new.texts) → new.pending.items ≡ old.pending.items → Grows old new
+Grows-texts {M} {N} old new lineage edges longer pending =
     let same : length (ways new.lineage) ≡ length (ways old.lineage) = ap (λ t. length (ways t)) lineage in
     record {
       lineage = subst (λ t. Extends (ways old.lineage) (ways t)) (sym lineage) (Extends-itself (ways old.lineage));
+      steps = subst (λ (t : Lineage M). Extends (pieces old.lineage.steps) (pieces t.steps)) (sym lineage) (Extends-itself (pieces old.lineage.steps));
+      edges = edges;
       texts = longer;
       pending = subst (λ (l : List (Pending N)). Extends old.pending.items l) (sym pending) (Extends-itself old.pending.items);
       count = omega (arith, same, ap length pending);
@@ -122,12 +123,14 @@ AreKept-push {M} {N} runs HasKey old new from text moves visit p kept lineage ad
     }
 
 -- what is kept grows where a run is added, with its node
-pub Grows-push : {M N : Type 0} (old new : KeptNodes N M) (from : ℕ) (moves : List M) (p : Pending N) → ways new.lineage ≡ grown (ways old.lineage) from moves → Extends (texts old.texts) (texts new.texts) →
+pub Grows-push : {M N : Type 0} (old new : KeptNodes N M) (from : ℕ) (moves : List M) (p : Pending N) → ways new.lineage ≡ grown (ways old.lineage) from moves → Extends (pieces old.lineage.steps) (pieces new.lineage.steps) → Extends old.links.edges.items new.links.edges.items → Extends (texts old.texts) (texts new.texts) →
     new.pending.items ≡ old.pending.items ++ p ∷ [] → p.reached.number ≡ length (ways old.lineage) → Grows old new
-Grows-push {M} {N} old new from moves p added longer pending number =
+Grows-push {M} {N} old new from moves p added steps edges longer pending number =
     let long : length (ways new.lineage) ≡ suc (length (ways old.lineage)) = ap length added ∙ length-grown (ways old.lineage) from moves in
     record {
       lineage = (_, added);
+      steps = steps;
+      edges = edges;
       texts = longer;
       pending = (p ∷ [], pending);
       count = omega (arith, long, ap length pending, length-append old.pending.items (p ∷ []));
@@ -147,6 +150,8 @@ pub Grows-through : {M N : Type 0} (a b c : KeptNodes N M) → Grows a b → Gro
 Grows-through {M} {N} a b c first second =
     record {
       lineage = Extends-through (ways a.lineage) (ways b.lineage) (ways c.lineage) first.lineage second.lineage;
+      steps = Extends-through (pieces a.lineage.steps) (pieces b.lineage.steps) (pieces c.lineage.steps) first.steps second.steps;
+      edges = Extends-through a.links.edges.items b.links.edges.items c.links.edges.items first.edges second.edges;
       texts = Extends-through (texts a.texts) (texts b.texts) (texts c.texts) first.texts second.texts;
       pending = Extends-through a.pending.items b.pending.items c.pending.items first.pending second.pending;
       count = omega (arith, first.count, second.count);
@@ -155,29 +160,10 @@ Grows-through {M} {N} a b c first second =
 
 -- what is kept grows from itself
 pub Grows-itself : {M N : Type 0} (a : KeptNodes N M) → Grows a a
-Grows-itself a = Grows-texts a a refl (Extends-itself (texts a.texts)) refl
-
--- where a visit of the same key and the same text is there, a run that was reached serves the one that leads to the node
-pub there_leads : {M N E : Type 0} (runs : Runs M N E) (HasKey : N → List ℕ → Type 0) (old : KeptNodes N M) (told : List (List ℕ)) (node : N) (run : List M) (visit : ℕ × List ℕ) →
-    ((a b : N) (i j : List M) (key : List ℕ) → HasKey a key → HasKey b key → runs.Stands a i → runs.Stands b j → runs.text i ≡ runs.text j → Serves runs i j) →
-    AreKept runs HasKey old → Extends (texts old.texts) told → runs.Stands node run → HasKey node visit.1 → get_or told visit.0 [] ≡ runs.text run → IsThere visit (pieces old.visited.visits) → Leads runs (ways old.lineage) run
-there_leads {M} {N} runs HasKey old told node run visit law kept longer stands keyed text there =
-    let at : slice_get (pieces old.visited.visits) there.0 ≡ Some there.1 = slice_get-get_or (pieces old.visited.visits) there.0 there.1 there.2 ∙ ap (λ x. Some x) there.3 in
-    let seen = kept.visited there.0 there.1 at in
-    let within : there.0 < length (ways old.lineage) = seen.text.way in
-    let same : runs.text run ≡ runs.text (get_or (ways old.lineage) there.0 []) =
-    sym text ∙ (ap (λ n. get_or told n []) (sym there.4.0) ∙ (get_or-extends (texts old.texts) told there.1.0 [] longer seen.text.told ∙ seen.text.same)) in
-    let serves = law node seen.node run (get_or (ways old.lineage) there.0 []) visit.1 keyed (subst (HasKey seen.node) there.4.1 seen.keyed) stands seen.stands same in
-    (there.0, get_or (ways old.lineage) there.0 [], within, get_or_default (ways old.lineage) there.0 (get_or (ways old.lineage) there.0 []) [] within, serves)
-
--- a run that is added serves itself
-pub pushed_leads : {M N E : Type 0} (runs : Runs M N E) (old new : List (List M)) (from : ℕ) (moves : List M) → new ≡ grown old from moves → Leads runs new (get_or old from [] ++ moves)
-pushed_leads {M} runs old new from moves more =
-    subst (λ (l : List (List M)). Leads runs l (get_or old from [] ++ moves)) (sym more)
-    (Any-push (λ (way : List M). Serves runs (get_or old from [] ++ moves) way) old (get_or old from [] ++ moves) (Serves-itself runs (get_or old from [] ++ moves)))
+Grows-itself a = Grows-texts a a refl (Extends-itself a.links.edges.items) (Extends-itself (texts a.texts)) refl
 
 -- the moves of a run that was added
-last_grown : {M : Type 0} (old new : List (List M)) (from : ℕ) (moves : List M) → new ≡ grown old from moves → get_or new (length old) [] ≡ get_or old from [] ++ moves
+pub last_grown : {M : Type 0} (old new : List (List M)) (from : ℕ) (moves : List M) → new ≡ grown old from moves → get_or new (length old) [] ≡ get_or old from [] ++ moves
 last_grown {M} old new from moves more = ap (λ (l : List (List M)). get_or l (length old) []) more ∙ get_or-grown old from moves
 
 -- the visit of a node that is added
@@ -211,13 +197,10 @@ AreKept-pop {M} {N} runs HasKey old new p kept lineage told visited pending =
       parts.1,
     )
 
-none_there : (visit : ℕ × List ℕ) → IsThere visit [] → ⊥
-none_there visit at = absurd (omega (arith, at.2))
-
 -- the first visit is new
-pub keys_first : (b : Bool) (old new : List (ℕ × List ℕ)) (visit : ℕ × List ℕ) → old ≡ [] → (b ≡ false → (new ≡ old) × IsThere visit old) → (b ≡ true → new ≡ old ++ visit ∷ []) → new ≡ visit ∷ []
-keys_first true old new visit none found added = added refl ∙ ap (λ l. l ++ visit ∷ []) none
-keys_first false old new visit none found added = absurd (none_there visit (subst (IsThere visit) none (found refl).1))
+pub keys_first : (o : Option ℕ) (old new : List (ℕ × List ℕ)) (visit : ℕ × List ℕ) → old ≡ [] → IfSome o (λ number. (new ≡ old) × IsThere visit old number) → (o ≡ None → new ≡ old ++ visit ∷ []) → new ≡ visit ∷ []
+keys_first None old new visit none found added = added refl ∙ ap (λ l. l ++ visit ∷ []) none
+keys_first (Some number) old new visit none found added = absurd (none_some visit (subst (λ (l : List (ℕ × List ℕ)). slice_get l number ≡ Some visit) none found.1))
 
 only_visit : {M N E : Type 0} (runs : Runs M N E) (HasKey : N → List ℕ → Type 0) (w : List (List M)) (t : List (List ℕ)) (visit v : ℕ × List ℕ) (k : ℕ) → IsVisited runs HasKey w t (record { number = 0; text = visit.0 }) visit.1 → slice_get (visit ∷ []) k ≡ Some v → IsVisited runs HasKey w t (record { number = k; text = v.0 }) v.1
 only_visit runs HasKey w t visit v k first e = elim (slice_get_push [] visit v k e) [
@@ -255,13 +238,6 @@ AreKept-first {M} {N} runs HasKey new p visit lineage one told none whole keys p
       pending = subst (λ (l : List (Pending N)). All (IsPending runs (ways new.lineage) (texts new.texts)) l) (sym pending)
           (All-push (IsPending runs (ways new.lineage) (texts new.texts)) [] p (All-nil (IsPending runs (ways new.lineage) (texts new.texts))) last);
     }
-
--- a run that leads somewhere still does where more runs were reached, and one more does
-pub leads_more : {M N E : Type 0} (runs : Runs M N E) (old new : List (List M)) (way : List M) (did : List (Next N M)) (next : Next N M) → Extends old new → All (λ n. Leads runs old (way ++ n.moves.items)) did → Leads runs new (way ++ next.moves.items) →
-    All (λ n. Leads runs new (way ++ n.moves.items)) (next ∷ did)
-leads_more {M} {N} runs old new way did next more before now =
-    All-cons (λ (n : Next N M). Leads runs new (way ++ n.moves.items)) next did now
-    (λ k d h. Any-extends (λ (reached : List M). Serves runs (way ++ (get_or did k d).moves.items) reached) old new more (before k d h))
 
 Any-split : {X : Type 0} (P : X → Type 0) (xs : List X) (x : X) → Any P (xs ++ x ∷ []) → Any P xs ⊎ P x
 Any-split P xs x at = elim (cases_lt at.0 (length xs)) [

@@ -1,4 +1,7 @@
 pub mod Complete
+pub mod Continuing
+pub mod Counting
+pub mod Edges
 pub mod Growing
 pub mod Keeping
 pub mod Letters

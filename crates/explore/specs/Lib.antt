@@ -6,4 +6,6 @@ pub mod Search
 pub mod SearchSteps
 pub mod NumberedTexts
 pub mod Lineage
+pub mod Links
+pub mod Outcome
 pub mod Visited

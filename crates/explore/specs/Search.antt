@@ -1,10 +1,12 @@
 -- What is shown of the runs, what covers a node, and what it means that all is shown.
-use Rattle.std.specs.Prelude.{◌≡◌, ℕ, ◌<◌, List, ◌++◌, length, ◌⊎◌}
-use Rattle.std.specs.List.{Any}
+use Rattle.std.specs.Prelude.{◌≡◌, ℕ, ◌<◌, List, [], ◌++◌, length, get_or, Option, Some, None, ◌⊎◌}
+use Rattle.std.specs.List.{All, Any}
 use Rattle.explore.specs.SearchedRuns.{Runs}
 use Rattle.explore.specs.declared.Ended.{Ended}
 use Rattle.explore.specs.declared.Next.{Next}
 use Rattle.explore.specs.declared.Shown.{Shown}
+use Rattle.explore.specs.declared.stopped.Stopped.{Stopped}
+use Rattle.explore.specs.declared.stopped.Stopped.TheVariants.{Memory}
 
 -- this text and this end are among what is shown
 abbrev pub IsShown : {Move End : Type 0} → List (Shown Move End) → List ℕ → End → Type 0
@@ -18,9 +20,9 @@ Differs text end s = s.text.items ≡ text → s.end ≡ end → ⊥
 abbrev pub AreDistinct : {Move End : Type 0} → Shown Move End → Shown Move End → Type 0
 AreDistinct a b = a.text.items ≡ b.text.items → a.end ≡ b.end → ⊥
 
--- what is shown is the text and the end of the run of its moves
+-- what is shown is the text and the end of the run of its moves, which are no more than they may be
 abbrev pub IsOfRun : {Move Node End : Type 0} → Runs Move Node End → Shown Move End → Type 0
-IsOfRun runs shown = runs.Ends shown.moves.items shown.end × (shown.text.items ≡ runs.text shown.moves.items)
+IsOfRun runs shown = runs.Ends shown.moves.items shown.end × (shown.text.items ≡ runs.text shown.moves.items) × runs.Within shown.moves.items
 
 -- the node stands at some run
 abbrev pub IsReached : {Move Node End : Type 0} → Runs Move Node End → Node → Type 0
@@ -30,9 +32,10 @@ IsReached {Move} runs node = (run : List Move) × runs.Stands node run
 abbrev pub IsPrinted : {Move Node End : Type 0} → Runs Move Node End → List Move → List Move → List ℕ → Type 0
 IsPrinted runs run moves printed = runs.text (run ++ moves) ≡ runs.text run ++ printed
 
--- the run goes on by these moves to this end, and what they print is told
+-- the run goes on by these moves to this end, what they print is told, and it has no more moves than it may have
 abbrev pub IsEnded : {Move Node End : Type 0} → Runs Move Node End → List Move → Ended Move End → Type 0
-IsEnded runs run ended = runs.Ends (run ++ ended.moves.items) ended.end × IsPrinted runs run ended.moves.items ended.printed.items
+IsEnded runs run ended =
+    runs.Ends (run ++ ended.moves.items) ended.end × IsPrinted runs run ended.moves.items ended.printed.items × runs.Within (run ++ ended.moves.items)
 
 -- the node stands at the run that goes on by its moves, and what they print is told
 abbrev pub IsNext : {Move Node End : Type 0} → Runs Move Node End → List Move → Next Node Move → Type 0
@@ -69,7 +72,26 @@ abbrev pub IsCovered : {Move Node End : Type 0} → Runs Move Node End → List 
 IsCovered runs successors ended run =
     IsFollowed runs (IsTold runs ended run) (λ way next. runs.Alike way (run ++ next.moves.items)) successors run
 
+-- however a run goes on from this one, it comes to no end
+abbrev pub NeverEnds : {Move Node End : Type 0} → Runs Move Node End → List Move → Type 0
+NeverEnds {Move} {Node} {End} runs run = (moves : List Move) (end : End) → runs.Ends (run ++ moves) end → ⊥
+
+-- A run was reached from which no end is reached: a node stands at it, and it comes to no end.
+pub record IsEndless {Move Node End : Type 0} (runs : Runs Move Node End) (run : List Move) : Type 0 where
+  pub node : Node
+  pub stands : runs.Stands node run
+  pub never : NeverEnds runs run
+
 -- the text and the end of every run are among what is shown
 abbrev pub AreAllShown : {Move Node End : Type 0} → Runs Move Node End → List (Shown Move End) → Type 0
 AreAllShown {Move} {Node} {End} runs shown =
     (moves : List Move) (end : End) → runs.Ends moves end → IsShown shown (runs.text moves) end
+
+-- What the number of nodes counts: a run for each of them, at which a node stands, beginning with the run that has no moves. Where
+-- nothing was left out, each of these runs is followed by what is shown and by these.
+pub record AreCounted {Move Node End : Type 0} (runs : Runs Move Node End) (shown : List (Shown Move End)) (stopped : Option Stopped) (nodes : ℕ) : Type 0 where
+  pub reached : List (List Move)
+  pub count : length reached ≡ nodes
+  pub stand : All (λ run. (node : Node) × runs.Stands node run) reached
+  pub starts : stopped ≡ Some Memory ⊎ (0 < nodes) × (get_or reached 0 [] ≡ [])
+  pub followed : stopped ≡ None → All (IsFollowed runs (IsShown shown) (Serves runs) reached) reached

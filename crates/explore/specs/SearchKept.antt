@@ -1,5 +1,5 @@
 -- What a search keeps.
-use Rattle.std.specs.Prelude.{◌≡◌, ℕ, ◌+◌, ◌<◌, ◌≤◌, List, [], length, get_or, Some, slice_get}
+use Rattle.std.specs.Prelude.{◌≡◌, ℕ, ◌+◌, ◌<◌, ◌≤◌, List, [], ◌++◌, length, get_or, Some, slice_get}
 use Rattle.std.specs.List.{All, Any}
 use Rattle.explore.specs.Grown.{Extends}
 use Rattle.explore.specs.Pieces.{pieces, ArePieces}
@@ -7,6 +7,7 @@ use Rattle.explore.specs.SearchedRuns.{Runs}
 use Rattle.explore.specs.Search.{Serves}
 use Rattle.explore.specs.NumberedTexts.{texts, IsTexts}
 use Rattle.explore.specs.Lineage.{ways, IsLineage}
+use Rattle.explore.specs.Links.{IsLinked, IsUnmarked}
 use Rattle.explore.specs.declared.kept.KeptNodes.{KeptNodes}
 use Rattle.explore.specs.declared.kept.Pending.{Pending}
 use Rattle.explore.specs.declared.kept.Reached.{Reached}
@@ -46,9 +47,11 @@ pub record AreKept {Move Node End : Type 0} (runs : Runs Move Node End) (HasKey 
   pub visited : (k : ℕ) (visit : ℕ × List ℕ) → slice_get (pieces kept.visited.visits) k ≡ Some visit → IsVisited runs HasKey (ways kept.lineage) (texts kept.texts) (record { number = k; text = visit.0 }) visit.1
   pub pending : All (IsPending runs (ways kept.lineage) (texts kept.texts)) kept.pending.items
 
--- runs and texts stay, and for each run that was added there is a node more that is pending
+-- runs, their steps, edges and texts stay, and for each run that was added there is a node more that is pending
 pub record Grows {Node Move : Type 0} (old new : KeptNodes Node Move) : Type 0 where
   pub lineage : Extends (ways old.lineage) (ways new.lineage)
+  pub steps : Extends (pieces old.lineage.steps) (pieces new.lineage.steps)
+  pub edges : Extends old.links.edges.items new.links.edges.items
   pub texts : Extends (texts old.texts) (texts new.texts)
   pub pending : Extends old.pending.items new.pending.items
   pub count : length new.pending.items + length (ways old.lineage) ≡ length old.pending.items + length (ways new.lineage)
@@ -57,3 +60,32 @@ pub record Grows {Node Move : Type 0} (old new : KeptNodes Node Move) : Type 0 w
 -- one of the runs that were reached serves this one
 abbrev pub Leads : {Move Node End : Type 0} → Runs Move Node End → List (List Move) → List Move → Type 0
 Leads runs reached run = Any (λ way. Serves runs run way) reached
+
+-- The run with some number serves this one, and one of the ways from the node with the first number leads there.
+pub record LeadsOn {Move Node End : Type 0} (runs : Runs Move Node End) (kept : KeptNodes Node Move) (from : ℕ) (run : List Move) : Type 0 where
+  pub to : ℕ
+  pub within : to < length (ways kept.lineage)
+  pub linked : IsLinked (pieces kept.lineage.steps) kept.links.edges.items from to
+  pub serves : Serves runs run (get_or (ways kept.lineage) to [])
+
+-- A first part of the moves, at least one of them, leads from the run with a number to what a run serves to which one of the ways
+-- from its node leads.
+pub record GoesOnBy {Move Node End : Type 0} (runs : Runs Move Node End) (kept : KeptNodes Node Move) (from : ℕ) (moves : List Move) : Type 0 where
+  pub part : List Move
+  pub rest : List Move
+  pub moved : 0 < length part
+  pub split : moves ≡ part ++ rest
+  pub leads : LeadsOn runs kept from (get_or (ways kept.lineage) from [] ++ part)
+
+-- However the run with a number goes on to an end, it goes on by one of the ways from its node.
+pub record IsContinued {Move Node End : Type 0} (runs : Runs Move Node End) (kept : KeptNodes Node Move) (from : ℕ) : Type 0 where
+  pub within : from < length (ways kept.lineage)
+  pub goes_on : (moves : List Move) (end : End) → runs.Ends (get_or (ways kept.lineage) from [] ++ moves) end → GoesOnBy runs kept from moves
+
+-- each node at which no run ends is continued
+abbrev pub AreContinued : {Move Node End : Type 0} → Runs Move Node End → KeptNodes Node Move → Type 0
+AreContinued runs kept = (k : ℕ) → IsUnmarked kept.links.may_end.items k → IsContinued runs kept k
+
+-- a node at which no run ends now was one before
+abbrev pub StayUnmarked : {Node Move : Type 0} → KeptNodes Node Move → KeptNodes Node Move → Type 0
+StayUnmarked old new = (k : ℕ) → IsUnmarked new.links.may_end.items k → IsUnmarked old.links.may_end.items k

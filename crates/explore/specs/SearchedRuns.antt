@@ -10,5 +10,7 @@ pub record Runs (Move Node End : Type 0) : Type 1 where
   pub text : List Move → List ℕ
   -- two runs so far that printed the same and go on alike
   pub Alike : List Move → List Move → Type 0
+  -- a run of these moves has no more of them than it may have
+  pub Within : List Move → Type 0
   -- what a node stands for
   pub Stands : Node → List Move → Type 0

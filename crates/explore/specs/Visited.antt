@@ -1,7 +1,6 @@
 -- What was visited.
-use Rattle.std.specs.Prelude.{◌≡◌, ℕ, List}
-use Rattle.std.specs.List.{Any}
+use Rattle.std.specs.Prelude.{◌≡◌, ℕ, List, Some, slice_get}
 
--- one of the visits has the same text and the same key
-abbrev pub IsThere : (ℕ × List ℕ) → List (ℕ × List ℕ) → Type 0
-IsThere visit visits = Any (λ v. (v.0 ≡ visit.0) × (v.1 ≡ visit.1)) visits
+-- the visit with a number has this text and this key
+abbrev pub IsThere : (ℕ × List ℕ) → List (ℕ × List ℕ) → ℕ → Type 0
+IsThere visit visits number = slice_get visits number ≡ Some visit

@@ -1,12 +1,13 @@
 //! What a search keeps of the nodes that it reached.
-ghost use Rattle.std.specs.Prelude.{◌≡◌, ◌<◌, ◌≤◌, ◌++◌, [], ◌∷◌, length, get_or, IsTrue, IfOk, OnOk};
+ghost use Rattle.std.specs.Prelude.{◌≡◌, ◌<◌, ◌≤◌, ◌++◌, [], ◌∷◌, false, true, length, get_or, IsTrue, IfOk, OnOk};
 ghost use Rattle.std.specs.List.{All, Any};
-ghost use Rattle.explore.specs.SearchKept.{AreKept, Grows, IsText, Leads};
+ghost use Rattle.explore.specs.SearchKept.{AreKept, Grows, IsText, LeadsOn, StayUnmarked};
 ghost use Rattle.explore.specs.Search.{IsNext};
 ghost use Rattle.explore.specs.NumberedTexts.{texts};
 ghost use Rattle.explore.specs.Lineage.{ways};
 
 use crate::lineage::Lineage;
+use crate::links::Links;
 use crate::texts::Texts;
 use crate::visited::Visited;
 use crate::{Next, Orders, Scope};
@@ -26,12 +27,14 @@ pub(crate) struct Pending<N> {
     pub(crate) reached: Reached,
 }
 
-/// The runs that were reached, what they printed, a visit for each of them, and the nodes that are still to be expanded.
+/// The runs that were reached, what they printed, a visit for each of them, what is known of their nodes, and the nodes that are
+/// still to be expanded.
 #[derive(Drop)]
 pub(crate) struct KeptNodes<N, M> {
     pub(crate) lineage: Lineage<M>,
     pub(crate) texts: Texts,
     pub(crate) visited: Visited,
+    pub(crate) links: Links,
     pub(crate) pending: Vec<Pending<N>>,
     /// The last key that was asked for.
     pub(crate) key: Vec<u8>,
@@ -46,13 +49,16 @@ pub(crate) fn first<O: Orders>(
     ensures kept { IfOk result (λ kept. AreKept (O.runs orders.now) (O.has_key orders.now) kept) }
     ensures ways { IfOk result (λ kept. ways kept.lineage ≡ [] ∷ []) }
     ensures one { IfOk result (λ kept. length kept.pending.items ≡ 1) }
+    ensures unmarked { IfOk result (λ kept. kept.links.may_end.items ≡ true ∷ []) }
     ensures waits { IfOk result (λ kept. Any (λ pending. pending.reached.number ≡ 0) kept.pending.items) }
 {
     let node = orders.start(alloc)?;
     let mut key = Vec::new(alloc);
     orders.key(room, &mut key, &node)?;
     let mut visited = Visited::new(alloc);
-    let _new = visited.add(alloc, 0, key.as_slice())?;
+    let _there = visited.add(alloc, 0, key.as_slice())?;
+    let mut links = Links::new(alloc);
+    links.add()?;
     let mut pending = Vec::new(alloc);
     pending.push(Pending {
         node,
@@ -62,6 +68,7 @@ pub(crate) fn first<O: Orders>(
         lineage: Lineage::new(alloc),
         texts: Texts::new(alloc),
         visited,
+        links,
         pending,
         key,
     })
@@ -84,7 +91,9 @@ fn follow<O: Orders>(
     ensures kept { OnOk result (AreKept (O.runs orders.now) (O.has_key orders.now) kept.new) }
     ensures grows { OnOk result (Grows kept.old kept.new) }
     ensures room { OnOk result (length (ways kept.new.lineage) ≤ scope.bounds.nodes) }
-    ensures leads { IfOk result (λ there. IsTrue there → Leads (O.runs orders.now) (ways kept.new.lineage) (get_or (ways kept.old.lineage) from.number [] ++ next.moves.items)) }
+    ensures unmarked { OnOk result (StayUnmarked kept.old kept.new) }
+    ensures full { IfOk result (λ there. there ≡ false → length (ways kept.new.lineage) ≡ scope.bounds.nodes) }
+    ensures leads { IfOk result (λ there. IsTrue there → LeadsOn (O.runs orders.now) kept.new from.number (get_or (ways kept.old.lineage) from.number [] ++ next.moves.items)) }
 {
     let Next {
         node,
@@ -96,13 +105,17 @@ fn follow<O: Orders>(
     let bytes = kept.key.as_slice();
     let number = kept.lineage.len();
     if number >= scope.bounds.nodes {
-        return Ok(kept.visited.contains(text, bytes));
+        let there = kept.visited.find(text, bytes);
+        let known = kept.links.join(from.number, there)?;
+        return Ok(known);
     }
-    let new = kept.visited.add(scope.alloc, text, bytes)?;
-    if !new {
+    let there = kept.visited.add(scope.alloc, text, bytes)?;
+    let joined = kept.links.join(from.number, there)?;
+    if joined {
         return Ok(true);
     }
     kept.lineage.push(from.number, &moves)?;
+    kept.links.add()?;
     kept.pending.push(Pending {
         node,
         reached: Reached { number, text },
@@ -127,7 +140,9 @@ pub(crate) fn follow_all<O: Orders>(
     ensures kept { OnOk result (AreKept (O.runs orders.now) (O.has_key orders.now) kept.new) }
     ensures grows { OnOk result (Grows kept.old kept.new) }
     ensures room { OnOk result (length (ways kept.new.lineage) ≤ scope.bounds.nodes) }
-    ensures leads { IfOk result (λ all. IsTrue all → All (λ next. Leads (O.runs orders.now) (ways kept.new.lineage) (get_or (ways kept.old.lineage) from.number [] ++ next.moves.items)) successors.items) }
+    ensures unmarked { OnOk result (StayUnmarked kept.old kept.new) }
+    ensures full { IfOk result (λ all. all ≡ false → length (ways kept.new.lineage) ≡ scope.bounds.nodes) }
+    ensures leads { IfOk result (λ all. IsTrue all → All (λ next. LeadsOn (O.runs orders.now) kept.new from.number (get_or (ways kept.old.lineage) from.number [] ++ next.moves.items)) successors.items) }
 {
     let mut left = successors;
     let mut all = true;

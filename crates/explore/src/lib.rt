@@ -9,20 +9,26 @@
 //! 4. Where a way ends, its text and end are shown, with the moves of the whole run, unless they are there already.
 //! 5. The search is over when the stack is empty. If nothing was left out on the way, each text and end of every run is
 //!    shown: that is the contract of `explore`.
+//! 6. What is known of each node besides is whether a run may come to an end at it, and the edges to nodes that were there
+//!    before (`links`). From these a node is found from which no end is reached, where there is one (`endless`).
 #![tactic(auto)]
 
+mod endless;
 mod kept;
 mod lineage;
+mod links;
 mod orders;
 mod pieces;
 mod search;
 mod show;
+mod stopped;
 mod texts;
 mod visited;
 
 pub use orders::Orders;
 pub use search::explore;
 use std::alloc::Global;
+pub use stopped::Stopped;
 
 /// A node, what was printed on the way to it from the one that was expanded, and the moves of that way.
 #[derive(Drop)]
@@ -56,10 +62,13 @@ pub struct Expanded<N, M, E> {
 pub struct Explored<M, E> {
     /// The texts and ends that were found, each with the moves of a run that has them.
     pub shown: Vec<Shown<M, E>>,
-    /// Whether there are no others.
-    pub covered: bool,
-    /// How many nodes were reached, the first one among them, when the last of them was expanded.
+    /// Why there may be others. None where there are no others.
+    pub stopped: Option<Stopped>,
+    /// How many nodes were reached and kept, the first one among them. Where memory was refused, those that the last
+    /// expansion reached aren't counted.
     pub nodes: usize,
+    /// The moves of a run that was reached and from which no end is reached, where one is known.
+    pub endless: Option<Vec<M>>,
 }
 
 /// What a run showed: its text, how it ended, and its moves.

@@ -1,7 +1,8 @@
 //! The moves of the runs that were reached, each told by the run that it goes on from.
-ghost use Rattle.std.specs.Prelude.{◌≡◌, ◌<◌, ◌++◌, [], ◌∷◌, length, reverse, get_or, IfOk, OnOk};
+ghost use Rattle.std.specs.Prelude.{◌≡◌, ◌<◌, ◌++◌, ℕ, suc, [], ◌∷◌, length, reverse, get_or, slice_get, Some, IfOk, OnOk};
 ghost use Rattle.explore.specs.Grown.{grown};
 ghost use Rattle.explore.specs.Lineage.{ways, IsLineage};
+ghost use Rattle.explore.specs.Pieces.{pieces};
 
 use crate::pieces::Pieces;
 use std::alloc::{AllocError, Global};
@@ -52,18 +53,20 @@ impl<M: Copy> Lineage<M> {
         requires from { from < length (ways self.old) }
         ensures lineage { OnOk result (IsLineage self.new) }
         ensures ways { OnOk result (ways self.new ≡ grown (ways self.old) from moves.now) }
+        ensures steps { OnOk result (pieces self.new.steps ≡ pieces self.old.steps ++ (from, moves.now) ∷ []) }
     {
         self.steps.push(from, moves)?;
         Ok(())
     }
 
     /// The run that the one with a number goes on from, and its further moves.
-    fn last_step(&self, number: usize) -> (usize, &[M])
+    pub(crate) fn last_step(&self, number: usize) -> (usize, &[M])
         requires lineage { IsLineage self.now }
         requires moved { 0 < number }
         requires within { number < length (ways self.now) }
         ensures from { result.0 < number }
         ensures way { get_or (ways self.now) number [] ≡ get_or (ways self.now) result.0 [] ++ result.1.now }
+        ensures step { (k : ℕ) → number ≡ suc k → slice_get (pieces self.now.steps) k ≡ Some (result.0, result.1.now) }
     {
         self.steps.piece(number - 1)
     }

@@ -1,32 +1,81 @@
 //! The search.
-ghost use Rattle.std.specs.Prelude.{◌≡◌, ◌<◌, ◌≤◌, [], length, get_or, IsTrue, IfOk, OnOk};
+ghost use Rattle.std.specs.Prelude.{◌≡◌, ◌<◌, ◌≤◌, ◌⊎◌, [], true, false, length, get_or, None, Some, IsTrue, IfOk, IfSome, OnOk};
 ghost use Rattle.std.specs.List.{All, AllPairs};
 ghost use Rattle.explore.specs.Grown.{Extends};
-ghost use Rattle.explore.specs.SearchKept.{AreKept, Grows, IsPending};
-ghost use Rattle.explore.specs.Search.{AreAllShown, AreDistinct, IsFollowed, IsOfRun, IsShown, Serves};
+ghost use Rattle.explore.specs.SearchKept.{AreContinued, AreKept, Grows, IsPending};
+ghost use Rattle.explore.specs.Search.{AreAllShown, AreCounted, AreDistinct, IsEndless, IsFollowed, IsOfRun, IsShown, Serves};
+ghost use Rattle.explore.specs.Outcome.{stopped_of};
 ghost use Rattle.explore.specs.NumberedTexts.{texts};
 ghost use Rattle.explore.specs.Lineage.{ways};
+ghost use Rattle.explore.specs.declared.stopped.Stopped.TheVariants as stop;
 
+use crate::endless::find_endless;
 use crate::kept::{KeptNodes, Pending, first, follow_all};
 use crate::show::{Run, show_all};
-use crate::{Bounds, Expanded, Explored, Orders, Scope, Shown};
+use crate::{Bounds, Expanded, Explored, Orders, Scope, Shown, Stopped};
 use progress::{HowFar, Progress};
 use std::alloc::{AllocError, Global};
 
 // As many nodes as are reached from one telling to the next, or a few more.
 const STRIDE: usize = 1024;
 
-/// The search goes no further: memory was refused, or the most texts and ends are shown.
-struct Stop;
+/// How a search came to its end: why it may have left something out, and the moves of a run from which no end is reached.
+#[derive(Drop)]
+struct Outcome<M> {
+    stopped: Option<Stopped>,
+    endless: Option<Vec<M>>,
+}
 
-impl From<AllocError> for Stop {
-    fn from(_: AllocError) -> Stop {
-        Stop
+/// Why an expansion left something out: a node, since there are as many as there may be, or a way that wasn't followed.
+fn left_out(whole: bool, followed: bool) -> Option<Stopped>
+    ensures none { result ≡ None → IsTrue whole × IsTrue followed }
+    ensures nodes { result ≡ Some stop.Nodes → followed ≡ false }
+    ensures apart { result ≡ Some stop.Shown → ⊥ }
+{
+    if !followed {
+        return Some(Stopped::Nodes);
+    }
+    if !whole {
+        return Some(Stopped::Unfollowed);
+    }
+    None
+}
+
+/// Whether nothing was left out.
+fn is_whole(left: Option<Stopped>) -> bool
+    ensures { IsTrue result → left ≡ None }
+{
+    match left {
+        Some(_) => false,
+        None => true,
+    }
+}
+
+/// Whether a text was left out since the most are shown.
+fn is_full(left: Option<Stopped>) -> bool
+    ensures full { result ≡ true → left ≡ Some stop.Shown }
+    ensures others { result ≡ false → left ≡ Some stop.Shown → ⊥ }
+{
+    match left {
+        Some(Stopped::Shown) => true,
+        Some(_) => false,
+        None => false,
+    }
+}
+
+/// The first of two reasons.
+fn earlier(one: Option<Stopped>, other: Option<Stopped>) -> Option<Stopped>
+    ensures none { result ≡ None → (one ≡ None) × (other ≡ None) }
+    ensures which { (result ≡ one) ⊎ (result ≡ other) }
+{
+    match one {
+        Some(stopped) => Some(stopped),
+        None => other,
     }
 }
 
 /// Expands a node: shows its ways that have come to an end, and keeps the nodes that the others lead to. The answer is
-/// whether nothing was left out.
+/// why something was left out. Where that is a text, the nodes aren't kept.
 fn turn<O: Orders>(
     scope: Scope,
     orders: &O,
@@ -34,19 +83,25 @@ fn turn<O: Orders>(
     kept: &mut KeptNodes<O::Node, O::Move>,
     shown: &mut Vec<Shown<O::Move, O::End>>,
     at: Pending<O::Node>,
-) -> Result<bool, Stop>
+) -> Result<Option<Stopped>, AllocError>
     requires kept { AreKept (O.runs orders.now) (O.has_key orders.now) kept.old }
+    requires continued { AreContinued (O.runs orders.now) kept.old }
     requires room { length (ways kept.old.lineage) ≤ scope.bounds.nodes }
     requires sound { All (IsOfRun (O.runs orders.now)) shown.old.items }
     requires distinct { AllPairs AreDistinct shown.old.items }
+    requires few { length shown.old.items ≤ scope.bounds.shown }
     requires at { IsPending (O.runs orders.now) (ways kept.old.lineage) (texts kept.old.texts) at }
     ensures sound { All (IsOfRun (O.runs orders.now)) shown.new.items }
     ensures distinct { AllPairs AreDistinct shown.new.items }
     ensures shown { Extends shown.old.items shown.new.items }
+    ensures few { length shown.new.items ≤ scope.bounds.shown }
     ensures kept { OnOk result (AreKept (O.runs orders.now) (O.has_key orders.now) kept.new) }
     ensures grows { OnOk result (Grows kept.old kept.new) }
     ensures room { OnOk result (length (ways kept.new.lineage) ≤ scope.bounds.nodes) }
-    ensures followed { IfOk result (λ whole. IsTrue whole → IsFollowed (O.runs orders.now) (IsShown shown.new.items) (Serves (O.runs orders.now)) (ways kept.new.lineage) (get_or (ways kept.old.lineage) at.reached.number [])) }
+    ensures full { IfOk result (λ left. left ≡ Some stop.Shown → length shown.new.items ≡ scope.bounds.shown) }
+    ensures nodes { IfOk result (λ left. left ≡ Some stop.Nodes → length (ways kept.new.lineage) ≡ scope.bounds.nodes) }
+    ensures followed { IfOk result (λ left. left ≡ None → IsFollowed (O.runs orders.now) (IsShown shown.new.items) (Serves (O.runs orders.now)) (ways kept.new.lineage) (get_or (ways kept.old.lineage) at.reached.number [])) }
+    ensures continued { OnOk result (AreContinued (O.runs orders.now) kept.new) }
 {
     let Pending { node, reached } = at;
     let Expanded {
@@ -54,6 +109,7 @@ fn turn<O: Orders>(
         ended,
         whole,
     } = orders.expand(scope.alloc, room, node)?;
+    let goes_on = ended.is_empty();
     let run = Run {
         lineage: &kept.lineage,
         texts: &kept.texts,
@@ -61,10 +117,12 @@ fn turn<O: Orders>(
     };
     let told = show_all(scope.alloc, orders, run, shown, ended, scope.bounds.shown)?;
     if !told {
-        return Err(Stop);
+        return Ok(Some(Stopped::Shown));
     }
     let followed = follow_all(scope, orders, room, kept, reached, successors)?;
-    Ok(whole & followed)
+    let left = left_out(whole, followed);
+    kept.links.settle(reached.number, goes_on & is_whole(left));
+    Ok(left)
 }
 
 /// Tells how many nodes were reached, once for each stride of them.
@@ -74,43 +132,58 @@ fn tell_nodes<P: Progress>(progress: &P, before: usize, now: usize) {
     }
 }
 
-/// Shows what the runs print and how they end, and counts the nodes that were reached. The answer is whether there is nothing
-/// else.
+/// Shows what the runs print and how they end, and counts the nodes that are kept.
 fn search<O: Orders, P: Progress>(
     scope: Scope,
     orders: &O,
     shown: &mut Vec<Shown<O::Move, O::End>>,
     nodes: &mut usize,
     progress: &P,
-) -> Result<bool, Stop>
+) -> Result<Outcome<O::Move>, AllocError>
     requires room { 0 < scope.bounds.nodes }
     requires none { shown.old.items ≡ [] }
-    requires begun { nodes.old ≤ scope.bounds.nodes }
+    requires begun { nodes.old ≡ 0 }
     ensures few { nodes.new ≤ scope.bounds.nodes }
+    ensures few_shown { length shown.new.items ≤ scope.bounds.shown }
     ensures sound { All (IsOfRun (O.runs orders.now)) shown.new.items }
     ensures distinct { AllPairs AreDistinct shown.new.items }
-    ensures all { IfOk result (λ covered. IsTrue covered → AreAllShown (O.runs orders.now) shown.new.items) }
+    ensures all { stopped_of result ≡ None → AreAllShown (O.runs orders.now) shown.new.items }
+    ensures nodes { stopped_of result ≡ Some stop.Nodes → nodes.new ≡ scope.bounds.nodes }
+    ensures full { stopped_of result ≡ Some stop.Shown → length shown.new.items ≡ scope.bounds.shown }
+    ensures counted { AreCounted (O.runs orders.now) shown.new.items (stopped_of result) nodes.new }
+    ensures endless { IfOk result (λ outcome. IfSome outcome.endless (λ moves. IsEndless (O.runs orders.now) moves.items)) }
 {
     let mut room = orders.room(scope.alloc);
     let mut kept = first(scope.alloc, orders, &mut room)?;
-    let mut covered = true;
+    *nodes = kept.lineage.len();
+    let mut stopped = None;
     while let Some(at) = kept.pending.pop() {
+        let left = turn(scope, orders, &mut room, &mut kept, shown, at)?;
         let reached = kept.lineage.len();
         tell_nodes(progress, *nodes, reached);
         *nodes = reached;
-        let whole = turn(scope, orders, &mut room, &mut kept, shown, at)?;
-        covered = covered & whole;
+        if is_full(left) {
+            return Ok(Outcome {
+                stopped: left,
+                endless: None,
+            });
+        }
+        stopped = earlier(stopped, left);
     }
-    Ok(covered)
+    let endless = find_endless(scope.alloc, &kept.lineage, &kept.links)?;
+    Ok(Outcome { stopped, endless })
 }
 
 /// Searches the runs, depth first. Each text and end that is shown is that of the run of the moves beside it, and no two
-/// that are shown have one text and one end. Where the answer is covered, every run has a text and an end that are shown.
+/// that are shown have one text and one end. Where the search wasn't stopped, every run has a text and an end that are shown.
 ///
-/// It isn't covered where an expansion wasn't whole, where a node was left out since `bounds.nodes` were reached, where a
-/// text or an end was left out since `bounds.shown` are shown, and where memory was refused. At the most nodes the
-/// search goes on with those that were reached, which may still show more; at the first text too many and at the first
-/// refusal of memory it goes no further, and what was shown until then stays. How many nodes were reached is told at times.
+/// What stopped it is the first of these: an expansion wasn't whole, or a node was left out since `bounds.nodes` were
+/// reached; the search then goes on with those that were reached, which may still show more. At the first text too many,
+/// where `bounds.shown` are shown, and at the first refusal of memory it goes no further, that is what stopped it, and what
+/// was shown until then stays. How many nodes were reached is told at times.
+///
+/// Where it came to its own end it looks for a run from which no end is reached. Nodes that weren't expanded, or not whole,
+/// count as such where a run may end.
 pub fn explore<O: Orders, P: Progress>(
     alloc: Global,
     orders: &O,
@@ -120,19 +193,29 @@ pub fn explore<O: Orders, P: Progress>(
     requires room { 0 < bounds.nodes }
     ensures sound { All (IsOfRun (O.runs orders.now)) result.shown.items }
     ensures distinct { AllPairs AreDistinct result.shown.items }
-    ensures all { IsTrue result.covered → AreAllShown (O.runs orders.now) result.shown.items }
+    ensures all { result.stopped ≡ None → AreAllShown (O.runs orders.now) result.shown.items }
     ensures few { result.nodes ≤ bounds.nodes }
+    ensures few_shown { length result.shown.items ≤ bounds.shown }
+    ensures nodes { result.stopped ≡ Some stop.Nodes → result.nodes ≡ bounds.nodes }
+    ensures full { result.stopped ≡ Some stop.Shown → length result.shown.items ≡ bounds.shown }
+    ensures counted { AreCounted (O.runs orders.now) result.shown.items result.stopped result.nodes }
+    ensures endless { IfSome result.endless (λ moves. IsEndless (O.runs orders.now) moves.items) }
 {
     let mut shown = Vec::new(alloc);
     let mut nodes = 0;
     let scope = Scope { alloc, bounds };
-    let covered = match search(scope, orders, &mut shown, &mut nodes, progress) {
-        Ok(covered) => covered,
-        Err(Stop) => false,
-    };
-    Explored {
-        shown,
-        covered,
-        nodes,
+    match search(scope, orders, &mut shown, &mut nodes, progress) {
+        Ok(Outcome { stopped, endless }) => Explored {
+            shown,
+            stopped,
+            nodes,
+            endless,
+        },
+        Err(_) => Explored {
+            shown,
+            stopped: Some(Stopped::Memory),
+            nodes,
+            endless: None,
+        },
     }
 }

@@ -1,5 +1,5 @@
 //! What is shown.
-ghost use Rattle.std.specs.Prelude.{◌≡◌, ◌<◌, ◌++◌, ◌↔◌, [], false, get_or, IsTrue, IfOk};
+ghost use Rattle.std.specs.Prelude.{◌≡◌, ◌≤◌, ◌++◌, ◌↔◌, [], false, length, get_or, IsTrue, IfOk};
 ghost use Rattle.std.specs.List.{All, AllPairs};
 ghost use Rattle.explore.specs.Grown.{Extends};
 ghost use Rattle.explore.specs.SearchKept.{IsHeld};
@@ -66,10 +66,13 @@ fn show<O: Orders>(
     requires run { IsHeld (O.runs orders.now) run.lineage.now run.texts.now run.reached }
     requires sound { All (IsOfRun (O.runs orders.now)) shown.old.items }
     requires distinct { AllPairs AreDistinct shown.old.items }
+    requires few { length shown.old.items ≤ most }
     requires ended { IsEnded (O.runs orders.now) (get_or (ways run.lineage.now) run.reached.number []) ended }
     ensures sound { All (IsOfRun (O.runs orders.now)) shown.new.items }
     ensures distinct { AllPairs AreDistinct shown.new.items }
     ensures grows { Extends shown.old.items shown.new.items }
+    ensures few { length shown.new.items ≤ most }
+    ensures full { IfOk result (λ there. there ≡ false → length shown.new.items ≡ most) }
     ensures there { IfOk result (λ there. IsTrue there → IsShown shown.new.items ((O.runs orders.now).text (get_or (ways run.entry.lineage.now) run.entry.reached.number []) ++ ended.printed.items) ended.end) }
 {
     let Ended {
@@ -102,10 +105,13 @@ pub(crate) fn show_all<O: Orders>(
     requires run { IsHeld (O.runs orders.now) run.lineage.now run.texts.now run.reached }
     requires sound { All (IsOfRun (O.runs orders.now)) shown.old.items }
     requires distinct { AllPairs AreDistinct shown.old.items }
+    requires few { length shown.old.items ≤ most }
     requires ended { All (IsEnded (O.runs orders.now) (get_or (ways run.lineage.now) run.reached.number [])) ended.items }
     ensures sound { All (IsOfRun (O.runs orders.now)) shown.new.items }
     ensures distinct { AllPairs AreDistinct shown.new.items }
     ensures grows { Extends shown.old.items shown.new.items }
+    ensures few { length shown.new.items ≤ most }
+    ensures full { IfOk result (λ there. there ≡ false → length shown.new.items ≡ most) }
     ensures there { IfOk result (λ all. IsTrue all → All (λ one. IsShown shown.new.items ((O.runs orders.now).text (get_or (ways run.entry.lineage.now) run.entry.reached.number []) ++ one.printed.items) one.end) ended.items) }
 {
     let mut left = ended;

@@ -1,5 +1,5 @@
 //! What was visited: the keys of the nodes that were reached, with the texts of their runs.
-ghost use Rattle.std.specs.Prelude.{◌≡◌, ◌<◌, ◌++◌, [], ◌∷◌, false, true, length, IsTrue, IfOk, OnOk};
+ghost use Rattle.std.specs.Prelude.{◌≡◌, ◌<◌, ◌++◌, [], ◌∷◌, None, length, IfOk, IfSome, OnOk};
 ghost use Rattle.explore.specs.Pieces.{pieces, ArePieces};
 ghost use Rattle.explore.specs.Visited.{IsThere};
 
@@ -80,20 +80,22 @@ fn put(slots: &mut Vec<u64>, slot: u64)
     }
 }
 
-// Whether the visit in a slot has this text and this key.
-fn is_visit(visits: &Pieces<u8>, slot: u64, text: usize, key: &[u8]) -> bool
+// The number of the visit in a slot, where that visit has this text and this key.
+fn visit_in(visits: &Pieces<u8>, slot: u64, text: usize, key: &[u8]) -> Option<usize>
     requires whole { ArePieces visits.now }
-    ensures { IsTrue result → IsThere (text, key.now) (pieces visits.now) }
+    ensures { IfSome result (IsThere (text, key.now) (pieces visits.now)) }
 {
     let number = ((slot & NUMBERS) as usize).wrapping_sub(1);
     if number >= visits.len() {
-        return false;
+        return None;
     }
     let (other, bytes) = visits.piece(number);
     if other == text {
-        return bytes == key;
+        if bytes == key {
+            return Some(number);
+        }
     }
-    false
+    None
 }
 
 // A table of so many slots, with what stands in those of another.
@@ -122,47 +124,56 @@ impl Visited {
         }
     }
 
-    // Whether there was such a visit, with this hash.
-    fn is_there(&self, hash: u64, text: usize, key: &[u8]) -> bool
+    // The number of such a visit with this hash, where there was one.
+    fn find_by(&self, hash: u64, text: usize, key: &[u8]) -> Option<usize>
         requires whole { ArePieces self.now.visits }
-        ensures { IsTrue result → IsThere (text, key.now) (pieces self.now.visits) }
+        ensures { IfSome result (IsThere (text, key.now) (pieces self.now.visits)) }
     {
         let count = self.slots.len();
         if count == 0 {
-            return false;
+            return None;
         }
         let mut at = place_of(hash, count);
         for _ in 0..count {
             let slot = self.slots[at];
             if slot == 0 {
-                return false;
+                return None;
             }
-            if slot >> 32 == hash >> 32 && is_visit(&self.visits, slot, text, key) {
-                return true;
+            if slot >> 32 == hash >> 32 {
+                match visit_in(&self.visits, slot, text, key) {
+                    Some(number) => return Some(number),
+                    None => {}
+                }
             }
             at = after(at, count);
         }
-        false
+        None
     }
 
-    /// Whether there was such a visit.
-    pub(crate) fn contains(&self, text: usize, key: &[u8]) -> bool
+    /// The number of such a visit, where there was one.
+    pub(crate) fn find(&self, text: usize, key: &[u8]) -> Option<usize>
         requires whole { ArePieces self.now.visits }
-        ensures { IsTrue result → IsThere (text, key.now) (pieces self.now.visits) }
+        ensures { IfSome result (IsThere (text, key.now) (pieces self.now.visits)) }
     {
-        self.is_there(hash_of(text, key), text, key)
+        self.find_by(hash_of(text, key), text, key)
     }
 
-    /// Adds a visit, unless there was such a one. The answer is whether it is new.
-    pub(crate) fn add(&mut self, alloc: Global, text: usize, key: &[u8]) -> Result<bool, AllocError>
+    /// Adds a visit, unless there was such a one. The answer is the number of the one that was there.
+    pub(crate) fn add(
+        &mut self,
+        alloc: Global,
+        text: usize,
+        key: &[u8],
+    ) -> Result<Option<usize>, AllocError>
         requires whole { ArePieces self.old.visits }
         ensures whole { OnOk result (ArePieces self.new.visits) }
-        ensures there { IfOk result (λ new. new ≡ false → (pieces self.new.visits ≡ pieces self.old.visits) × IsThere (text, key.now) (pieces self.old.visits)) }
-        ensures added { IfOk result (λ new. new ≡ true → pieces self.new.visits ≡ pieces self.old.visits ++ (text, key.now) ∷ []) }
+        ensures there { IfOk result (λ there. IfSome there (λ number. (pieces self.new.visits ≡ pieces self.old.visits) × IsThere (text, key.now) (pieces self.old.visits) number)) }
+        ensures added { IfOk result (λ there. there ≡ None → pieces self.new.visits ≡ pieces self.old.visits ++ (text, key.now) ∷ []) }
     {
         let hash = hash_of(text, key);
-        if self.is_there(hash, text, key) {
-            return Ok(false);
+        match self.find_by(hash, text, key) {
+            Some(number) => return Ok(Some(number)),
+            None => {}
         }
         self.visits.push(text, key)?;
         let number = self.visits.len();
@@ -175,6 +186,6 @@ impl Visited {
             )?;
         }
         put(&mut self.slots, slot(hash, narrow(number)?));
-        Ok(true)
+        Ok(None)
     }
 }

@@ -1,20 +1,18 @@
 -- Races that are told, one after another.
 use Rattle.std.proofs.Common.{◌≡◌, ◌∙◌, ap, sym, subst, ℕ, zero, suc, ◌+◌, ◌<◌, List, [], ◌∷◌, ◌++◌, length, take, get_or, append_assoc, Option, Result, Ok, Err, OnOk, refl, arith, add-one}
-use Rattle.std.specs.List.{All}
-use Rattle.model.specs.declared.end.Limits.{Limits}
-use Rattle.seeded.specs.SeededRun.{IsRun}
-use Rattle.conflicts.specs.Races.{IsShown}
 use Rattle.model.specs.declared.entry.Entry.{Entry}
 use Rattle.model.specs.declared.end.End.{End}
 use Rattle.design.specs.Compiled.{Compiled}
 use Rattle.explore.specs.declared.Shown.{Shown}
 use Rattle.seeded.specs.declared.run.SeededRun.{SeededRun}
-use Rattle.conflicts.specs.declared.told.Race as found
+use Rattle.conflicts.specs.declared.told.Race as found_race
+use Rattle.conflicts.specs.declared.told.Found.{Found}
+use Rattle.conflicts.specs.declared.told.Tries.{Tries}
 use Rattle.verdict.specs.declared.race.Race.{Race}
 use Rattle.verdict.specs.RaceLines.{race_text}
 use Rattle.locations.specs.declared.location.Process.{Process}
 use Rattle.naming.specs.Begins.{AreProcessesOf}
-use Rattle.naming.specs.Naming.{AreRacesTold, IsRaceTold, TellsBehind, TellsEach, races_text, tell}
+use Rattle.naming.specs.Naming.{AreRacesTold, IsRaceTold, TellsBehind, TellsEach, end_text, races_text}
 
 text_one : (t : Race) → races_text (t ∷ []) ≡ race_text t
 text_one t = none_more (race_text t)
@@ -29,7 +27,7 @@ text_more [] t = text_one t
 text_more (u ∷ us) t = ap (λ l. race_text u ++ l) (text_more us t) ∙ sym (append_assoc (race_text u) (races_text us) (race_text t))
 
 -- one race more is told
-pub told_more : (begins : List Process) (code : Compiled) (shown : List (Shown Entry End)) (prefix : Option (List ℕ)) (original : SeededRun) (n i : ℕ) (rs : List found.Race) (d : found.Race) (ts : List Race) (t : Race) → i < length rs
+pub told_more : (begins : List Process) (code : Compiled) (shown : List (Shown Entry End)) (prefix : Option (List ℕ)) (original : SeededRun) (n i : ℕ) (rs : List found_race.Race) (d : found_race.Race) (ts : List Race) (t : Race) → i < length rs
     → AreRacesTold begins code shown prefix original n (take i rs) ts → IsRaceTold begins code shown prefix original (n + i) (get_or rs i d) t
     → AreRacesTold begins code shown prefix original n (take (suc i) rs) (ts ++ t ∷ [])
 told_more begins code shown prefix original n i [] d ts t lt all one = absurd (omega (arith, lt))
@@ -41,7 +39,7 @@ told_more begins code shown prefix original n (suc i) (r ∷ rs) d (u ∷ us) t 
     (head, told_more begins code shown prefix original (n + 1) i rs d us t (omega (arith, lt)) all (subst (λ k. IsRaceTold begins code shown prefix original k (get_or rs i d) t) (omega arith) one))
 
 -- with one more, all up to it are told
-pub tells_more : (begins : List Process) (code : Compiled) (shown : List (Shown Entry End)) (prefix : Option (List ℕ)) (original : SeededRun) (i : ℕ) (rs : List found.Race) (d : found.Race) (t : Race) (old mid new : List ℕ) → i < length rs
+pub tells_more : (begins : List Process) (code : Compiled) (shown : List (Shown Entry End)) (prefix : Option (List ℕ)) (original : SeededRun) (i : ℕ) (rs : List found_race.Race) (d : found_race.Race) (t : Race) (old mid new : List ℕ) → i < length rs
     → TellsEach begins code shown prefix original (take i rs) old mid → IsRaceTold begins code shown prefix original (i + 1) (get_or rs i d) t → new ≡ mid ++ race_text t
     → TellsEach begins code shown prefix original (take (i + 1) rs) old new
 tells_more begins code shown prefix original i rs d t old mid new lt tells one at = record {
@@ -59,12 +57,13 @@ tells_none begins code shown prefix original old = record { told = []; are_told 
     none_more [] = refl
     none_more (x ∷ xs) = ap (λ ys. x ∷ ys) (none_more xs)
 
--- lines on the races of a run are lines on races
-pub tells_behind : {A E : Type 0} (r : Result A E) (source : List ℕ) (begins : List Process) (code : Compiled) (limits : Limits) (shown : List (Shown Entry End)) (here prefix : Option (List ℕ)) (original : SeededRun) (rs : List found.Race) (old new : List ℕ) → AreProcessesOf source begins → here ≡ prefix
-    → IsRun code limits original → All (IsShown code limits original) rs → OnOk r (TellsEach begins code shown here original rs old new) → OnOk r (TellsBehind source code limits shown prefix old new)
-tells_behind (Ok x) source begins code limits shown here prefix original rs old new of_source same is_run are_shown each = record {
-  lines = races_text each.told;
-  tells = tell begins original rs each.told of_source is_run are_shown (subst (λ p. AreRacesTold begins code shown p original 1 rs each.told) same each.are_told) refl;
-  new_is = each.new_is;
+-- the lines on each race, and then by what their list was cut
+pub tells_behind : {A E : Type 0} (r : Result A E) (source : List ℕ) (begins : List Process) (code : Compiled) (shown : List (Shown Entry End)) (prefix : Option (List ℕ)) (tries : Tries) (found : Found) (old mid new : List ℕ)
+    → AreProcessesOf source begins → TellsEach begins code shown prefix found.original found.races.items old mid → OnOk r (new ≡ mid ++ end_text tries found.cut)
+    → OnOk r (TellsBehind source code shown prefix tries found old new)
+tells_behind (Ok x) source begins code shown prefix tries found old mid new of_source each at = record {
+  lines = races_text each.told ++ end_text tries found.cut;
+  tells = record { begins = begins; of_source = of_source; told = each.told; are_told = each.are_told; lines_is = refl };
+  new_is = at ∙ (ap (λ l. l ++ end_text tries found.cut) each.new_is ∙ append_assoc old (races_text each.told) (end_text tries found.cut));
 }
-tells_behind (Err x) source begins code limits shown here prefix original rs old new of_source same is_run are_shown each = tt
+tells_behind (Err x) source begins code shown prefix tries found old mid new of_source each at = tt

@@ -3,22 +3,23 @@ use Rattle.std.specs.Prelude.{◌≡◌, ℕ, ◌+◌, List, [], ◌∷◌, ◌+
 use Rattle.std.specs.List.{All}
 use Rattle.model.specs.declared.entry.Entry.{Entry}
 use Rattle.model.specs.declared.end.End.{End}
-use Rattle.model.specs.declared.end.Limits.{Limits}
 use Rattle.design.specs.Compiled.{Compiled}
 use Rattle.explore.specs.declared.Shown.{Shown}
 use Rattle.seeded.specs.declared.run.SeededRun.{SeededRun}
-use Rattle.seeded.specs.SeededRun.{IsRun}
-use Rattle.conflicts.specs.declared.told.Race as found
+use Rattle.conflicts.specs.declared.told.Race as found_race
+use Rattle.conflicts.specs.declared.told.Bound.{Bound}
+use Rattle.conflicts.specs.declared.told.Found.{Found}
+use Rattle.conflicts.specs.declared.told.Tries.{Tries}
 use Rattle.deeds.specs.declared.role.Role as found_role
-use Rattle.conflicts.specs.Races.{IsShown}
 use Rattle.verdict.specs.VerdictLines.{IsFirstDifference, HaveSameLines}
 use Rattle.verdict.specs.declared.race.Race.{Race}
 use Rattle.verdict.specs.declared.race.Role.{Role}
 use Rattle.verdict.specs.declared.race.Run.{Run}
 use Rattle.verdict.specs.RaceLines.{prefix_of, race_text}
+use Rattle.verdict.specs.CutLines.{cut_text}
 use Rattle.locations.specs.declared.location.Process.{Process}
 use Rattle.naming.specs.Begins.{AreProcessesOf, begin_of}
-use Rattle.naming.specs.RaceWords.{word_of, IsSiteTold}
+use Rattle.naming.specs.RaceWords.{cut_of, word_of, IsSiteTold}
 
 -- a process is told by its number, where it begins among these, and what it does in words
 pub record IsRoleTold (begins : List Process) (role : found_role.Role) (told : Role) : Type 0 where
@@ -31,21 +32,21 @@ abbrev pub IsDifferenceTold : List ℕ → List ℕ → Option ℕ → List ℕ 
 IsDifferenceTold one other (Some number) first second = IsFirstDifference one other number first second
 IsDifferenceTold one other None first second = HaveSameLines one other
 
--- a text and an end are those of a run
-abbrev pub IsText : SeededRun → Shown Entry End → Type 0
-IsText run s = (s.text.items ≡ string_bytes run.lines) × (s.end ≡ run.end)
+-- the journal beside a text is that of a run
+abbrev pub HasJournal : SeededRun → Shown Entry End → Type 0
+HasJournal run s = s.moves.items ≡ run.journal.items
 
--- a journal is told by a number, from 1, only where the text with that number is that of the run, with its end
+-- A journal is told by a number, from 1, where the one with that number is that of the run. None is told where none of them is.
 abbrev pub IsJournalTold : List (Shown Entry End) → SeededRun → Option ℕ → Type 0
-IsJournalTold shown run (Some number) = (s : Shown Entry End) × (place : ℕ) × (number ≡ place + 1) × (slice_get shown place ≡ Some s) × IsText run s
-IsJournalTold shown run None = Unit {0}
+IsJournalTold shown run (Some number) = (s : Shown Entry End) × (place : ℕ) × (number ≡ place + 1) × (slice_get shown place ≡ Some s) × HasJournal run s
+IsJournalTold shown run None = All (λ s. HasJournal run s → ⊥) shown
 
 -- one of the two runs of a race
 abbrev pub IsRunTold : List (Shown Entry End) → SeededRun → Run → Type 0
 IsRunTold shown run told = IsJournalTold shown run told.journal
 
 -- A race is told with a number: for what, when, by whom, and by the two runs.
-pub record IsRaceTold (begins : List Process) (code : Compiled) (shown : List (Shown Entry End)) (prefix : Option (List ℕ)) (original : SeededRun) (number : ℕ) (race : found.Race) (told : Race) : Type 0 where
+pub record IsRaceTold (begins : List Process) (code : Compiled) (shown : List (Shown Entry End)) (prefix : Option (List ℕ)) (original : SeededRun) (number : ℕ) (race : found_race.Race) (told : Race) : Type 0 where
   pub number_is : told.number ≡ number
   pub site : IsSiteTold code race.site told.site
   pub time_is : told.time ≡ race.time
@@ -57,7 +58,7 @@ pub record IsRaceTold (begins : List Process) (code : Compiled) (shown : List (S
   pub other : IsRunTold shown race.exchanged told.exchanged
 
 -- so each race is told, with numbers from one on
-abbrev pub AreRacesTold : List Process → Compiled → List (Shown Entry End) → Option (List ℕ) → SeededRun → ℕ → List found.Race → List Race → Type 0
+abbrev pub AreRacesTold : List Process → Compiled → List (Shown Entry End) → Option (List ℕ) → SeededRun → ℕ → List found_race.Race → List Race → Type 0
 AreRacesTold begins code shown prefix original number [] [] = Unit {0}
 AreRacesTold begins code shown prefix original number (r ∷ rs) [] = ⊥
 AreRacesTold begins code shown prefix original number [] (t ∷ ts) = ⊥
@@ -69,20 +70,28 @@ abbrev pub races_text : List Race → List ℕ
 races_text [] = []
 races_text (t ∷ ts) = race_text t ++ races_text ts
 
--- Races of a source's design are told in these lines, each process by where it begins: each is so in one lawful run in time, and is
--- shown by another one.
-pub data TellsRaces (source : List ℕ) (code : Compiled) (limits : Limits) (shown : List (Shown Entry End)) (prefix : Option (List ℕ)) (lines : List ℕ) : Type 0 where
-  tell : (begins : List Process) (original : SeededRun) (races : List found.Race) (told : List Race) → AreProcessesOf source begins → IsRun code limits original → All (IsShown code limits original) races
-      → AreRacesTold begins code shown prefix original 1 races told → lines ≡ races_text told → TellsRaces source code limits shown prefix lines
+-- the line on a list that was cut, and none where it wasn't
+abbrev pub end_text : Tries → Option Bound → List ℕ
+end_text tries (Some bound) = cut_text (cut_of tries bound)
+end_text tries None = []
 
--- a text has grown by lines that tell races
-pub record TellsBehind (source : List ℕ) (code : Compiled) (limits : Limits) (shown : List (Shown Entry End)) (prefix : Option (List ℕ)) (old new : List ℕ) : Type 0 where
+-- What was found in the design of a source is told in these lines: its races, one after another, each process by where it begins, and by what their list
+-- was cut, if it was.
+pub record TellsRaces (source : List ℕ) (code : Compiled) (shown : List (Shown Entry End)) (prefix : Option (List ℕ)) (tries : Tries) (found : Found) (lines : List ℕ) : Type 0 where
+  pub begins : List Process
+  pub of_source : AreProcessesOf source begins
+  pub told : List Race
+  pub are_told : AreRacesTold begins code shown prefix found.original 1 found.races.items told
+  pub lines_is : lines ≡ races_text told ++ end_text tries found.cut
+
+-- a text has grown by lines that tell what was found
+pub record TellsBehind (source : List ℕ) (code : Compiled) (shown : List (Shown Entry End)) (prefix : Option (List ℕ)) (tries : Tries) (found : Found) (old new : List ℕ) : Type 0 where
   pub lines : List ℕ
-  pub tells : TellsRaces source code limits shown prefix lines
+  pub tells : TellsRaces source code shown prefix tries found lines
   pub new_is : new ≡ old ++ lines
 
 -- a text has grown by lines that tell these races
-pub record TellsEach (begins : List Process) (code : Compiled) (shown : List (Shown Entry End)) (prefix : Option (List ℕ)) (original : SeededRun) (races : List found.Race) (old new : List ℕ) : Type 0 where
+pub record TellsEach (begins : List Process) (code : Compiled) (shown : List (Shown Entry End)) (prefix : Option (List ℕ)) (original : SeededRun) (races : List found_race.Race) (old new : List ℕ) : Type 0 where
   pub told : List Race
   pub are_told : AreRacesTold begins code shown prefix original 1 races told
   pub new_is : new ≡ old ++ races_text told

@@ -1,10 +1,11 @@
 //! The races of a design, in lines.
 //!
-//! `push_races` searches for races by `conflicts` and puts those that it finds behind a text, in the words of `verdict`: the
-//! register by its name, each process by the line in which it begins, and the line in which the two runs differ.
+//! `push_races` puts the races that `conflicts` found behind a text, in the words of `verdict`: the register by its name, each
+//! process by the line in which it begins, the line in which the two runs differ, and the numbers of their journals; and then by what
+//! the list of races was cut, if it was.
 //!
-//! What the layer above uses: the contract of `push_races`. Each race that is told is so in a lawful run, and another lawful run
-//! shows it; its lines are those of `verdict`, with the names, the time, and the lines of these two runs.
+//! What the layer above uses: the contract of `push_races`. The lines are those of `verdict`, with the names, the time, and the
+//! lines of the two runs; a journal is named by its number where it is that of the run, and nowhere else.
 #![tactic(auto)]
 
 mod naming;

@@ -1,39 +1,28 @@
-//! The search for races, told in lines.
-ghost use Rattle.std.specs.Prelude.{◌≡◌, ◌≢◌, ◌≤◌, ◌++◌, [], true, IfOk, IfSome, OnOk, option_map, string_bytes};
-ghost use Rattle.std.specs.List.{All};
-ghost use Rattle.model.specs.Runs.{last_time};
-ghost use Rattle.conflicts.specs.Races.{IsShown};
+//! Races that were found, told in lines.
+ghost use Rattle.std.specs.Prelude.{◌≡◌, ◌≢◌, ◌↔◌, ◌++◌, [], IfOk, IsTrue, OnOk, option_map, string_bytes};
 ghost use Rattle.tokens.specs.declared.cut.CutFault.TheVariants as faults;
 ghost use Rattle.naming.specs.Begins.{AreProcessesOf, begin_of};
-ghost use Rattle.naming.specs.Naming.{AreRacesTold, IsDifferenceTold, IsJournalTold, IsRaceTold, IsRoleTold, IsText, TellsBehind, TellsEach};
+ghost use Rattle.naming.specs.Naming.{AreRacesTold, HasJournal, IsDifferenceTold, IsJournalTold, IsRaceTold, IsRoleTold, TellsBehind, TellsEach, end_text};
 
-use crate::words::{site_of, word_of};
-use conflicts::{Found, Tries, find_races};
+use crate::words::{cut_of, site_of, word_of};
+use conflicts::{Bound, Found, Tries};
 use design::Design;
 use explore::Shown;
 use locations::processes;
-use model::end::{End, Limits};
+use model::end::End;
 use model::entry::Entry;
-use progress::Progress;
 use seeded::run::SeededRun;
 use std::alloc::{AllocError, Global};
 use tokens::cut::CutFault;
-use verdict::{Process, Race, Role, Run, first_difference, push_race};
+use verdict::{Process, Race, Role, Run, first_difference, push_cut, push_race};
 
-/// How many second runs are made to name races, how many races are named at most, and how many entries these runs have together.
-const TRIES: Tries = Tries {
-    pairs: 1000,
-    races: 64,
-    entries: 20_000_000,
-};
-
-/// What races are named by: the source, its design, the limits of its runs, and the texts that were found, of which the
-/// journals are saved at paths that begin with a prefix, where one is given.
+/// What races are named by: the source, its design, the bounds within which they were looked for, and the texts that are known, of which
+/// the journals are saved at paths that begin with a prefix, where one is given.
 #[derive(Clone, Copy)]
 pub struct Names<'a> {
     pub source: &'a [u8],
     pub design: &'a Design,
-    pub limits: Limits,
+    pub tries: Tries,
     pub prefix: Option<&'a str>,
     pub shown: &'a [Shown<Entry, End>],
 }
@@ -46,32 +35,28 @@ struct Lines<'a> {
     other: &'a [u8],
 }
 
-/// Searches for the races that show in one run of a design and in runs in which two of its entries are exchanged, and puts their
-/// lines behind a text. Fails where memory is refused to the text; where it is refused to the search, the races found until then
-/// are told.
-pub fn push_races<P: Progress>(
+/// Puts the lines on races that were found behind a text, and the one that says by what their list was cut. Fails where memory is refused.
+pub fn push_races<'a>(
     alloc: Global,
     text: &mut Vec<u8>,
-    names: &Names<'_>,
-    progress: &P,
+    names: &Names<'a>,
+    found: &'a Found,
 ) -> Result<(), AllocError>
-    requires { IfSome names.now.limits.until (λ until. until ≤ last_time) }
-    ensures { OnOk result (TellsBehind names.entry.now.source.now names.entry.now.design.now names.entry.now.limits names.entry.now.shown.now (option_map (λ path. path.now) names.entry.now.prefix) text.old.items text.new.items) }
+    ensures { OnOk result (TellsBehind names.entry.now.source.now names.entry.now.design.now names.entry.now.shown.now (option_map (λ path. path.now) names.entry.now.prefix) names.entry.now.tries found.entry.now text.old.items text.new.items) }
 {
     let processes = processes_of(alloc, names.source)?;
-    let found = find_races(alloc, names.design, names.limits, TRIES, progress);
-    // The same names, for no longer than the runs live.
-    let here = Names {
-        source: names.source,
-        design: names.design,
-        limits: names.limits,
-        prefix: match names.prefix {
-            Some(prefix) => Some(prefix),
-            None => None,
-        },
-        shown: names.shown,
-    };
-    push_each(text, &here, &processes, &found)
+    push_each(text, names, &processes, found)?;
+    push_end(text, names.tries, found.cut)
+}
+
+/// By what the list of races was cut, if it was.
+fn push_end(text: &mut Vec<u8>, tries: Tries, cut: Option<Bound>) -> Result<(), AllocError>
+    ensures { OnOk result (text.new.items ≡ text.old.items ++ end_text tries cut) }
+{
+    match cut {
+        Some(bound) => push_cut(text, cut_of(tries, bound)),
+        None => Ok(()),
+    }
 }
 
 /// The processes of a source; none where it isn't cut into tokens.
@@ -183,19 +168,41 @@ fn begin_of(processes: &[locations::Process], number: u32) -> Option<Process>
     }
 }
 
-/// Whether a text that was found is that of a run, with its end.
-fn is_text(shown: &Shown<Entry, End>, run: &SeededRun) -> bool
-    ensures { result ≡ true → IsText run.now shown.now }
+/// Whether two entries are the same.
+fn is_same(one: Entry, other: Entry) -> bool
+    ensures { IsTrue result ↔ (one ≡ other) }
 {
-    shown.end == run.end && shown.text.as_slice() == run.lines.as_str().as_bytes()
+    one == other
 }
 
-/// The number of the journal of a text that was found and is that of this run with its end, from 1.
+/// Whether two journals are the same.
+fn are_same(one: &[Entry], other: &[Entry]) -> bool
+    ensures { IsTrue result ↔ (one.now ≡ other.now) }
+{
+    if one.len() != other.len() {
+        return false;
+    }
+    for place in 0..one.len() {
+        if !is_same(one[place], other[place]) {
+            return false;
+        }
+    }
+    true
+}
+
+/// Whether the journal beside a text is that of a run.
+fn is_journal(shown: &Shown<Entry, End>, run: &SeededRun) -> bool
+    ensures { IsTrue result ↔ HasJournal run.now shown.now }
+{
+    are_same(shown.moves.as_slice(), run.journal.as_slice())
+}
+
+/// The number of the journal that is that of a run, from 1.
 fn journal_of(shown: &[Shown<Entry, End>], run: &SeededRun) -> Option<usize>
     ensures { IsJournalTold shown.now run.now result }
 {
     for (place, one) in shown.iter().enumerate() {
-        if is_text(one, run) {
+        if is_journal(one, run) {
             return Some(place + 1);
         }
     }

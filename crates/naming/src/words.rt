@@ -1,11 +1,28 @@
 //! The words in which a race is told.
 ghost use Rattle.std.specs.Prelude.{◌≡◌};
 ghost use Rattle.deeds.specs.declared.role.Site.TheVariants as sites;
-ghost use Rattle.naming.specs.RaceWords.{word_of, IsSiteTold};
+ghost use Rattle.naming.specs.RaceWords.{cut_of, word_of, IsSiteTold};
 
+use conflicts::{Bound, Tries};
 use deeds::Does;
 use design::{Design, RegId};
-use verdict::Site;
+use verdict::{Cut, Site};
+
+/// The most entries between two changes of the regions that are compared with one another.
+const MOST_STEPS: u64 = 1024;
+
+/// By what a list of races was cut, with the bound that was met.
+pub(crate) fn cut_of(tries: Tries, bound: Bound) -> Cut
+    ensures { result ≡ cut_of tries bound }
+{
+    match bound {
+        Bound::Races => Cut::Races(tries.races as u64),
+        Bound::Pairs => Cut::Runs(tries.pairs as u64),
+        Bound::Entries => Cut::Entries(tries.entries),
+        Bound::Steps => Cut::Steps(MOST_STEPS),
+        Bound::Memory => Cut::Memory,
+    }
+}
 
 /// What an entry does, in words.
 pub(crate) fn word_of(does: Does) -> &'static str

@@ -18,12 +18,15 @@ use Rattle.arguments.specs.declared.request.WavesRequest.{WavesRequest}
 use Rattle.arguments.specs.declared.extent.Extent.{Extent}
 use Rattle.program.specs.declared.finding.Finding.{Finding}
 use Rattle.program.specs.declared.fault.Fault.{Fault}
+use Rattle.program.specs.declared.fault.Fault.TheVariants as faults
+use Rattle.program.specs.Findings.{journals_of}
+use Rattle.design.specs.Compiled.{Compiled}
 use Rattle.arguments.specs.Options.{CanRun, CanSearch}
 use Rattle.program.specs.declared.ending.Ending.{Ending}
 use Rattle.program.specs.declared.ending.Ending.TheVariants as ending
 use Rattle.program.specs.declared.finding.Finding.TheVariants as finding
 use Rattle.program.specs.Program.{IsNoRequestStatus, ended_status, ending_of, finding_status, help_text, right_text, status_of, stop_of, stop_status, version_text}
-use Rattle.program.specs.Printed.{AsksCheckOf, HasBegun, HasEnded, HasLeft, HasPrintedBy, HasRefused, HasRun, HasSearched, HasChecked, HasDumped, HasExplainedSome, HasShown, HasWaves, IsDone, IsLeft, IsLeftByRun, IsRight, IsUnprinted, IsWrong, begun, checked, helped, interrupted, ran, searched, untouched, versioned}
+use Rattle.program.specs.Printed.{AsksCheckOf, HasBegun, HasEnded, HasLeft, HasPrintedBy, HasRefused, HasRun, HasSavedSome, HasSearched, HasChecked, HasDumped, HasExplainedSome, HasShown, HasWaves, IsDone, IsLeft, IsLeftByRun, IsRight, IsUnprinted, IsWrong, begun, checked, helped, interrupted, ran, searched, untouched, versioned}
 use Rattle.program.specs.StandardError.{HasExplainedTold, IsEndTold, IsTold, IsUnfinished, IsWanting, nothing, of_fault, of_source, of_stop}
 use Rattle.program.proofs.Statuses.{not_of_fault, not_of_stop}
 use Rattle.journal.specs.declared.counted.Counted.{Counted}
@@ -103,20 +106,31 @@ some_saved_on a b c None journals h k = kept_on a b c h k
 some_saved_on None b c (Some p) journals h (count, k) = (count, tt)
 some_saved_on (Some fs) b c (Some p) journals h k = subst (λ (o : Option (List Made)). SavesSomeWhereAsked o c (Some p) journals) h k
 
+-- what a search left behind its races, where the files were the same before it
+more_on : (design : Compiled) (extent : Extent) (prefix : Option (List ℕ)) (known : List (Shown Entry End)) (first : List ℕ) (old new : Option (List ℕ)) (a b c : Option (List Made)) → KeepsFiles a b
+    → (Appends old new first × KeepsFiles b c) ⊎ HasSavedSome design extent prefix known first old new b c
+    → (Appends old new first × KeepsFiles a c) ⊎ HasSavedSome design extent prefix known first old new a c
+more_on design extent prefix known first old new a b c h (inl (p, s)) = inl (p, kept_on a b c h s)
+more_on design extent prefix known first old new a b c h (inr m) = inr (record {
+  last = m.last;
+  has_found = m.has_found;
+  printed = m.printed;
+  saved = some_saved_on a b c prefix (journals_of m.has_found.shown m.has_found.endless) h m.saved;
+})
+
 -- what a search left, where the files were the same before it
 left_on : (extent : Extent) (prefix : Option (List ℕ)) (old new : Option (List ℕ)) (a b c : Option (List Made)) → KeepsFiles a b
     → HasLeft extent prefix old new b c → HasLeft extent prefix old new a c
-left_on extent prefix old new None b c h (inl (k, s)) = inl (k, tt)
-left_on extent prefix old new None b c h (inr begins) = inr (record {
+left_on extent prefix old new a b c h (inl (k, s)) = inl (k, kept_on a b c h s)
+left_on extent prefix old new a b c h (inr begins) = inr (record {
   source = begins.source;
   design = begins.design;
   is_design = begins.is_design;
+  known = begins.known;
   first = begins.first;
   is_first = begins.is_first;
-  printed = begins.printed;
-  saved = inl tt;
+  left = more_on begins.design extent prefix begins.known begins.first old new a b c h begins.left;
 })
-left_on extent prefix old new (Some fs) b c h k = subst (λ (o : Option (List Made)). HasLeft extent prefix old new o c) h k
 
 pub search_left_on : (extent : Extent) (prefix : Option (List ℕ)) (old new : Option (List ℕ)) (a b c : Option (List Made)) (r : Result Finding Fault) → KeepsFiles a b
     → IfErr r (λ f. status_of f ≡ 6 → HasLeft extent prefix old new b c) → IfErr r (λ f. status_of f ≡ 6 → HasLeft extent prefix old new a c)
@@ -130,13 +144,13 @@ shown_on extent prefix old new a b c (Ok found) h k = record {
   source = k.source;
   design = k.design;
   is_design = k.is_design;
-  claim = k.claim;
-  shown = k.shown;
-  are_found = k.are_found;
-  report = k.report;
-  is_report = k.is_report;
+  known = k.known;
+  first = k.first;
+  is_first = k.is_first;
+  last = k.last;
+  has_found = k.has_found;
   printed = k.printed;
-  saved = all_saved_on a b c prefix (map (λ s. s.moves.items) k.shown) h k.saved;
+  saved = all_saved_on a b c prefix (journals_of k.has_found.shown k.has_found.endless) h k.saved;
   finding = k.finding;
 }
 shown_on extent prefix old new a b c (Err fault) h k = tt
@@ -207,6 +221,7 @@ done_by_status words old new files files' (Ok ending.Done) h e = h
 done_by_status words old new files files' (Ok (ending.Stopped s)) h e = absurd (not_of_stop s 0 refl e)
 done_by_status words old new files files' (Ok (ending.Found finding.One)) h e = searched h
 done_by_status words old new files files' (Ok (ending.Found finding.Unfinished)) h e = cc
+done_by_status words old new files files' (Ok (ending.Found finding.Memory)) h e = cc
 done_by_status words old new files files' (Ok (ending.Found finding.Several)) h e = cc
 done_by_status words old new files files' (Ok (ending.Wrong text)) h e = cc
 done_by_status words old new files files' (Err f) h e = absurd (not_of_fault f 0 refl e)
@@ -216,6 +231,7 @@ right_by_status (Ok ending.Done) e = cc
 right_by_status (Ok (ending.Stopped s)) e = not_of_stop s 2 refl e
 right_by_status (Ok (ending.Found finding.One)) e = cc
 right_by_status (Ok (ending.Found finding.Unfinished)) e = cc
+right_by_status (Ok (ending.Found finding.Memory)) e = cc
 right_by_status (Ok (ending.Found finding.Several)) e = cc
 right_by_status (Ok (ending.Wrong text)) e = cc
 right_by_status (Err f) e = not_of_fault f 2 refl e
@@ -227,6 +243,7 @@ refused_by_status words old new files files' (Ok ending.Done) h k e = cc
 refused_by_status words old new files files' (Ok (ending.Stopped s)) h k e = absurd (not_of_stop s 3 refl e)
 refused_by_status words old new files files' (Ok (ending.Found finding.One)) h k e = cc
 refused_by_status words old new files files' (Ok (ending.Found finding.Unfinished)) h k e = cc
+refused_by_status words old new files files' (Ok (ending.Found finding.Memory)) h k e = cc
 refused_by_status words old new files files' (Ok (ending.Found finding.Several)) h k e = cc
 refused_by_status words old new files files' (Ok (ending.Wrong text)) h k e = h
 refused_by_status words old new files files' (Err f) h (inl one) e = absurd (omega (arith, one, e))
@@ -239,6 +256,7 @@ faulty_by_status window old new contents err err' (Ok ending.Done) h t e = cc
 faulty_by_status window old new contents err err' (Ok (ending.Stopped s)) h t e = absurd (not_of_stop s 5 refl e)
 faulty_by_status window old new contents err err' (Ok (ending.Found finding.One)) h t e = cc
 faulty_by_status window old new contents err err' (Ok (ending.Found finding.Unfinished)) h t e = cc
+faulty_by_status window old new contents err err' (Ok (ending.Found finding.Memory)) h t e = cc
 faulty_by_status window old new contents err err' (Ok (ending.Found finding.Several)) h t e = cc
 faulty_by_status window old new contents err err' (Ok (ending.Wrong text)) h t e = cc
 faulty_by_status window old new contents err err' (Err f) h t e = record { fault = f; explained = h e; told = t }
@@ -250,6 +268,7 @@ stopped_by_status words old new files files' contents err err' (Ok ending.Done) 
 stopped_by_status words old new files files' contents err err' (Ok (ending.Stopped s)) h t e = inl (record { stop = s; status_is = e; has_run = h; told = t })
 stopped_by_status words old new files files' contents err err' (Ok (ending.Found finding.One)) h t e = cc
 stopped_by_status words old new files files' contents err err' (Ok (ending.Found finding.Unfinished)) h t e = inr (h, t)
+stopped_by_status words old new files files' contents err err' (Ok (ending.Found finding.Memory)) h t e = cc
 stopped_by_status words old new files files' contents err err' (Ok (ending.Found finding.Several)) h t e = cc
 stopped_by_status words old new files files' contents err err' (Ok (ending.Wrong text)) h t e = cc
 stopped_by_status words old new files files' contents err err' (Err f) h t e = absurd (not_of_fault f 4 refl e)
@@ -258,9 +277,10 @@ pub wanting_by_status : {E : Type 0} (words : List Text) (old new : Option (List
     (err err' : Counted E) (ended : Result Ending Fault) → IfOk ended (HasEnded words old new files files') → IfErr ended (λ f. status_of f ≡ 6 → IsLeft words old new files files')
     → IsEndTold contents err err' ended → ended_status ended ≡ 6 → IsWanting words old new files files' contents err err'
 wanting_by_status words old new files files' contents err err' (Ok ending.Done) h k t e = cc
-wanting_by_status words old new files files' contents err err' (Ok (ending.Stopped s)) h k t e = inl (record { stop = s; status_is = e; has_run = h; told = t })
+wanting_by_status words old new files files' contents err err' (Ok (ending.Stopped s)) h k t e = inl (inl (record { stop = s; status_is = e; has_run = h; told = t }))
 wanting_by_status words old new files files' contents err err' (Ok (ending.Found finding.One)) h k t e = cc
 wanting_by_status words old new files files' contents err err' (Ok (ending.Found finding.Unfinished)) h k t e = cc
+wanting_by_status words old new files files' contents err err' (Ok (ending.Found finding.Memory)) h k t e = inl (inr (record { has_searched = h; told = t }))
 wanting_by_status words old new files files' contents err err' (Ok (ending.Found finding.Several)) h k t e = cc
 wanting_by_status words old new files files' contents err err' (Ok (ending.Wrong text)) h k t e = cc
 wanting_by_status words old new files files' contents err err' (Err f) h k t e = inr (k e)
@@ -271,6 +291,7 @@ several_by_status words old new files files' (Ok ending.Done) h e = cc
 several_by_status words old new files files' (Ok (ending.Stopped s)) h e = absurd (not_of_stop s 7 refl e)
 several_by_status words old new files files' (Ok (ending.Found finding.One)) h e = cc
 several_by_status words old new files files' (Ok (ending.Found finding.Unfinished)) h e = cc
+several_by_status words old new files files' (Ok (ending.Found finding.Memory)) h e = cc
 several_by_status words old new files files' (Ok (ending.Found finding.Several)) h e = h
 several_by_status words old new files files' (Ok (ending.Wrong text)) h e = cc
 several_by_status words old new files files' (Err f) h e = absurd (not_of_fault f 7 refl e)
@@ -291,6 +312,9 @@ no_finding finding.One (inr (inr e)) = cc
 no_finding finding.Unfinished (inl e) = cc
 no_finding finding.Unfinished (inr (inl e)) = cc
 no_finding finding.Unfinished (inr (inr e)) = cc
+no_finding finding.Memory (inl e) = cc
+no_finding finding.Memory (inr (inl e)) = cc
+no_finding finding.Memory (inr (inr e)) = cc
 no_finding finding.Several (inl e) = cc
 no_finding finding.Several (inr (inl e)) = cc
 no_finding finding.Several (inr (inr e)) = cc
@@ -336,7 +360,11 @@ pub silent_by_status : {E : Type 0} (contents : E → Option (List ℕ)) (err er
 silent_by_status contents err err' (Ok ending.Done) t e = t
 silent_by_status contents err err' (Ok (ending.Stopped s)) t (inl e) = absurd (not_of_stop s 0 refl e)
 silent_by_status contents err err' (Ok (ending.Stopped s)) t (inr e) = absurd (not_of_stop s 7 refl e)
-silent_by_status contents err err' (Ok (ending.Found found)) t e = t
+silent_by_status contents err err' (Ok (ending.Found finding.One)) t e = t
+silent_by_status contents err err' (Ok (ending.Found finding.Unfinished)) t e = t
+silent_by_status contents err err' (Ok (ending.Found finding.Memory)) t (inl e) = cc
+silent_by_status contents err err' (Ok (ending.Found finding.Memory)) t (inr e) = cc
+silent_by_status contents err err' (Ok (ending.Found finding.Several)) t e = t
 silent_by_status contents err err' (Ok (ending.Wrong text)) t (inl e) = cc
 silent_by_status contents err err' (Ok (ending.Wrong text)) t (inr e) = cc
 silent_by_status contents err err' (Err f) t (inl e) = absurd (not_of_fault f 0 refl e)
@@ -348,6 +376,7 @@ told_by_status contents err err' words old new files files' (Ok ending.Done) h t
 told_by_status contents err err' words old new files files' (Ok (ending.Stopped s)) h t = of_stop s refl t
 told_by_status contents err err' words old new files files' (Ok (ending.Found finding.One)) h t = nothing (inl refl) t
 told_by_status contents err err' words old new files files' (Ok (ending.Found finding.Unfinished)) h t = nothing (inr (inl refl)) t
+told_by_status contents err err' words old new files files' (Ok (ending.Found finding.Memory)) h t = of_fault faults.Memory refl t
 told_by_status contents err err' words old new files files' (Ok (ending.Found finding.Several)) h t = nothing (inr (inr refl)) t
 told_by_status contents err err' words old new files files' (Ok (ending.Wrong text)) h t = of_source h.begins refl (string_bytes text) t
 told_by_status contents err err' words old new files files' (Err f) h t = of_fault f refl t

@@ -5,3 +5,4 @@ pub mod Ended
 pub mod Explained
 pub mod Sampled
 pub mod Searched
+pub mod Knowing

@@ -1,5 +1,5 @@
 -- The runs of seeds as texts that were found.
-use Rattle.std.proofs.Common.{◌≡◌, ◌∙◌, sym, ℕ, zero, suc, ◌<◌, ◌≤◌, List, [], ◌∷◌, ◌++◌, length, get_or, Some, arith, ap, refl, inl, inr}
+use Rattle.std.proofs.Common.{◌≡◌, ◌∙◌, sym, ℕ, zero, suc, ◌<◌, ◌≤◌, List, [], ◌∷◌, ◌++◌, length, get_or, Some, None, inl, inr, refl, string_bytes, arith, ap}
 use Rattle.std.specs.List.{All, AllPairs}
 use Rattle.std.proofs.lemmas.List.Elements.{All-nil, All-cons, All-head, All-tail}
 use Rattle.model.specs.declared.entry.Entry.{Entry}
@@ -10,6 +10,7 @@ use Rattle.explore.specs.declared.Shown.{Shown}
 use Rattle.explore.specs.Search.{AreDistinct}
 use Rattle.seeded.specs.SeededRun.{IsRun}
 use Rattle.seeded.specs.Samples as seeded
+use Rattle.seeded.proofs.Parting.{parted_differ}
 use Rattle.seeded.specs.declared.run.SeededRun.{SeededRun}
 use Rattle.verdict.specs.declared.claim.Claim.TheVariants.{Sampled}
 use Rattle.arguments.specs.declared.extent.Extent.{Extent}
@@ -52,31 +53,27 @@ some_run [] [] j h lt = absurd (omega (arith, lt))
 some_run [] (s ∷ ss) j h lt = absurd h
 some_run (r ∷ rs) ss j h lt = r
 
--- behind a front, a byte stands at its place
-at_front : (before : List ℕ) (byte : ℕ) (behind : List ℕ) → get_or (before ++ byte ∷ behind) (length before) 0 ≡ byte
-at_front [] byte behind = refl
-at_front (b ∷ bs) byte behind = at_front bs byte behind
-
--- runs that are apart have other lines or another end
-distinct_of : (a b : SeededRun) → seeded.AreApart a b → seeded.AreDistinct a b
-distinct_of a b (inl parted) text end =
-    parted.differ (sym (at_front parted.before parted.byte parted.behind)
-    ∙ (ap (λ xs. get_or xs (length parted.before) 0) (sym parted.one_is ∙ (text ∙ parted.other_is)) ∙ at_front parted.before parted.other_byte parted.other_behind))
-distinct_of a b (inr whole) text end = whole.2 text end
-
-all_apart : (rs : List SeededRun) (ss : List (Shown Entry End)) → AreOf rs ss → AllPairs seeded.AreApart rs → AllPairs AreDistinct ss
+all_apart : (rs : List SeededRun) (ss : List (Shown Entry End)) → AreOf rs ss → AllPairs seeded.AreDistinct rs → AllPairs AreDistinct ss
 all_apart rs ss h apart i j d lt in_range text end =
     let c = some_run rs ss j h in_range in
     let one = at_place rs ss i c d h (omega (arith, lt, in_range)) in
     let other = at_place rs ss j c d h in_range in
     let there : j < length rs = omega (arith, in_range, same_length rs ss h) in
-    distinct_of (get_or rs i c) (get_or rs j c) (apart i j c lt there) (sym one.0 ∙ (text ∙ other.0)) (sym one.1 ∙ (end ∙ other.1))
+    apart i j c lt there (sym one.0 ∙ (text ∙ other.0)) (sym one.1 ∙ (end ∙ other.1))
 
-pub samples_found : (n asked : ℕ) (code : Compiled) (extent : Extent) (rs : List SeededRun) (ss : List (Shown Entry End)) → extent.samples ≡ Some asked → n ≤ asked → length rs ≤ n
-    → AreOf rs ss → All (IsRun code (limits_in extent)) rs → AllPairs seeded.AreApart rs → AreFound code extent (Sampled n) ss
-samples_found n asked code extent rs ss some few enough h all apart = record {
+-- runs that are apart differ in their lines or their ends
+apart_distinct : (a b : SeededRun) → seeded.AreApart a b → seeded.AreDistinct a b
+apart_distinct a b (inl parted) text end = parted_differ (string_bytes a.lines) (string_bytes b.lines) parted text
+apart_distinct a b (inr (one, other, distinct)) text end = distinct text end
+
+pub samples_found : (n asked : ℕ) (code : Compiled) (extent : Extent) (rs : List SeededRun) (ss : List (Shown Entry End)) → extent.samples ≡ Some asked → n ≤ asked → length rs ≤ n → length rs ≤ extent.max_texts
+    → AreOf rs ss → All (IsRun code (limits_in extent)) rs → AllPairs seeded.AreApart rs → AreFound code extent (Sampled n) ss None
+samples_found n asked code extent rs ss some few enough short h all apart = record {
   sound = all_found n code (limits_in extent) rs ss h all;
-  distinct = all_apart rs ss h apart;
+  distinct = all_apart rs ss h (λ i j d lt within. apart_distinct (get_or rs i d) (get_or rs j d) (apart i j d lt within));
+  few = omega (arith, short, same_length rs ss h);
   within = (asked, some, few, omega (arith, enough, same_length rs ss h));
   all = tt;
+  never = tt;
+  numbered = refl;
 }

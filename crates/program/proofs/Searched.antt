@@ -1,75 +1,138 @@
 -- What a search has found, with what is claimed of it.
-use Rattle.std.proofs.Common.{◌≡◌, ◌⊎◌, ◌∙◌, ap, append_assoc, inr, subst, sym, refl, ℕ, ◌+◌, Bool, List, [], ◌∷◌, ◌++◌, length, map, Option, Some, None, option_map, Result, Ok, Err, IfOk, IsTrue}
+use Rattle.std.proofs.Common.{◌≡◌, ◌⊎◌, ◌∙◌, ap, append_assoc, inl, inr, subst, sym, refl, ℕ, ◌+◌, ◌≤◌, ◌<◌, Bool, true, false, List, [], ◌∷◌, ◌++◌, length, map, get_or, Option, Some, None, option_map, Result, Ok, Err, IfErr, IfOk, IfSome, IsTrue, OnOk, arith}
 use Rattle.std.specs.List.{All, AllPairs}
 use Rattle.model.specs.declared.entry.Entry.{Entry}
 use Rattle.model.specs.declared.end.End.{End}
+use Rattle.model.specs.declared.end.Limits.{Limits}
 use Rattle.design.specs.Compiled.{Compiled, design_of}
 use Rattle.explore.specs.declared.Shown.{Shown}
+use Rattle.explore.specs.declared.stopped.Stopped.{Stopped}
+use Rattle.explore.specs.declared.stopped.Stopped.TheVariants as stopped
+use Rattle.explore.specs.Grown.{Extends}
 use Rattle.explore.specs.Search.{AreDistinct, IsShown}
 use Rattle.walks.specs.JournalsInTime.{AreAllTexts, IsLawfulText}
+use Rattle.races.specs.DesignRuns as orders
+use Rattle.conflicts.specs.declared.told.Found.{Found}
+use Rattle.conflicts.specs.declared.told.Tries.{Tries}
+use Rattle.naming.specs.Naming.{TellsBehind, TellsRaces}
 use Rattle.verdict.specs.declared.claim.Claim.{Claim}
-use Rattle.model.specs.declared.end.Limits.{Limits}
-use Rattle.verdict.specs.Verdicts.{verdict_text}
-use Rattle.naming.specs.Naming.{AreRacesTold, IsJournalTold, IsRaceTold, TellsBehind, TellsRaces, tell}
-use Rattle.seeded.specs.declared.run.SeededRun.{SeededRun}
-use Rattle.conflicts.specs.declared.told.Race as found
-use Rattle.verdict.specs.declared.race.Race.{Race}
-use Rattle.locations.specs.declared.location.Process.{Process}
-use Rattle.program.specs.Printed.{HasLeft, HasSavedSome, HasShown, IsToldFirst, IsToldLast, TellsOtherRaces}
-use Rattle.std.specs.Io.KnownBytes.{Appends}
-use Rattle.frontend.specs.Sources.{IsDesignOf}
-use Rattle.files.specs.Saved.{KeepsFiles, Made, SavesAllWhereAsked}
-use Rattle.program.specs.declared.finding.Finding.{Finding}
-use Rattle.program.proofs.Ended.{appends_then}
 use Rattle.verdict.specs.declared.claim.Claim.TheVariants.{Every, SoFar, Sampled}
+use Rattle.verdict.specs.declared.claim.Met.TheVariants.{States, Texts, Entries, Memory}
+use Rattle.std.specs.Io.KnownBytes.{Appends, Keeps}
+use Rattle.frontend.specs.Sources.{IsDesignOf}
+use Rattle.files.specs.Saved.{KeepsFiles, Made, SavesAllWhereAsked, SavesSomeWhereAsked}
 use Rattle.arguments.specs.declared.extent.Extent.{Extent}
-use Rattle.program.specs.Findings.{AreFound, HaveSomeEnds, IsWithin, OnEvery, finding_of, first_text, limits_in}
+use Rattle.program.specs.declared.finding.Finding.{Finding}
+use Rattle.program.specs.declared.fault.Fault.{Fault}
+use Rattle.program.specs.Findings.{AreFound, IsFound, IsLawful, IsWithin, OnEvery, claim_of, endless_number, finding_of, journals_of, limits_in, some_journal, stop_of, unless_stopped}
+use Rattle.program.specs.Printed.{HasFound, HasLeft, HasSavedSome, HasShown, IsToldFirst, IsToldLast}
+use Rattle.program.specs.Program.{status_of}
+use Rattle.program.proofs.Ended.{all_saved_on, appends_then, kept_on, some_saved_on}
 
-pub searched_found : (code : Compiled) (extent : Extent) (claim : Claim) (covered : Bool) (ss : List (Shown Entry End)) → IsWithin extent (length ss) claim
-    → extent.samples ≡ None → OnEvery claim (IsTrue covered)
-    → All (λ s. IsLawfulText (design_of code) (limits_in extent) s.moves.items s.text.items s.end) ss → AllPairs AreDistinct ss
-    → (IsTrue covered → AreAllTexts (design_of code) (limits_in extent) (IsShown ss)) → AreFound code extent claim ss
-searched_found code extent (Every states) covered ss within none every sound distinct all = record { sound = sound; distinct = distinct; within = within; all = all every }
-searched_found code extent (SoFar met) covered ss within none every sound distinct all = record { sound = sound; distinct = distinct; within = within; all = tt }
-searched_found code extent (Sampled orders) covered ss (asked, some, few, enough) none every sound distinct all = absurd (clash (sym none ∙ some))
+-- what is claimed of a search that stopped for this, or didn't
+
+claim_sound : (extent : Extent) (s : Option Stopped) (nodes : ℕ) (endless : Option ℕ) (code : Compiled) (limits : Limits) (ss : List (Shown Entry End)) → All (IsLawful code limits) ss
+    → All (IsFound (claim_of extent s nodes endless) code limits) ss
+claim_sound extent None nodes endless code limits ss h = h
+claim_sound extent (Some stopped.Nodes) nodes endless code limits ss h = h
+claim_sound extent (Some stopped.Shown) nodes endless code limits ss h = h
+claim_sound extent (Some stopped.Unfollowed) nodes endless code limits ss h = h
+claim_sound extent (Some stopped.Memory) nodes endless code limits ss h = h
+
+claim_within : (extent : Extent) (s : Option Stopped) (nodes : ℕ) (endless : Option ℕ) (count : ℕ) → extent.samples ≡ None → nodes ≤ extent.max_states
+    → IsWithin extent count (claim_of extent s nodes endless)
+claim_within extent None nodes endless count none few = (none, few)
+claim_within extent (Some stopped.Nodes) nodes endless count none few = (none, refl)
+claim_within extent (Some stopped.Shown) nodes endless count none few = (none, refl)
+claim_within extent (Some stopped.Unfollowed) nodes endless count none few = (none, refl)
+claim_within extent (Some stopped.Memory) nodes endless count none few = none
+
+claim_all : (P : Type 0) (extent : Extent) (s : Option Stopped) (nodes : ℕ) (endless : Option ℕ) → (s ≡ None → P) → OnEvery (claim_of extent s nodes endless) P
+claim_all P extent None nodes endless h = h refl
+claim_all P extent (Some stopped.Nodes) nodes endless h = tt
+claim_all P extent (Some stopped.Shown) nodes endless h = tt
+claim_all P extent (Some stopped.Unfollowed) nodes endless h = tt
+claim_all P extent (Some stopped.Memory) nodes endless h = tt
+
+-- the journal of a run that comes to no end, and its number, where the search wasn't stopped
+claim_number : {J : Type 0} (items : J → List Entry) (extent : Extent) (s : Option Stopped) (nodes count : ℕ) (found told : Option J) (number : Option ℕ) → told ≡ unless_stopped s found
+    → number ≡ option_map (λ j. count + 1) told → endless_number (claim_of extent s nodes number) ≡ option_map (λ j. count + 1) (option_map items told)
+claim_number items extent None nodes count found None number is counted = counted
+claim_number items extent None nodes count found (Some j) number is counted = counted
+claim_number items extent (Some stopped.Nodes) nodes count found None number is counted = refl
+claim_number items extent (Some stopped.Nodes) nodes count found (Some j) number is counted = cc
+claim_number items extent (Some stopped.Shown) nodes count found None number is counted = refl
+claim_number items extent (Some stopped.Shown) nodes count found (Some j) number is counted = cc
+claim_number items extent (Some stopped.Unfollowed) nodes count found None number is counted = refl
+claim_number items extent (Some stopped.Unfollowed) nodes count found (Some j) number is counted = cc
+claim_number items extent (Some stopped.Memory) nodes count found None number is counted = refl
+claim_number items extent (Some stopped.Memory) nodes count found (Some j) number is counted = cc
+
+told_never : {J : Type 0} (items : J → List Entry) (P : List Entry → Type 0) (s : Option Stopped) (found told : Option J) → told ≡ unless_stopped s found → IfSome found (λ j. P (items j))
+    → IfSome (option_map items told) P
+told_never items P s found None is h = tt
+told_never items P None None (Some j) is h = cc
+told_never items P None (Some k) (Some j) is h =
+    let same : k ≡ j = cc in
+    subst (λ x. P (items x)) same h
+told_never items P (Some s) found (Some j) is h = cc
+
+-- a search wasn't stopped, and each of its texts was put behind those that are known
+not_stopped : {E : Type 0} (s : Option Stopped) (added : Result Bool E) → stop_of s added ≡ None → (s ≡ None) × (added ≡ Ok true)
+not_stopped None (Ok true) h = (refl, refl)
+not_stopped None (Ok false) h = cc
+not_stopped None (Err e) h = cc
+not_stopped (Some s) added h = cc
+
+added_all : {E : Type 0} (added : Result Bool E) (P : Type 0) → added ≡ Ok true → IfOk added (λ all. IsTrue all → P) → P
+added_all (Ok true) P is h = h refl
+added_all (Ok false) P is h = cc
+added_all (Err e) P is h = cc
+
+-- what is shown of texts is shown where each of them is
+all_there : (design : Compiled) (limits : Limits) (others ss : List (Shown Entry End)) → AreAllTexts (design_of design) limits (IsShown others) → All (λ s. IsShown ss s.text.items s.end) others
+    → AreAllTexts (design_of design) limits (IsShown ss)
+all_there design limits others ss all there journal text end lines timely ends some wants =
+    of_one (all journal text end lines timely ends some wants)
   where
-    clash : ◌≡◌ {A = Option ℕ} None (Some asked) → ⊥
-    clash q = cc
+    of_one : IsShown others text end → IsShown ss text end
+    of_one (k, s, lt, at, (same_text, same_end)) =
+        subst (λ (t : List ℕ). IsShown ss t end) same_text (subst (λ (e : End). IsShown ss s.text.items e) same_end
+        (subst (λ (x : Shown Entry End). IsShown ss x.text.items x.end) at (there k s lt)))
 
--- where no text is found yet, no journal is named, so that the same is told of any texts
+lawful_within : (code : Compiled) (limits : Limits) (ss : List (Shown Entry End)) → All (λ s. IsLawfulText (design_of code) limits s.moves.items s.text.items s.end) ss
+    → All (λ s. orders.IsWithin limits s.moves.items) ss → All (IsLawful code limits) ss
+lawful_within code limits ss sound within k d lt = (sound k d lt, within k d lt)
 
-journal_of_none : (shown : List (Shown Entry End)) (run : SeededRun) (number : Option ℕ) → IsJournalTold [] run number → IsJournalTold shown run number
-journal_of_none shown run None h = tt
-journal_of_none shown run (Some n) (s, place, counted, at, is) = cc
+-- what a search found is put behind texts that are known
+pub searched_found : {J E : Type 0} (items : J → List Entry) (code : Compiled) (extent : Extent) (s t : Option Stopped) (nodes : ℕ) (found told : Option J) (number : Option ℕ) (claim : Claim) (added : Result Bool E) (known others ss : List (Shown Entry End))
+    → extent.samples ≡ None → nodes ≤ extent.max_states → claim ≡ claim_of extent t nodes number → t ≡ stop_of s added → told ≡ unless_stopped t found → number ≡ option_map (λ j. length ss + 1) told
+    → All (λ o. IsLawfulText (design_of code) (limits_in extent) o.moves.items o.text.items o.end) others → All (λ o. orders.IsWithin (limits_in extent) o.moves.items) others
+    → (s ≡ None → AreAllTexts (design_of code) (limits_in extent) (IsShown others)) → IfSome found (λ j. orders.IsEndlessJournal (design_of code) (limits_in extent) (items j))
+    → All (IsLawful code (limits_in extent)) known → ((c : Compiled) (l : Limits) → All (IsLawful c l) others → All (IsLawful c l) known → All (IsLawful c l) ss)
+    → IfOk added (λ all. IsTrue all → All (λ o. IsShown ss o.text.items o.end) others) → AllPairs AreDistinct ss → length ss ≤ extent.max_texts
+    → AreFound code extent claim ss (option_map items told)
+searched_found items code extent s t nodes found told number claim added known others ss none few claimed stops tells counted sound within all never lawful more there distinct short =
+    subst (λ (c : Claim). AreFound code extent c ss (option_map items told)) (sym claimed) (record {
+      sound = claim_sound extent t nodes number code (limits_in extent) ss (more code (limits_in extent) (lawful_within code (limits_in extent) others sound within) lawful);
+      distinct = distinct;
+      few = short;
+      within = claim_within extent t nodes number (length ss) none few;
+      all = claim_all (AreAllTexts (design_of code) (limits_in extent) (IsShown ss)) extent t nodes number (λ is. every (not_stopped s added (sym stops ∙ is)));
+      never = told_never items (orders.IsEndlessJournal (design_of code) (limits_in extent)) t found told tells never;
+      numbered = claim_number items extent t nodes (length ss) found told number tells counted;
+    })
+  where
+    every : (s ≡ None) × (added ≡ Ok true) → AreAllTexts (design_of code) (limits_in extent) (IsShown ss)
+    every (is, full) = all_there code (limits_in extent) others ss (all is) (added_all added (All (λ o. IsShown ss o.text.items o.end) others) full there)
 
-race_of_none : (begins : List Process) (code : Compiled) (shown : List (Shown Entry End)) (prefix : Option (List ℕ)) (original : SeededRun) (n : ℕ) (r : found.Race) (t : Race)
-    → IsRaceTold begins code [] prefix original n r t → IsRaceTold begins code shown prefix original n r t
-race_of_none begins code shown prefix original n r t h = record {
-  number_is = h.number_is;
-  site = h.site;
-  time_is = h.time_is;
-  first = h.first;
-  second = h.second;
-  prefix_is = h.prefix_is;
-  difference = h.difference;
-  one = journal_of_none shown original t.original.journal h.one;
-  other = journal_of_none shown r.exchanged t.exchanged.journal h.other;
-}
+-- the journals of texts and of one run more
 
-races_of_none : (begins : List Process) (code : Compiled) (shown : List (Shown Entry End)) (prefix : Option (List ℕ)) (original : SeededRun) (n : ℕ) (rs : List found.Race) (ts : List Race)
-    → AreRacesTold begins code [] prefix original n rs ts → AreRacesTold begins code shown prefix original n rs ts
-races_of_none begins code shown prefix original n [] [] h = tt
-races_of_none begins code shown prefix original n (r ∷ rs) [] h = h
-races_of_none begins code shown prefix original n [] (t ∷ ts) h = h
-races_of_none begins code shown prefix original n (r ∷ rs) (t ∷ ts) (h, hs) =
-    (race_of_none begins code shown prefix original n r t h, races_of_none begins code shown prefix original (n + 1) rs ts hs)
+map_push : (f : Shown Entry End → List Entry) (ss : List (Shown Entry End)) (s : Shown Entry End) → map f (ss ++ s ∷ []) ≡ map f ss ++ f s ∷ []
+map_push f [] s = refl
+map_push f (x ∷ xs) s = ap (λ l. f x ∷ l) (map_push f xs s)
 
-tells_of_none : (source : List ℕ) (code : Compiled) (limits : Limits) (shown : List (Shown Entry End)) (prefix : Option (List ℕ)) (lines : List ℕ)
-    → TellsRaces source code limits [] prefix lines → TellsRaces source code limits shown prefix lines
-tells_of_none source code limits shown prefix lines (tell begins original races told of_source is_run are_shown are_told same) =
-    tell begins original races told of_source is_run are_shown (races_of_none begins code shown prefix original 1 races told are_told) same
-
-none_behind : (xs : List ℕ) → xs ++ [] ≡ xs
+none_behind : (xs : List (List Entry)) → xs ++ [] ≡ xs
 none_behind [] = refl
 none_behind (x ∷ xs) = ap (λ ys. x ∷ ys) (none_behind xs)
 
@@ -78,80 +141,101 @@ pub if_ok : {T E : Type 0} (P Q : T → Type 0) (r : Result T E) → ((x : T) �
 if_ok P Q (Ok x) step h = step x h
 if_ok P Q (Err e) step h = tt
 
--- what is told before the search, and what is told behind it, where journals are saved and where they aren't
+pub one_journal_more : (ss all : List (Shown Entry End)) (one : Shown Entry End) (journal : List Entry) → one.moves.items ≡ journal → all ≡ ss ++ one ∷ [] → journals_of all None ≡ journals_of ss (Some journal)
+one_journal_more ss all one journal is more =
+    none_behind (map (λ s. s.moves.items) all) ∙ (ap (map (λ s. s.moves.items)) more ∙ (map_push (λ s. s.moves.items) ss one ∙ ap (λ j. map (λ s. s.moves.items) ss ++ j ∷ []) is))
 
-pub others_of_none : {X : Type 0} (source : List ℕ) (code : Compiled) (limits : Limits) (shown : List (Shown Entry End)) (prefix : Option X) (path : X → List ℕ) (lines : List ℕ) → prefix ≡ None
-    → lines ≡ [] → TellsOtherRaces source code limits shown (option_map path prefix) lines
-others_of_none source code limits shown None path lines none empty = λ first h.
-    subst (TellsRaces source code limits shown None) (sym (ap (λ l. first ++ l) empty ∙ none_behind first)) (tells_of_none source code limits shown None first h)
-others_of_none source code limits shown (Some p) path lines none empty = cc
-
-pub others_of_some : {X : Type 0} (source : List ℕ) (code : Compiled) (limits : Limits) (shown : List (Shown Entry End)) (prefix : Option X) (path : X → List ℕ) (p : X) (lines : List ℕ) → prefix ≡ Some p
-    → TellsRaces source code limits shown (option_map path prefix) lines → TellsOtherRaces source code limits shown (option_map path prefix) lines
-others_of_some source code limits shown None path p lines some h = cc
-others_of_some source code limits shown (Some q) path p lines some h = λ first empty. subst (λ f. TellsRaces source code limits shown (Some (path q)) (f ++ lines)) (sym empty) h
+pub journals_alone : (ss : List (Shown Entry End)) → map (λ s. s.moves.items) ss ≡ journals_of ss None
+journals_alone ss = sym (none_behind (map (λ s. s.moves.items) ss))
 
 -- lines that tell races behind a text that is empty
-pub tells_alone : (source : List ℕ) (code : Compiled) (limits : Limits) (shown : List (Shown Entry End)) (prefix : Option (List ℕ)) (begun lines : List ℕ) → begun ≡ []
-    → TellsBehind source code limits shown prefix begun lines → TellsRaces source code limits shown prefix lines
-tells_alone source code limits shown prefix begun lines empty h = subst (TellsRaces source code limits shown prefix) (sym (h.new_is ∙ ap (λ l. l ++ h.lines) empty)) h.tells
+pub tells_alone : (source : List ℕ) (code : Compiled) (shown : List (Shown Entry End)) (prefix : Option (List ℕ)) (tries : Tries) (found : Found) (begun lines : List ℕ) → begun ≡ []
+    → TellsBehind source code shown prefix tries found begun lines → TellsRaces source code shown prefix tries found lines
+tells_alone source code shown prefix tries found begun lines empty h = subst (TellsRaces source code shown prefix tries found) (sym (h.new_is ∙ ap (λ l. l ++ h.lines) empty)) h.tells
 
--- races in lines, and then what the texts are
-pub reported : (source : List ℕ) (code : Compiled) (limits : Limits) (claim : Claim) (shown : List (Shown Entry End)) (prefix : Option (List ℕ)) (ends : Bool) (others new begins : List ℕ)
-    → HaveSomeEnds shown ends → TellsOtherRaces source code limits shown prefix others → begins ≡ first_text shown
-    → new ≡ others ++ verdict_text claim limits.until (length shown) ends begins → IsToldLast source code limits claim shown prefix new
-reported source code limits claim shown prefix ends others new begins apart tells is at first told = record {
-  races = first ++ others;
-  tells = tells first told;
-  ends = ends;
-  apart = apart;
-  text_is = ap (λ l. first ++ l) (at ∙ ap (λ f. others ++ verdict_text claim limits.until (length shown) ends f) is)
-      ∙ sym (append_assoc first others (verdict_text claim limits.until (length shown) ends (first_text shown)));
-}
-
--- what is told first of names, where they are those of a source and of its design
-told_first : (source : List ℕ) (code : Compiled) (limits : Limits) (prefix : Option (List ℕ)) (from : List ℕ) (one : Compiled) (early : Limits) (here : Option (List ℕ)) (first : List ℕ)
-    → from ≡ source → one ≡ code → early ≡ limits → here ≡ prefix → IsToldFirst from one early here first → IsToldFirst source code limits prefix first
-told_first source code limits prefix from one early here first f1 d1 l1 p1 h =
-    subst (λ (p : Option (List ℕ)). IsToldFirst source code limits p first) p1 (subst (λ (l : Limits). IsToldFirst source code l here first) l1
-    (subst (λ (d : Compiled). IsToldFirst source d early here first) d1 (subst (λ (s : List ℕ). IsToldFirst s one early here first) f1 h)))
-
--- a search that was told first and last, with the journals of its texts
-pub search_shown : (source : List ℕ) (code : Compiled) (extent : Extent) (prefix : Option (List ℕ)) (claim : Claim) (shown : List (Shown Entry End)) (from to : List ℕ) (one two : Compiled) (early late : Limits)
-    (here there : Option (List ℕ)) (told : List (Shown Entry End)) (a b c : Option (List ℕ)) (files files' : Option (List Made)) (last written : List ℕ) (found : Finding)
-    → IsDesignOf source code → AreFound code extent claim shown → from ≡ source → one ≡ code → early ≡ limits_in extent → here ≡ prefix → to ≡ source → two ≡ code → late ≡ limits_in extent → there ≡ prefix → told ≡ shown
-    → ((first : List ℕ) × IsToldFirst from one early here first × Appends a b first) → IsToldLast to two late claim told there last → Appends b c written → written ≡ last
-    → SavesAllWhereAsked files files' prefix (map (λ s. s.moves.items) shown) → found ≡ finding_of claim (length shown) → HasShown extent prefix a c files files' found
-search_shown source code extent prefix claim shown from to one two early late here there told a b c files files' last written found is_design are_found f1 d1 l1 p1 f2 d2 l2 p2 s2 (first, is_first, grown) is_last more is saved finding =
-    let begins = told_first source code (limits_in extent) prefix from one early here first f1 d1 l1 p1 is_first in
-    let ends = subst (λ (p : Option (List ℕ)). IsToldLast source code (limits_in extent) claim shown p last) p2 (subst (λ (ss : List (Shown Entry End)). IsToldLast source code (limits_in extent) claim ss there last) s2
-    (subst (λ (l : Limits). IsToldLast source code l claim told there last) l2 (subst (λ (d : Compiled). IsToldLast source d late claim told there last) d2
-    (subst (λ (s : List ℕ). IsToldLast s two late claim told there last) f2 is_last)))) in
-    record {
-      source = source;
-      design = code;
-      is_design = is_design;
-      claim = claim;
-      shown = shown;
-      are_found = are_found;
-      report = first ++ last;
-      is_report = ends first begins;
-      printed = appends_then a b c first last grown (subst (Appends b c) is more);
-      saved = saved;
-      finding = finding;
-    }
-
--- a search that was told first, and didn't come to its end
-pub search_begun : (source : List ℕ) (code : Compiled) (extent : Extent) (prefix : Option (List ℕ)) (from : List ℕ) (one : Compiled) (early : Limits) (here : Option (List ℕ)) (a b : Option (List ℕ))
-    (files files' : Option (List Made)) → IsDesignOf source code → from ≡ source → one ≡ code → early ≡ limits_in extent → here ≡ prefix
-    → ((first : List ℕ) × IsToldFirst from one early here first × Appends a b first) → KeepsFiles files files' ⊎ HasSavedSome code extent prefix files files'
-    → HasLeft extent prefix a b files files'
-search_begun source code extent prefix from one early here a b files files' is_design f1 d1 l1 p1 (first, is_first, grown) saved = inr (record {
+-- a search that was told first and last, with the journals of what was found
+pub search_shown : (source : List ℕ) (code : Compiled) (extent : Extent) (prefix : Option (List ℕ)) (known : List (Shown Entry End)) (claim : Claim) (shown : List (Shown Entry End)) (endless : Option (List Entry)) (a b c : Option (List ℕ))
+    (files tried files' : Option (List Made)) (last : List ℕ) (found : Finding) → IsDesignOf source code → ((first : List ℕ) × IsToldFirst source code extent prefix known first × Appends a b first)
+    → AreFound code extent claim shown endless → Extends known shown → IsToldLast extent prefix claim shown last → Appends b c last → KeepsFiles files tried → SavesAllWhereAsked tried files' prefix (journals_of shown endless)
+    → found ≡ finding_of claim (length shown) → HasShown extent prefix a c files files' found
+search_shown source code extent prefix known claim shown endless a b c files tried files' last found is_design (first, is_first, begins) are_found grown is_last ends kept saved is = record {
   source = source;
   design = code;
   is_design = is_design;
+  known = known;
   first = first;
-  is_first = told_first source code (limits_in extent) prefix from one early here first f1 d1 l1 p1 is_first;
-  printed = grown;
-  saved = saved;
+  is_first = is_first;
+  last = last;
+  has_found = record { claim = claim; shown = shown; endless = endless; are_found = are_found; grown = grown; is_last = is_last };
+  printed = appends_then a b c first last begins ends;
+  saved = all_saved_on files tried files' prefix (journals_of shown endless) kept saved;
+  finding = is;
+}
+
+-- a search that was told first, and didn't come further
+pub search_begun : (source : List ℕ) (code : Compiled) (extent : Extent) (prefix : Option (List ℕ)) (known : List (Shown Entry End)) (a b : Option (List ℕ)) (files files' : Option (List Made)) → IsDesignOf source code
+    → ((first : List ℕ) × IsToldFirst source code extent prefix known first × Appends a b first) → KeepsFiles files files' → HasLeft extent prefix a b files files'
+search_begun source code extent prefix known a b files files' is_design (first, is_first, begins) kept = inr (record {
+  source = source;
+  design = code;
+  is_design = is_design;
+  known = known;
+  first = first;
+  is_first = is_first;
+  left = inl (begins, kept);
 })
+
+-- output that is as another was
+appends_kept : (a b c : Option (List ℕ)) (text : List ℕ) → Appends a b text → Keeps b c → Appends a c text
+appends_kept None b c text h k = tt
+appends_kept (Some x) None c text h k = absurd h
+appends_kept (Some x) (Some y) None text h k = absurd k
+appends_kept (Some x) (Some y) (Some z) text h k = k ∙ h
+
+-- a search that was told first and last, and whose journals may not all have been saved
+pub search_left : (source : List ℕ) (code : Compiled) (extent : Extent) (prefix : Option (List ℕ)) (known : List (Shown Entry End)) (claim : Claim) (shown : List (Shown Entry End)) (endless : Option (List Entry)) (a b c : Option (List ℕ))
+    (files tried files' : Option (List Made)) (last : List ℕ) → IsDesignOf source code → ((first : List ℕ) × IsToldFirst source code extent prefix known first × Appends a b first)
+    → AreFound code extent claim shown endless → Extends known shown → IsToldLast extent prefix claim shown last → KeepsFiles files tried
+    → (Keeps b c × KeepsFiles tried files') ⊎ (Appends b c last × SavesSomeWhereAsked tried files' prefix (journals_of shown endless)) → HasLeft extent prefix a c files files'
+search_left source code extent prefix known claim shown endless a b c files tried files' last is_design (first, is_first, begins) are_found grown is_last kept (inl (same, saved)) = inr (record {
+  source = source;
+  design = code;
+  is_design = is_design;
+  known = known;
+  first = first;
+  is_first = is_first;
+  left = inl (appends_kept a b c first begins same, kept_on files tried files' kept saved);
+})
+search_left source code extent prefix known claim shown endless a b c files tried files' last is_design (first, is_first, begins) are_found grown is_last kept (inr (ends, saved)) = inr (record {
+  source = source;
+  design = code;
+  is_design = is_design;
+  known = known;
+  first = first;
+  is_first = is_first;
+  left = inr (record {
+    last = last;
+    has_found = record { claim = claim; shown = shown; endless = endless; are_found = are_found; grown = grown; is_last = is_last };
+    printed = appends_then a b c first last begins ends;
+    saved = some_saved_on files tried files' prefix (journals_of shown endless) kept saved;
+  });
+})
+
+-- what is left where a search ended for want of memory behind its races
+pub texts_left : (source : List ℕ) (code : Compiled) (extent : Extent) (prefix : Option (List ℕ)) (known : List (Shown Entry End)) (claim : Claim) (shown : List (Shown Entry End)) (endless : Option (List Entry)) (a b c : Option (List ℕ))
+    (files tried files' : Option (List Made)) (last : List ℕ) (r : Result Finding Fault) → IsDesignOf source code → ((first : List ℕ) × IsToldFirst source code extent prefix known first × Appends a b first)
+    → AreFound code extent claim shown endless → Extends known shown → IsToldLast extent prefix claim shown last → KeepsFiles files tried
+    → IfErr r (λ f. status_of f ≡ 6 → (Keeps b c × KeepsFiles tried files') ⊎ (Appends b c last × SavesSomeWhereAsked tried files' prefix (journals_of shown endless)))
+    → IfErr r (λ f. status_of f ≡ 6 → HasLeft extent prefix a c files files')
+texts_left source code extent prefix known claim shown endless a b c files tried files' last (Ok found) is_design first are_found grown is_last kept h = tt
+texts_left source code extent prefix known claim shown endless a b c files tried files' last (Err f) is_design first are_found grown is_last kept h =
+    λ six. search_left source code extent prefix known claim shown endless a b c files tried files' last is_design first are_found grown is_last kept (h six)
+
+-- what was told, where that went well
+pub texts_shown : (source : List ℕ) (code : Compiled) (extent : Extent) (prefix : Option (List ℕ)) (known : List (Shown Entry End)) (claim : Claim) (shown : List (Shown Entry End)) (endless : Option (List Entry)) (a b c : Option (List ℕ))
+    (files tried files' : Option (List Made)) (last : List ℕ) (r : Result Finding Fault) → IsDesignOf source code → ((first : List ℕ) × IsToldFirst source code extent prefix known first × Appends a b first)
+    → AreFound code extent claim shown endless → Extends known shown → IsToldLast extent prefix claim shown last → KeepsFiles files tried → OnOk r (Appends b c last)
+    → OnOk r (SavesAllWhereAsked tried files' prefix (journals_of shown endless)) → IfOk r (λ found. found ≡ finding_of claim (length shown)) → IfOk r (HasShown extent prefix a c files files')
+texts_shown source code extent prefix known claim shown endless a b c files tried files' last (Ok found) is_design first are_found grown is_last kept ends saved is =
+    search_shown source code extent prefix known claim shown endless a b c files tried files' last found is_design first are_found grown is_last ends kept saved is
+texts_shown source code extent prefix known claim shown endless a b c files tried files' last (Err f) is_design first are_found grown is_last kept ends saved is = tt

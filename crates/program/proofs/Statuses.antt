@@ -121,6 +121,7 @@ at_most_seven (Ok (ending.Stopped stop.Memory)) = omega arith
 at_most_seven (Ok (ending.Stopped s)) = omega arith
 at_most_seven (Ok (ending.Found finding.One)) = omega arith
 at_most_seven (Ok (ending.Found finding.Unfinished)) = omega arith
+at_most_seven (Ok (ending.Found finding.Memory)) = omega arith
 at_most_seven (Ok (ending.Found finding.Several)) = omega arith
 at_most_seven (Ok (ending.Wrong text)) = omega arith
 at_most_seven (Err f) = fault_few f

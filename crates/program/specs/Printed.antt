@@ -1,5 +1,5 @@
 -- What a command leaves on standard output and in files.
-use Rattle.std.specs.Prelude.{◌≡◌, ◌⊎◌, ◌++◌, ℕ, Bool, List, [], Option, Some, None, codes, drop, length, map, string_bytes, unwrap_or}
+use Rattle.std.specs.Prelude.{◌≡◌, ◌⊎◌, ◌++◌, ℕ, Bool, List, Option, Some, None, codes, drop, length, string_bytes, unwrap_or}
 use Rattle.std.specs.Io.KnownBytes.{Appends, Keeps}
 use Rattle.design.specs.Compiled.{Compiled, design_of}
 use Rattle.model.specs.Syntax.{Module}
@@ -26,13 +26,16 @@ use Rattle.model.specs.declared.entry.Entry.{Entry}
 use Rattle.model.specs.declared.end.End.{End}
 use Rattle.model.specs.declared.end.Limits.{Limits}
 use Rattle.explore.specs.declared.Shown.{Shown}
+use Rattle.explore.specs.Grown.{Extends}
+use Rattle.conflicts.specs.declared.told.Found.{Found}
+use Rattle.conflicts.specs.declared.told.Tries.{Tries}
 use Rattle.verdict.specs.declared.claim.Claim.{Claim}
 use Rattle.verdict.specs.Verdicts.{verdict_text}
 use Rattle.naming.specs.Naming.{TellsRaces}
 use Rattle.arguments.specs.declared.extent.Extent.{Extent}
 use Rattle.program.specs.declared.finding.Finding.{Finding}
 use Rattle.program.specs.declared.finding.Finding.TheVariants as finding
-use Rattle.program.specs.Findings.{AreFound, HaveSomeEnds, finding_of, first_text, limits_in}
+use Rattle.program.specs.Findings.{AreFound, AreKnown, AreRaces, HaveSomeEnds, finding_of, first_text, journals_of, limits_in}
 use Rattle.program.specs.declared.fault.Fault.{Fault}
 use Rattle.program.specs.declared.fault.Stop.{Stop}
 use Rattle.program.specs.declared.running.LeftByRun.{LeftByRun}
@@ -114,44 +117,43 @@ pub record HasRun (words : List Text) (old new : Option (List ℕ)) (files files
   pub can_run : CanRun (options_of (run_rows (drop 1 words)))
   pub printed : HasPrintedBy (number_given (codes "seed") (run_rows (drop 1 words))) (options_of (run_rows (drop 1 words))) (first_of (codes "journal") (run_rows (drop 1 words))) old new files files' told
 
--- What is said of a search: races of a source's design that are so in lawful runs, in lines; and then what the texts are that were found, and
--- whether their ends tell them apart too.
-pub record IsReport (source : List ℕ) (design : Compiled) (limits : Limits) (claim : Claim) (shown : List (Shown Entry End)) (prefix : Option (List ℕ)) (text : List ℕ) : Type 0 where
-  pub races : List ℕ
-  pub tells : TellsRaces source design limits shown prefix races
+-- What is told before a search: the races that were found in the design of a source, with the numbers of journals of texts that are known from then on.
+pub record IsToldFirst (source : List ℕ) (design : Compiled) (extent : Extent) (prefix : Option (List ℕ)) (known : List (Shown Entry End)) (first : List ℕ) : Type 0 where
+  pub tries : Tries
+  pub found : Found
+  pub are_races : AreRaces design (limits_in extent) tries found
+  pub are_known : AreKnown design extent found known
+  pub tells : TellsRaces source design known prefix tries found first
+
+-- What is said of texts behind a search: what they are, and whether their ends tell them apart too.
+pub record IsToldLast (extent : Extent) (prefix : Option (List ℕ)) (claim : Claim) (shown : List (Shown Entry End)) (last : List ℕ) : Type 0 where
   pub ends : Bool
   pub apart : HaveSomeEnds shown ends
-  pub text_is : text ≡ races ++ verdict_text claim limits.until (length shown) ends (first_text shown)
+  pub text_is : last ≡ verdict_text claim extent.until (length shown) ends (first_text shown) prefix
 
--- What is told before a search: the races, where no journal is saved, so that none is named in their lines; and else nothing.
-abbrev pub IsToldFirst : List ℕ → Compiled → Limits → Option (List ℕ) → List ℕ → Type 0
-IsToldFirst source design limits None first = TellsRaces source design limits [] None first
-IsToldFirst source design limits (Some prefix) first = first ≡ []
+-- What is said of a search, after races were told and these texts were known: texts were found, with those that were known before all others, and this is said of them.
+pub record HasFound (design : Compiled) (extent : Extent) (prefix : Option (List ℕ)) (known : List (Shown Entry End)) (last : List ℕ) : Type 0 where
+  pub claim : Claim
+  pub shown : List (Shown Entry End)
+  pub endless : Option (List Entry)
+  pub are_found : AreFound design extent claim shown endless
+  pub grown : Extends known shown
+  pub is_last : IsToldLast extent prefix claim shown last
 
--- What makes, behind all that may be told before a search, lines that tell races.
-abbrev pub TellsOtherRaces : List ℕ → Compiled → Limits → List (Shown Entry End) → Option (List ℕ) → List ℕ → Type 0
-TellsOtherRaces source design limits shown prefix others =
-    (first : List ℕ) → IsToldFirst source design limits prefix first → TellsRaces source design limits shown prefix (first ++ others)
-
--- What makes, behind all that may be told before a search, what is said of it.
-abbrev pub IsToldLast : List ℕ → Compiled → Limits → Claim → List (Shown Entry End) → Option (List ℕ) → List ℕ → Type 0
-IsToldLast source design limits claim shown prefix last =
-    (first : List ℕ) → IsToldFirst source design limits prefix first → IsReport source design limits claim shown prefix (first ++ last)
-
--- Of the design that some source describes texts were found, so far as this says. Output grew by what is said of this search, their
--- journals were saved where a prefix is given, and this was found.
+-- Of the design that some source describes races were told, and then what was found of its texts, so far as this says. Output grew by both, the journals of the texts, and of a run that comes to no
+-- end, were saved where a prefix is given, and this is what it has come to.
 pub record HasShown (extent : Extent) (prefix : Option (List ℕ)) (old new : Option (List ℕ)) (files files' : Option (List Made)) (found : Finding) : Type 0 where
   pub source : List ℕ
   pub design : Compiled
   pub is_design : IsDesignOf source design
-  pub claim : Claim
-  pub shown : List (Shown Entry End)
-  pub are_found : AreFound design extent claim shown
-  pub report : List ℕ
-  pub is_report : IsReport source design (limits_in extent) claim shown prefix report
-  pub printed : Appends old new report
-  pub saved : SavesAllWhereAsked files files' prefix (map (λ s. s.moves.items) shown)
-  pub finding : found ≡ finding_of claim (length shown)
+  pub known : List (Shown Entry End)
+  pub first : List ℕ
+  pub is_first : IsToldFirst source design extent prefix known first
+  pub last : List ℕ
+  pub has_found : HasFound design extent prefix known last
+  pub printed : Appends old new (first ++ last)
+  pub saved : SavesAllWhereAsked files files' prefix (journals_of has_found.shown has_found.endless)
+  pub finding : found ≡ finding_of has_found.claim (length has_found.shown)
 
 -- The words ask for a search for races. Output and files are as a search leaves them that goes as far as these words say and
 -- saves journals at paths that begin with the PREFIX of these words, if they give one, and this was found.
@@ -164,23 +166,23 @@ pub record HasSearched (words : List Text) (old new : Option (List ℕ)) (files 
 abbrev pub AreUntouched : Option (List ℕ) → Option (List ℕ) → Option (List Made) → Option (List Made) → Type 0
 AreUntouched old new files files' = Keeps old new × KeepsFiles files files'
 
--- Texts were found of a design. Of their journals a beginning was saved where a prefix is given, and else none.
-pub record HasSavedSome (design : Compiled) (extent : Extent) (prefix : Option (List ℕ)) (files files' : Option (List Made)) : Type 0 where
-  pub claim : Claim
-  pub shown : List (Shown Entry End)
-  pub are_found : AreFound design extent claim shown
-  pub saved : SavesSomeWhereAsked files files' prefix (map (λ s. s.moves.items) shown)
+-- Behind races that were told output grew by what is said of a search, and of its journals a beginning was saved where a prefix is given, and else none.
+pub record HasSavedSome (design : Compiled) (extent : Extent) (prefix : Option (List ℕ)) (known : List (Shown Entry End)) (first : List ℕ) (old new : Option (List ℕ)) (files files' : Option (List Made)) : Type 0 where
+  pub last : List ℕ
+  pub has_found : HasFound design extent prefix known last
+  pub printed : Appends old new (first ++ last)
+  pub saved : SavesSomeWhereAsked files files' prefix (journals_of has_found.shown has_found.endless)
 
--- A search of the design that some source describes didn't come to its end: output grew by what is told before it and by nothing else, and the files are as they
--- were, or grew by journals of texts that were found.
+-- A search of the design that some source describes didn't come to its end: output grew by the races and by nothing else, and the files are as they
+-- were; or it grew by all that is said of it, and the files by journals of what was found.
 pub record HasBegun (extent : Extent) (prefix : Option (List ℕ)) (old new : Option (List ℕ)) (files files' : Option (List Made)) : Type 0 where
   pub source : List ℕ
   pub design : Compiled
   pub is_design : IsDesignOf source design
+  pub known : List (Shown Entry End)
   pub first : List ℕ
-  pub is_first : IsToldFirst source design (limits_in extent) prefix first
-  pub printed : Appends old new first
-  pub saved : KeepsFiles files files' ⊎ HasSavedSome design extent prefix files files'
+  pub is_first : IsToldFirst source design extent prefix known first
+  pub left : (Appends old new first × KeepsFiles files files') ⊎ HasSavedSome design extent prefix known first old new files files'
 
 -- a search left nothing, or came so far
 abbrev pub HasLeft : Extent → Option (List ℕ) → Option (List ℕ) → Option (List ℕ) → Option (List Made) → Option (List Made) → Type 0

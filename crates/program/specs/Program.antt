@@ -107,10 +107,11 @@ abbrev pub ending_of : Option Stop → Ending
 ending_of (Some s) = ending.Stopped s
 ending_of None = ending.Done
 
--- 0 for one text and no other, 4 where others may be possible, 7 for several texts
+-- 0 for one text and no other, 4 where others may be possible, 6 where memory was refused to the search, 7 for several texts
 abbrev pub finding_status : Finding → ℕ
 finding_status finding.One = 0
 finding_status finding.Unfinished = 4
+finding_status finding.Memory = 6
 finding_status finding.Several = 7
 
 -- 0 for what was done, 3 for a source with a fault

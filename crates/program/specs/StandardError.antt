@@ -7,19 +7,28 @@ use Rattle.arguments.specs.CommandWords.{AreWrong, Begins}
 use Rattle.program.specs.declared.ending.Ending.{Ending}
 use Rattle.program.specs.declared.ending.Ending.TheVariants as ending
 use Rattle.program.specs.declared.fault.Fault.{Fault}
+use Rattle.program.specs.declared.fault.Fault.TheVariants as fault
 use Rattle.program.specs.declared.fault.Stop.{Stop}
 use Rattle.program.specs.ProgramLines.{fault_line, stop_line}
+use Rattle.program.specs.declared.finding.Finding.{Finding}
 use Rattle.program.specs.declared.finding.Finding.TheVariants as finding
 use Rattle.explain.specs.declared.telling.Window.{Window}
 use Rattle.program.specs.Printed.{HasExplainedSome, HasRun, HasSearched, IsLeft}
 use Rattle.program.specs.Program.{status_of, stop_status}
 use Rattle.files.specs.Saved.{Made}
 
--- nothing of what was done or found, the line of a stop, and all that is said of a source with a fault
+-- nothing of what a search has come to, unless memory was refused to it
+abbrev pub IsFindingTold : {E : Type 0} → (E → Option (List ℕ)) → Counted E → Counted E → Finding → Type 0
+IsFindingTold contents old new finding.One = new ≡ old
+IsFindingTold contents old new finding.Unfinished = new ≡ old
+IsFindingTold contents old new finding.Memory = Tells contents old new (fault_line fault.Memory)
+IsFindingTold contents old new finding.Several = new ≡ old
+
+-- nothing of what was done, so it is of what was found, the line of a stop, and all that is said of a source with a fault
 abbrev pub IsEndingTold : {E : Type 0} → (E → Option (List ℕ)) → Counted E → Counted E → Ending → Type 0
 IsEndingTold contents old new ending.Done = new ≡ old
 IsEndingTold contents old new (ending.Stopped s) = Tells contents old new (stop_line s)
-IsEndingTold contents old new (ending.Found f) = new ≡ old
+IsEndingTold contents old new (ending.Found f) = IsFindingTold contents old new f
 IsEndingTold contents old new (ending.Wrong text) = Tells contents old new (string_bytes text)
 
 -- so it is of a command that came to its end, and of another the line of its fault
@@ -48,10 +57,15 @@ abbrev pub IsUnfinished : {E : Type 0} → List Text → Option (List ℕ) → O
 IsUnfinished words old new files files' contents err err' =
     HasStopped words old new files files' contents err err' 4 ⊎ (HasSearched words old new files files' finding.Unfinished × (err' ≡ err))
 
--- a run was stopped for want of memory, and the line of that was told; or a command didn't come so far
+-- memory was refused to a search that found no second text, and the line of that was told
+pub record HasSearchedInVain {E : Type 0} (words : List Text) (old new : Option (List ℕ)) (files files' : Option (List Made)) (contents : E → Option (List ℕ)) (err err' : Counted E) : Type 0 where
+  pub has_searched : HasSearched words old new files files' finding.Memory
+  pub told : Tells contents err err' (fault_line fault.Memory)
+
+-- a run was stopped for want of memory, or so was a search, and the line of that was told; or a command didn't come so far
 abbrev pub IsWanting : {E : Type 0} → List Text → Option (List ℕ) → Option (List ℕ) → Option (List Made) → Option (List Made) → (E → Option (List ℕ)) → Counted E → Counted E → Type 0
 IsWanting words old new files files' contents err err' =
-    HasStopped words old new files files' contents err err' 6 ⊎ IsLeft words old new files files'
+    (HasStopped words old new files files' contents err err' 6 ⊎ HasSearchedInVain words old new files files' contents err err') ⊎ IsLeft words old new files files'
 
 -- no journal was read, or one was told up to its fault, and the line of this very fault was told
 pub record HasExplainedTold {E : Type 0} (window : Window) (old new : Option (List ℕ)) (contents : E → Option (List ℕ)) (err err' : Counted E) : Type 0 where

@@ -4,7 +4,7 @@ ghost use Rattle.std.specs.Prelude.{◌≡◌};
 ghost use Rattle.telling.specs.FaultLines.{Tells};
 ghost use Rattle.program.specs.ProgramLines.{fault_line};
 ghost use Rattle.program.specs.Program.{ending_status, ended_status, ending_of, status_of};
-ghost use Rattle.program.specs.StandardError.{IsEndTold, IsEndingTold};
+ghost use Rattle.program.specs.StandardError.{IsEndTold, IsEndingTold, IsFindingTold};
 
 use crate::fault::{Fault, Stop};
 use crate::finding::Finding;
@@ -65,9 +65,20 @@ fn tell_ending<E: Write>(ending: &Ending, err: &mut Counted<E>)
     ensures { IsEndingTold E.contents err.old err.new ending.now }
 {
     match ending {
-        Ending::Done | Ending::Found(_) => {}
+        Ending::Done => {}
+        Ending::Found(found) => tell_finding(*found, err),
         Ending::Stopped(stop) => tell(err, &stop_line(*stop)),
         Ending::Wrong(text) => tell_text(err, text.as_str()),
+    }
+}
+
+/// Tells that memory was refused to a search, where it has come to that.
+fn tell_finding<E: Write>(found: Finding, err: &mut Counted<E>)
+    ensures { IsFindingTold E.contents err.old err.new found }
+{
+    match found {
+        Finding::Memory => tell(err, &fault_line(&Fault::Memory)),
+        Finding::One | Finding::Unfinished | Finding::Several => {}
     }
 }
 

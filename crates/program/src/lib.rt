@@ -3,7 +3,8 @@
 //! over time as a value change dump, or tells it in words.
 //!
 //! 1. `running` is a run, `replaying` a replay, `checking` a check, `waving` a value change dump, `explaining` a journal in words, and
-//!    `searching` a search for races, of which `finding` says what it has come to. `observing` looks on at a run on workers.
+//!    `searching` a search for races: `racing` tells them first, `known` has texts that are known then, and `finding` says what it has
+//!    come to. `observing` looks on at a run on workers.
 //! 2. `ending` is how a command ended: it has the status, and tells what is to be told.
 //! 3. `fault` has the faults with their statuses, and `lines` their lines on standard error.
 //! 4. `program` is the whole program as a function, `command`, which `main` calls.
@@ -14,9 +15,11 @@ mod ending;
 mod explaining;
 mod fault;
 mod finding;
+mod known;
 mod lines;
 mod observing;
 mod program;
+mod racing;
 mod replaying;
 mod running;
 mod sampling;

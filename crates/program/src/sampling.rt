@@ -1,6 +1,6 @@
 //! Random lawful orders in place of the search of all of them.
 
-ghost use Rattle.std.specs.Prelude.{◌≡◌, IfOk, Some};
+ghost use Rattle.std.specs.Prelude.{◌≡◌, IfOk, Some, option_map};
 ghost use Rattle.program.specs.Findings.{AreFound, AreOf, IsOf};
 ghost use Rattle.arguments.specs.Options.{CanSearch};
 
@@ -26,25 +26,29 @@ pub fn sampled<P: Progress>(
 ) -> Result<Texts, AllocError>
     requires can { CanSearch extent }
     requires asked { extent.samples ≡ Some count }
-    ensures { IfOk result (λ texts. AreFound design.now extent texts.claim texts.shown.items) }
+    ensures { IfOk result (λ texts. AreFound design.now extent texts.claim texts.shown.items (option_map (λ journal. journal.items) texts.endless)) }
 {
     let limits = Limits {
         until: extent.until,
         max_entries: extent.max_entries,
     };
-    let bounds = SampleBounds {
-        kept: extent.max_texts as usize,
-        entries: u64::MAX,
-    };
     let seeds = Seeds {
         first: extent.seed,
         count,
+    };
+    let bounds = SampleBounds {
+        kept: extent.max_texts as usize,
+        entries: u64::MAX,
     };
     let samples = sample(alloc, design, limits, seeds, bounds, progress);
     progress.end();
     let claim = Claim::Sampled(samples.made);
     let shown = shown_of(alloc, samples.kept)?;
-    Ok(Texts { claim, shown })
+    Ok(Texts {
+        claim,
+        shown,
+        endless: None,
+    })
 }
 
 /// Runs as texts that are shown.

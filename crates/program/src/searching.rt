@@ -1,30 +1,31 @@
-//! `races FILE`: the file is read, and races are searched for and told: a search of all lawful orders may take long. Where journals are
-//! wanted, whose numbers stand in the lines on races, they are told behind it. The lawful orders are searched, or random ones tried.
-//! Then the journals are written, and then what is said of the texts.
+//! `races FILE`: the file is read, and races are looked for and told. Then the lawful orders are searched, which may take long, or random
+//! ones tried. What is said of their texts is told, and then the journals are written.
 
-ghost use Rattle.std.specs.Prelude.{◌≡◌, ◌≤◌, ◌⊎◌, IfErr, IfOk, IfSome, IsTrue, None, OnOk, ℕ, List, [], length, option_map};
+ghost use Rattle.std.specs.Prelude.{◌≡◌, ◌≤◌, ◌⊎◌, ◌∷◌, ◌++◌, IfErr, IfOk, IfSome, List, None, OnOk, [], ◌+◌, length, option_map, ℕ};
 ghost use Rattle.std.specs.Io.KnownBytes.{Appends, Keeps};
-ghost use Rattle.model.specs.Runs.{last_time};
+ghost use Rattle.explore.specs.Grown.{Extends};
+ghost use Rattle.explore.specs.Search.{AreDistinct};
+ghost use Rattle.std.specs.List.{All, AllPairs};
 ghost use Rattle.frontend.specs.Sources.{IsDesignOf};
-ghost use Rattle.program.specs.Findings.{AreFound, HaveSomeEnds, IsMet, IsWithin, OnEvery, first_text, limits_in};
+ghost use Rattle.program.specs.Findings.{AreFound, HaveSomeEnds, IsLawful, IsWithin, claim_of, finding_of, first_text, journals_of, limits_in, stop_of, unless_stopped};
 ghost use Rattle.arguments.specs.Options.{CanSearch};
 ghost use Rattle.program.specs.Program.{status_of};
-ghost use Rattle.program.specs.Printed.{HasLeft, HasShown, IsToldFirst, IsToldLast, TellsOtherRaces};
-ghost use Rattle.naming.specs.Naming.{TellsRaces};
-ghost use Rattle.files.specs.Saved.{KeepsFiles, LeadsElsewhere, journal_path};
+ghost use Rattle.program.specs.Printed.{HasLeft, HasShown, IsToldLast};
+ghost use Rattle.files.specs.Saved.{KeepsFiles, LeadsElsewhere, SavesAllWhereAsked, SavesSomeWhereAsked, journal_path};
 
 use crate::fault::Fault;
 use crate::finding::Finding;
+use crate::known::add_all;
+use crate::racing::tell_races;
 use crate::sampling::sampled;
 use crate::texts::Texts;
 use arguments::{Extent, RacesRequest};
 use design::Design;
-use explore::{Bounds, Explored, Shown};
+use explore::{Bounds, Explored, Shown, Stopped};
 use files::{Files, read_file, save_all, show_bytes, spare_first, try_first};
 use frontend::read_design;
 use model::end::{End, Limits};
 use model::entry::Entry;
-use naming::{Names, push_races};
 use progress::Progress;
 use races::lawful_orders;
 use std::alloc::{AllocError, Global};
@@ -70,132 +71,116 @@ fn search_design<F: Files, O: Write>(
         (O.contents out.old) (O.contents out.new) (F.made files.old) (F.made files.new)) }
 {
     try_first(alloc, request.journals, files)?;
-    tell_first(
-        alloc,
-        &names_of(source, design, request, &[]),
-        out,
-        &files.progress(),
-    )?;
-    let texts = find_texts(alloc, design, request.extent, &files.progress())?;
-    let shown = texts.shown.as_slice();
-    let names = names_of(source, design, request, shown);
-    let last = last_lines(alloc, texts.claim, &names, &files.progress())?;
-    save_all(alloc, shown, request.file, request.journals, files)?;
-    show_bytes(out, last.as_slice())?;
-    Ok(Finding::of(texts.claim, shown.len()))
+    let known = tell_races(alloc, source, design, request, out, &files.progress())?;
+    let texts = find_texts(alloc, design, request.extent, known, &files.progress())?;
+    let last = last_lines(alloc, &texts, request.extent, request.journals)?;
+    tell_texts(alloc, texts, last.as_slice(), request, files, out)
 }
 
-/// What races are named by, where these texts were found.
-fn names_of<'a>(
-    source: &'a [u8],
-    design: &'a Design,
-    request: &RacesRequest<'a>,
-    shown: &'a [Shown<Entry, End>],
-) -> Names<'a>
-    ensures source { result.source.now ≡ source.entry.now }
-    ensures design { result.design.now ≡ design.entry.now }
-    ensures limits { result.limits ≡ limits_in request.now.extent }
-    ensures prefix { option_map (λ path. path.now) result.prefix ≡ option_map (λ path. path.now) request.now.journals }
-    ensures shown { result.shown.now ≡ shown.entry.now }
-{
-    Names {
-        source,
-        design,
-        limits: Limits {
-            until: request.extent.until,
-            max_entries: request.extent.max_entries,
-        },
-        prefix: request.journals,
-        shown,
-    }
-}
-
-/// Tells races before the search, where no journals are wanted.
-fn tell_first<O: Write, P: Progress>(
+/// Tells what is said of texts, and then saves their journals where they are wanted.
+fn tell_texts<F: Files, O: Write>(
     alloc: Global,
-    names: &Names<'_>,
+    texts: Texts,
+    last: &[u8],
+    request: &RacesRequest<'_>,
+    files: &mut F,
     out: &mut O,
-    progress: &P,
-) -> Result<(), Fault<'static>>
-    requires until { IfSome names.now.limits.until (λ until. until ≤ last_time) }
-    requires none { names.now.shown.now ≡ [] }
-    ensures told { OnOk result ((first : List ℕ) × IsToldFirst names.entry.now.source.now names.entry.now.design.now names.entry.now.limits (option_map (λ path. path.now) names.entry.now.prefix) first × Appends (O.contents out.old) (O.contents out.new) first) }
+) -> Result<Finding, Fault<'static>>
+    ensures told { OnOk result (Appends (O.contents out.old) (O.contents out.new) last.now) }
+    ensures saved { OnOk result (SavesAllWhereAsked (F.made files.old) (F.made files.new) (option_map (λ path. path.now) request.now.journals) (journals_of texts.shown.items (option_map (λ journal. journal.items) texts.endless))) }
+    ensures finding { IfOk result (λ found. found ≡ finding_of texts.claim (length texts.shown.items)) }
     ensures fault { IfErr result (λ fault. (status_of fault ≡ 1) ⊎ (status_of fault ≡ 6)) }
-    ensures untold { IfErr result (λ fault. status_of fault ≡ 6 → Keeps (O.contents out.old) (O.contents out.new)) }
+    ensures wanting { IfErr result (λ fault. status_of fault ≡ 6 → (Keeps (O.contents out.old) (O.contents out.new) × KeepsFiles (F.made files.old) (F.made files.new))
+        ⊎ (Appends (O.contents out.old) (O.contents out.new) last.now
+        × SavesSomeWhereAsked (F.made files.old) (F.made files.new) (option_map (λ path. path.now) request.now.journals) (journals_of texts.shown.items (option_map (λ journal. journal.items) texts.endless)))) }
 {
-    let first = first_lines(alloc, names, progress)?;
-    show_bytes(out, first.as_slice())?;
-    Ok(())
+    let Texts {
+        claim,
+        shown,
+        endless,
+    } = texts;
+    let found = Finding::of(claim, shown.len());
+    let journals = with_endless(alloc, shown, endless)?;
+    let all = journals.as_slice();
+    let (file, prefix) = (request.file, request.journals);
+    show_bytes(out, last)?;
+    save_all(alloc, all, file, prefix, files)?;
+    Ok(found)
 }
 
-/// What is told before the search.
-fn first_lines<P: Progress>(
+/// The texts with their journals, and behind them the journal of a run that comes to no end, if there is one.
+fn with_endless(
     alloc: Global,
-    names: &Names<'_>,
-    progress: &P,
-) -> Result<Vec<u8>, AllocError>
-    requires none { names.now.shown.now ≡ [] }
-    requires until { IfSome names.now.limits.until (λ until. until ≤ last_time) }
-    ensures { IfOk result (λ first. IsToldFirst names.entry.now.source.now names.entry.now.design.now names.entry.now.limits (option_map (λ path. path.now) names.entry.now.prefix) first.items) }
+    shown: Vec<Shown<Entry, End>>,
+    endless: Option<Vec<Entry>>,
+) -> Result<Vec<Shown<Entry, End>>, AllocError>
+    ensures { IfOk result (λ all. journals_of all.items None ≡ journals_of shown.items (option_map (λ journal. journal.items) endless)) }
 {
-    match names.prefix {
-        None => race_lines(alloc, names, progress),
-        Some(_) => Ok(Vec::new(alloc)),
+    match endless {
+        Some(moves) => with_one(shown, running(alloc, moves)),
+        None => Ok(shown),
     }
 }
 
-/// The lines on races that aren't told before the search.
-fn other_lines<P: Progress>(
-    alloc: Global,
-    names: &Names<'_>,
-    progress: &P,
-) -> Result<Vec<u8>, AllocError>
-    requires { IfSome names.now.limits.until (λ until. until ≤ last_time) }
-    ensures { IfOk result (λ others. TellsOtherRaces names.entry.now.source.now names.entry.now.design.now names.entry.now.limits names.entry.now.shown.now (option_map (λ path. path.now) names.entry.now.prefix) others.items) }
+fn with_one(
+    shown: Vec<Shown<Entry, End>>,
+    one: Shown<Entry, End>,
+) -> Result<Vec<Shown<Entry, End>>, AllocError>
+    ensures { IfOk result (λ all. all.items ≡ shown.items ++ one ∷ []) }
 {
-    match names.prefix {
-        None => Ok(Vec::new(alloc)),
-        Some(_) => race_lines(alloc, names, progress),
+    let mut all = shown;
+    all.push(one)?;
+    Ok(all)
+}
+
+/// The journal of a run that goes on.
+fn running(alloc: Global, moves: Vec<Entry>) -> Shown<Entry, End>
+    ensures { result.moves ≡ moves }
+{
+    Shown {
+        text: Vec::new(alloc),
+        end: End::Running,
+        moves,
     }
 }
 
-/// The lines on the races that are found.
-fn race_lines<P: Progress>(
-    alloc: Global,
-    names: &Names<'_>,
-    progress: &P,
-) -> Result<Vec<u8>, AllocError>
-    requires until { IfSome names.now.limits.until (λ until. until ≤ last_time) }
-    ensures { IfOk result (λ lines. TellsRaces names.entry.now.source.now names.entry.now.design.now names.entry.now.limits names.entry.now.shown.now (option_map (λ path. path.now) names.entry.now.prefix) lines.items) }
-{
-    let mut lines = Vec::new(alloc);
-    let pushed = push_races(alloc, &mut lines, names, progress);
-    progress.end();
-    pushed?;
-    Ok(lines)
-}
-
-/// The texts of all lawful orders, as far as they are searched, or those of random ones where so many are to be tried.
+/// The texts of all lawful orders, as far as they are searched, behind those that are known, or those of random orders where so many are to be tried.
 fn find_texts<P: Progress>(
     alloc: Global,
     design: &Design,
     extent: Extent,
+    known: Vec<Shown<Entry, End>>,
     progress: &P,
 ) -> Result<Texts, AllocError>
-    requires { CanSearch extent }
-    ensures { IfOk result (λ texts. AreFound design.now extent texts.claim texts.shown.items) }
+    requires can { CanSearch extent }
+    requires lawful { All (IsLawful design.now (limits_in extent)) known.items }
+    requires distinct { AllPairs AreDistinct known.items }
+    requires few { length known.items ≤ extent.max_texts }
+    requires none { IfSome extent.samples (λ asked. known.items ≡ []) }
+    ensures found { IfOk result (λ texts. AreFound design.now extent texts.claim texts.shown.items (option_map (λ journal. journal.items) texts.endless)) }
+    ensures grown { IfOk result (λ texts. Extends known.items texts.shown.items) }
 {
     match extent.samples {
         Some(count) => sampled(alloc, design, extent, count, progress),
-        None => Ok(searched(alloc, design, extent, progress)),
+        None => Ok(searched(alloc, design, extent, known, progress)),
     }
 }
 
-/// The texts of all lawful orders, as far as they are searched.
-fn searched<P: Progress>(alloc: Global, design: &Design, extent: Extent, progress: &P) -> Texts
+/// The texts of all lawful orders, as far as they are searched, behind those that are known.
+fn searched<P: Progress>(
+    alloc: Global,
+    design: &Design,
+    extent: Extent,
+    known: Vec<Shown<Entry, End>>,
+    progress: &P,
+) -> Texts
     requires can { CanSearch extent }
     requires all { extent.samples ≡ None }
-    ensures { AreFound design.now extent result.claim result.shown.items }
+    requires lawful { All (IsLawful design.now (limits_in extent)) known.items }
+    requires distinct { AllPairs AreDistinct known.items }
+    requires few { length known.items ≤ extent.max_texts }
+    ensures found { AreFound design.now extent result.claim result.shown.items (option_map (λ journal. journal.items) result.endless) }
+    ensures grown { Extends known.items result.shown.items }
 {
     let limits = Limits {
         until: extent.until,
@@ -207,31 +192,81 @@ fn searched<P: Progress>(alloc: Global, design: &Design, extent: Extent, progres
     };
     let explored = lawful_orders(alloc, design, limits, bounds, progress);
     progress.end();
-    let claim = claim_of(extent, &explored);
+    let Explored {
+        shown: others,
+        stopped,
+        nodes,
+        endless,
+    } = explored;
+    let mut shown = known;
+    let added = add_all(&mut shown, others, extent.max_texts as usize);
+    let stopped = stop_of(stopped, added);
+    let endless = endless_of(stopped, endless);
+    let number = number_of(&endless, shown.as_slice());
+    let claim = claim_of(extent, stopped, nodes, number);
     Texts {
         claim,
-        shown: explored.shown,
+        shown,
+        endless,
+    }
+}
+
+/// For what a search stopped whose texts were put behind those that are known: for its own reason, or since some weren't put there.
+fn stop_of(stopped: Option<Stopped>, added: Result<bool, AllocError>) -> Option<Stopped>
+    ensures { result ≡ stop_of stopped added }
+{
+    match stopped {
+        Some(stopped) => Some(stopped),
+        None => left_out(added),
+    }
+}
+
+/// Why texts weren't put behind those that are known: there were as many as there may be, or memory was refused.
+fn left_out(added: Result<bool, AllocError>) -> Option<Stopped>
+    ensures { result ≡ stop_of None added }
+{
+    match added {
+        Ok(true) => None,
+        Ok(false) => Some(Stopped::Shown),
+        Err(_) => Some(Stopped::Memory),
+    }
+}
+
+/// The journal of a run that comes to no end, where the search wasn't stopped.
+fn endless_of(stopped: Option<Stopped>, endless: Option<Vec<Entry>>) -> Option<Vec<Entry>>
+    ensures { result ≡ unless_stopped stopped endless }
+{
+    match stopped {
+        Some(_) => None,
+        None => endless,
+    }
+}
+
+/// The number of the journal of a run that comes to no end, which is behind those of the texts.
+fn number_of(endless: &Option<Vec<Entry>>, shown: &[Shown<Entry, End>]) -> Option<usize>
+    requires { length shown.now ≤ 4294967295 }
+    ensures { result ≡ option_map (λ journal. length shown.now + 1) endless.now }
+{
+    match endless {
+        Some(_) => Some(shown.len() + 1),
+        None => None,
     }
 }
 
 /// What is claimed of the texts of a search.
-fn claim_of(extent: Extent, explored: &Explored<Entry, End>) -> Claim
-    requires all { extent.samples ≡ None }
-    requires few { explored.now.nodes ≤ extent.max_states }
-    ensures every { OnEvery result (IsTrue explored.now.covered) }
-    ensures within { IsWithin extent (length explored.now.shown.items) result }
-    ensures met { IsMet extent explored.now.covered explored.now.nodes (length explored.now.shown.items) result }
+fn claim_of(extent: Extent, stopped: Option<Stopped>, nodes: usize, endless: Option<usize>) -> Claim
+    ensures { result ≡ claim_of extent stopped nodes endless }
 {
-    if explored.covered {
-        return Claim::Every(explored.nodes as u64);
+    match stopped {
+        None => Claim::Every {
+            states: nodes as u64,
+            endless,
+        },
+        Some(Stopped::Nodes) => Claim::SoFar(Met::States(extent.max_states)),
+        Some(Stopped::Shown) => Claim::SoFar(Met::Texts(extent.max_texts)),
+        Some(Stopped::Unfollowed) => Claim::SoFar(Met::Entries(extent.max_entries)),
+        Some(Stopped::Memory) => Claim::SoFar(Met::Memory),
     }
-    if explored.nodes >= extent.max_states as usize {
-        return Claim::SoFar(Met::States(extent.max_states));
-    }
-    if explored.shown.len() >= extent.max_texts as usize {
-        return Claim::SoFar(Met::Texts(extent.max_texts));
-    }
-    Claim::SoFar(Met::Entries(extent.max_entries))
 }
 
 /// Whether some of the texts have another end than the first.
@@ -244,24 +279,25 @@ fn ends_differ(shown: &[Shown<Entry, End>]) -> bool
     }
 }
 
-/// What is told behind the search: the races that aren't told yet, and what is said of the texts.
-fn last_lines<P: Progress>(
+/// What is said of the texts.
+fn last_lines<'a>(
     alloc: Global,
-    claim: Claim,
-    names: &Names<'_>,
-    progress: &P,
+    texts: &'a Texts,
+    extent: Extent,
+    prefix: Option<&'a str>,
 ) -> Result<Vec<u8>, AllocError>
-    requires { IfSome names.now.limits.until (λ until. until ≤ last_time) }
-    ensures { IfOk result (λ last. IsToldLast names.entry.now.source.now names.entry.now.design.now names.entry.now.limits claim names.entry.now.shown.now (option_map (λ path. path.now) names.entry.now.prefix) last.items) }
+    ensures { IfOk result (λ last. IsToldLast extent (option_map (λ path. path.now) prefix.entry) texts.entry.now.claim texts.entry.now.shown.items last.items) }
 {
-    let mut last = other_lines(alloc, names, progress)?;
+    let shown = texts.shown.as_slice();
     let verdict = Verdict {
-        claim,
-        until: names.limits.until,
-        count: names.shown.len(),
-        ends: ends_differ(names.shown),
-        first: first_of(names.shown),
+        claim: texts.claim,
+        until: extent.until,
+        count: shown.len(),
+        ends: ends_differ(shown),
+        first: first_of(shown),
+        prefix,
     };
+    let mut last = Vec::new(alloc);
     push_verdict(&mut last, &verdict)?;
     Ok(last)
 }

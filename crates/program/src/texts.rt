@@ -5,9 +5,11 @@ use model::end::End;
 use model::entry::Entry;
 use verdict::Claim;
 
-/// The texts that were found, each with its end and a journal, and what is claimed of them.
+/// The texts that were found, each with its end and a journal, what is claimed of them, and the journal of a lawful run that comes to no end, where it is claimed that
+/// there are such runs.
 #[derive(Drop)]
 pub struct Texts {
     pub claim: Claim,
     pub shown: Vec<Shown<Entry, End>>,
+    pub endless: Option<Vec<Entry>>,
 }

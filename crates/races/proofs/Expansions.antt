@@ -1,5 +1,5 @@
 -- What an expansion comes to where a run halts, where it branches, and where a walk leads on.
-use Rattle.std.proofs.Common.{Some, Vec, Global, vec_len, ◌==◌, Bool, true, false, ◌≡◌, ◌≢◌, ◌<◌, List, [], ◌∷◌, length, Result, Ok, Err, inl, refl, sym, ap, ◌∙◌, subst, arith}
+use Rattle.std.proofs.Common.{ℕ, Some, Vec, Global, vec_len, ◌==◌, Bool, true, false, ◌≡◌, ◌≢◌, ◌<◌, List, [], ◌∷◌, length, Result, Ok, Err, inl, refl, sym, ap, ◌∙◌, subst, arith}
 use Rattle.std.specs.Prelude.{IfOk}
 use Rattle.std.specs.List.{All}
 use Rattle.std.proofs.lemmas.Grind.{common_steps}
@@ -18,9 +18,9 @@ use Rattle.walks.specs.Cover.{CoverRuns}
 use Rattle.walks.specs.Going.{GoesOnTo}
 use Rattle.walks.specs.Sole.{StandsForAll}
 use Rattle.regions.specs.Machine.{MachineView, state_at}
-use Rattle.races.specs.SearchNodes.{IsReady, IsWayOn, IsWayToEnd, AreAllWays}
+use Rattle.races.specs.SearchNodes.{IsCountedOn, IsHere, IsReady, IsWayOn, IsWayToEnd, AreAllWays}
 use Rattle.races.specs.Following.{IsArrived}
-use Rattle.walks.specs.Walking.{HasWalked}
+use Rattle.walks.specs.Walking.{HasCounted, HasWalked}
 use Rattle.races.specs.declared.node.DesignNode.{DesignNode}
 use Rattle.races.proofs.Ways.{nothing_followed}
 
@@ -95,14 +95,20 @@ branched_all code other limits s t xs ys same alike all =
 
 -- what comes of a walk of one entry or more
 pub arrived_next : (code : Compiled) (limits : Limits) (s : State) (m : MachineView) (moves : List Entry) (xs : List (Next DesignNode Entry)) → m.code ≡ code → HasWalked limits s m moves → IsArrived m moves xs → All (IsWayOn code limits s) xs
-arrived_next code limits s m moves xs same walked (next, is, moves_are, printed, ready, state) =
+arrived_next code limits s m moves xs same walked (next, is, moves_are, printed, ready, state, entries) =
     subst (All (IsWayOn code limits s)) (sym is)
     (All-cons (IsWayOn code limits s) next [] (walk_is_way code limits s m moves next same walked moves_are printed ready state) (All-nil (IsWayOn code limits s)))
 
 pub arrived_all : (code : Compiled) (limits : Limits) (s : State) (m : MachineView) (moves : List Entry) (xs : List (Next DesignNode Entry)) (ys : List (Ended Entry End)) → m.code ≡ code → HasWalked limits s m moves → 0 < length moves → IsArrived m moves xs → AreAllWays code limits s xs ys
-arrived_all code limits s m moves xs ys same walked some (next, is, moves_are, printed, ready, state) =
+arrived_all code limits s m moves xs ys same walked some (next, is, moves_are, printed, ready, state, entries) =
     subst (λ (l : List (Next DesignNode Entry)). AreAllWays code limits s l ys) (sym is)
     (walk_is_all code limits s m moves next ys same walked (some_elements moves some) moves_are)
+
+pub arrived_counted : (limits : Limits) (begun : ℕ) (m : MachineView) (moves : List Entry) (xs : List (Next DesignNode Entry)) → HasCounted limits begun m moves → IsArrived m moves xs → All (IsCountedOn limits begun) xs
+arrived_counted limits begun m moves xs walked (next, is, moves_are, printed, ready, state, entries) =
+    let one : IsCountedOn limits begun next =
+    record { count = omega (arith, entries, walked.count, ap length moves_are); within = λ few. let most = walked.within few in omega (arith, entries, most) } in
+    subst (All (IsCountedOn limits begun)) (sym is) (All-cons (IsCountedOn limits begun) next [] one (All-nil (IsCountedOn limits begun)))
 
 -- the end of a run that halts, as what an expansion tells
 abbrev pub IsRested : End → List (Ended Entry End) → Type 0
@@ -113,6 +119,15 @@ halted_sound code limits s end xs few halts (one, is, end_is, printed, moves) = 
 
 pub halted_all : (code : Compiled) (limits : Limits) (s : State) (end : End) (successors : List (Next DesignNode Entry)) (xs : List (Ended Entry End)) → HaltsAt (design_of code) limits s end → IsRested end xs → successors ≡ [] → AreAllWays code limits s successors xs
 halted_all code limits s end successors xs halts (one, is, end_is, printed, moves) none = halt_all code limits s end successors xs one halts none is end_is printed
+
+pub halted_here : (end : End) (xs : List (Ended Entry End)) → IsRested end xs → All IsHere xs
+halted_here end xs (one, is, end_is, printed, moves) = subst (All IsHere) (sym is) (All-cons IsHere one [] moves (All-nil IsHere))
+
+pub none_counted : (limits : Limits) (begun : ℕ) (xs : List (Next DesignNode Entry)) → xs ≡ [] → All (IsCountedOn limits begun) xs
+none_counted limits begun xs none = subst (All (IsCountedOn limits begun)) (sym none) (All-nil (IsCountedOn limits begun))
+
+pub none_here : (xs : List (Ended Entry End)) → xs ≡ [] → All IsHere xs
+none_here xs none = subst (All IsHere) (sym none) (All-nil IsHere)
 
 -- what an answer of `is_empty` says of the elements
 pub empty_is_none : (v : Vec Entry Global) (b : Bool) → b ≡ (vec_len v == 0) → b ≡ true → length v.items ≡ 0

@@ -1,6 +1,6 @@
 -- What a search of a design's runs says of its lawful journals, and what it has to know of them, whatever its nodes hold.
-use Rattle.std.proofs.Common.{◌≡◌, ℕ, List, [], ◌∷◌, ◌++◌, inl, inr, refl, sym, ap, ◌∙◌, subst}
-use Rattle.std.specs.Prelude.{option_and_then}
+use Rattle.std.proofs.Common.{◌≡◌, ℕ, List, [], ◌∷◌, ◌++◌, inl, inr, refl, sym, ap, ◌∙◌, subst, Option, Some, None, Vec, Global}
+use Rattle.std.specs.Prelude.{option_and_then, IfSome}
 use Rattle.std.specs.List.{All}
 use Rattle.std.proofs.lemmas.List.{append-nil}
 use Rattle.std.proofs.lemmas.List.Elements.{All-nil, All-cons, All-append, All-weaker}
@@ -15,11 +15,13 @@ use Rattle.orders.proofs.SearchLaws.{then_some}
 use Rattle.explore.specs.declared.Next.{Next}
 use Rattle.explore.specs.declared.Ended.{Ended}
 use Rattle.explore.specs.declared.Shown.{Shown}
-use Rattle.explore.specs.Search.{IsShown, IsOfRun, IsNext, IsEnded, IsCovered, AreAllShown}
+use Rattle.explore.specs.Search.{IsEndless, IsShown, IsOfRun, IsNext, IsEnded, IsCovered, AreAllShown}
 use Rattle.walks.specs.JournalsInTime.{ComesOf, text_of, MayEnd, ComeToOneNode, IsLawfulText, AreAllTexts}
 use Rattle.walks.specs.Cover.{LeadOn, CoverRuns, FollowTransitions}
-use Rattle.races.specs.DesignRuns.{runs_of, AlikeRunsServe, KeyedRunsAreAlike, RunsBeginSilent, ShownIsLawful, AllShownAreAll}
+use Rattle.races.specs.DesignRuns.{runs_of, IsEndlessJournal, AlikeRunsServe, KeyedRunsAreAlike, RunsBeginSilent, ShownIsLawful, AllShownAreAll}
 use Rattle.walks.specs.Going.{GoesOnTo}
+use Rattle.design.specs.Compiled.{Compiled, design_of}
+use Rattle.races.specs.SearchNodes.{Holds, counted_runs}
 use Rattle.races.specs.Expanding.{EntriesLeadToNext, EntriesLeadToEnd, ways_to, TellsEnds, CoveringIsCovered, FollowingIsCovered}
 use Rattle.walks.proofs.Lists.{all_map, any_of_map}
 use Rattle.walks.proofs.RunParts.{runs_on}
@@ -29,13 +31,28 @@ use Rattle.walks.proofs.Covering.{followed_transitions_cover, ends_are_the_state
 use Rattle.walks.proofs.LawfulTexts.{ends_are_lawful, all_may_end}
 
 pub shown_of_run : {Node : Type 0} (Holds : Node → Effect → Type 0) (design : Design) (limits : Limits) (shown : Shown Entry End) → IsOfRun (runs_of Holds design limits) shown → IsLawfulText design limits shown.moves.items shown.text.items shown.end
-shown_of_run Holds design limits shown (ends, text) =
+shown_of_run Holds design limits shown (ends, text, _) =
     subst (λ t. IsLawfulText design limits shown.moves.items t shown.end) (sym text) (ends_are_lawful design limits shown.moves.items shown.end ends)
 
 pub all_of_runs : {Node : Type 0} (Holds : Node → Effect → Type 0) (design : Design) (limits : Limits) (shown : List (Shown Entry End)) → AreAllShown (runs_of Holds design limits) shown → AreAllTexts design limits (IsShown shown)
 all_of_runs Holds design limits shown all journal text end is timely ends few memory =
     let (found, may, same) = all_may_end design limits journal text end is timely ends few memory in
     subst (λ t. IsShown shown t end) same (all found end may)
+
+-- what is shown of a run with no more entries than it may have
+pub shown_within : (code : Compiled) (limits : Limits) (shown : Shown Entry End) → IsOfRun (counted_runs code limits) shown → IsLawfulText (design_of code) limits shown.moves.items shown.text.items shown.end
+shown_within code limits shown (ends, text, _) = shown_of_run (Holds code) (design_of code) limits shown (ends, text, tt)
+
+endless_journal : (code : Compiled) (limits : Limits) (journal : List Entry) → IsEndless (counted_runs code limits) journal → IsEndlessJournal (design_of code) limits journal
+endless_journal code limits journal endless =
+    let at = endless.stands.0 in
+    let counts = endless.stands.1 in
+    record { effect = at.0; lawful = at.1; within = counts.within; never = endless.never }
+
+-- a run from which no end is reached is a lawful journal of which that is so
+pub endless_of_runs : (code : Compiled) (limits : Limits) (found : Option (Vec Entry Global)) → IfSome found (λ moves. IsEndless (counted_runs code limits) moves.items) → IfSome found (λ moves. IsEndlessJournal (design_of code) limits moves.items)
+endless_of_runs code limits None endless = tt
+endless_of_runs code limits (Some moves) endless = endless_journal code limits moves.items endless
 
 -- where entries lead, and what they print
 goes_on : (design : Design) (limits : Limits) (run moves : List Entry) (e g : Effect) → ComesOf design limits run e → GoesOnTo design limits e moves g → ComesOf design limits (run ++ moves) (joined e g)
@@ -53,7 +70,7 @@ leads_to_next Holds design limits run e g next at_e goes lines holds =
 
 pub leads_to_end : {Node : Type 0} (Holds : Node → Effect → Type 0) (design : Design) (limits : Limits) (run : List Entry) (e g : Effect) (ended : Ended Entry End) → ComesOf design limits run e → GoesOnTo design limits e ended.moves.items g → ended.printed.items ≡ g.lines → EndsHere design limits g ended.end → IsEnded (runs_of Holds design limits) run ended
 leads_to_end Holds design limits run e g ended at_e goes lines here =
-    ((joined e g, goes_on design limits run ended.moves.items e g at_e goes, here), prints_on design limits run ended.moves.items e g ended.printed.items at_e goes lines)
+    ((joined e g, goes_on design limits run ended.moves.items e g at_e goes, here), prints_on design limits run ended.moves.items e g ended.printed.items at_e goes lines, tt)
 
 -- successors stand where their ways lead
 pub lead_on : {Node : Type 0} (Holds : Node → Effect → Type 0) (design : Design) (limits : Limits) (successors : List (Next Node Entry)) (run : List Entry) → All (IsNext (runs_of Holds design limits) run) successors → LeadOn design limits run (ways_to successors)

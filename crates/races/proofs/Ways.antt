@@ -1,5 +1,5 @@
 -- What following entries from a state comes to.
-use Rattle.std.proofs.Common.{◌≡◌, ℕ, ◌<◌, List, [], ◌∷◌, ◌++◌, Option, Some, None, false, refl, sym, ap, ◌∙◌, subst, arith, get_or}
+use Rattle.std.proofs.Common.{◌≡◌, ℕ, ◌<◌, ◌≤◌, List, [], ◌∷◌, ◌++◌, length, length-append, Option, Some, None, false, refl, sym, ap, ◌∙◌, subst, arith, get_or}
 use Rattle.std.specs.Prelude.{option_map, option_and_then}
 use Rattle.std.specs.List.{All, Contains}
 use Rattle.std.proofs.lemmas.List.Elements.{All-nil, All-cons, All-weaker, All-push, All-contains, Contains-append_left, Contains-append_right}
@@ -32,9 +32,9 @@ use Rattle.walks.specs.JournalsInTime.{ComesOf}
 use Rattle.walks.specs.Cover.{FollowTransitions}
 use Rattle.walks.specs.Going.{GoesOnTo}
 use Rattle.races.specs.Expanding.{ways_to}
-use Rattle.races.specs.DesignRuns.{StandsAt}
-use Rattle.races.specs.SearchNodes.{IsReady, Holds, lawful_runs, IsWayOn, IsWayToEnd, IsToldHere, IsFollowedIn, AreWaysFor, AreAllWays}
-use Rattle.races.specs.Following.{IsTurnOf, IsLongTurnOf, TellsLong, IsWayBy, IsAdded}
+use Rattle.races.specs.DesignRuns.{IsWithin, StandsAt}
+use Rattle.races.specs.SearchNodes.{CountsEntries, IsCountedOn, IsHere, IsReady, Holds, lawful_runs, counted_runs, IsWayOn, IsWayToEnd, IsToldHere, IsFollowedIn, AreWaysFor, AreAllWays}
+use Rattle.races.specs.Following.{IsTurnOf, IsLongTurnOf, TellsLong, IsWayBy, IsAdded, IsOneOn, IsCountedBy, AreOneOn}
 use Rattle.races.specs.declared.node.DesignNode.{DesignNode}
 use Rattle.races.specs.declared.expand.Way.{Way}
 use Rattle.races.specs.declared.expand.Way.TheVariants.{On, Long, Past}
@@ -148,6 +148,38 @@ more_ways code limits s entries entry xs more ys all Past before late (same, sam
 pub more_ways_for : (code : Compiled) (limits : Limits) (s : State) (entries : List Entry) (entry : Entry) (xs more : List (Next DesignNode Entry)) (ys all : List (Ended Entry End)) (way : Way)
     → AreWaysFor code limits s entries xs ys → IsWayBy code limits s entry way → IsAdded way xs ys more all → AreWaysFor code limits s (entries ++ entry ∷ []) more all
 more_ways_for = more_ways
+
+-- one entry leads to each successor, and none to each end, where a way is added
+pub more_one_on : (begun : ℕ) (xs more : List (Next DesignNode Entry)) (ys all : List (Ended Entry End)) (way : Way) → AreOneOn begun xs ys → IsCountedBy begun way → IsAdded way xs ys more all → AreOneOn begun more all
+more_one_on begun xs more ys all (On next) before one (longer, same) =
+    record { nexts = subst (All (IsOneOn begun)) (sym longer) (All-push (IsOneOn begun) xs next before.nexts one); ends = subst (All IsHere) (sym same) before.ends }
+more_one_on begun xs more ys all (Long ended) before here (same, longer) =
+    record { nexts = subst (All (IsOneOn begun)) (sym same) before.nexts; ends = subst (All IsHere) (sym longer) (All-push IsHere ys ended before.ends here) }
+more_one_on begun xs more ys all Past before one (same, same') =
+    record { nexts = subst (All (IsOneOn begun)) (sym same) before.nexts; ends = subst (All IsHere) (sym same') before.ends }
+
+-- where one entry leads to each successor, each is counted, as long as a run may have one more
+pub one_on_counted : (limits : Limits) (begun : ℕ) (xs : List (Next DesignNode Entry)) → begun < limits.max_entries → All (IsOneOn begun) xs → All (IsCountedOn limits begun) xs
+one_on_counted limits begun xs less =
+    All-weaker (IsOneOn begun) (IsCountedOn limits begun) (λ next (long, count). record { count = omega (arith, long, count); within = λ _. omega (arith, less, count) }) xs
+
+-- successors whose entries are counted stand where a run has no more than it may have
+pub counted_next : (code : Compiled) (limits : Limits) (node : DesignNode) (run : List Entry) (successors : List (Next DesignNode Entry)) → CountsEntries limits node run → All (IsNext (lawful_runs code limits) run) successors → All (IsCountedOn limits node.machine.value.core.entries) successors → All (IsNext (counted_runs code limits) run) successors
+counted_next code limits node run successors counts nexts counted k d within =
+    let next = get_or successors k d in
+    let is = nexts k d within in
+    let on = counted k d within in
+    let begun : node.machine.value.core.entries ≤ limits.max_entries = let few = counts.within in omega (arith, counts.count, few) in
+    let most = on.within begun in
+    let same : next.node.machine.value.core.entries ≡ length (run ++ next.moves.items) = omega (arith, on.count, counts.count, length-append run next.moves.items) in
+    ((is.0, record { count = same; within = omega (arith, same, most) }), is.1)
+
+-- ends to which no entry leads have no more entries than the run
+pub counted_ended : (code : Compiled) (limits : Limits) (node : DesignNode) (run : List Entry) (ended : List (Ended Entry End)) → CountsEntries limits node run → All (IsEnded (lawful_runs code limits) run) ended → All IsHere ended → All (IsEnded (counted_runs code limits) run) ended
+counted_ended code limits node run ended counts ends here k d within =
+    let one = ends k d within in
+    let none = here k d within in
+    (one.0, one.1, subst (λ (l : List Entry). IsWithin limits (run ++ l)) (sym none) (subst (IsWithin limits) (sym (append-nil run)) counts.within))
 
 pub no_ways : (code : Compiled) (limits : Limits) (s : State) → AreWaysFor code limits s [] [] []
 no_ways code limits s =

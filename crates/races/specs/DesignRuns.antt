@@ -1,5 +1,5 @@
 -- The lawful journals of a design as the runs of a search, and what it means of them that what is shown is sound and all.
-use Rattle.std.specs.Prelude.{◌≡◌, ℕ, List, []}
+use Rattle.std.specs.Prelude.{◌≡◌, ℕ, ◌≤◌, List, [], ◌++◌, length}
 use Rattle.model.specs.declared.entry.Entry.{Entry}
 use Rattle.model.specs.declared.end.Limits.{Limits}
 use Rattle.model.specs.declared.end.End.{End}
@@ -16,6 +16,18 @@ use Rattle.walks.specs.JournalsInTime.{ComesOf, MayEnd, text_of, ComeToOneNode, 
 abbrev pub StandsAt : {Node : Type 0} → (Node → Effect → Type 0) → Design → Limits → Node → List Entry → Type 0
 StandsAt Holds design limits node journal = (e : Effect) × ComesOf design limits journal e × Holds node e
 
+-- a journal has no more entries than a run may have
+abbrev pub IsWithin : Limits → List Entry → Type 0
+IsWithin limits journal = length journal ≤ limits.max_entries
+
+-- Some lawful orders don't come to an end: this journal is lawful and in time, it has no more entries than it may have, and however
+-- it goes on in time, its run comes to no end, but by the most entries or for want of memory.
+pub record IsEndlessJournal (design : Design) (limits : Limits) (journal : List Entry) : Type 0 where
+  pub effect : Effect
+  pub lawful : ComesOf design limits journal effect
+  pub within : IsWithin limits journal
+  pub never : (more : List Entry) (end : End) → MayEnd design limits (journal ++ more) end → ⊥
+
 -- the runs of a design, where this says what a node holds
 abbrev pub runs_of : {Node : Type 0} → (Node → Effect → Type 0) → Design → Limits → Runs Entry Node End
 runs_of Holds design limits =
@@ -23,6 +35,7 @@ runs_of Holds design limits =
       Ends = MayEnd design limits;
       text = text_of design;
       Alike = ComeToOneNode design limits;
+      Within = λ _. Unit {0};
       Stands = StandsAt Holds design limits;
     }
 

@@ -1,5 +1,6 @@
 -- What following one entry from a node comes to.
-use Rattle.std.specs.Prelude.{◌≡◌, ℕ, List, [], ◌∷◌, ◌++◌, Some, None}
+use Rattle.std.specs.Prelude.{◌≡◌, ℕ, ◌+◌, List, [], ◌∷◌, ◌++◌, length, Some, None}
+use Rattle.std.specs.List.{All}
 use Rattle.model.specs.declared.entry.Entry.{Entry}
 use Rattle.model.specs.declared.entry.Entry.TheVariants.{Turn}
 use Rattle.model.specs.declared.end.Limits.{Limits}
@@ -12,7 +13,7 @@ use Rattle.design.specs.Compiled.{Compiled, design_of}
 use Rattle.explore.specs.declared.Next.{Next}
 use Rattle.explore.specs.declared.Ended.{Ended}
 use Rattle.regions.specs.Machine.{MachineView, state_at}
-use Rattle.races.specs.SearchNodes.{IsReady, IsWayOn, IsWayToEnd}
+use Rattle.races.specs.SearchNodes.{IsHere, IsReady, IsWayOn, IsWayToEnd}
 use Rattle.races.specs.declared.node.DesignNode.{DesignNode}
 use Rattle.races.specs.declared.expand.Way.{Way}
 use Rattle.races.specs.declared.expand.Way.TheVariants.{On, Long, Past}
@@ -44,6 +45,21 @@ IsWayBy code limits s entry (On next) = IsWayOn code limits s next × (next.move
 IsWayBy code limits s entry (Long ended) = IsWayToEnd code limits s ended × TellsLong code s entry ended
 IsWayBy code limits s entry Past = IsTimely limits entry → ⊥
 
+-- one entry leads to a successor, whose machine has counted it
+abbrev pub IsOneOn : ℕ → Next DesignNode Entry → Type 0
+IsOneOn begun next = (length next.moves.items ≡ 1) × (next.node.machine.value.core.entries ≡ begun + 1)
+
+-- what an entry leads to from a machine that has taken so many: a node, whose machine has counted it, or an end at the machine itself
+abbrev pub IsCountedBy : ℕ → Way → Type 0
+IsCountedBy begun (On next) = IsOneOn begun next
+IsCountedBy begun (Long ended) = IsHere ended
+IsCountedBy begun Past = Unit {0}
+
+-- One entry leads to each successor, and none to each end.
+pub record AreOneOn (begun : ℕ) (successors : List (Next DesignNode Entry)) (ended : List (Ended Entry End)) : Type 0 where
+  pub nexts : All (IsOneOn begun) successors
+  pub ends : All IsHere ended
+
 -- a way was added to the successors, or to the ends
 abbrev pub IsAdded : Way → List (Next DesignNode Entry) → List (Ended Entry End) → List (Next DesignNode Entry) → List (Ended Entry End) → Type 0
 IsAdded (On next) successors ended more all = (more ≡ successors ++ next ∷ []) × (all ≡ ended)
@@ -54,3 +70,4 @@ IsAdded Past successors ended more all = (more ≡ successors) × (all ≡ ended
 abbrev pub IsArrived : MachineView → List Entry → List (Next DesignNode Entry) → Type 0
 IsArrived m moves xs =
     (next : Next DesignNode Entry) × (xs ≡ next ∷ []) × (next.moves.items ≡ moves) × (next.printed.items ≡ m.lines) × IsReady m.code next.node × (state_at next.node.machine.value ≡ state_at m)
+    × (next.node.machine.value.core.entries ≡ m.core.entries)

@@ -1,5 +1,5 @@
 -- What a node of the search holds, and what comes of following the ways from it.
-use Rattle.std.specs.Prelude.{◌≡◌, ℕ, ◌<◌, ◌≤◌, List, [], ◌∷◌, Some, None}
+use Rattle.std.specs.Prelude.{◌≡◌, ℕ, ◌<◌, ◌≤◌, List, [], ◌∷◌, length, Some, None}
 use Rattle.std.specs.List.{All, Any, Contains}
 use Rattle.std.specs.Option.{ForSome}
 use Rattle.model.specs.declared.entry.Entry.{Entry}
@@ -17,11 +17,12 @@ use Rattle.orders.specs.SearchLaws.{EndsHere}
 use Rattle.explore.specs.declared.Next.{Next}
 use Rattle.explore.specs.declared.Ended.{Ended}
 use Rattle.explore.specs.SearchedRuns.{Runs}
-use Rattle.walks.specs.JournalsInTime.{ComesOf}
+use Rattle.walks.specs.JournalsInTime.{ComesOf, MayEnd, text_of, ComeToOneNode}
+use Rattle.walks.specs.Walking.{HasCounted}
 use Rattle.walks.specs.Cover.{CoverRuns}
 use Rattle.walks.specs.Going.{GoesOnTo}
 use Rattle.races.specs.Expanding.{ways_to}
-use Rattle.races.specs.DesignRuns.{runs_of}
+use Rattle.races.specs.DesignRuns.{runs_of, IsWithin, StandsAt}
 use Rattle.races.specs.declared.node.DesignNode.{DesignNode}
 
 -- limits that a run may have: one entry at least, and no time past the last one
@@ -40,9 +41,33 @@ pub record Holds (code : Compiled) (node : DesignNode) (e : Effect) : Type 0 whe
   pub ready : IsReady code node
   pub state_is : state_at node.machine.value ≡ e.state
 
+-- A node counts the entries of a journal: its machine has taken as many, and they are no more than a run may have.
+pub record CountsEntries (limits : Limits) (node : DesignNode) (journal : List Entry) : Type 0 where
+  pub count : node.machine.value.core.entries ≡ length journal
+  pub within : IsWithin limits journal
+
 -- the runs of a design, at which places stand
 abbrev pub lawful_runs : Compiled → Limits → Runs Entry DesignNode End
 lawful_runs code limits = runs_of (Holds code) (design_of code) limits
+
+-- the same runs, as far as they have no more entries than a run may have, at which nodes stand that count their entries
+abbrev pub counted_runs : Compiled → Limits → Runs Entry DesignNode End
+counted_runs code limits =
+    record {
+      Ends = MayEnd (design_of code) limits;
+      text = text_of (design_of code);
+      Alike = ComeToOneNode (design_of code) limits;
+      Within = IsWithin limits;
+      Stands = λ node journal. StandsAt (Holds code) (design_of code) limits node journal × CountsEntries limits node journal;
+    }
+
+-- a successor's machine has counted the entries that lead to it, and has no more than a run may have
+abbrev pub IsCountedOn : Limits → ℕ → Next DesignNode Entry → Type 0
+IsCountedOn limits begun next = HasCounted limits begun next.node.machine.value next.moves.items
+
+-- no entry leads to an end
+abbrev pub IsHere : Ended Entry End → Type 0
+IsHere ended = ended.moves.items ≡ []
 
 -- A successor of a state: its entries lead on in time from there, what they print is told, and its node holds what they lead to.
 pub record IsWayOn (code : Compiled) (limits : Limits) (s : State) (next : Next DesignNode Entry) : Type 0 where

@@ -1,5 +1,5 @@
 //! The ways that go on from a node: each entry that the rules permit, and the ends that a run may have there.
-ghost use Rattle.std.specs.Prelude.{◌≡◌, ◌<◌, [], ◌∷◌, None, IfOk, IfErr, OnOk, OnErr, IsTrue};
+ghost use Rattle.std.specs.Prelude.{◌≡◌, ◌+◌, ◌<◌, [], ◌∷◌, None, IfOk, IfErr, OnOk, OnErr, IsTrue};
 ghost use Rattle.std.specs.List.{All};
 ghost use Rattle.model.specs.declared.entry.Entry.{Entry};
 ghost use Rattle.model.specs.declared.end.End.{End};
@@ -11,9 +11,9 @@ ghost use Rattle.seeded.specs.Halting.{GoesOn};
 ghost use Rattle.design.specs.Compiled.{design_of};
 ghost use Rattle.regions.specs.Machine.{most_entries, state_at, IsNotTaken};
 ghost use Rattle.regions.specs.StepLogs.{IsTaken};
-ghost use Rattle.walks.specs.Walking.{HasWalked};
-ghost use Rattle.races.specs.Following.{IsAdded, IsArrived, IsTurnOf, IsWayBy, TellsLong};
-ghost use Rattle.races.specs.SearchNodes.{AreAllWays, AreBounded, AreWaysFor, IsReady, IsWayOn, IsWayToEnd};
+ghost use Rattle.walks.specs.Walking.{HasCounted, HasWalked};
+ghost use Rattle.races.specs.Following.{AreOneOn, IsAdded, IsArrived, IsCountedBy, IsTurnOf, IsWayBy, TellsLong};
+ghost use Rattle.races.specs.SearchNodes.{AreAllWays, AreBounded, AreWaysFor, IsCountedOn, IsHere, IsReady, IsWayOn, IsWayToEnd};
 
 use crate::node::{DesignNode, Room};
 use explore::{Ended, Expanded, Next};
@@ -50,6 +50,7 @@ fn next_of<'d>(machine: Box<Machine<'d>>, moves: Vec<Entry>) -> Next<DesignNode<
     ensures printed { result.printed.items ≡ machine.entry.value.lines }
     ensures ready { IsReady machine.entry.value.code result.node }
     ensures state { state_at result.node.machine.value ≡ state_at machine.entry.value }
+    ensures entries { result.node.machine.value.core.entries ≡ machine.entry.value.core.entries }
 {
     let mut machine = machine;
     let printed = machine.take_lines().into_bytes();
@@ -111,6 +112,7 @@ fn long_of(
 // Takes an entry with a log that the machine is lent: each node takes just a few, and needs none of its own.
 fn take_with(log: &mut TurnLog, machine: &mut Machine<'_>, entry: Entry) -> Result<(), TakeFault>
     ensures taken { OnOk result (IsTaken machine.old.code (state_at machine.old) machine.old.lines entry (state_at machine.new) machine.new.lines) }
+    ensures entries { OnOk result (machine.new.core.entries ≡ machine.old.core.entries + 1) }
     ensures code { machine.new.code ≡ machine.old.code }
     ensures stop { IfErr result (IsNotTaken machine.old entry) }
     ensures err { OnErr result (machine.new ≡ record machine.old { made = machine.new.made }) }
@@ -133,7 +135,8 @@ fn way_by<'d>(
     requires some_entry { 0 < limits.max_entries }
     requires few { machine.value.core.entries < most_entries }
     requires permitted { refusal (state_at machine.value) entry ≡ None }
-    ensures { IfOk result (IsWayBy machine.entry.value.code limits (state_at machine.entry.value) entry) }
+    ensures way { IfOk result (IsWayBy machine.entry.value.code limits (state_at machine.entry.value) entry) }
+    ensures counted { IfOk result (IsCountedBy machine.entry.value.core.entries) }
 {
     if !is_timely(limits, entry) {
         return Ok(Way::Past);
@@ -173,7 +176,8 @@ fn follow_each<'d>(
     requires some_entry { 0 < limits.max_entries }
     requires few { machine.now.core.entries < most_entries }
     requires permitted { All (λ entry. refusal (state_at machine.now) entry ≡ None) entries.now }
-    ensures { IfOk result (λ ways. AreWaysFor machine.now.code limits (state_at machine.now) entries.now ways.successors.items ways.ended.items) }
+    ensures ways { IfOk result (λ ways. AreWaysFor machine.now.code limits (state_at machine.now) entries.now ways.successors.items ways.ended.items) }
+    ensures counted { IfOk result (λ ways. AreOneOn machine.now.core.entries ways.successors.items ways.ended.items) }
 {
     let mut ways = Ways {
         successors: Vec::new(alloc),
@@ -199,7 +203,8 @@ fn follow_all<'d>(
     requires few { machine.value.core.entries < most_entries }
     requires some_entry { 0 < limits.max_entries }
     requires silent { machine.value.lines ≡ [] }
-    ensures { IfOk result (λ ways. AreWaysFor machine.entry.value.code limits (state_at machine.entry.value) entries.now ways.successors.items ways.ended.items) }
+    ensures ways { IfOk result (λ ways. AreWaysFor machine.entry.value.code limits (state_at machine.entry.value) entries.now ways.successors.items ways.ended.items) }
+    ensures counted { IfOk result (λ ways. AreOneOn machine.entry.value.core.entries ways.successors.items ways.ended.items) }
 {
     match entries.split_last() {
         Some((last, others)) => {
@@ -243,6 +248,8 @@ fn branch<'d>(
     ensures next { IfOk result (λ x. All (IsWayOn machine.entry.value.code limits (state_at machine.entry.value)) x.successors.items) }
     ensures sound { IfOk result (λ x. All (IsWayToEnd machine.entry.value.code limits (state_at machine.entry.value)) x.ended.items) }
     ensures all { IfOk result (λ x. IsTrue x.whole → AreAllWays machine.entry.value.code limits (state_at machine.entry.value) x.successors.items x.ended.items) }
+    ensures counted { IfOk result (λ x. All (IsCountedOn limits machine.entry.value.core.entries) x.successors.items) }
+    ensures rest { IfOk result (λ x. All IsHere x.ended.items) }
 {
     if machine.state().entries() >= u64::from(limits.max_entries) {
         return Ok(Expanded {
@@ -291,6 +298,7 @@ fn walk_with(
     requires silent { machine.old.lines ≡ [] }
     ensures code { machine.new.code ≡ machine.old.code }
     ensures walked { IfOk result (λ moves. HasWalked limits (state_at machine.old) machine.new moves.items) }
+    ensures counted { IfOk result (λ moves. HasCounted limits machine.old.core.entries machine.new moves.items) }
 {
     machine.exchange_log(&mut room.log);
     let walked = walk_on(alloc, networked, limits, &mut room.logs, machine);
@@ -299,7 +307,8 @@ fn walk_with(
 }
 
 /// Follows each way from where a machine stands. Where one way stands for all it goes on by that, up to the next choice or for some
-/// hundred steps. Ways are left out where the journal has as many entries as it may have, and a run goes on from there.
+/// hundred steps. Ways are left out where the journal has as many entries as it may have, and a run goes on from there: no way leads
+/// past that.
 pub(crate) fn expand<'d>(
     alloc: Global,
     networked: &Networked<'_>,
@@ -313,6 +322,8 @@ pub(crate) fn expand<'d>(
     ensures next { IfOk result (λ x. All (IsWayOn machine.entry.value.code limits (state_at machine.entry.value)) x.successors.items) }
     ensures sound { IfOk result (λ x. All (IsWayToEnd machine.entry.value.code limits (state_at machine.entry.value)) x.ended.items) }
     ensures all { IfOk result (λ x. IsTrue x.whole → AreAllWays machine.entry.value.code limits (state_at machine.entry.value) x.successors.items x.ended.items) }
+    ensures counted { IfOk result (λ x. All (IsCountedOn limits machine.entry.value.core.entries) x.successors.items) }
+    ensures rest { IfOk result (λ x. All IsHere x.ended.items) }
 {
     match end_at(limits, &machine) {
         Some(end) => return halts(alloc, end),

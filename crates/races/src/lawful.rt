@@ -1,5 +1,5 @@
 //! The lawful orders of a design, as a search follows them.
-ghost use Rattle.std.specs.Prelude.{◌≡◌, ◌<◌, ◌≤◌, [], IfOk, IfSome, IsTrue};
+ghost use Rattle.std.specs.Prelude.{◌≡◌, ◌<◌, ◌≤◌, [], length, None, Some, IfOk, IfSome};
 ghost use Rattle.std.specs.List.{All, AllPairs};
 ghost use Rattle.model.specs.States.{start};
 ghost use Rattle.model.specs.Runs.{last_time};
@@ -7,7 +7,9 @@ ghost use Rattle.explore.specs.Search.{AreDistinct, IsShown};
 ghost use Rattle.regions.specs.Machine.{state_at};
 ghost use Rattle.design.specs.Compiled.{design_of};
 ghost use Rattle.walks.specs.JournalsInTime.{AreAllTexts, IsLawfulText};
+ghost use Rattle.races.specs.DesignRuns.{IsEndlessJournal, IsWithin};
 ghost use Rattle.races.specs.SearchNodes.{AreBounded};
+ghost use Rattle.explore.specs.declared.stopped.Stopped.TheVariants as stop;
 
 use crate::expand::expand;
 use crate::node::{DesignNode, Room};
@@ -25,6 +27,7 @@ fn start_of<'d>(alloc: Global, design: &'d Design) -> Result<Box<Machine<'d>>, A
     ensures code { IfOk result (λ machine. machine.value.code ≡ design.now) }
     ensures state { IfOk result (λ machine. state_at machine.value ≡ start (design_of design.now)) }
     ensures lines { IfOk result (λ machine. machine.value.lines ≡ []) }
+    ensures entries { IfOk result (λ machine. machine.value.core.entries ≡ 0) }
 {
     let machine = Machine::start(alloc, design)?;
     let boxed = Box::new(alloc, machine)?;
@@ -42,7 +45,7 @@ struct Lawful<'d> {
 impl<'d> Orders for Lawful<'d> {
     ghost use Rattle.std.specs.Prelude.{refl};
     ghost use Rattle.statekeys.specs.Keys.{IsKey};
-    ghost use Rattle.races.specs.SearchNodes.{lawful_runs};
+    ghost use Rattle.races.specs.SearchNodes.{counted_runs};
     ghost use Rattle.races.specs.Serving.{lawful_alike, lawful_keyed};
 
     type Move = Entry;
@@ -53,7 +56,7 @@ impl<'d> Orders for Lawful<'d> {
 
     type Room = Room;
 
-    ghost runs = { λ o. lawful_runs o.networked o.limits };
+    ghost runs = { λ o. counted_runs o.networked o.limits };
 
     ghost has_key = { λ _ node key. IsKey node.machine.value.core node.machine.value.values key };
 
@@ -94,13 +97,14 @@ impl<'d> Orders for Lawful<'d> {
 
     ghost alike = { λ o i j a. lawful_alike o.networked o.limits i j a };
 
-    ghost keyed = { λ o a b i j key of_a of_b at bt text. lawful_keyed o.networked o.limits a b i j key of_a of_b at bt text };
+    ghost keyed = { λ o a b i j key of_a of_b at bt text. lawful_keyed o.networked o.limits a b i j key of_a of_b at.0 bt.0 text };
 }
 
 /// Searches all lawful orders of a design within these limits (11.4), on one thread. Each text that is shown is that of the lawful
-/// journal beside it, and so is its end; no two have one text and one end; and where the answer is covered, every lawful journal in
-/// time that ends, but by the most entries or for want of memory, has a text and an end that are shown. How many states were
-/// reached is told at times.
+/// journal beside it, and so is its end; no two have one text and one end; and where the search wasn't stopped, every lawful journal
+/// in time that ends, but by the most entries or for want of memory, has a text and an end that are shown. What stopped it is told
+/// (`Unfollowed`: a run has the most entries), and so is a lawful journal from which no run comes to an end, where one is known. No
+/// journal has more than the most entries. How many states were reached is told at times.
 pub fn lawful_orders<P: Progress>(
     alloc: Global,
     design: &Design,
@@ -113,8 +117,13 @@ pub fn lawful_orders<P: Progress>(
     requires until { IfSome limits.until (λ until. until ≤ last_time) }
     ensures sound { All (λ s. IsLawfulText (design_of design.now) limits s.moves.items s.text.items s.end) result.shown.items }
     ensures distinct { AllPairs AreDistinct result.shown.items }
-    ensures all { IsTrue result.covered → AreAllTexts (design_of design.now) limits (IsShown result.shown.items) }
+    ensures within { All (λ s. IsWithin limits s.moves.items) result.shown.items }
+    ensures all { result.stopped ≡ None → AreAllTexts (design_of design.now) limits (IsShown result.shown.items) }
     ensures few { result.nodes ≤ bounds.nodes }
+    ensures few_shown { length result.shown.items ≤ bounds.shown }
+    ensures nodes { result.stopped ≡ Some stop.Nodes → result.nodes ≡ bounds.nodes }
+    ensures full { result.stopped ≡ Some stop.Shown → length result.shown.items ≡ bounds.shown }
+    ensures endless { IfSome result.endless (λ journal. IsEndlessJournal (design_of design.now) limits journal.items) }
 {
     let networked = Networked::of(alloc, design);
     explore(alloc, &Lawful { networked, limits }, bounds, progress)

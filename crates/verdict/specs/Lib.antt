@@ -1,3 +1,4 @@
 pub mod VerdictLines
 pub mod RaceLines
 pub mod Verdicts
+pub mod CutLines

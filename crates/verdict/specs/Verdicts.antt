@@ -1,10 +1,11 @@
 -- What is said of the texts that were found.
 use Rattle.std.specs.Prelude.{ℕ, ◌+◌, ◌/◌, ◌%◌, ◌==◌, Bool, true, false, nat_lt, if◌then◌else◌, List, [], ◌∷◌, ◌++◌, Option, Some, None, codes, count_by, decimal}
 use Rattle.model.specs.Journal.{newline}
+use Rattle.verdict.specs.RaceLines.{journal_text}
 use Rattle.verdict.specs.declared.claim.Claim.{Claim}
 use Rattle.verdict.specs.declared.claim.Claim.TheVariants.{Every, SoFar, Sampled}
 use Rattle.verdict.specs.declared.claim.Met.{Met}
-use Rattle.verdict.specs.declared.claim.Met.TheVariants.{States, Texts, Entries}
+use Rattle.verdict.specs.declared.claim.Met.TheVariants.{States, Texts, Entries, Memory}
 
 -- a comma, and the three digits of a number below a thousand
 abbrev pub group : ℕ → List ℕ
@@ -48,53 +49,77 @@ lines_text count = codes "these " ++ grouped count ++ codes " lines\n"
 abbrev pub these_lines : ℕ → List ℕ
 these_lines count = if count == 0 then codes "no line\n" else if count == 1 then codes "this line\n" else lines_text count
 
+-- so many of a thing, with one word for one and another for more
+abbrev pub many_text : ℕ → List ℕ → List ℕ → List ℕ
+many_text n one many = grouped n ++ (if n == 1 then one else many)
+
 -- how many states were reached, where nothing was left out
 abbrev pub states_text : ℕ → List ℕ
-states_text states = codes "(" ++ grouped states ++ (if states == 1 then codes " state, no choice left open)\n" else codes " states, no choice left open)\n")
+states_text states = codes "(" ++ many_text states (codes " state, no choice left open)\n") (codes " states, no choice left open)\n")
 
--- that a limit was met
-abbrev pub limit_text : ℕ → List ℕ → List ℕ
-limit_text most what = codes " so far: a limit was met (" ++ grouped most ++ what
+-- that a limit was met, with so many of a thing
+abbrev pub limit_text : ℕ → List ℕ → List ℕ → List ℕ
+limit_text most one many = codes "a limit was met (" ++ many_text most one many
 
--- which limit was met
+-- why a search stopped: the limit that was met, or want of memory
 abbrev pub met_text : Met → List ℕ
-met_text (States most) = limit_text most (codes " states)\n")
-met_text (Texts most) = limit_text most (codes " texts)\n")
-met_text (Entries most) = limit_text most (codes " entries, or memory)\n")
+met_text (States most) = limit_text most (codes " state)\n") (codes " states)\n")
+met_text (Texts most) = limit_text most (codes " text)\n") (codes " texts)\n")
+met_text (Entries most) = limit_text most (codes " entry)\n") (codes " entries)\n")
+met_text Memory = codes "memory was refused\n"
+
+-- that there may be others: several texts are all that is known, and so is one or none so far
+abbrev pub open_text : ℕ → List ℕ
+open_text count = if nat_lt 1 count then codes " or more: " else codes " so far: "
+
+-- so it is, and why
+abbrev pub so_far_text : Met → ℕ → List ℕ
+so_far_text met count = open_text count ++ met_text met
 
 -- that random orders were tried
 abbrev pub sampled_text : ℕ → List ℕ
 sampled_text orders = codes " in " ++ decimal orders ++ codes " random lawful orders: others may be possible\n"
 
--- that no lawful run comes to an end
-abbrev pub none_every : Option ℕ → List ℕ
-none_every until = codes ": no lawful run" ++ up_to until ++ codes " comes to an end\n"
+-- that no lawful run comes to an end, with the journal of one, where one is known
+abbrev pub none_every : Option ℕ → Option ℕ → Option (List ℕ) → List ℕ
+none_every until endless prefix = codes ": no lawful run" ++ up_to until ++ codes " comes to an end" ++ journal_text prefix endless ++ codes "\n"
 
--- that every lawful run prints this text
-abbrev pub one_every : ℕ → Option ℕ → List ℕ → List ℕ
-one_every states until only =
-    codes ": every lawful run" ++ up_to until ++ codes " prints " ++ these_lines (lines_in only) ++ states_text states ++ only
+-- that some lawful runs don't come to an end, with the journal of one
+abbrev pub some_endless : Option ℕ → Option (List ℕ) → List ℕ
+some_endless endless prefix = codes "some lawful runs don't come to an end" ++ journal_text prefix endless ++ codes "\n"
+
+-- so it is where one is known
+abbrev pub endless_text : Option ℕ → Option (List ℕ) → List ℕ
+endless_text (Some number) prefix = some_endless (Some number) prefix
+endless_text None prefix = []
+
+-- that every lawful run with an end prints this text
+abbrev pub one_every : ℕ → Option ℕ → List ℕ → Option ℕ → Option (List ℕ) → List ℕ
+one_every states until only endless prefix =
+    codes ": every lawful run" ++ up_to until ++ codes " that comes to an end prints " ++ these_lines (lines_in only) ++ states_text states
+    ++ endless_text endless prefix ++ only
 
 -- that a run prints one of the texts, or has one of the texts with its end
 abbrev pub one_of_them : Bool → List ℕ
-one_of_them true = codes " has one of them\n"
-one_of_them false = codes " prints one of them\n"
+one_of_them true = codes " that comes to an end has one of them\n"
+one_of_them false = codes " that comes to an end prints one of them\n"
 
--- that every lawful run does so
-abbrev pub many_every : Option ℕ → Bool → List ℕ
-many_every until ends = codes ": every lawful run" ++ up_to until ++ one_of_them ends
+-- that every lawful run with an end does so
+abbrev pub many_every : Option ℕ → Bool → Option ℕ → Option (List ℕ) → List ℕ
+many_every until ends endless prefix = codes ": every lawful run" ++ up_to until ++ one_of_them ends ++ endless_text endless prefix
 
 -- what is said of every lawful run
-abbrev pub every_text : ℕ → Option ℕ → ℕ → Bool → List ℕ → List ℕ
-every_text states until count ends first =
-    if count == 0 then none_every until else if count == 1 then one_every states until first else many_every until ends
+abbrev pub every_text : ℕ → Option ℕ → Option ℕ → ℕ → Bool → List ℕ → Option (List ℕ) → List ℕ
+every_text states endless until count ends first prefix =
+    if count == 0 then none_every until endless prefix else if count == 1 then one_every states until first endless prefix
+    else many_every until ends endless prefix
 
 -- what the texts are among those of all lawful runs
-abbrev pub claim_text : Claim → Option ℕ → ℕ → Bool → List ℕ → List ℕ
-claim_text (Every states) until count ends first = every_text states until count ends first
-claim_text (SoFar met) until count ends first = met_text met
-claim_text (Sampled orders) until count ends first = sampled_text orders
+abbrev pub claim_text : Claim → Option ℕ → ℕ → Bool → List ℕ → Option (List ℕ) → List ℕ
+claim_text (Every states endless) until count ends first prefix = every_text states endless until count ends first prefix
+claim_text (SoFar met) until count ends first prefix = so_far_text met count
+claim_text (Sampled orders) until count ends first prefix = sampled_text orders
 
 -- what is said of the texts: how many there are, and what they are among those of all lawful runs
-abbrev pub verdict_text : Claim → Option ℕ → ℕ → Bool → List ℕ → List ℕ
-verdict_text claim until count ends first = count_text count ends ++ claim_text claim until count ends first
+abbrev pub verdict_text : Claim → Option ℕ → ℕ → Bool → List ℕ → Option (List ℕ) → List ℕ
+verdict_text claim until count ends first prefix = count_text count ends ++ claim_text claim until count ends first prefix

@@ -1,22 +1,29 @@
 //! What a search of lawful orders has come to.
 
-/// The limit that a search has met.
+/// Why a search has stopped.
 #[derive(Clone, Copy, PartialEq, Eq, Debug)]
 pub enum Met {
     /// The most states were reached.
     States(u32),
     /// The most texts were shown.
     Texts(u32),
-    /// Runs with the most entries were left, or memory was refused.
+    /// Runs with the most entries were left.
     Entries(u32),
+    /// Memory was refused.
+    Memory,
 }
 
 /// What the texts that were found are among those of all lawful runs.
 #[derive(Clone, Copy, PartialEq, Eq, Debug)]
 pub enum Claim {
-    /// They are all: this many states were reached, and nothing was left out.
-    Every(u64),
-    /// There may be others, since a limit was met.
+    /// They are all that runs with an end print.
+    Every {
+        /// How many states were reached.
+        states: u64,
+        /// The number of the journal of a lawful run that doesn't come to an end, where one is known.
+        endless: Option<usize>,
+    },
+    /// There may be others, since the search stopped.
     SoFar(Met),
     /// There may be others, since this many random orders were tried.
     Sampled(u32),

@@ -1,20 +1,23 @@
 //! What is told of a search of all lawful orders: the texts that it found and the races that were named, in lines.
 //!
-//! 1. `claim` is what a search has come to: all lawful runs were followed, a limit was met, or random orders were tried.
+//! 1. `claim` is what a search has come to: all lawful runs were followed, it stopped, or random orders were tried.
 //! 2. `verdict` puts into words how many texts there are and what that means for other runs. `phrases` has its parts.
-//! 3. `race` puts a race into lines, and `difference` finds the first line in which the texts of its two runs differ.
+//! 3. `race` puts a race into lines, `difference` finds the first line in which the texts of its two runs differ, and `cut` says by
+//!    what a list of races was cut.
 //!
-//! What the layer above uses: `push_verdict` and `push_race`, whose texts are pinned whole by `specs/Verdicts` and `specs/RaceLines`, and
-//! `first_difference` (`specs/VerdictLines`).
+//! What the layer above uses: `push_verdict`, `push_race` and `push_cut`, whose texts are pinned whole by `specs/Verdicts`, `specs/RaceLines`
+//! and `specs/CutLines`, and `first_difference` (`specs/VerdictLines`).
 #![tactic(auto)]
 
 mod claim;
+mod cut;
 mod difference;
 mod phrases;
 mod race;
 mod verdict;
 
 pub use claim::{Claim, Met};
+pub use cut::{Cut, push_cut};
 pub use difference::{Difference, first_difference};
 pub use race::{Process, Race, Role, Run, Site, push_race};
 pub use verdict::{Verdict, push_verdict};

@@ -1,7 +1,7 @@
 //! Parts of the lines on texts.
 
 ghost use Rattle.std.specs.Prelude.{◌≡◌, ◌<◌, ◌++◌, OnOk, decimal};
-ghost use Rattle.verdict.specs.Verdicts.{count_text, group, grouped, limit_text, lines_in, lines_text, met_text, several_text, states_text, these_lines, thousands, up_to, up_to_time};
+ghost use Rattle.verdict.specs.Verdicts.{count_text, group, grouped, limit_text, lines_in, lines_text, many_text, met_text, several_text, states_text, these_lines, thousands, up_to, up_to_time};
 
 use crate::claim::Met;
 use itoa::Buffer;
@@ -110,33 +110,51 @@ fn push_lines(text: &mut Vec<u8>, count: usize) -> Result<(), AllocError>
     text.extend_from_slice(b" lines\n")
 }
 
+/// Puts so many of a thing behind a text, with one word for one and another for more.
+fn push_amount(text: &mut Vec<u8>, number: u64, one: &[u8], many: &[u8]) -> Result<(), AllocError>
+    ensures { OnOk result (text.new.items ≡ text.old.items ++ many_text number one.now many.now) }
+{
+    push_grouped(text, number)?;
+    match number {
+        1 => text.extend_from_slice(one),
+        _ => text.extend_from_slice(many),
+    }
+}
+
 /// How many states were reached where nothing was left out.
 pub(crate) fn push_states(text: &mut Vec<u8>, states: u64) -> Result<(), AllocError>
     ensures { OnOk result (text.new.items ≡ text.old.items ++ states_text states) }
 {
     text.extend_from_slice(b"(")?;
-    push_grouped(text, states)?;
-    match states {
-        1 => text.extend_from_slice(b" state, no choice left open)\n"),
-        _ => text.extend_from_slice(b" states, no choice left open)\n"),
-    }
+    push_amount(
+        text,
+        states,
+        b" state, no choice left open)\n",
+        b" states, no choice left open)\n",
+    )
 }
 
-/// Which limit was met.
+/// That a limit was met.
+pub(crate) fn push_limit(
+    text: &mut Vec<u8>,
+    most: u64,
+    one: &[u8],
+    many: &[u8],
+) -> Result<(), AllocError>
+    ensures { OnOk result (text.new.items ≡ text.old.items ++ limit_text most one.now many.now) }
+{
+    text.extend_from_slice(b"a limit was met (")?;
+    push_amount(text, most, one, many)
+}
+
+/// Why a search stopped.
 pub(crate) fn push_met(text: &mut Vec<u8>, met: Met) -> Result<(), AllocError>
     ensures { OnOk result (text.new.items ≡ text.old.items ++ met_text met) }
 {
     match met {
-        Met::States(most) => push_limit(text, most, b" states)\n"),
-        Met::Texts(most) => push_limit(text, most, b" texts)\n"),
-        Met::Entries(most) => push_limit(text, most, b" entries, or memory)\n"),
+        Met::States(most) => push_limit(text, most as u64, b" state)\n", b" states)\n"),
+        Met::Texts(most) => push_limit(text, most as u64, b" text)\n", b" texts)\n"),
+        Met::Entries(most) => push_limit(text, most as u64, b" entry)\n", b" entries)\n"),
+        Met::Memory => text.extend_from_slice(b"memory was refused\n"),
     }
-}
-
-fn push_limit(text: &mut Vec<u8>, most: u32, what: &[u8]) -> Result<(), AllocError>
-    ensures { OnOk result (text.new.items ≡ text.old.items ++ limit_text most what.now) }
-{
-    text.extend_from_slice(b" so far: a limit was met (")?;
-    push_grouped(text, most as u64)?;
-    text.extend_from_slice(what)
 }

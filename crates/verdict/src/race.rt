@@ -139,7 +139,7 @@ fn push_run(
     push_difference(text, race.line, run.line)
 }
 
-fn push_journal(
+pub(crate) fn push_journal(
     text: &mut Vec<u8>,
     prefix: Option<&str>,
     journal: Option<usize>,

@@ -1,12 +1,13 @@
 //! The lines on the texts that were found.
 
-ghost use Rattle.std.specs.Prelude.{◌≡◌, ◌++◌, OnOk};
-ghost use Rattle.verdict.specs.Verdicts.{claim_text, every_text, many_every, none_every, one_of_them, one_every, sampled_text, verdict_text};
+ghost use Rattle.std.specs.Prelude.{◌≡◌, ◌++◌, OnOk, option_map};
+ghost use Rattle.verdict.specs.Verdicts.{claim_text, endless_text, every_text, many_every, none_every, one_of_them, one_every, open_text, sampled_text, so_far_text, some_endless, verdict_text};
 
-use crate::claim::Claim;
+use crate::claim::{Claim, Met};
 use crate::phrases::{
     push_count, push_met, push_number, push_states, push_these_lines, push_up_to,
 };
+use crate::race::push_journal;
 use std::alloc::AllocError;
 
 /// The texts that were found, and what they are among those of all lawful runs.
@@ -21,23 +22,43 @@ pub struct Verdict<'a> {
     pub ends: bool,
     /// The first text, if there is one.
     pub first: &'a [u8],
+    /// The path that journals begin with, where they are saved.
+    pub prefix: Option<&'a str>,
 }
 
 /// Puts the verdict behind a text. Where there is one text and no other is possible, that text is the end of it.
 pub fn push_verdict(text: &mut Vec<u8>, verdict: &Verdict<'_>) -> Result<(), AllocError>
-    ensures { OnOk result (text.new.items ≡ text.old.items ++ verdict_text verdict.now.claim verdict.now.until verdict.now.count verdict.now.ends verdict.now.first.now) }
+    ensures { OnOk result (text.new.items ≡ text.old.items ++ verdict_text verdict.entry.now.claim verdict.entry.now.until verdict.entry.now.count verdict.entry.now.ends verdict.entry.now.first.now (option_map (λ path. path.now) verdict.entry.now.prefix)) }
 {
     push_count(text, verdict.count, verdict.ends)?;
     push_claim(text, verdict)
 }
 
 fn push_claim(text: &mut Vec<u8>, verdict: &Verdict<'_>) -> Result<(), AllocError>
-    ensures { OnOk result (text.new.items ≡ text.old.items ++ claim_text verdict.now.claim verdict.now.until verdict.now.count verdict.now.ends verdict.now.first.now) }
+    ensures { OnOk result (text.new.items ≡ text.old.items ++ claim_text verdict.entry.now.claim verdict.entry.now.until verdict.entry.now.count verdict.entry.now.ends verdict.entry.now.first.now (option_map (λ path. path.now) verdict.entry.now.prefix)) }
 {
     match verdict.claim {
-        Claim::Every(states) => push_every(text, verdict, states),
-        Claim::SoFar(met) => push_met(text, met),
+        Claim::Every { states, endless } => push_every(text, verdict, states, endless),
+        Claim::SoFar(met) => push_so_far(text, met, verdict.count),
         Claim::Sampled(orders) => push_sampled(text, orders),
+    }
+}
+
+/// That there may be other texts, and why.
+fn push_so_far(text: &mut Vec<u8>, met: Met, count: usize) -> Result<(), AllocError>
+    ensures { OnOk result (text.new.items ≡ text.old.items ++ so_far_text met count) }
+{
+    text.extend_from_slice(open_text(count))?;
+    push_met(text, met)
+}
+
+fn open_text(count: usize) -> &'static [u8]
+    ensures { result.now ≡ open_text count }
+{
+    if count > 1 {
+        b" or more: "
+    } else {
+        b" so far: "
     }
 }
 
@@ -49,53 +70,97 @@ fn push_sampled(text: &mut Vec<u8>, orders: u32) -> Result<(), AllocError>
     text.extend_from_slice(b" random lawful orders: others may be possible\n")
 }
 
-fn push_every(text: &mut Vec<u8>, verdict: &Verdict<'_>, states: u64) -> Result<(), AllocError>
-    ensures { OnOk result (text.new.items ≡ text.old.items ++ every_text states verdict.now.until verdict.now.count verdict.now.ends verdict.now.first.now) }
+fn push_every(
+    text: &mut Vec<u8>,
+    verdict: &Verdict<'_>,
+    states: u64,
+    endless: Option<usize>,
+) -> Result<(), AllocError>
+    ensures { OnOk result (text.new.items ≡ text.old.items ++ every_text states endless verdict.entry.now.until verdict.entry.now.count verdict.entry.now.ends verdict.entry.now.first.now (option_map (λ path. path.now) verdict.entry.now.prefix)) }
 {
     match verdict.count {
-        0 => push_none(text, verdict.until),
-        1 => push_one(text, states, verdict.until, verdict.first),
-        _ => push_many(text, verdict.until, verdict.ends),
+        0 => push_none(text, verdict.until, endless, verdict.prefix),
+        1 => push_one(text, verdict, states, endless),
+        _ => push_many(text, verdict, endless),
     }
 }
 
-fn push_none(text: &mut Vec<u8>, until: Option<u64>) -> Result<(), AllocError>
-    ensures { OnOk result (text.new.items ≡ text.old.items ++ none_every until) }
+fn push_none(
+    text: &mut Vec<u8>,
+    until: Option<u64>,
+    endless: Option<usize>,
+    prefix: Option<&str>,
+) -> Result<(), AllocError>
+    ensures { OnOk result (text.new.items ≡ text.old.items ++ none_every until endless (option_map (λ path. path.now) prefix.entry)) }
 {
     text.extend_from_slice(b": no lawful run")?;
     push_up_to(text, until)?;
-    text.extend_from_slice(b" comes to an end\n")
+    text.extend_from_slice(b" comes to an end")?;
+    push_journal(text, prefix, endless)?;
+    text.extend_from_slice(b"\n")
+}
+
+/// That some lawful runs don't come to an end, where one is known.
+fn push_endless(
+    text: &mut Vec<u8>,
+    endless: Option<usize>,
+    prefix: Option<&str>,
+) -> Result<(), AllocError>
+    ensures { OnOk result (text.new.items ≡ text.old.items ++ endless_text endless (option_map (λ path. path.now) prefix.entry)) }
+{
+    match endless {
+        Some(_) => push_some_endless(text, endless, prefix),
+        None => Ok(()),
+    }
+}
+
+fn push_some_endless(
+    text: &mut Vec<u8>,
+    endless: Option<usize>,
+    prefix: Option<&str>,
+) -> Result<(), AllocError>
+    ensures { OnOk result (text.new.items ≡ text.old.items ++ some_endless endless (option_map (λ path. path.now) prefix.entry)) }
+{
+    text.extend_from_slice(b"some lawful runs don't come to an end")?;
+    push_journal(text, prefix, endless)?;
+    text.extend_from_slice(b"\n")
 }
 
 fn push_one(
     text: &mut Vec<u8>,
+    verdict: &Verdict<'_>,
     states: u64,
-    until: Option<u64>,
-    only: &[u8],
+    endless: Option<usize>,
 ) -> Result<(), AllocError>
-    ensures { OnOk result (text.new.items ≡ text.old.items ++ one_every states until only.now) }
+    ensures { OnOk result (text.new.items ≡ text.old.items ++ one_every states verdict.entry.now.until verdict.entry.now.first.now endless (option_map (λ path. path.now) verdict.entry.now.prefix)) }
 {
     text.extend_from_slice(b": every lawful run")?;
-    push_up_to(text, until)?;
-    text.extend_from_slice(b" prints ")?;
-    push_these_lines(text, only)?;
+    push_up_to(text, verdict.until)?;
+    text.extend_from_slice(b" that comes to an end prints ")?;
+    push_these_lines(text, verdict.first)?;
     push_states(text, states)?;
-    text.extend_from_slice(only)
+    push_endless(text, endless, verdict.prefix)?;
+    text.extend_from_slice(verdict.first)
 }
 
-fn push_many(text: &mut Vec<u8>, until: Option<u64>, ends: bool) -> Result<(), AllocError>
-    ensures { OnOk result (text.new.items ≡ text.old.items ++ many_every until ends) }
+fn push_many(
+    text: &mut Vec<u8>,
+    verdict: &Verdict<'_>,
+    endless: Option<usize>,
+) -> Result<(), AllocError>
+    ensures { OnOk result (text.new.items ≡ text.old.items ++ many_every verdict.entry.now.until verdict.entry.now.ends endless (option_map (λ path. path.now) verdict.entry.now.prefix)) }
 {
     text.extend_from_slice(b": every lawful run")?;
-    push_up_to(text, until)?;
-    text.extend_from_slice(one_of_them(ends))
+    push_up_to(text, verdict.until)?;
+    text.extend_from_slice(one_of_them(verdict.ends))?;
+    push_endless(text, endless, verdict.prefix)
 }
 
 fn one_of_them(ends: bool) -> &'static [u8]
     ensures { result.now ≡ one_of_them ends }
 {
     match ends {
-        true => b" has one of them\n",
-        false => b" prints one of them\n",
+        true => b" that comes to an end has one of them\n",
+        false => b" that comes to an end prints one of them\n",
     }
 }

@@ -1,5 +1,5 @@
 -- How a walk goes on, and that it covers the runs.
-use Rattle.std.proofs.Common.{◌≡◌, ◌≢◌, List, [], ◌∷◌, ◌++◌, length, Some, refl, sym, ap, ◌∙◌, subst, append_assoc, ℕ, ◌<◌, ◌+◌, map, take, get_or}
+use Rattle.std.proofs.Common.{◌≡◌, ◌≢◌, List, [], ◌∷◌, ◌++◌, length, Some, refl, sym, ap, ◌∙◌, subst, append_assoc, arith, length-append, ℕ, ◌<◌, ◌≤◌, ◌+◌, map, take, get_or}
 use Rattle.std.specs.Prelude.{option_and_then}
 use Rattle.std.proofs.lemmas.List.{append-nil, map-append, take_more}
 use Rattle.std.proofs.lemmas.List.Elements.{All-nil, All-cons, All-append}
@@ -23,7 +23,7 @@ use Rattle.flat.specs.declared.turned.Turned.{Turned}
 use Rattle.flat.specs.Turned.{event_of}
 use Rattle.walks.specs.OnlyWay.{IsOnlyWay}
 use Rattle.walks.specs.Sole.{StandsForAll}
-use Rattle.walks.specs.Walking.{IsOnlyEntry, HasTaken, HasWalked, IsSoleWay, turns_of, updates_of}
+use Rattle.walks.specs.Walking.{IsOnlyEntry, HasCounted, HasTaken, HasWalked, IsSoleWay, turns_of, updates_of}
 use Rattle.walks.proofs.RunParts.{runs_on}
 use Rattle.walks.proofs.Straight.{no_end, only_way_covers}
 use Rattle.walks.proofs.SoleWays.{sole_ways_go_on}
@@ -80,13 +80,14 @@ walked_more limits s old new moves longer more before taken timely sole code lon
     }
 
 -- an entry that a machine took
-pub taken_one : (old new : MachineView) (entry : Entry) → IsTaken old.code (state_at old) old.lines entry (state_at new) new.lines → HasTaken old (entry ∷ []) new
-taken_one old new entry taken =
+pub taken_one : (old new : MachineView) (entry : Entry) → IsTaken old.code (state_at old) old.lines entry (state_at new) new.lines → new.core.entries ≡ old.core.entries + 1 → HasTaken old (entry ∷ []) new
+taken_one old new entry taken count =
     record {
       effect = joined (silent (state_at old)) taken.effect;
       goes = then_some (λ x. run_from (design_of old.code) (joined (silent (state_at old)) x) []) (step (design_of old.code) (state_at old) entry) taken.effect (joined (silent (state_at old)) taken.effect) taken.is_step refl;
       state_is = sym taken.state_is;
       lines_are = taken.lines_are;
+      count = count;
     }
 
 -- entries that a machine took, and then others
@@ -100,25 +101,35 @@ taken_both old mid new entries more before code behind =
       goes = run_from-append design (silent (state_at old)) entries more ∙ (ap (option_and_then (λ x. run_from design x more)) before.goes ∙ runs_on design before.effect behind.effect more on);
       state_is = behind.state_is;
       lines_are = behind.lines_are ∙ (ap (λ l. l ++ behind.effect.lines) before.lines_are ∙ append_assoc old.lines before.effect.lines behind.effect.lines);
+      count = omega (arith, before.count, behind.count, length-append entries more);
     }
 
-pub taken_more : (old mid new : MachineView) (entries : List Entry) (entry : Entry) → HasTaken old entries mid → mid.code ≡ old.code → IsTaken mid.code (state_at mid) mid.lines entry (state_at new) new.lines → HasTaken old (entries ++ entry ∷ []) new
-taken_more old mid new entries entry before code taken = taken_both old mid new entries (entry ∷ []) before code (taken_one mid new entry taken)
+pub taken_more : (old mid new : MachineView) (entries : List Entry) (entry : Entry) → HasTaken old entries mid → mid.code ≡ old.code → IsTaken mid.code (state_at mid) mid.lines entry (state_at new) new.lines → new.core.entries ≡ mid.core.entries + 1 → HasTaken old (entries ++ entry ∷ []) new
+taken_more old mid new entries entry before code taken count = taken_both old mid new entries (entry ∷ []) before code (taken_one mid new entry taken count)
 
 -- nothing was taken yet
 pub taken_none : (m : MachineView) → HasTaken m [] m
-taken_none m = record { effect = silent (state_at m); goes = refl; state_is = refl; lines_are = sym (append-nil m.lines) }
+taken_none m = record { effect = silent (state_at m); goes = refl; state_is = refl; lines_are = sym (append-nil m.lines); count = omega arith }
 
 -- a walk goes on by the only entry, which a machine took
 pub walked_on : (limits : Limits) (s : State) (old new : MachineView) (moves longer : List Entry) (entry : Entry) → HasWalked limits s old moves → IsOnlyEntry limits (state_at old) entry → new.code ≡ old.code → longer ≡ moves ++ entry ∷ []
-    → IsTaken old.code (state_at old) old.lines entry (state_at new) new.lines → HasWalked limits s new longer
-walked_on limits s old new moves longer entry before one code longer_is taken =
-    walked_more limits s old new moves longer (entry ∷ []) before (taken_one old new entry taken) (All-cons (IsTimely limits) entry [] one.timely (All-nil (IsTimely limits)))
+    → IsTaken old.code (state_at old) old.lines entry (state_at new) new.lines → new.core.entries ≡ old.core.entries + 1 → HasWalked limits s new longer
+walked_on limits s old new moves longer entry before one code longer_is taken count =
+    walked_more limits s old new moves longer (entry ∷ []) before (taken_one old new entry taken count) (All-cons (IsTimely limits) entry [] one.timely (All-nil (IsTimely limits)))
     (only_stands (design_of old.code) limits (state_at old) entry taken.effect one taken.is_step) code longer_is
 
 -- a walk goes on by the way that stands for all
 pub walked_ahead : (limits : Limits) (s : State) (old new : MachineView) (moves longer more : List Entry) → HasWalked limits s old moves → IsSoleWay old new more → new.code ≡ old.code → longer ≡ moves ++ more → HasWalked limits s new longer
 walked_ahead limits s old new moves longer more before way code longer_is = walked_more limits s old new moves longer more before way.taken (way.timely limits) (way.sole limits) code longer_is
+
+-- a walk begins with so many entries
+pub counts_begin : (limits : Limits) (m : MachineView) (moves : List Entry) → moves ≡ [] → HasCounted limits m.core.entries m moves
+counts_begin limits m moves none = record { count = omega (arith, ap length none); within = λ few. few }
+
+-- a walk goes on by so many entries
+pub counts_on : (limits : Limits) (begun : ℕ) (old new : MachineView) (moves longer more : List Entry) → HasCounted limits begun old moves → new.core.entries ≡ old.core.entries + length more → new.core.entries ≤ limits.max_entries → longer ≡ moves ++ more → HasCounted limits begun new longer
+counts_on limits begun old new moves longer more before count few longer_is =
+    record { count = omega (arith, before.count, count, ap length longer_is, length-append moves more); within = λ _. few }
 
 -- a walk of no entry stands where it began
 pub walked_nowhere : (limits : Limits) (s : State) (m : MachineView) (moves : List Entry) → HasWalked limits s m moves → moves ≡ [] → (state_at m ≡ s) × (m.lines ≡ [])

@@ -1,5 +1,5 @@
 -- A walk by ways that stand for all.
-use Rattle.std.specs.Prelude.{ℕ, ◌≡◌, ◌≢◌, List, [], ◌∷◌, ◌++◌, map, Some, None}
+use Rattle.std.specs.Prelude.{ℕ, ◌+◌, ◌≤◌, ◌≡◌, ◌≢◌, List, [], ◌∷◌, ◌++◌, length, map, Some, None}
 use Rattle.model.specs.declared.entry.Entry.{Entry}
 use Rattle.model.specs.declared.entry.Entry.TheVariants.{Turn, Update, ActivateNba}
 use Rattle.model.specs.declared.end.Limits.{Limits}
@@ -20,12 +20,14 @@ pub record IsOnlyEntry (limits : Limits) (s : State) (entry : Entry) : Type 0 wh
 abbrev pub IsWithoutTurns : State → Type 0
 IsWithoutTurns s = (number : ℕ) → refusal s (Turn number) ≡ None → ⊥
 
--- A machine took these entries: it stands where they lead, with the lines that they printed behind those that it had.
+-- A machine took these entries: it stands where they lead, with the lines that they printed behind those that it had, and it has
+-- counted them.
 pub record HasTaken (old : MachineView) (entries : List Entry) (new : MachineView) : Type 0 where
   pub effect : Effect
   pub goes : run_from (design_of old.code) (silent (state_at old)) entries ≡ Some effect
   pub state_is : state_at new ≡ effect.state
   pub lines_are : new.lines ≡ old.lines ++ effect.lines
+  pub count : new.core.entries ≡ old.core.entries + length entries
 
 -- A walk has gone from a state: its machine stands where its entries lead in time, with the lines that they printed; and where it took
 -- any, they stand for all.
@@ -36,6 +38,12 @@ pub record HasWalked (limits : Limits) (s : State) (m : MachineView) (moves : Li
   pub timely : AreTimely limits moves
   pub state_is : state_at m ≡ effect.state
   pub lines_are : m.lines ≡ effect.lines
+
+-- A walk counts its entries, from so many at its beginning: its machine has taken as many more, and no more than a run may have
+-- where there were none too many.
+pub record HasCounted (limits : Limits) (begun : ℕ) (m : MachineView) (moves : List Entry) : Type 0 where
+  pub count : m.core.entries ≡ begun + length moves
+  pub within : begun ≤ limits.max_entries → m.core.entries ≤ limits.max_entries
 
 -- the entries that take events, one after another
 abbrev pub turns_of : List Event → List Entry

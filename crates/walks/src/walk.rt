@@ -1,11 +1,11 @@
 //! A walk on from a machine, as long as one order stands for all.
-ghost use Rattle.std.specs.Prelude.{◌≡◌, ◌<◌, [], false, None, IfOk, IfSome, OnOk};
+ghost use Rattle.std.specs.Prelude.{ℕ, ◌≡◌, ◌<◌, [], false, None, IfOk, IfSome, OnOk};
 ghost use Rattle.model.specs.States.{State};
 ghost use Rattle.model.specs.declared.end.Limits.{Limits};
 ghost use Rattle.model.specs.Runs.{refusal, step};
 ghost use Rattle.design.specs.Compiled.{design_of};
 ghost use Rattle.regions.specs.Machine.{most_entries, state_at, IsNotTaken};
-ghost use Rattle.walks.specs.Walking.{HasWalked, IsOnlyEntry, IsWithoutTurns};
+ghost use Rattle.walks.specs.Walking.{HasCounted, HasWalked, IsOnlyEntry, IsWithoutTurns};
 
 use crate::settle::way_ahead;
 use flat::Logs;
@@ -93,6 +93,7 @@ fn step(
     moves: &mut Vec<Entry>,
 ) -> Result<bool, AllocError>
     ensures walked { OnOk result ((s : State) → HasWalked limits s machine.old moves.old.items → HasWalked limits s machine.new moves.new.items) }
+    ensures counted { OnOk result ((begun : ℕ) → HasCounted limits begun machine.old moves.old.items → HasCounted limits begun machine.new moves.new.items) }
     ensures code { machine.new.code ≡ machine.old.code }
 {
     if machine.state().entries() >= u64::from(limits.max_entries) {
@@ -126,6 +127,7 @@ fn go_on(
 ) -> Result<bool, AllocError>
     requires code { machine.old.code ≡ networked.now }
     ensures walked { OnOk result ((s : State) → HasWalked limits s machine.old moves.old.items → HasWalked limits s machine.new moves.new.items) }
+    ensures counted { OnOk result ((begun : ℕ) → HasCounted limits begun machine.old moves.old.items → HasCounted limits begun machine.new moves.new.items) }
     ensures code { machine.new.code ≡ machine.old.code }
 {
     if step(limits, machine, moves)? {
@@ -143,8 +145,8 @@ fn go_on(
     Ok(true)
 }
 
-/// Goes on from where a machine stands as long as one order stands for all, for some hundred steps at most. Answers the entries that
-/// the machine took. The logs are kept for the next walk.
+/// Goes on from where a machine stands as long as one order stands for all, for some hundred steps at most, and never past
+/// the most entries. Answers the entries that the machine took. The logs are kept for the next walk.
 pub fn walk_on(
     alloc: Global,
     networked: &Networked<'_>,
@@ -155,6 +157,7 @@ pub fn walk_on(
     requires silent { machine.old.lines ≡ [] }
     requires code { machine.old.code ≡ networked.now }
     ensures walked { IfOk result (λ moves. HasWalked limits (state_at machine.old) machine.new moves.items) }
+    ensures counted { IfOk result (λ moves. HasCounted limits machine.old.core.entries machine.new moves.items) }
     ensures code { machine.new.code ≡ machine.old.code }
 {
     let mut moves = Vec::new(alloc);

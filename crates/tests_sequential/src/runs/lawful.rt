@@ -6,7 +6,7 @@ use super::held::design_of;
 use super::scarce::Scarce;
 use crate::claims::{fail, holds};
 use design::Design;
-use explore::{Bounds, Explored, Shown};
+use explore::{Bounds, Explored, Shown, Stopped};
 use model::end::{End, Limits};
 use model::entry::Entry;
 use progress::Untold;
@@ -27,7 +27,7 @@ const RACE: &[u8] =
     b"module t; reg a; initial a=1'b0; initial a=1'b1; initial #1 $display(\"%b\",a); endmodule";
 
 /// A search: of which design, up to which time, at which bounds. Then the texts of the design's runs, how many of them are shown,
-/// and whether they are all.
+/// why there may be others, and whether some orders don't come to an end.
 #[derive(Clone, Copy)]
 struct Row<'a> {
     source: &'a [u8],
@@ -36,7 +36,8 @@ struct Row<'a> {
     bounds: Bounds,
     texts: &'a [&'a str],
     shown: usize,
-    covered: bool,
+    stopped: &'a str,
+    endless: bool,
 }
 
 /// With room for all.
@@ -50,7 +51,8 @@ const PLAIN: Row<'static> = Row {
     },
     texts: &["0\n", "1\n"],
     shown: 2,
-    covered: true,
+    stopped: "",
+    endless: false,
 };
 
 const ROWS: &[Row<'static>] = &[
@@ -110,7 +112,35 @@ const ROWS: &[Row<'static>] = &[
         source: b"module t; always #0 $display(\"a\"); endmodule",
         texts: &[],
         shown: 0,
-        covered: false,
+        stopped: "entries",
+        ..PLAIN
+    },
+    // where the first process is the last, it shows a line and then waits for no time again and again
+    Row {
+        source: b"module t; reg a, b; initial begin if (a===1'b1 && b===1'b1) begin $display(\"bad\"); while (1'b1) begin #0 ; end end else begin $display(\"good\"); end end initial a=1'b1; initial b=1'b1; endmodule",
+        texts: &["good\n"],
+        shown: 1,
+        endless: true,
+        entries: 10_000,
+        ..PLAIN
+    },
+    // a process that waits for no time again and again: no order comes to an end
+    Row {
+        source: b"module t; initial begin while (1'b1) begin #0 ; end end endmodule",
+        texts: &[],
+        shown: 0,
+        endless: true,
+        entries: 10_000,
+        ..PLAIN
+    },
+    // a clock that is cut by the most entries
+    Row {
+        source: b"module t; reg clk; initial clk=1'b0; always #5 clk=~clk; endmodule",
+        until: 1000,
+        entries: 10,
+        texts: &[],
+        shown: 0,
+        stopped: "entries",
         ..PLAIN
     },
     // one order, of 40,001 entries
@@ -129,7 +159,7 @@ const ROWS: &[Row<'static>] = &[
             shown: 1,
         },
         shown: 1,
-        covered: false,
+        stopped: "texts",
         ..PLAIN
     },
     // the first node alone, behind which two orders differ
@@ -139,14 +169,14 @@ const ROWS: &[Row<'static>] = &[
             shown: 100,
         },
         shown: 0,
-        covered: false,
+        stopped: "nodes",
         ..PLAIN
     },
     // fewer entries than a run has
     Row {
         entries: 3,
         shown: 0,
-        covered: false,
+        stopped: "entries",
         ..PLAIN
     },
 ];
@@ -185,11 +215,23 @@ fn found_of(
     lawful_orders(alloc, design, limits, row.bounds, &Untold)
 }
 
-// So many texts are shown, which are of the row's, and they are all or not.
+// Why there may be other texts.
+fn reason_of(found: &Explored<Entry, End>) -> &'static str {
+    match found.stopped {
+        None => "",
+        Some(Stopped::Nodes) => "nodes",
+        Some(Stopped::Shown) => "texts",
+        Some(Stopped::Unfollowed) => "entries",
+        Some(Stopped::Memory) => "memory",
+    }
+}
+
+// So many texts are shown, which are of the row's, and there are others for the row's reason, or none.
 fn assert_found(rt: &impl Abort, found: &Explored<Entry, End>, row: &Row<'_>) {
     assert_length(rt, found.shown.len(), row.shown);
     assert_texts(rt, &found.shown, row.texts);
-    holds(rt, found.covered == row.covered, "all of them");
+    holds(rt, reason_of(found) == row.stopped, "another reason");
+    holds(rt, found.endless.is_some() == row.endless, "an end");
 }
 
 // What a row says.
@@ -206,12 +248,12 @@ fn texts_of_lawful_orders_are_shown(rt: HostRuntime) {
     }
 }
 
-// What a search in so much memory shows: how many texts, and whether they are all.
-fn found_in(rt: &impl Abort, memory: &mut Scarce, design: &Design) -> (usize, bool) {
+// What a search in so much memory shows: how many texts, and why there may be others.
+fn found_in(rt: &impl Abort, memory: &mut Scarce, design: &Design) -> (usize, &'static str) {
     memory.leave(rt);
     let found = found_of(rt, memory.alloc, design, &PLAIN);
     assert_texts(rt, &found.shown, PLAIN.texts);
-    (found.shown.len(), found.covered)
+    (found.shown.len(), reason_of(&found))
 }
 
 // A search gets more and more memory. Where some is refused, what was found is shown, and isn't all.
@@ -220,12 +262,13 @@ fn assert_refused(rt: &impl Abort, alloc: Global, design: &Design) {
     let mut most = 0;
     for count in 0..ROOMS {
         memory.steps = count;
-        let (shown, covered) = found_in(rt, &mut memory, design);
-        if covered {
+        let (shown, reason) = found_in(rt, &mut memory, design);
+        if reason == "" {
             holds(rt, most > 0, "no text in too little memory");
             assert_length(rt, shown, 2);
             return;
         }
+        holds(rt, reason == "memory", "another reason");
         most = most.max(shown);
     }
     fail(rt, "never all");

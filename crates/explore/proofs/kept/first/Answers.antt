@@ -11,8 +11,8 @@ returns-clause-kept g c =
     let orders = c.args.orders.now in
     let visit : ℕ × List ℕ = (0, c.as_slice.result.now) in
     let p : Pending g.row.O-Node.Denot = record { node = c.in_ok-node.node; reached = record { number = 0; text = 0 } } in
-    AreKept-first (g.O.Orders.runs orders) (g.O.Orders.has_key orders) _ p visit c.new.ensures.lineage c.new.ensures.ways c.new-2.ensures.ok c.new-2.ensures.texts c.in_ok-_new.ensures.whole
-    (keys_first c.in_ok-_new._new (pieces c.new-visited.result.visits) (pieces c.add.new.self.visits) visit c.new-visited.ensures.none c.in_ok-_new.ensures.there c.in_ok-_new.ensures.added)
+    AreKept-first (g.O.Orders.runs orders) (g.O.Orders.has_key orders) _ p visit c.new.ensures.lineage c.new.ensures.ways c.new-2.ensures.ok c.new-2.ensures.texts c.in_ok-_there.ensures.whole
+    (keys_first c.in_ok-_there._there (pieces c.new-visited.result.visits) (pieces c.add.new.self.visits) visit c.new-visited.ensures.none c.in_ok-_there.ensures.there c.in_ok-_there.ensures.added)
     (c.in_ok-push.ensures.items ∙ ap (λ (l : List (Pending g.row.O-Node.Denot)). l ++ p ∷ []) c.new-pending.ensures.items)
     refl refl c.in_ok-node.ensures (subst (g.O.Orders.has_key orders c.in_ok-node.node) (sym c.as_slice.ensures.value) c.in_ok-key.ensures) (g.met.O.Orders.silent orders)
 

@@ -1,14 +1,15 @@
-use Rattle.std.proofs.Common.{◌≡◌, [], ◌∷◌, ◌++◌, length, get_or, arith, List, Some, sym, subst}
+use Rattle.std.proofs.Common.{◌≡◌, ◌≤◌, [], ◌∷◌, ◌++◌, length, get_or, arith, List, Some, sym, subst, inl, inr}
 use Rattle.std.proofs.lemmas.List.Elements.{All-pop, All-nil}
 use Rattle.std.proofs.lemmas.List.{append-nil}
 use Rattle.std.specs.List.{All}
-use Rattle.explore.specs.SearchKept.{Leads}
+use Rattle.explore.specs.SearchKept.{LeadsOn}
 use Rattle.explore.specs.Search.{IsNext}
 use Rattle.explore.specs.Lineage.{ways}
 use Rattle.explore.specs.declared.Next.{Next}
-use Rattle.explore.proofs.Growing.{get_or-extends}
+use Rattle.explore.proofs.Growing.{get_or-extends, length-extends}
 use Rattle.explore.proofs.Complete.{taken_more, all_taken, both_true}
-use Rattle.explore.proofs.Keeping.{Grows-itself, Grows-through, leads_more}
+use Rattle.explore.proofs.Keeping.{Grows-itself, Grows-through}
+use Rattle.explore.proofs.Continuing.{leads_more, never_false, one_false}
 use Rattle.explore.proofs.kept.follow_all.Goals as goal
 
 pub loop-next-init : goal.loop-next-init
@@ -19,8 +20,10 @@ loop-next-init g c =
       kept = c.requires.kept;
       grows = Grows-itself c.args.kept.now;
       room = c.requires.room;
+      unmarked = λ k none. none;
+      full = λ no_it_is_not. never_false no_it_is_not;
       left = c.requires.successors;
-      done = ([], sym (append-nil c.args.successors.items), λ _. All-nil (λ (next : Next g.row.O-Node.Denot g.row.O-Move.Denot). Leads runs (ways c.args.kept.now.lineage) (way ++ next.moves.items)));
+      done = ([], sym (append-nil c.args.successors.items), λ _. All-nil (λ (next : Next g.row.O-Node.Denot g.row.O-Move.Denot). LeadsOn runs c.args.kept.now c.args.from.number (way ++ next.moves.items)));
     }
 
 pub follow-requires-clause-next : goal.follow-requires-clause-next
@@ -38,19 +41,26 @@ loop-next-preserved g c =
     let next = c.in-Some.next in
     let popped = c.in-Some.ensures.items in
     let before = c.loop-next.invariant.done in
-    let new = ways c.follow.new.kept.lineage in
+    let new = c.follow.new.kept in
+    let longer : length (ways c.loop-next.kept.lineage) ≤ length (ways new.lineage) = length-extends (ways c.loop-next.kept.lineage) (ways new.lineage) c.in_ok-there.ensures.grows.lineage in
+    let room = c.in_ok-there.ensures.room in
     let same = get_or-extends (ways c.args.kept.now.lineage) (ways c.loop-next.kept.lineage) c.args.from.number [] c.loop-next.invariant.grows.lineage c.requires.from.way in
     record {
       kept = c.in_ok-there.ensures.kept;
       grows = Grows-through c.args.kept.now c.loop-next.kept c.follow.new.kept c.loop-next.invariant.grows c.in_ok-there.ensures.grows;
       room = c.in_ok-there.ensures.room;
+      unmarked = λ k none. c.loop-next.invariant.unmarked k (c.in_ok-there.ensures.unmarked k none);
+      full = λ not_all. elim (one_false c.loop-next.all c.in_ok-there.there not_all) [
+        | inl before_it ↦ let at : length (ways c.loop-next.kept.lineage) ≡ c.args.scope.bounds.nodes = c.loop-next.invariant.full before_it in omega (arith, at, longer, room)
+        | inr now ↦ c.in_ok-there.ensures.full now
+      ];
       left = (All-pop (IsNext runs way) c.loop-next.left.items c.pop.new.self.items (Some next) popped c.loop-next.invariant.left).0;
       done = (
         next ∷ before.0,
         taken_more c.args.successors.items c.loop-next.left.items c.pop.new.self.items before.0 next before.1 popped,
         λ all. let both = both_true c.loop-next.all c.in_ok-there.there all in
-            leads_more runs (ways c.loop-next.kept.lineage) new way before.0 next c.in_ok-there.ensures.grows.lineage (before.2 both.0)
-            (subst (λ (l : List g.row.O-Move.Denot). Leads runs new (l ++ next.moves.items)) same (c.in_ok-there.ensures.leads both.1)),
+            leads_more runs c.loop-next.kept new c.args.from.number way before.0 next c.in_ok-there.ensures.grows (before.2 both.0)
+            (subst (λ (l : List g.row.O-Move.Denot). LeadsOn runs new c.args.from.number (l ++ next.moves.items)) same (c.in_ok-there.ensures.leads both.1)),
       );
     }
 
@@ -61,4 +71,4 @@ returns-clause-leads g c all =
     let done = c.loop-next.invariant.done in
     let none : length c.loop-next.left.items ≡ 0 = omega (arith, c.in_default.ensures.cases.0) in
     let same = all_taken c.args.successors.items c.loop-next.left.items done.0 done.1 none in
-    subst (λ (xs : List (Next g.row.O-Node.Denot g.row.O-Move.Denot)). All (λ next. Leads runs (ways c.loop-next.kept.lineage) (way ++ next.moves.items)) xs) (sym same) (done.2 all)
+    subst (λ (xs : List (Next g.row.O-Node.Denot g.row.O-Move.Denot)). All (λ next. LeadsOn runs c.loop-next.kept c.args.from.number (way ++ next.moves.items)) xs) (sym same) (done.2 all)

@@ -1,7 +1,7 @@
-use Rattle.std.proofs.Common.{◌≡◌, ◌≤◌, ◌++◌, [], List, length, get_or, IsTrue}
+use Rattle.std.proofs.Common.{◌≡◌, ◌≤◌, ◌++◌, [], List, length, get_or, false, IsTrue}
 use Rattle.std.specs.List.{All}
 use Rattle.explore.specs.declared.Next.{Next}
-use Rattle.explore.specs.SearchKept.{AreKept, Grows, Leads}
+use Rattle.explore.specs.SearchKept.{AreKept, Grows, LeadsOn, StayUnmarked}
 use Rattle.explore.specs.Search.{IsNext}
 use Rattle.explore.specs.Lineage.{ways}
 use Rattle.explore.proofs.kept.follow_all.Given as goal
@@ -14,9 +14,11 @@ invariant-loop-next g l =
       kept : AreKept runs (g.O.Orders.has_key l.orders) l.kept;
       grows : Grows l.fn.kept l.kept;
       room : length (ways l.kept.lineage) ≤ l.scope.bounds.nodes;
+      unmarked : StayUnmarked l.fn.kept l.kept;
+      full : l.all ≡ false → length (ways l.kept.lineage) ≡ l.scope.bounds.nodes;
       left : All (IsNext runs way) l.left.items;
       done : (did : List (Next g.row.O-Node.Denot g.row.O-Move.Denot)) × (l.fn.successors.items ≡ l.left.items ++ did)
-          × (IsTrue l.all → All (λ next. Leads runs (ways l.kept.lineage) (way ++ next.moves.items)) did);
+          × (IsTrue l.all → All (λ next. LeadsOn runs l.kept l.from.number (way ++ next.moves.items)) did);
     }
 
 abbrev pub decreases-loop-next : goal.decreases-loop-next

@@ -1,11 +1,17 @@
-use Rattle.std.proofs.Common.{◌≡◌, ℕ, ◌≤◌, [], List, length, get_or, arith, refl, sym, ap, ◌∙◌, subst, inl}
+use Rattle.std.proofs.Common.{◌≡◌, ℕ, ◌≤◌, [], List, length, get_or, Option, Some, arith, refl, sym, ap, ◌∙◌, subst, inl, inr}
 use Rattle.std.proofs.lemmas.List.Elements.{All-nil}
 use Rattle.std.specs.List.{All, Any}
-use Rattle.explore.specs.Search.{IsOfRun}
+use Rattle.explore.specs.Search.{IsOfRun, AreCounted}
 use Rattle.explore.specs.Lineage.{ways}
+use Rattle.explore.specs.Pieces.{pieces}
 use Rattle.explore.specs.declared.Shown.{Shown}
-use Rattle.explore.proofs.Growing.{get_or-extends, length-extends}
-use Rattle.explore.proofs.Complete.{both_true, all_shown}
+use Rattle.explore.specs.declared.stopped.Stopped.{Stopped}
+use Rattle.explore.specs.declared.stopped.Stopped.TheVariants as stop
+use Rattle.explore.proofs.Growing.{Extends-itself, get_or-extends, length-extends}
+use Rattle.explore.proofs.Complete.{all_shown}
+use Rattle.explore.proofs.Continuing.{AreContinued-more}
+use Rattle.explore.proofs.Counting.{counted, none_counted, endless_of, by_memory, some_none, none_some}
+use Rattle.explore.proofs.Edges.{none_unmarked}
 use Rattle.explore.proofs.Keeping.{AreKept-pop, known_more, all_followed}
 use Rattle.explore.proofs.search.search.Goals as goal
 
@@ -17,10 +23,14 @@ loop-at-init g c =
     let empty : length c.args.shown.now.items ≡ 0 = ap length c.requires.none in
     record {
       kept = c.in_ok-kept.ensures.kept;
+      continued = λ k none. absurd (none_unmarked c.in_ok-kept.kept.links.may_end.items k c.in_ok-kept.ensures.unmarked none);
       some = omega (arith, few);
       starts = ap (λ (l : List (List g.row.O-Move.Denot)). get_or l 0 []) one;
       room = omega (arith, few, c.requires.room);
-      few = c.requires.begun;
+      nodes = c.len.ensures;
+      most = λ at. absurd (none_some stop.Nodes at);
+      apart = λ at. none_some stop.Shown at;
+      few = omega (arith, empty);
       sound = subst (λ (l : List (Shown g.row.O-Move.Denot g.row.O-End.Denot)). All (IsOfRun runs) l) (sym c.requires.none) (All-nil (IsOfRun runs));
       distinct = λ i j d low high. absurd (omega (arith, high, empty));
       followed = λ _ k less. inl (
@@ -30,11 +40,16 @@ loop-at-init g c =
 
 pub turn-requires-clause-kept : goal.turn-requires-clause-kept
 turn-requires-clause-kept g c =
-    (AreKept-pop (g.O.Orders.runs c.args.orders.now) (g.O.Orders.has_key c.args.orders.now) c.loop-at.kept (record { lineage = c.loop-at.kept.lineage; texts = c.loop-at.kept.texts; visited = c.loop-at.kept.visited; pending = c.pop.new.self; key = c.loop-at.kept.key }) c.in-Some.at c.loop-at.invariant.kept refl refl refl c.in-Some.ensures.items).0
+    (AreKept-pop (g.O.Orders.runs c.args.orders.now) (g.O.Orders.has_key c.args.orders.now) c.loop-at.kept (record { lineage = c.loop-at.kept.lineage; texts = c.loop-at.kept.texts; visited = c.loop-at.kept.visited; links = c.loop-at.kept.links; pending = c.pop.new.self; key = c.loop-at.kept.key }) c.in-Some.at c.loop-at.invariant.kept refl refl refl c.in-Some.ensures.items).0
+
+pub turn-requires-clause-continued : goal.turn-requires-clause-continued
+turn-requires-clause-continued g c =
+    let old = c.loop-at.kept in
+    AreContinued-more (g.O.Orders.runs c.args.orders.now) old (record { lineage = old.lineage; texts = old.texts; visited = old.visited; links = old.links; pending = c.pop.new.self; key = old.key }) (Extends-itself (ways old.lineage)) (Extends-itself (pieces old.lineage.steps)) (Extends-itself old.links.edges.items) (λ k none. none) c.loop-at.invariant.continued
 
 pub turn-requires-clause-at : goal.turn-requires-clause-at
 turn-requires-clause-at g c =
-    (AreKept-pop (g.O.Orders.runs c.args.orders.now) (g.O.Orders.has_key c.args.orders.now) c.loop-at.kept (record { lineage = c.loop-at.kept.lineage; texts = c.loop-at.kept.texts; visited = c.loop-at.kept.visited; pending = c.pop.new.self; key = c.loop-at.kept.key }) c.in-Some.at c.loop-at.invariant.kept refl refl refl c.in-Some.ensures.items).1
+    (AreKept-pop (g.O.Orders.runs c.args.orders.now) (g.O.Orders.has_key c.args.orders.now) c.loop-at.kept (record { lineage = c.loop-at.kept.lineage; texts = c.loop-at.kept.texts; visited = c.loop-at.kept.visited; links = c.loop-at.kept.links; pending = c.pop.new.self; key = c.loop-at.kept.key }) c.in-Some.at c.loop-at.invariant.kept refl refl refl c.in-Some.ensures.items).1
 
 pub loop-at-preserved : goal.loop-at-preserved
 loop-at-preserved g c =
@@ -42,25 +57,86 @@ loop-at-preserved g c =
     let before = c.loop-at.invariant in
     let old = ways c.loop-at.kept.lineage in
     let new = ways c.turn.new.kept.lineage in
-    let more = c.in_ok-whole.ensures.grows.lineage in
+    let more = c.in_ok-left.ensures.grows.lineage in
     let longer : length old ≤ length new = length-extends old new more in
+    let room = c.in_ok-left.ensures.room in
     record {
-      kept = c.in_ok-whole.ensures.kept;
+      kept = c.in_ok-left.ensures.kept;
+      continued = c.in_ok-left.ensures.continued;
       some = omega (arith, before.some, longer);
       starts = get_or-extends old new 0 [] more before.some ∙ before.starts;
-      room = c.in_ok-whole.ensures.room;
-      few = subst (λ n. n ≤ c.args.scope.bounds.nodes) (sym c.len-reached.ensures) before.room;
-      sound = c.in_ok-whole.ensures.sound;
-      distinct = c.in_ok-whole.ensures.distinct;
-      followed = λ all k less.
-          let both = both_true c.loop-at.covered c.in_ok-whole.whole all in
-          known_more runs c.loop-at.kept (record { lineage = c.loop-at.kept.lineage; texts = c.loop-at.kept.texts; visited = c.loop-at.kept.visited; pending = c.pop.new.self; key = c.loop-at.kept.key }) c.turn.new.kept c.in-Some.at c.loop-at.shown.items c.turn.new.shown.items k refl c.in-Some.ensures.items
-          c.in_ok-whole.ensures.grows c.in_ok-whole.ensures.shown (c.in_ok-whole.ensures.followed both.1) (before.followed both.0) less;
+      room = room;
+      nodes = c.len-reached.ensures;
+      most = λ at. elim c.earlier-stopped.ensures.which [
+        | inl one ↦ let full : length old ≡ c.args.scope.bounds.nodes = before.most (sym one ∙ at) in omega (arith, full, longer, room)
+        | inr other ↦ c.in_ok-left.ensures.nodes (sym other ∙ at)
+      ];
+      apart = λ at. elim c.earlier-stopped.ensures.which [
+        | inl one ↦ before.apart (sym one ∙ at)
+        | inr other ↦ c.is_full.ensures.others c.if-is_full.false (sym other ∙ at)
+      ];
+      few = c.in_ok-left.ensures.few;
+      sound = c.in_ok-left.ensures.sound;
+      distinct = c.in_ok-left.ensures.distinct;
+      followed = λ none k less.
+          let both = c.earlier-stopped.ensures.none none in
+          known_more runs c.loop-at.kept (record { lineage = c.loop-at.kept.lineage; texts = c.loop-at.kept.texts; visited = c.loop-at.kept.visited; links = c.loop-at.kept.links; pending = c.pop.new.self; key = c.loop-at.kept.key }) c.turn.new.kept c.in-Some.at c.loop-at.shown.items c.turn.new.shown.items k refl c.in-Some.ensures.items
+          c.in_ok-left.ensures.grows c.in_ok-left.ensures.shown (c.in_ok-left.ensures.followed both.1) (before.followed both.0) less;
     }
 
+pub returns-in_err-kept-clause-counted : goal.returns-in_err-kept-clause-counted
+returns-in_err-kept-clause-counted g c =
+    let runs = g.O.Orders.runs c.args.orders.now in
+    subst (λ (s : Option Stopped). AreCounted runs c.args.shown.now.items s c.args.nodes.now) (sym (by_memory c.from_residual.result _ c.from_residual.ensures.1)) (none_counted runs c.args.shown.now.items c.args.nodes.now c.requires.begun)
+
+pub returns-in_err-left-clause-counted : goal.returns-in_err-left-clause-counted
+returns-in_err-left-clause-counted g c =
+    let before = c.loop-at.invariant in
+    let runs = g.O.Orders.runs c.args.orders.now in
+    subst (λ (s : Option Stopped). AreCounted runs c.turn.new.shown.items s c.loop-at.nodes) (sym (by_memory c.from_residual-in_err-left.result _ c.from_residual-in_err-left.ensures.1))
+    (counted runs (g.O.Orders.has_key c.args.orders.now) c.loop-at.kept c.turn.new.shown.items (Some stop.Memory) c.loop-at.nodes before.kept before.nodes before.some before.starts (λ none. absurd (some_none stop.Memory none)))
+
+pub returns-in_err-endless-clause-counted : goal.returns-in_err-endless-clause-counted
+returns-in_err-endless-clause-counted g c =
+    let before = c.loop-at.invariant in
+    let runs = g.O.Orders.runs c.args.orders.now in
+    subst (λ (s : Option Stopped). AreCounted runs c.loop-at.shown.items s c.loop-at.nodes) (sym (by_memory c.from_residual-in_err-endless.result _ c.from_residual-in_err-endless.ensures.1))
+    (counted runs (g.O.Orders.has_key c.args.orders.now) c.loop-at.kept c.loop-at.shown.items (Some stop.Memory) c.loop-at.nodes before.kept before.nodes before.some before.starts (λ none. absurd (some_none stop.Memory none)))
+
+pub returns-then-is_full-clause-counted : goal.returns-then-is_full-clause-counted
+returns-then-is_full-clause-counted g c =
+    let before = c.loop-at.invariant in
+    let old = ways c.loop-at.kept.lineage in
+    let new = ways c.turn.new.kept.lineage in
+    let more = c.in_ok-left.ensures.grows.lineage in
+    let longer : length old ≤ length new = length-extends old new more in
+    counted (g.O.Orders.runs c.args.orders.now) (g.O.Orders.has_key c.args.orders.now) c.turn.new.kept c.turn.new.shown.items c.in_ok-left.left c.len-reached.result c.in_ok-left.ensures.kept c.len-reached.ensures
+    (omega (arith, before.some, longer)) (get_or-extends old new 0 [] more before.some ∙ before.starts) (λ none. absurd (some_none stop.Shown (sym (c.is_full.ensures.full c.if-is_full.true) ∙ none)))
+
+pub returns-then-is_full-clause-all : goal.returns-then-is_full-clause-all
+returns-then-is_full-clause-all g c none = absurd (some_none stop.Shown (sym (c.is_full.ensures.full c.if-is_full.true) ∙ none))
+
 pub returns-clause-all : goal.returns-clause-all
-returns-clause-all g c covered =
+returns-clause-all g c none =
     let runs = g.O.Orders.runs c.args.orders.now in
     let before = c.loop-at.invariant in
-    let none : length c.loop-at.kept.pending.items ≡ 0 = omega (arith, c.in_default.ensures.cases.0) in
-    all_shown runs (ways c.loop-at.kept.lineage) c.loop-at.shown.items before.some before.starts (all_followed runs c.loop-at.kept c.loop-at.shown.items none (before.followed covered))
+    let over : length c.loop-at.kept.pending.items ≡ 0 = omega (arith, c.in_default.ensures.cases.0) in
+    all_shown runs (ways c.loop-at.kept.lineage) c.loop-at.shown.items before.some before.starts (all_followed runs c.loop-at.kept c.loop-at.shown.items over (before.followed none))
+
+pub returns-clause-full : goal.returns-clause-full
+returns-clause-full g c at = absurd (c.loop-at.invariant.apart at)
+
+pub returns-clause-counted : goal.returns-clause-counted
+returns-clause-counted g c =
+    let runs = g.O.Orders.runs c.args.orders.now in
+    let before = c.loop-at.invariant in
+    let over : length c.loop-at.kept.pending.items ≡ 0 = omega (arith, c.in_default.ensures.cases.0) in
+    counted runs (g.O.Orders.has_key c.args.orders.now) c.loop-at.kept c.loop-at.shown.items c.loop-at.stopped c.loop-at.nodes before.kept before.nodes before.some before.starts
+    (λ none. all_followed runs c.loop-at.kept c.loop-at.shown.items over (before.followed none))
+
+pub find_endless-requires-clause-known : goal.find_endless-requires-clause-known
+find_endless-requires-clause-known g c k none = let here = c.loop-at.invariant.continued k none in here.within
+
+pub returns-clause-endless : goal.returns-clause-endless
+returns-clause-endless g c =
+    endless_of (g.O.Orders.runs c.args.orders.now) (g.O.Orders.has_key c.args.orders.now) c.loop-at.kept c.in_ok-endless.endless c.loop-at.invariant.kept c.loop-at.invariant.continued c.in_ok-endless.ensures

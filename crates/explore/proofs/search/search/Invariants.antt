@@ -1,8 +1,9 @@
-use Rattle.std.proofs.Common.{◌≡◌, ℕ, ◌<◌, ◌≤◌, ◌+◌, ◌-◌, ◌*◌, [], length, get_or, IsTrue, ◌⊎◌}
+use Rattle.std.proofs.Common.{◌≡◌, ℕ, ◌<◌, ◌≤◌, ◌+◌, ◌-◌, ◌*◌, [], length, get_or, None, Some, ◌⊎◌}
 use Rattle.std.specs.List.{All, AllPairs, Any}
-use Rattle.explore.specs.SearchKept.{AreKept}
+use Rattle.explore.specs.SearchKept.{AreContinued, AreKept}
 use Rattle.explore.specs.Search.{IsOfRun, AreDistinct, IsShown, IsFollowed, Serves}
 use Rattle.explore.specs.Lineage.{ways}
+use Rattle.explore.specs.declared.stopped.Stopped.TheVariants as stop
 use Rattle.explore.proofs.search.search.Given as goal
 
 abbrev pub invariant-loop-at : goal.invariant-loop-at
@@ -11,13 +12,17 @@ invariant-loop-at g l =
     let reached = ways l.kept.lineage in
     record {
       kept : AreKept runs (g.O.Orders.has_key l.orders) l.kept;
+      continued : AreContinued runs l.kept;
       some : 0 < length reached;
       starts : get_or reached 0 [] ≡ [];
       room : length reached ≤ l.scope.bounds.nodes;
-      few : l.nodes ≤ l.scope.bounds.nodes;
+      nodes : l.nodes ≡ length reached;
+      most : l.stopped ≡ Some stop.Nodes → length reached ≡ l.scope.bounds.nodes;
+      apart : l.stopped ≡ Some stop.Shown → ⊥;
+      few : length l.shown.items ≤ l.scope.bounds.shown;
       sound : All (IsOfRun runs) l.shown.items;
       distinct : AllPairs AreDistinct l.shown.items;
-      followed : IsTrue l.covered → (k : ℕ) → k < length reached → Any (λ p. p.reached.number ≡ k) l.kept.pending.items ⊎ IsFollowed runs (IsShown l.shown.items) (Serves runs) reached (get_or reached k []);
+      followed : l.stopped ≡ None → (k : ℕ) → k < length reached → Any (λ p. p.reached.number ≡ k) l.kept.pending.items ⊎ IsFollowed runs (IsShown l.shown.items) (Serves runs) reached (get_or reached k []);
     }
 
 abbrev pub decreases-loop-at : goal.decreases-loop-at

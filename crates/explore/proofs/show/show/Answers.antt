@@ -33,7 +33,7 @@ returns-clause-sound g c =
     let e : way ++ c.args.ended.moves.items ≡ c.extend_from_slice.new.self.items =
     sym (c.in_ok-extend_from_slice.ensures.items ∙ (ap (λ (l : List g.row.O-Move.Denot). l ++ c.deref-3.result.now) c.in_ok-moves.ensures ∙ ap (λ (l : List g.row.O-Move.Denot). way ++ l) c.deref-3.ensures.value)) in
     let new : Shown g.row.O-Move.Denot g.row.O-End.Denot = record { text = c.in_ok-text.text; end = c.args.ended.end; moves = c.extend_from_slice.new.self } in
-    let holds : IsOfRun runs new = (subst (λ (l : List g.row.O-Move.Denot). runs.Ends l c.args.ended.end) e c.requires.ended.0, text ∙ (sym c.requires.ended.1 ∙ ap runs.text e)) in
+    let holds : IsOfRun runs new = (subst (λ (l : List g.row.O-Move.Denot). runs.Ends l c.args.ended.end) e c.requires.ended.0, text ∙ (sym c.requires.ended.1 ∙ ap runs.text e), subst (λ (l : List g.row.O-Move.Denot). runs.Within l) e c.requires.ended.2) in
     subst (λ (xs : List (Shown g.row.O-Move.Denot g.row.O-End.Denot)). All (IsOfRun runs) xs) (sym c.in_ok-push.ensures.items) (All-push (IsOfRun runs) c.args.shown.now.items new c.requires.sound holds)
 
 pub returns-clause-distinct : goal.returns-clause-distinct

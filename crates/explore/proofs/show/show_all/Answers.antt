@@ -17,6 +17,7 @@ loop-one-init g c =
     record {
       sound = c.requires.sound;
       distinct = c.requires.distinct;
+      few = c.requires.few;
       grows = Extends-itself c.args.shown.now.items;
       left = c.requires.ended;
       done = ([], sym (append-nil c.args.ended.items), All-nil (λ (one : Ended g.row.O-Move.Denot g.row.O-End.Denot). IsShown c.args.shown.now.items (runs.text way ++ one.printed.items) one.end));
@@ -38,6 +39,7 @@ loop-one-preserved g c =
     record {
       sound = c.in_ok-there.ensures.sound;
       distinct = c.in_ok-there.ensures.distinct;
+      few = c.in_ok-there.ensures.few;
       grows = Extends-through c.args.shown.now.items c.loop-one.shown.items c.show.new.shown.items c.loop-one.invariant.grows c.in_ok-there.ensures.grows;
       left = (All-pop (IsEnded runs way) c.loop-one.left.items c.pop.new.self.items (Some one) popped c.loop-one.invariant.left).0;
       done = (

@@ -1,4 +1,4 @@
-use Rattle.std.proofs.Common.{◌≡◌, ◌++◌, [], List, length, get_or}
+use Rattle.std.proofs.Common.{◌≡◌, ◌≤◌, ◌++◌, [], List, length, get_or}
 use Rattle.std.specs.List.{All, AllPairs}
 use Rattle.explore.specs.declared.Ended.{Ended}
 use Rattle.explore.specs.Grown.{Extends}
@@ -13,6 +13,7 @@ invariant-loop-one g l =
     record {
       sound : All (IsOfRun runs) l.shown.items;
       distinct : AllPairs AreDistinct l.shown.items;
+      few : length l.shown.items ≤ l.most;
       grows : Extends l.fn.shown.items l.shown.items;
       left : All (IsEnded runs way) l.left.items;
       done : (did : List (Ended g.row.O-Move.Denot g.row.O-End.Denot)) × (l.fn.ended.items ≡ l.left.items ++ did)

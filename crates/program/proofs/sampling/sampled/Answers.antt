@@ -5,5 +5,7 @@ use Rattle.program.proofs.sampling.sampled.Goals as goal
 
 pub returns : goal.returns
 returns g c =
-    samples_found c.sample-samples.result.made c.args.count c.args.design.now c.args.extent c.sample-samples.result.kept.items c.in_ok-shown.shown.items c.requires.asked c.sample-samples.ensures.made
-    (subst (λ (n : ℕ). n ≤ c.sample-samples.result.made) c.sample-samples.result.kept.ok.0 c.sample-samples.ensures.kept) c.in_ok-shown.ensures c.sample-samples.ensures.runs c.sample-samples.ensures.apart
+    let samples = c.sample-samples in
+    samples_found samples.result.made c.args.count c.args.design.now c.args.extent samples.result.kept.items c.in_ok-shown.shown.items c.requires.asked samples.ensures.made
+    (subst (λ (n : ℕ). n ≤ samples.result.made) samples.result.kept.ok.0 samples.ensures.kept) (subst (λ (n : ℕ). n ≤ c.args.extent.max_texts) samples.result.kept.ok.0 samples.ensures.most) c.in_ok-shown.ensures samples.ensures.runs
+    samples.ensures.apart

@@ -1,8 +1,12 @@
+use Rattle.std.proofs.Common.{Vec, ℕ, ◌+◌, ◌∙◌, ap, length, option_map}
+use Rattle.model.specs.declared.entry.Entry.{Entry}
 use Rattle.program.proofs.Searched.{searched_found}
 use Rattle.program.proofs.searching.searched.Goals as goal
 
-pub returns : goal.returns
-returns g c =
+pub returns-clause-found : goal.returns-clause-found
+returns-clause-found g c =
     let explored = c.lawful_orders-explored in
-    searched_found c.args.design.now c.args.extent c.claim_of-claim.result explored.result.covered explored.result.shown.items
-    c.claim_of-claim.ensures.within c.requires.all c.claim_of-claim.ensures.every explored.ensures.sound explored.ensures.distinct explored.ensures.all
+    searched_found (λ (j : Vec Entry). j.items) c.args.design.now c.args.extent explored.result.stopped c.stop_of-stopped.result explored.result.nodes explored.result.endless c.endless_of-endless.result c.number_of-number.result
+    c.claim_of-claim.result c.add_all-added.result c.args.known.items explored.result.shown.items c.add_all-added.new.shown.items c.requires.all explored.ensures.few c.claim_of-claim.ensures c.stop_of-stopped.ensures
+    c.endless_of-endless.ensures (c.number_of-number.ensures ∙ ap (λ (n : ℕ). option_map (λ j. n + 1) c.endless_of-endless.result) (ap length c.as_slice.ensures.value)) explored.ensures.sound explored.ensures.within explored.ensures.all
+    explored.ensures.endless c.requires.lawful c.add_all-added.ensures.lawful c.add_all-added.ensures.there c.add_all-added.ensures.distinct c.add_all-added.ensures.few

@@ -13,4 +13,5 @@ returns-clause-one c = (
   c.next_of-next.ensures.printed,
   c.next_of-next.ensures.ready,
   c.next_of-next.ensures.state,
+  c.next_of-next.ensures.entries,
 )

@@ -1,12 +1,14 @@
 -- Where a run halts, branches, or goes on with no choice.
-use Rattle.std.proofs.Common.{◌≡◌, ◌<◌, ◌∙◌, ap, length, sym, subst}
+use Rattle.std.proofs.Common.{ℕ, ◌≡◌, ◌<◌, ◌∙◌, arith, ap, length, sym, subst}
+use Rattle.std.specs.List.{All}
 use Rattle.std.proofs.lemmas.Result.{IfOk-weaker}
 use Rattle.design.specs.Compiled.{design_of}
 use Rattle.regions.specs.Machine.{MachineView, state_at}
 use Rattle.seeded.specs.Halting.{GoesOn, HaltsAt}
-use Rattle.walks.specs.Walking.{HasWalked}
+use Rattle.walks.specs.Walking.{HasCounted, HasWalked}
 use Rattle.walks.proofs.Walks.{walked_nowhere}
-use Rattle.races.proofs.Expansions.{both_ok, no_elements, empty_is_none, not_empty_is_some, halted_sound, halted_all, branched_next, branched_sound, branched_all, arrived_next, arrived_all}
+use Rattle.races.specs.SearchNodes.{IsCountedOn}
+use Rattle.races.proofs.Expansions.{both_ok, no_elements, empty_is_none, not_empty_is_some, halted_sound, halted_all, halted_here, none_counted, none_here, arrived_counted, branched_next, branched_sound, branched_all, arrived_next, arrived_all}
 use Rattle.races.proofs.expand.expand.Goals as goal
 
 pub returns-in-Some-clause-sound : goal.returns-in-Some-clause-sound
@@ -88,3 +90,29 @@ returns-clause-all c =
     let walked = subst (λ (p : MachineView). HasWalked c.args.limits (state_at p) new moves.items) c.deref_mut.ensures.value c.in_ok-moves.ensures.walked in
     let code : new.code ≡ m.code = c.walk_with.ensures.code ∙ ap (λ (p : MachineView). p.code) c.deref_mut.ensures.value in
     IfOk-weaker c.arrive.result _ _ (λ x one whole. arrived_all m.code c.args.limits (state_at m) new moves.items x.successors.items x.ended.items code walked some one) c.arrive.ensures.one
+
+pub returns-in-Some-clause-counted : goal.returns-in-Some-clause-counted
+returns-in-Some-clause-counted c = IfOk-weaker c.halts.result _ _ (λ x none. none_counted c.args.limits c.args.machine.value.core.entries x.successors.items none) c.halts.ensures.none
+
+pub returns-in-Some-clause-rest : goal.returns-in-Some-clause-rest
+returns-in-Some-clause-rest c = IfOk-weaker c.halts.result _ _ (λ x is. halted_here c.in-Some.end x.ended.items is) c.halts.ensures.one
+
+pub returns-then-is_empty-clause-counted : goal.returns-then-is_empty-clause-counted
+returns-then-is_empty-clause-counted c =
+    let moves = c.in_ok-moves.moves in
+    let none : length moves.items ≡ 0 = empty_is_none moves c.is_empty.result c.is_empty.ensures c.if-is_empty.true in
+    let counted = c.in_ok-moves.ensures.counted.count in
+    let begun = ap (λ (p : MachineView). p.core.entries) c.deref_mut.ensures.value in
+    let same : c.walk_with.new.machine.core.entries ≡ c.args.machine.value.core.entries = omega (arith, counted, none, begun) in
+    IfOk-weaker c.branch-alloc.result _ _ (λ x on. subst (λ (n : ℕ). All (IsCountedOn c.args.limits n) x.successors.items) same on) c.branch-alloc.ensures.counted
+
+pub returns-clause-counted : goal.returns-clause-counted
+returns-clause-counted c =
+    let m = c.args.machine.value in
+    let new = c.walk_with.new.machine in
+    let moves = c.in_ok-moves.moves in
+    let counted = subst (λ (p : MachineView). HasCounted c.args.limits p.core.entries new moves.items) c.deref_mut.ensures.value c.in_ok-moves.ensures.counted in
+    IfOk-weaker c.arrive.result _ _ (λ x one. arrived_counted c.args.limits m.core.entries new moves.items x.successors.items counted one) c.arrive.ensures.one
+
+pub returns-clause-rest : goal.returns-clause-rest
+returns-clause-rest c = IfOk-weaker c.arrive.result _ _ (λ x none. none_here x.ended.items none) c.arrive.ensures.none

@@ -1,17 +1,26 @@
 -- The step that a machine took, or why it took none.
-use Rattle.std.proofs.Common.{◌≡◌, ◌<◌, None, ap, sym, ◌∙◌, subst}
+use Rattle.std.proofs.Common.{◌≡◌, ◌<◌, ◌+◌, length, None, ap, sym, ◌∙◌, subst}
 use Rattle.model.specs.Runs.{refusal}
 use Rattle.regions.specs.Machine.{MachineView, state_at, most_entries, IsNotTaken}
 use Rattle.races.specs.Following.{TellsLong}
 use Rattle.races.proofs.Ways.{taken_is_way, long_is_way, untaken, still_not_taken}
 use Rattle.races.proofs.expand.way_by.Goals as goal
 
-pub returns-in-Ok : goal.returns-in-Ok
-returns-in-Ok c =
+pub returns-in-Ok-clause-way : goal.returns-in-Ok-clause-way
+returns-in-Ok-clause-way c =
     let next = c.next_of.result in
     taken_is_way c.args.limits c.args.machine.value c.deref_mut.result.now c.take_with.new.machine c.args.entry next c.deref_mut.ensures.value c.requires.silent (c.is_timely.ensures.0 c.if-not-is_timely.false)
     c.in-Ok.ensures.code c.in-Ok.ensures.taken (ap (λ v. v.items) c.next_of.ensures.moves ∙ c.in_ok-moves.ensures)
     c.next_of.ensures.printed c.next_of.ensures.ready c.next_of.ensures.state
+
+pub returns-in-Ok-clause-counted : goal.returns-in-Ok-clause-counted
+returns-in-Ok-clause-counted c = (
+  ap length (ap (λ v. v.items) c.next_of.ensures.moves ∙ c.in_ok-moves.ensures),
+  c.next_of.ensures.entries ∙ (c.in-Ok.ensures.entries ∙ ap (λ (p : MachineView). p.core.entries + 1) c.deref_mut.ensures.value),
+)
+
+pub returns-clause-counted : goal.returns-clause-counted
+returns-clause-counted c = c.in_ok-ended-in-Err.ensures.moves
 
 pub long_of-requires-clause-permitted : goal.long_of-requires-clause-permitted
 long_of-requires-clause-permitted c =
@@ -29,8 +38,8 @@ long_of-requires-clause-fault c =
     still_not_taken c.args.machine.value c.deref.result.now c.take_with.new.machine c.args.entry c.in-Err.fault same
     (subst (λ (p : MachineView). IsNotTaken p c.args.entry c.in-Err.fault) c.deref_mut.ensures.value c.in-Err.ensures.stop)
 
-pub returns : goal.returns
-returns c =
+pub returns-clause-way : goal.returns-clause-way
+returns-clause-way c =
     let m = c.args.machine.value in
     let ended = c.in_ok-ended-in-Err.ended in
     let same = untaken m c.deref_mut.result.now c.take_with.new.machine c.deref.result.now c.deref_mut.ensures.value c.in-Err.ensures.err c.deref.ensures in

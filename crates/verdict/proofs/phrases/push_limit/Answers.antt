@@ -1,13 +1,9 @@
-use Rattle.std.proofs.Common.{◌≡◌, ◌++◌, ℕ, List, codes, decimal, refl}
-use Rattle.verdict.specs.Verdicts.{grouped}
-use Rattle.verdict.proofs.Pieces.{joined, joined_last}
+use Rattle.std.proofs.Common.{codes}
+use Rattle.verdict.specs.Verdicts.{many_text}
+use Rattle.verdict.proofs.Pieces.{joined_if_ok}
 use Rattle.verdict.proofs.phrases.push_limit.Goals as goal
 
 pub returns : goal.returns
 returns c =
-    let old = c.args.text.now.items in
-    let most = grouped c.args.most in
-    let begun : List ℕ = codes " so far: a limit was met (" in
-    let two = joined c.push_grouped.new.text.items old begun c.extend_from_slice.new.self.items most c.in_ok-push_grouped.ensures c.in_ok-extend_from_slice.ensures.items in
-    joined_last c.extend_from_slice-2.result c.extend_from_slice-2.new.self.items old (begun ++ most) c.push_grouped.new.text.items
-    c.args.what.now c.args.what.now c.extend_from_slice-2.ensures.items two refl
+    joined_if_ok c.push_amount.result c.push_amount.new.text.items c.args.text.now.items (codes "a limit was met (") c.extend_from_slice.new.self.items
+    (many_text c.args.most c.args.one.now c.args.many.now) c.push_amount.ensures c.in_ok-extend_from_slice.ensures.items

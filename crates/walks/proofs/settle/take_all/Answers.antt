@@ -17,5 +17,5 @@ loop-entry-preserved c =
     record {
       code = c.in-Ok.ensures.code ∙ c.loop-entry.invariant.code;
       taken = subst (λ (l : List Entry). HasTaken c.args.machine.now l c.take.new.self) (sym (take_more entries at (Turn 0) (omega arith)))
-          (taken_more c.args.machine.now c.loop-entry.machine c.take.new.self (take at entries) (get_or entries at (Turn 0)) c.loop-entry.invariant.taken c.loop-entry.invariant.code c.in-Ok.ensures.taken);
+          (taken_more c.args.machine.now c.loop-entry.machine c.take.new.self (take at entries) (get_or entries at (Turn 0)) c.loop-entry.invariant.taken c.loop-entry.invariant.code c.in-Ok.ensures.taken c.in-Ok.ensures.entries);
     }

@@ -21,4 +21,5 @@ returns g c =
     record {
       from = omega (arith, low, c.requires.moved);
       way = ap (λ (n : ℕ). get_or (ways c.args.self.now) n []) back ∙ gone-step steps (c.args.number - 1) step c.requires.lineage.after at;
+      step = λ k is. let same : k ≡ c.args.number - 1 = omega (arith, is) in ap (λ (n : ℕ). slice_get steps n) same ∙ at;
     }

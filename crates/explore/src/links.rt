@@ -1,0 +1,84 @@
+//! What is known of each node besides its run: whether a run may come to an end at it, and the nodes to which its ways lead.
+ghost use Rattle.std.specs.Prelude.{◌≡◌, ◌⊎◌, ℕ, [], ◌∷◌, ◌++◌, true, false, get_or, None, IsTrue, IfOk, OnOk};
+ghost use Rattle.explore.specs.Grown.{Extends};
+ghost use Rattle.explore.specs.Links.{IsEdgeTo};
+
+use crate::pieces::narrow;
+use std::alloc::{AllocError, Global};
+
+/// A way leads from one node to another that was there before, by their numbers.
+#[derive(Clone, Copy)]
+pub(crate) struct Edge {
+    pub(crate) from: u32,
+    pub(crate) to: u32,
+}
+
+/// What is known of each node besides its run.
+#[derive(Drop)]
+pub(crate) struct Links {
+    /// The edges to nodes that were there before. The step of a run leads to each other node.
+    pub(crate) edges: Vec<Edge>,
+    /// Whether a run may come to an end at a node, for all that is known, by the numbers of the nodes.
+    pub(crate) may_end: Vec<bool>,
+}
+
+impl Links {
+    /// No nodes.
+    pub(crate) fn new(alloc: Global) -> Self
+        ensures edges { result.edges.items ≡ [] }
+        ensures may_end { result.may_end.items ≡ [] }
+    {
+        Links {
+            edges: Vec::new(alloc),
+            may_end: Vec::new(alloc),
+        }
+    }
+
+    /// Adds a node of which nothing is known yet.
+    pub(crate) fn add(&mut self) -> Result<(), AllocError>
+        ensures edges { OnOk result (self.new.edges.items ≡ self.old.edges.items) }
+        ensures may_end { OnOk result (self.new.may_end.items ≡ self.old.may_end.items ++ true ∷ []) }
+    {
+        self.may_end.push(true)?;
+        Ok(())
+    }
+
+    /// Whether a run may come to an end at the node with a number, for all that is known. It may at one that isn't there.
+    pub(crate) fn may_end_at(&self, number: usize) -> bool
+        ensures { result ≡ get_or self.now.may_end.items number true }
+    {
+        if number < self.may_end.len() {
+            self.may_end[number]
+        } else {
+            true
+        }
+    }
+
+    /// Adds the edge from a node to another, where that is there. The answer is whether it is.
+    pub(crate) fn join(&mut self, from: usize, to: Option<usize>) -> Result<bool, AllocError>
+        ensures edges { OnOk result (Extends self.old.edges.items self.new.edges.items) }
+        ensures may_end { OnOk result (self.new.may_end.items ≡ self.old.may_end.items) }
+        ensures joined { IfOk result (λ joined. IsTrue joined → IsEdgeTo from to self.new.edges.items) }
+        ensures none { IfOk result (λ joined. joined ≡ false → to ≡ None) }
+    {
+        match to {
+            Some(to) => {
+                let from = narrow(from)?;
+                let to = narrow(to)?;
+                self.edges.push(Edge { from, to })?;
+                Ok(true)
+            }
+            None => Ok(false),
+        }
+    }
+
+    /// Tells that no run comes to an end at a node, if that is so.
+    pub(crate) fn settle(&mut self, number: usize, goes_on: bool)
+        ensures edges { self.new.edges.items ≡ self.old.edges.items }
+        ensures may_end { (k : ℕ) → get_or self.new.may_end.items k true ≡ false → (get_or self.old.may_end.items k true ≡ false) ⊎ ((k ≡ number) × IsTrue goes_on) }
+    {
+        if goes_on & (number < self.may_end.len()) {
+            self.may_end[number] = false;
+        }
+    }
+}

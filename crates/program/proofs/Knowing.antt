@@ -1,0 +1,83 @@
+-- Texts that are known, and texts that are added to them.
+use Rattle.std.proofs.Common.{◌≡◌, ◌⊎◌, ◌∙◌, inl, inr, sym, subst, refl, ℕ, ◌+◌, ◌<◌, ltb, Bool, true, false, IsTrue, IfSome, Option, None, ◌≤◌, List, [], ◌∷◌, ◌++◌, length, get_or, Some, arith, string_bytes}
+use Rattle.std.specs.List.{All, AllPairs}
+use Rattle.std.proofs.lemmas.Bool.{ltb-true, ltb-false}
+use Rattle.std.proofs.lemmas.List.{get_or_default}
+use Rattle.model.specs.declared.entry.Entry.{Entry}
+use Rattle.model.specs.declared.end.End.{End}
+use Rattle.model.specs.declared.end.Limits.{Limits}
+use Rattle.model.specs.Runs.{AreTimely, Ends, run}
+use Rattle.design.specs.Compiled.{Compiled, design_of}
+use Rattle.explore.specs.declared.Shown.{Shown}
+use Rattle.explore.specs.Grown.{Extends}
+use Rattle.explore.specs.Search.{AreDistinct, IsShown}
+use Rattle.explore.proofs.Complete.{Any-extends}
+use Rattle.explore.proofs.Growing.{length-extends}
+use Rattle.seeded.specs.SeededRun.{IsRun}
+use Rattle.seeded.specs.Samples.{IsWhole}
+use Rattle.seeded.specs.declared.run.SeededRun.{SeededRun}
+use Rattle.conflicts.specs.declared.told.Found.{Found}
+use Rattle.conflicts.specs.declared.told.Race.{Race}
+use Rattle.conflicts.specs.declared.told.Tries.{Tries}
+use Rattle.arguments.specs.declared.extent.Extent.{Extent}
+use Rattle.program.specs.Findings.{AreKnown, AreRaces, IsKnown, IsLawful, IsOf, limits_in}
+
+-- the text of a run that came to its end is that of a lawful journal
+pub run_lawful : (code : Compiled) (limits : Limits) (r : SeededRun) (s : Shown Entry End) → IsWhole r → IsOf r s → IsRun code limits r → IsLawful code limits s
+run_lawful code limits r s whole same is =
+    let ended : Ends (design_of code) limits s.moves.items s.end =
+    subst (λ (e : End). Ends (design_of code) limits s.moves.items e) (sym same.1) (subst (λ (j : List Entry). Ends (design_of code) limits j r.end) (sym same.2) is.ends) in (
+      record {
+        effect = is.effect;
+        lawful = subst (λ (j : List Entry). run (design_of code) j ≡ Some is.effect) (sym same.2) is.lawful;
+        timely = subst (λ (j : List Entry). AreTimely limits j) (sym same.2) is.timely;
+        prints = same.0 ∙ sym is.prints;
+        goes_on = (λ e. whole.0 (sym same.1 ∙ e), λ e. whole.1 (sym same.1 ∙ e));
+        ends = λ lt. ended;
+        halts = λ h. ended;
+      },
+      subst (λ (j : List Entry). length j ≤ limits.max_entries) (sym same.2) is.few,
+    )
+
+-- what is known of a run stays so where more is known
+pub known_more : (most : ℕ) (shown shown' : List (Shown Entry End)) (r : SeededRun) → Extends shown shown' → length shown' ≤ most → IsKnown most shown r → IsKnown most shown' r
+known_more most shown shown' r more few known whole = of_one (known whole)
+  where
+    of_one : IsShown shown (string_bytes r.lines) r.end ⊎ (length shown ≡ most) → IsShown shown' (string_bytes r.lines) r.end ⊎ (length shown' ≡ most)
+    of_one (inl there) = inl (Any-extends (λ (s : Shown Entry End). (s.text.items ≡ string_bytes r.lines) × (s.end ≡ r.end)) shown shown' more there)
+    of_one (inr full) = inr (omega (arith, few, full, length-extends shown shown' more))
+
+-- a text that was added is known of its run, or as many are there as may be
+pub known_added : (there : Bool) (most : ℕ) (shown : List (Shown Entry End)) (r : SeededRun) (s : Shown Entry End) → IsOf r s → (IsTrue there → IsShown shown s.text.items s.end) → (there ≡ false → length shown ≡ most)
+    → IsKnown most shown r
+known_added true most shown r s same is full whole =
+    inl (subst (λ (t : List ℕ). IsShown shown t r.end) same.0 (subst (λ (e : End). IsShown shown s.text.items e) same.1 (is refl)))
+known_added false most shown r s same is full whole = inr (full refl)
+
+-- what is known of each race up to one more
+pub known_each : (most : ℕ) (shown shown' : List (Shown Entry End)) (races : List Race) (i : ℕ) (item : Race) → Extends shown shown' → length shown' ≤ most → item ≡ get_or races i item → i < length races
+    → ((k : ℕ) (d : Race) → k < i → IsKnown most shown (get_or races k d).exchanged) → IsKnown most shown' item.exchanged → (k : ℕ) (d : Race) → k < i + 1 → IsKnown most shown' (get_or races k d).exchanged
+known_each most shown shown' races i item more few at within before now k d lt = by_place (ltb k i) refl
+  where
+    by_place : (b : Bool) → ltb k i ≡ b → IsKnown most shown' (get_or races k d).exchanged
+    by_place true is = known_more most shown shown' (get_or races k d).exchanged more few (before k d (ltb-true k i is))
+    by_place false is =
+        let same : i ≡ k = omega (arith, lt, ltb-false k i is) in
+        subst (λ (n : ℕ). IsKnown most shown' (get_or races n d).exchanged) same
+        (subst (λ (r : Race). IsKnown most shown' r.exchanged) (at ∙ get_or_default races i item d within) now)
+
+-- the second run of each race is one of the design
+pub races_run : (code : Compiled) (limits : Limits) (tries : Tries) (found : Found) → AreRaces code limits tries found → All (λ (race : Race). IsRun code limits race.exchanged) found.races.items
+races_run code limits tries found races k d lt = (races.races k d lt).exchanged
+
+-- what is known of the first run and of the second runs, and then of others
+pub all_known : (code : Compiled) (extent : Extent) (found : Found) (a b c : List (Shown Entry End)) → extent.samples ≡ None → All (IsLawful code (limits_in extent)) c → AllPairs AreDistinct c → length c ≤ extent.max_texts
+    → length b ≤ extent.max_texts → Extends a b → Extends b c → IsKnown extent.max_texts a found.original → All (λ (race : Race). IsKnown extent.max_texts b race.exchanged) found.races.items → AreKnown code extent found c
+all_known code extent found a b c none lawful distinct few few_b more more' first others = record {
+  lawful = lawful;
+  distinct = distinct;
+  few = few;
+  none = subst (λ (o : Option ℕ). IfSome o (λ asked. c ≡ [])) (sym none) tt;
+  first = λ all. known_more extent.max_texts b c found.original more' few (known_more extent.max_texts a b found.original more few_b first);
+  others = λ all k d lt. known_more extent.max_texts b c (get_or found.races.items k d).exchanged more' few (others k d lt);
+}

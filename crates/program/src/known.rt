@@ -1,0 +1,250 @@
+//! Texts that are known before a search: those of the first run, of the second runs that show races, and of a few random orders.
+
+ghost use Rattle.std.specs.Prelude.{◌≡◌, ◌≤◌, ◌↔◌, false, length, IfOk, IfSome, IsTrue, OnOk};
+ghost use Rattle.std.specs.List.{All, AllPairs};
+ghost use Rattle.model.specs.Runs.{last_time};
+ghost use Rattle.model.specs.declared.end.Limits.{Limits};
+ghost use Rattle.design.specs.Compiled.{Compiled};
+ghost use Rattle.explore.specs.Grown.{Extends};
+ghost use Rattle.explore.specs.Search.{AreDistinct, Differs, IsShown};
+ghost use Rattle.seeded.specs.SeededRun.{IsRun};
+ghost use Rattle.arguments.specs.Options.{CanSearch};
+ghost use Rattle.conflicts.specs.declared.told.Tries.{Tries};
+ghost use Rattle.program.specs.Findings.{AreKnown, AreRaces, IsKnown, IsLawful, IsOf, limits_in};
+
+use arguments::Extent;
+use conflicts::{Found, Race};
+use design::Design;
+use explore::Shown;
+use model::end::{End, Limits};
+use model::entry::Entry;
+use progress::Progress;
+use seeded::compared::is_whole;
+use seeded::run::SeededRun;
+use seeded::samples::{SampleBounds, Seeds, sample};
+use std::alloc::{AllocError, Global};
+
+/// How many random orders are tried before a search.
+const FEW_ORDERS: u32 = 8;
+
+/// As many entries as these have together, or more, where no further one is tried.
+const FEW_ENTRIES: u64 = 1_000_000;
+
+/// Whether this text and this end are those of one that is known.
+fn is_same(one: &Shown<Entry, End>, text: &[u8], end: End) -> bool
+    ensures { IsTrue result ↔ ((one.now.text.items ≡ text.now) × (one.now.end ≡ end)) }
+{
+    if one.end != end {
+        return false;
+    }
+    one.text.as_slice() == text
+}
+
+/// Whether this text and this end are known.
+fn is_there(shown: &[Shown<Entry, End>], text: &[u8], end: End) -> bool
+    ensures there { IsTrue result → IsShown shown.now text.now end }
+    ensures apart { result ≡ false → All (Differs text.now end) shown.now }
+{
+    for one in shown.iter() {
+        if is_same(one, text, end) {
+            return true;
+        }
+    }
+    false
+}
+
+/// Adds a text with its end and its journal, unless one with both is there or as many as may be are. The answer is whether one is
+/// there now.
+pub fn add(
+    shown: &mut Vec<Shown<Entry, End>>,
+    one: Shown<Entry, End>,
+    most: usize,
+) -> Result<bool, AllocError>
+    requires few { length shown.old.items ≤ most }
+    requires distinct { AllPairs AreDistinct shown.old.items }
+    ensures few { length shown.new.items ≤ most }
+    ensures distinct { AllPairs AreDistinct shown.new.items }
+    ensures grows { Extends shown.old.items shown.new.items }
+    ensures lawful { (code : Compiled) (limits : Limits) → IsLawful code limits one → All (IsLawful code limits) shown.old.items → All (IsLawful code limits) shown.new.items }
+    ensures there { IfOk result (λ there. IsTrue there → IsShown shown.new.items one.text.items one.end) }
+    ensures full { IfOk result (λ there. there ≡ false → length shown.new.items ≡ most) }
+{
+    if is_there(shown.as_slice(), one.text.as_slice(), one.end) {
+        return Ok(true);
+    }
+    if shown.len() >= most {
+        return Ok(false);
+    }
+    shown.push(one)?;
+    Ok(true)
+}
+
+/// Adds texts with their ends and their journals, each unless one with both is there. It stops where as many as may be are there. The
+/// answer is whether each is there now.
+pub fn add_all(
+    shown: &mut Vec<Shown<Entry, End>>,
+    others: Vec<Shown<Entry, End>>,
+    most: usize,
+) -> Result<bool, AllocError>
+    requires few { length shown.old.items ≤ most }
+    requires distinct { AllPairs AreDistinct shown.old.items }
+    ensures few { length shown.new.items ≤ most }
+    ensures distinct { AllPairs AreDistinct shown.new.items }
+    ensures grows { Extends shown.old.items shown.new.items }
+    ensures lawful { (code : Compiled) (limits : Limits) → All (IsLawful code limits) others.items → All (IsLawful code limits) shown.old.items → All (IsLawful code limits) shown.new.items }
+    ensures there { IfOk result (λ all. IsTrue all → All (λ s. IsShown shown.new.items s.text.items s.end) others.items) }
+{
+    let mut left = others;
+    while let Some(one) = left.pop() {
+        let there = add(shown, one, most)?;
+        if !there {
+            return Ok(false);
+        }
+    }
+    Ok(true)
+}
+
+/// The text, the end and the journal of a run, once more.
+fn copy_of(alloc: Global, run: &SeededRun) -> Result<Shown<Entry, End>, AllocError>
+    ensures { IfOk result (IsOf run.now) }
+{
+    let mut text = Vec::new(alloc);
+    text.extend_from_slice(run.lines.as_str().as_bytes())?;
+    let mut moves = Vec::new(alloc);
+    moves.extend_from_slice(run.journal.as_slice())?;
+    Ok(Shown {
+        text,
+        end: run.end,
+        moves,
+    })
+}
+
+/// Adds the text of a run that came to its end.
+fn add_run(
+    alloc: Global,
+    shown: &mut Vec<Shown<Entry, End>>,
+    run: &SeededRun,
+    most: usize,
+) -> Result<(), AllocError>
+    requires few { length shown.old.items ≤ most }
+    requires distinct { AllPairs AreDistinct shown.old.items }
+    ensures few { OnOk result (length shown.new.items ≤ most) }
+    ensures distinct { OnOk result (AllPairs AreDistinct shown.new.items) }
+    ensures grows { OnOk result (Extends shown.old.items shown.new.items) }
+    ensures lawful { OnOk result ((code : Compiled) (limits : Limits) → IsRun code limits run.now → All (IsLawful code limits) shown.old.items → All (IsLawful code limits) shown.new.items) }
+    ensures known { OnOk result (IsKnown most shown.new.items run.now) }
+{
+    if !is_whole(run) {
+        return Ok(());
+    }
+    let one = copy_of(alloc, run)?;
+    let _ = add(shown, one, most)?;
+    Ok(())
+}
+
+/// Adds the texts of runs that came to their ends.
+fn add_runs(
+    alloc: Global,
+    shown: &mut Vec<Shown<Entry, End>>,
+    runs: &[SeededRun],
+    most: usize,
+) -> Result<(), AllocError>
+    requires few { length shown.old.items ≤ most }
+    requires distinct { AllPairs AreDistinct shown.old.items }
+    ensures few { OnOk result (length shown.new.items ≤ most) }
+    ensures distinct { OnOk result (AllPairs AreDistinct shown.new.items) }
+    ensures grows { OnOk result (Extends shown.old.items shown.new.items) }
+    ensures lawful { OnOk result ((code : Compiled) (limits : Limits) → All (IsRun code limits) runs.now → All (IsLawful code limits) shown.old.items → All (IsLawful code limits) shown.new.items) }
+{
+    for run in runs.iter() {
+        add_run(alloc, shown, run, most)?;
+    }
+    Ok(())
+}
+
+/// Adds the texts of the second runs of races, where they came to their ends.
+fn add_races(
+    alloc: Global,
+    shown: &mut Vec<Shown<Entry, End>>,
+    races: &[Race],
+    most: usize,
+) -> Result<(), AllocError>
+    requires few { length shown.old.items ≤ most }
+    requires distinct { AllPairs AreDistinct shown.old.items }
+    ensures few { OnOk result (length shown.new.items ≤ most) }
+    ensures distinct { OnOk result (AllPairs AreDistinct shown.new.items) }
+    ensures grows { OnOk result (Extends shown.old.items shown.new.items) }
+    ensures lawful { OnOk result ((code : Compiled) (limits : Limits) → All (λ race. IsRun code limits race.exchanged) races.now → All (IsLawful code limits) shown.old.items → All (IsLawful code limits) shown.new.items) }
+    ensures known { OnOk result (All (λ race. IsKnown most shown.new.items race.exchanged) races.now) }
+{
+    for race in races.iter() {
+        add_run(alloc, shown, &race.exchanged, most)?;
+    }
+    Ok(())
+}
+
+/// The texts that are known of a design before its orders are searched, and none where random ones are tried in place of that.
+pub fn known_texts<P: Progress>(
+    alloc: Global,
+    design: &Design,
+    extent: Extent,
+    found: &Found,
+    progress: &P,
+) -> Result<Vec<Shown<Entry, End>>, AllocError>
+    requires can { CanSearch extent }
+    requires races { (tries : Tries) × AreRaces design.now (limits_in extent) tries found.now }
+    ensures { IfOk result (λ known. AreKnown design.now extent found.now known.items) }
+{
+    match extent.samples {
+        Some(_) => Ok(Vec::new(alloc)),
+        None => known_first(alloc, design, extent, found, progress),
+    }
+}
+
+fn known_first<P: Progress>(
+    alloc: Global,
+    design: &Design,
+    extent: Extent,
+    found: &Found,
+    progress: &P,
+) -> Result<Vec<Shown<Entry, End>>, AllocError>
+    requires can { CanSearch extent }
+    requires all { extent.samples ≡ None }
+    requires races { (tries : Tries) × AreRaces design.now (limits_in extent) tries found.now }
+    ensures { IfOk result (λ known. AreKnown design.now extent found.now known.items) }
+{
+    let most = extent.max_texts as usize;
+    let mut known = Vec::new(alloc);
+    add_run(alloc, &mut known, &found.original, most)?;
+    add_races(alloc, &mut known, found.races.as_slice(), most)?;
+    let others = random_orders(alloc, design, extent, progress);
+    add_runs(alloc, &mut known, others.as_slice(), most)?;
+    Ok(known)
+}
+
+/// A few random orders.
+fn random_orders<P: Progress>(
+    alloc: Global,
+    design: &Design,
+    extent: Extent,
+    progress: &P,
+) -> Vec<SeededRun>
+    requires { CanSearch extent }
+    ensures { All (IsRun design.now (limits_in extent)) result.items }
+{
+    let limits = Limits {
+        until: extent.until,
+        max_entries: extent.max_entries,
+    };
+    let seeds = Seeds {
+        first: extent.seed,
+        count: FEW_ORDERS,
+    };
+    let bounds = SampleBounds {
+        kept: FEW_ORDERS as usize,
+        entries: FEW_ENTRIES,
+    };
+    let samples = sample(alloc, design, limits, seeds, bounds, progress);
+    progress.end();
+    samples.kept
+}
