@@ -2,6 +2,8 @@
 use Rattle.std.proofs.Common.{◌≡◌, ◌≢◌, ◌⊎◌, ◌==◌, ◌||◌, Bool, true, false, string_bytes, ◌++◌, ◌∙◌, ap, append_assoc, sym, subst, inl, inr, refl, ℕ, List, Option, Some, None, IfOk, IfErr, OnOk, OnErr, Result, Ok, Err, map, option_map, codes, drop, arith}
 use Rattle.std.specs.Io.KnownBytes.{Appends, Keeps}
 use Rattle.model.specs.declared.entry.Entry.{Entry}
+use Rattle.model.specs.declared.end.End.{End}
+use Rattle.explore.specs.declared.Shown.{Shown}
 use Rattle.arguments.specs.declared.options.Options.{Options}
 use Rattle.clap.specs.Words.{Text, first_of}
 use Rattle.explain.specs.declared.telling.Window.{Window}

@@ -21,6 +21,7 @@ use Rattle.conflicts.specs.declared.told.Race.{Race}
 use Rattle.conflicts.specs.declared.told.Tries.{Tries}
 use Rattle.arguments.specs.declared.extent.Extent.{Extent}
 use Rattle.program.specs.Findings.{AreKnown, AreRaces, IsKnown, IsLawful, IsOf, limits_in}
+use Rattle.program.proofs.Few.{no_longer}
 
 -- the text of a run that came to its end is that of a lawful journal
 pub run_lawful : (code : Compiled) (limits : Limits) (r : SeededRun) (s : Shown Entry End) → IsWhole r → IsOf r s → IsRun code limits r → IsLawful code limits s
@@ -38,6 +39,17 @@ run_lawful code limits r s whole same is =
       },
       subst (λ (j : List Entry). length j ≤ limits.max_entries) (sym same.2) is.few,
     )
+
+-- texts that are shown stay so where more is shown
+pub there_still : (shown shown' did : List (Shown Entry End)) → Extends shown shown' → All (λ s. IsShown shown s.text.items s.end) did → All (λ s. IsShown shown' s.text.items s.end) did
+there_still shown shown' did more all k d lt =
+    Any-extends (λ (s : Shown Entry End). (s.text.items ≡ (get_or did k d).text.items) × (s.end ≡ (get_or did k d).end)) shown shown' more (all k d lt)
+
+-- Texts of which no two are the same, and of which each is shown, are no more than those that are shown.
+pub few_shown : (others ss : List (Shown Entry End)) → AllPairs AreDistinct others → All (λ s. IsShown ss s.text.items s.end) others → length others ≤ length ss
+few_shown others ss distinct there =
+    no_longer (λ (o s : Shown Entry End). (s.text.items ≡ o.text.items) × (s.end ≡ o.end)) others ss
+    (λ i j d lt within s one other. distinct i j d lt within (sym one.0 ∙ other.0) (sym one.1 ∙ other.1)) there
 
 -- what is known of a run stays so where more is known
 pub known_more : (most : ℕ) (shown shown' : List (Shown Entry End)) (r : SeededRun) → Extends shown shown' → length shown' ≤ most → IsKnown most shown r → IsKnown most shown' r

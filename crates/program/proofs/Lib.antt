@@ -1,8 +1,9 @@
 -- Lemmas of statuses, ends and searches.
-pub mod Statuses
-pub mod Endings
 pub mod Ended
+pub mod Endings
 pub mod Explained
+pub mod Few
+pub mod Knowing
 pub mod Sampled
 pub mod Searched
-pub mod Knowing
+pub mod Statuses

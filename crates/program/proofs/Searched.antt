@@ -27,6 +27,7 @@ use Rattle.program.specs.declared.fault.Fault.{Fault}
 use Rattle.program.specs.Findings.{AreFound, IsFound, IsLawful, IsWithin, OnEvery, claim_of, endless_number, finding_of, journals_of, limits_in, some_journal, stop_of, unless_stopped}
 use Rattle.program.specs.Printed.{HasFound, HasLeft, HasSavedSome, HasShown, IsToldFirst, IsToldLast}
 use Rattle.program.specs.Program.{status_of}
+use Rattle.program.proofs.Knowing.{few_shown}
 use Rattle.program.proofs.Ended.{all_saved_on, appends_then, kept_on, some_saved_on}
 
 -- what is claimed of a search that stopped for this, or didn't
@@ -40,12 +41,12 @@ claim_sound extent (Some stopped.Unfollowed) nodes endless code limits ss h = h
 claim_sound extent (Some stopped.Memory) nodes endless code limits ss h = h
 
 claim_within : (extent : Extent) (s : Option Stopped) (nodes : ℕ) (endless : Option ℕ) (count : ℕ) → extent.samples ≡ None → nodes ≤ extent.max_states
-    → IsWithin extent count (claim_of extent s nodes endless)
-claim_within extent None nodes endless count none few = (none, few)
-claim_within extent (Some stopped.Nodes) nodes endless count none few = (none, refl)
-claim_within extent (Some stopped.Shown) nodes endless count none few = (none, refl)
-claim_within extent (Some stopped.Unfollowed) nodes endless count none few = (none, refl)
-claim_within extent (Some stopped.Memory) nodes endless count none few = none
+    → (s ≡ Some stopped.Shown → extent.max_texts ≤ count) → IsWithin extent count (claim_of extent s nodes endless)
+claim_within extent None nodes endless count none few full = (none, few)
+claim_within extent (Some stopped.Nodes) nodes endless count none few full = (none, refl)
+claim_within extent (Some stopped.Shown) nodes endless count none few full = (none, refl, full refl)
+claim_within extent (Some stopped.Unfollowed) nodes endless count none few full = (none, refl)
+claim_within extent (Some stopped.Memory) nodes endless count none few full = none
 
 claim_all : (P : Type 0) (extent : Extent) (s : Option Stopped) (nodes : ℕ) (endless : Option ℕ) → (s ≡ None → P) → OnEvery (claim_of extent s nodes endless) P
 claim_all P extent None nodes endless h = h refl
@@ -79,10 +80,17 @@ told_never items P (Some s) found (Some j) is h = cc
 
 -- a search wasn't stopped, and each of its texts was put behind those that are known
 not_stopped : {E : Type 0} (s : Option Stopped) (added : Result Bool E) → stop_of s added ≡ None → (s ≡ None) × (added ≡ Ok true)
-not_stopped None (Ok true) h = (refl, refl)
+not_stopped s (Ok true) h = (h, refl)
 not_stopped None (Ok false) h = cc
-not_stopped None (Err e) h = cc
-not_stopped (Some s) added h = cc
+not_stopped (Some s) (Ok false) h = cc
+not_stopped s (Err e) h = cc
+
+-- where the most texts are why a search stopped, as many are shown: each of as many was put there, or one was left out
+shown_full : {E : Type 0} (s : Option Stopped) (added : Result Bool E) (most : ℕ) (others ss : List (Shown Entry End)) → stop_of s added ≡ Some stopped.Shown → (s ≡ Some stopped.Shown → length others ≡ most)
+    → AllPairs AreDistinct others → IfOk added (λ all. IsTrue all → All (λ o. IsShown ss o.text.items o.end) others) → IfOk added (λ all. all ≡ false → length ss ≡ most) → most ≤ length ss
+shown_full s (Ok true) most others ss stops found distinct there full = omega (arith, found stops, few_shown others ss distinct (there refl))
+shown_full s (Ok false) most others ss stops found distinct there full = omega (arith, full refl)
+shown_full s (Err e) most others ss stops found distinct there full = cc
 
 added_all : {E : Type 0} (added : Result Bool E) (P : Type 0) → added ≡ Ok true → IfOk added (λ all. IsTrue all → P) → P
 added_all (Ok true) P is h = h refl
@@ -108,23 +116,23 @@ lawful_within code limits ss sound within k d lt = (sound k d lt, within k d lt)
 pub searched_found : {J E : Type 0} (items : J → List Entry) (code : Compiled) (extent : Extent) (s t : Option Stopped) (nodes : ℕ) (found told : Option J) (number : Option ℕ) (claim : Claim) (added : Result Bool E) (known others ss : List (Shown Entry End))
     → extent.samples ≡ None → nodes ≤ extent.max_states → claim ≡ claim_of extent t nodes number → t ≡ stop_of s added → told ≡ unless_stopped t found → number ≡ option_map (λ j. length ss + 1) told
     → All (λ o. IsLawfulText (design_of code) (limits_in extent) o.moves.items o.text.items o.end) others → All (λ o. orders.IsWithin (limits_in extent) o.moves.items) others
-    → (s ≡ None → AreAllTexts (design_of code) (limits_in extent) (IsShown others)) → IfSome found (λ j. orders.IsEndlessJournal (design_of code) (limits_in extent) (items j))
+    → AllPairs AreDistinct others → (s ≡ Some stopped.Shown → length others ≡ extent.max_texts) → (s ≡ None → AreAllTexts (design_of code) (limits_in extent) (IsShown others)) → IfSome found (λ j. orders.IsEndlessJournal (design_of code) (limits_in extent) (items j))
     → All (IsLawful code (limits_in extent)) known → ((c : Compiled) (l : Limits) → All (IsLawful c l) others → All (IsLawful c l) known → All (IsLawful c l) ss)
-    → IfOk added (λ all. IsTrue all → All (λ o. IsShown ss o.text.items o.end) others) → AllPairs AreDistinct ss → length ss ≤ extent.max_texts
+    → IfOk added (λ all. IsTrue all → All (λ o. IsShown ss o.text.items o.end) others) → IfOk added (λ all. all ≡ false → length ss ≡ extent.max_texts) → AllPairs AreDistinct ss → length ss ≤ extent.max_texts
     → AreFound code extent claim ss (option_map items told)
-searched_found items code extent s t nodes found told number claim added known others ss none few claimed stops tells counted sound within all never lawful more there distinct short =
+searched_found items code extent s t nodes found told number claim added known others ss none few claimed stops tells counted sound within apart most all never lawful more there full distinct short =
     subst (λ (c : Claim). AreFound code extent c ss (option_map items told)) (sym claimed) (record {
       sound = claim_sound extent t nodes number code (limits_in extent) ss (more code (limits_in extent) (lawful_within code (limits_in extent) others sound within) lawful);
       distinct = distinct;
       few = short;
-      within = claim_within extent t nodes number (length ss) none few;
+      within = claim_within extent t nodes number (length ss) none few (λ is. shown_full s added extent.max_texts others ss (sym stops ∙ is) most apart there full);
       all = claim_all (AreAllTexts (design_of code) (limits_in extent) (IsShown ss)) extent t nodes number (λ is. every (not_stopped s added (sym stops ∙ is)));
       never = told_never items (orders.IsEndlessJournal (design_of code) (limits_in extent)) t found told tells never;
       numbered = claim_number items extent t nodes (length ss) found told number tells counted;
     })
   where
     every : (s ≡ None) × (added ≡ Ok true) → AreAllTexts (design_of code) (limits_in extent) (IsShown ss)
-    every (is, full) = all_there code (limits_in extent) others ss (all is) (added_all added (All (λ o. IsShown ss o.text.items o.end) others) full there)
+    every (is, put) = all_there code (limits_in extent) others ss (all is) (added_all added (All (λ o. IsShown ss o.text.items o.end) others) put there)
 
 -- the journals of texts and of one run more
 

@@ -55,11 +55,12 @@ OnEvery (SoFar met) P = Unit {0}
 OnEvery (Sampled orders) P = Unit {0}
 
 -- The claim, on so many texts, keeps to what was asked. Of a search of all orders it has no more states than the search may reach, and names the limit of states,
--- texts or entries that was given. Of random orders no more were tried than were asked for, and no fewer than there are texts.
+-- texts or entries that was given, and that of texts only where so many were found. Of random orders no more were tried than were asked for, and no fewer
+-- than there are texts.
 abbrev pub IsWithin : Extent → ℕ → Claim → Type 0
 IsWithin extent count (Every states endless) = (extent.samples ≡ None) × (states ≤ extent.max_states)
 IsWithin extent count (SoFar (States most)) = (extent.samples ≡ None) × (most ≡ extent.max_states)
-IsWithin extent count (SoFar (Texts most)) = (extent.samples ≡ None) × (most ≡ extent.max_texts)
+IsWithin extent count (SoFar (Texts most)) = (extent.samples ≡ None) × (most ≡ extent.max_texts) × (most ≤ count)
 IsWithin extent count (SoFar (Entries most)) = (extent.samples ≡ None) × (most ≡ extent.max_entries)
 IsWithin extent count (SoFar Memory) = extent.samples ≡ None
 IsWithin extent count (Sampled orders) = (asked : ℕ) × (extent.samples ≡ Some asked) × (orders ≤ asked) × (count ≤ orders)
@@ -72,12 +73,17 @@ claim_of extent (Some stopped.Shown) nodes endless = SoFar (Texts extent.max_tex
 claim_of extent (Some stopped.Unfollowed) nodes endless = SoFar (Entries extent.max_entries)
 claim_of extent (Some stopped.Memory) nodes endless = SoFar Memory
 
--- For what a search stopped whose texts were put behind those that are known: for its own reason, or where one of them was left out since there are the most, or for want of memory.
+-- for what a search stopped of which texts were left out since there are the most: for its own reason, or for that
+abbrev pub or_full : Option Stopped → Option Stopped
+or_full (Some s) = Some s
+or_full None = Some stopped.Shown
+
+-- For what a search stopped whose texts were put behind those that are known: for its own reason, for the most texts where one of them was left out, and for want of
+-- memory where that was refused to them.
 abbrev pub stop_of : {Fault : Type 0} → Option Stopped → Result Bool Fault → Option Stopped
-stop_of (Some s) added = Some s
-stop_of None (Ok true) = None
-stop_of None (Ok false) = Some stopped.Shown
-stop_of None (Err fault) = Some stopped.Memory
+stop_of s (Ok true) = s
+stop_of s (Ok false) = or_full s
+stop_of s (Err fault) = Some stopped.Memory
 
 -- a journal, where the search wasn't stopped
 abbrev pub unless_stopped : {J : Type 0} → Option Stopped → Option J → Option J

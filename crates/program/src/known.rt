@@ -79,8 +79,8 @@ pub fn add(
     Ok(true)
 }
 
-/// Adds texts with their ends and their journals, each unless one with both is there. It stops where as many as may be are there. The
-/// answer is whether each is there now.
+/// Adds texts with their ends and their journals in their order, each unless one with both is there. It stops where as many as may be
+/// are there. The answer is whether each is there now.
 pub fn add_all(
     shown: &mut Vec<Shown<Entry, End>>,
     others: Vec<Shown<Entry, End>>,
@@ -93,9 +93,9 @@ pub fn add_all(
     ensures grows { Extends shown.old.items shown.new.items }
     ensures lawful { (code : Compiled) (limits : Limits) → All (IsLawful code limits) others.items → All (IsLawful code limits) shown.old.items → All (IsLawful code limits) shown.new.items }
     ensures there { IfOk result (λ all. IsTrue all → All (λ s. IsShown shown.new.items s.text.items s.end) others.items) }
+    ensures full { IfOk result (λ all. all ≡ false → length shown.new.items ≡ most) }
 {
-    let mut left = others;
-    while let Some(one) = left.pop() {
+    for one in others {
         let there = add(shown, one, most)?;
         if !there {
             return Ok(false);

@@ -7,7 +7,7 @@ ghost use Rattle.explore.specs.Grown.{Extends};
 ghost use Rattle.explore.specs.Search.{AreDistinct};
 ghost use Rattle.std.specs.List.{All, AllPairs};
 ghost use Rattle.frontend.specs.Sources.{IsDesignOf};
-ghost use Rattle.program.specs.Findings.{AreFound, HaveSomeEnds, IsLawful, IsWithin, claim_of, finding_of, first_text, journals_of, limits_in, stop_of, unless_stopped};
+ghost use Rattle.program.specs.Findings.{AreFound, HaveSomeEnds, IsLawful, IsWithin, claim_of, finding_of, first_text, journals_of, limits_in, or_full, stop_of, unless_stopped};
 ghost use Rattle.arguments.specs.Options.{CanSearch};
 ghost use Rattle.program.specs.Program.{status_of};
 ghost use Rattle.program.specs.Printed.{HasLeft, HasShown, IsToldLast};
@@ -211,24 +211,25 @@ fn searched<P: Progress>(
     }
 }
 
-/// For what a search stopped whose texts were put behind those that are known: for its own reason, or since some weren't put there.
+/// For what a search stopped whose texts were put behind those that are known: for its own reason, for the most texts where one of them was left out, and for want of
+/// memory where that was refused to them.
 fn stop_of(stopped: Option<Stopped>, added: Result<bool, AllocError>) -> Option<Stopped>
     ensures { result ≡ stop_of stopped added }
 {
-    match stopped {
-        Some(stopped) => Some(stopped),
-        None => left_out(added),
+    match added {
+        Ok(true) => stopped,
+        Ok(false) => or_full(stopped),
+        Err(_) => Some(Stopped::Memory),
     }
 }
 
-/// Why texts weren't put behind those that are known: there were as many as there may be, or memory was refused.
-fn left_out(added: Result<bool, AllocError>) -> Option<Stopped>
-    ensures { result ≡ stop_of None added }
+/// For what a search stopped of which texts were left out since there are the most: for its own reason, or for that.
+fn or_full(stopped: Option<Stopped>) -> Option<Stopped>
+    ensures { result ≡ or_full stopped }
 {
-    match added {
-        Ok(true) => None,
-        Ok(false) => Some(Stopped::Shown),
-        Err(_) => Some(Stopped::Memory),
+    match stopped {
+        Some(stopped) => Some(stopped),
+        None => Some(Stopped::Shown),
     }
 }
 

@@ -1,10 +1,7 @@
-use Rattle.std.proofs.Common.{◌≡◌, ◌≤◌, ◌++◌, List, length}
+use Rattle.std.proofs.Common.{◌≤◌, length}
 use Rattle.std.specs.List.{All, AllPairs}
-use Rattle.model.specs.declared.entry.Entry.{Entry}
-use Rattle.model.specs.declared.end.End.{End}
 use Rattle.model.specs.declared.end.Limits.{Limits}
 use Rattle.design.specs.Compiled.{Compiled}
-use Rattle.explore.specs.declared.Shown.{Shown}
 use Rattle.explore.specs.Grown.{Extends}
 use Rattle.explore.specs.Search.{AreDistinct, IsShown}
 use Rattle.program.specs.Findings.{IsLawful}
@@ -15,10 +12,6 @@ invariant-loop-one l = record {
   few : length l.shown.items ≤ l.most;
   distinct : AllPairs AreDistinct l.shown.items;
   grows : Extends l.fn.shown.items l.shown.items;
-  left : (code : Compiled) (limits : Limits) → All (IsLawful code limits) l.fn.others.items → All (IsLawful code limits) l.left.items;
   lawful : (code : Compiled) (limits : Limits) → All (IsLawful code limits) l.fn.others.items → All (IsLawful code limits) l.fn.shown.items → All (IsLawful code limits) l.shown.items;
-  done : (did : List (Shown Entry End)) × (l.fn.others.items ≡ l.left.items ++ did) × All (λ s. IsShown l.shown.items s.text.items s.end) did;
+  there : All (λ s. IsShown l.shown.items s.text.items s.end) l.yielded;
 }
-
-abbrev pub decreases-loop-one : goal.decreases-loop-one
-decreases-loop-one l = length l.left.items
