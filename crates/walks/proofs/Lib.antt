@@ -15,3 +15,4 @@ pub mod Walks
 pub mod Settled
 pub mod PhaseWays
 pub mod Passed
+pub mod Trails

@@ -1,5 +1,5 @@
 -- A walk through a phase, taken by a machine, stands for all.
-use Rattle.std.proofs.Common.{◌≡◌, ◌≢◌, inl, inr, ℕ, true, false, List, [], ◌∷◌, ◌++◌, map, Option, Some, None, is_some, sym, ap, subst, ◌∙◌, append_assoc}
+use Rattle.std.proofs.Common.{◌≡◌, ◌≢◌, inl, inr, ℕ, Bool, true, false, List, [], ◌∷◌, ◌++◌, map, Option, Some, None, is_some, refl, sym, ap, subst, ◌∙◌, append_assoc}
 use Rattle.std.specs.Prelude.{IfSome}
 use Rattle.std.proofs.lemmas.List.{append-nil}
 use Rattle.std.proofs.lemmas.List.Elements.{All-nil, All-cons, All-append}
@@ -18,11 +18,14 @@ use Rattle.settling.specs.Settling.{block_at, IsPhaseOf}
 use Rattle.flat.specs.declared.turned.Turned.{Turned}
 use Rattle.flat.specs.Turned.{event_of, turns_in, AreTurned}
 use Rattle.walks.specs.Sole.{StandsForAll}
+use Rattle.walks.specs.declared.trail.Trail.{Trail}
+use Rattle.walks.specs.Trails.{HasTried, IsMarked}
 use Rattle.walks.specs.Walking.{HasTaken, IsSoleWay, turns_of}
 use Rattle.walks.specs.PhasePassing.{StandsInPhase, HasAdded, TakesEvents, HasPassed, HasPassedBehind, HasGoneBehind}
 use Rattle.walks.proofs.PhaseWays.{events_timely, behind_timely, phase_stands, flat_phase_stands}
 use Rattle.walks.proofs.Settled.{no_turns, sole_settled}
 use Rattle.walks.proofs.Walks.{taken_none, taken_both}
+use Rattle.walks.proofs.Trails.{tried_way}
 
 -- where members were found, a machine stands in a phase
 pub found_phase : {V : Type 0} (o : Option V) (items : V → List ℕ) (m : MachineView) (network : Network) → is_some o ≡ true → IfSome o (λ v. IsPhaseOf m.code (state_at m) network (items v)) → StandsInPhase m
@@ -116,3 +119,9 @@ pub sole_gone : (m copy mid new : MachineView) (turns : List Turned) (moves afte
 sole_gone m copy mid new turns moves after same moves_are taken code (inl settled) are flat some = sole_settled m copy mid new turns moves after same moves_are taken code settled are flat some
 sole_gone m copy mid new turns moves after same moves_are taken code (inr behind) are flat some =
     sole_behind m mid new turns moves after moves_are (subst (λ (p : MachineView). HasTaken p moves mid) same taken) (code ∙ ap (λ (p : MachineView). p.code) same) behind are flat some
+
+-- the way through a phase was tried
+pub tried_phase : (trail : Trail) (m n : MachineView) (queue : Core) (all : Bool) (none way entries : List Entry) → IsMarked trail m → n.code ≡ m.code → none ≡ [] → StandsInPhase m → queue ≡ m.core → has_any queue.active ≡ true → (all ≡ true → HasPassed m n none entries) → way ≡ entries
+    → HasTried trail m n all way
+tried_phase trail m n queue all none way entries marked code none_is stands same some passed way_is =
+    tried_way trail m n all way entries marked code (λ on. sole_phase m m n none entries refl none_is stands (some_active m.core queue same some) (passed on)) way_is

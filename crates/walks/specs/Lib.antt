@@ -7,3 +7,4 @@ pub mod OnlyWay
 pub mod Sole
 pub mod Walking
 pub mod PhasePassing
+pub mod Trails

@@ -1,12 +1,16 @@
 //! A step of a walk through a phase of combinational processes, up to its end.
-ghost use Rattle.std.specs.Prelude.{◌≡◌, true, [], None, IfOk, IfSome};
+ghost use Rattle.std.specs.Prelude.{ℕ, ◌≡◌, true, [], None, IfOk, IfSome, OnOk};
+ghost use Rattle.model.specs.States.{State};
 ghost use Rattle.phases.specs.Phase.{TakesEvent};
 ghost use Rattle.regions.specs.Machine.{state_at};
-ghost use Rattle.walks.specs.Walking.{IsSoleWay};
+ghost use Rattle.walks.specs.Trails.{IsTrail};
+ghost use Rattle.walks.specs.Walking.{HasCounted, HasWalked};
 ghost use Rattle.walks.specs.PhasePassing.{HasAdded, HasPassed, HasPassedBehind, StandsInPhase};
 
-use crate::settle::{Ahead, copy_of, take_all};
+use crate::settle::take_all;
+use crate::trail::Trail;
 use combinational::Network;
+use model::end::Limits;
 use model::entry::Entry;
 use regions::{Evaluation, Machine};
 use settling::{Networked, phase_of};
@@ -118,30 +122,29 @@ pub(crate) fn take_phase(
     take_active(machine, moves)
 }
 
-/// The way that stands for all from where a machine stands, where its state is a phase in which something is active, and where it leads:
-/// to the end of the phase.
+/// Goes on through a phase in which something is active, to its end, where the journal has room for it. Answers whether it did.
 pub(crate) fn phase_way<'d>(
     alloc: Global,
     networked: &Networked<'_>,
-    machine: &Machine<'d>,
-) -> Result<Option<Ahead<'d>>, AllocError>
-    requires code { machine.now.code ≡ networked.now }
-    ensures sole { IfOk result (λ found. IfSome found (λ ahead. IsSoleWay machine.now ahead.machine.value ahead.moves.items)) }
-    ensures code { IfOk result (λ found. IfSome found (λ ahead. ahead.machine.value.code ≡ machine.now.code)) }
+    limits: Limits,
+    machine: &mut Machine<'d>,
+    trail: &mut Trail<'d>,
+) -> Result<bool, AllocError>
+    requires code { machine.old.code ≡ networked.now }
+    requires leads { IsTrail trail.old machine.old }
+    ensures walked { OnOk result ((s : State) → HasWalked limits s machine.old trail.old.moves.items → HasWalked limits s machine.new trail.new.moves.items) }
+    ensures counted { OnOk result ((begun : ℕ) → HasCounted limits begun machine.old trail.old.moves.items → HasCounted limits begun machine.new trail.new.moves.items) }
+    ensures leads { OnOk result (IsTrail trail.new machine.new) }
+    ensures code { machine.new.code ≡ machine.old.code }
 {
     if !machine.state().is_active() {
-        return Ok(None);
+        return Ok(false);
     }
     if !is_phase(alloc, networked, machine)? {
-        return Ok(None);
+        return Ok(false);
     }
-    let mut moves = Vec::new(alloc);
-    let mut ahead = copy_of(alloc, machine)?;
-    if !take_active(&mut ahead, &mut moves)? {
-        return Ok(None);
-    }
-    Ok(Some(Ahead {
-        machine: ahead,
-        moves,
-    }))
+    let mut way = Vec::new(alloc);
+    trail.mark(alloc, machine)?;
+    let all = take_active(machine, &mut way)?;
+    trail.end_way(limits, machine, all, &way)
 }

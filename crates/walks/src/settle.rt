@@ -1,35 +1,23 @@
-//! The way ahead by the turns of a flat state, with what comes behind them where that has to be taken too, or through a phase.
-ghost use Rattle.std.specs.Prelude.{◌≡◌, ◌≢◌, true, [], map, IfOk, IfSome};
+//! A walk on by the turns of a flat state, with what comes behind them where that has to be taken too.
+ghost use Rattle.std.specs.Prelude.{ℕ, ◌≡◌, ◌≢◌, true, [], map, IfOk, OnOk};
+ghost use Rattle.model.specs.States.{State};
 ghost use Rattle.regions.specs.Machine.{state_at};
 ghost use Rattle.regions.specs.Queue.{update_event};
 ghost use Rattle.flat.specs.Turned.{event_of, AreTurned};
-ghost use Rattle.flat.specs.Tests.{IsFlatState};
+ghost use Rattle.flat.specs.Tests.{IsFlatState, IsOneMaker};
 ghost use Rattle.walks.specs.PhasePassing.{HasGoneBehind};
-ghost use Rattle.walks.specs.Walking.{HasTaken, IsSoleWay, turns_of, updates_of};
+ghost use Rattle.walks.specs.Trails.{IsTrail};
+ghost use Rattle.walks.specs.Walking.{HasCounted, HasTaken, HasWalked, IsSoleWay, turns_of, updates_of};
 
-use crate::phase::{phase_way, take_phase};
+use crate::phase::take_phase;
+use crate::trail::Trail;
 use flat::{Logs, Turned, flat_turns, is_inert, one_maker};
+use model::end::Limits;
 use model::entry::Entry;
 use regions::{Machine, TakeFault, Update};
 use settling::Networked;
 use std::alloc::{AllocError, Global};
 use std::collections::VecDeque;
-
-/// Where a way leads, and its entries. The machine is on the heap, so that it is moved and dropped as a pointer.
-#[derive(Drop)]
-pub(crate) struct Ahead<'d> {
-    pub(crate) machine: Box<Machine<'d>>,
-    pub(crate) moves: Vec<Entry>,
-}
-
-/// A copy of a machine, on the heap.
-pub fn copy_of<'d>(alloc: Global, machine: &Machine<'d>) -> Result<Box<Machine<'d>>, AllocError>
-    ensures { IfOk result (λ copy. copy.value ≡ machine.now) }
-{
-    let copy = machine.copy(alloc)?;
-    let boxed = Box::new(alloc, copy)?;
-    Ok(boxed)
-}
 
 /// Takes entries, one after another. Answers whether each was taken.
 pub(crate) fn take_all(machine: &mut Machine<'_>, entries: &[Entry]) -> Result<bool, AllocError>
@@ -91,81 +79,94 @@ fn take_behind(
     take_all(machine, &updates)
 }
 
-// Takes the turns of a flat state on a copy of its machine, and the updates behind them where more than one of the turns makes such,
-// with what these cause. Answers whether the entries taken stand for all: they don't where that may come in several ways.
+// Whether no more than one of the turns of a flat state makes nonblocking updates of now.
+fn has_one_maker(machine: &Machine<'_>, turns: &[Turned]) -> bool
+    requires turns { AreTurned machine.now.code (state_at machine.now) turns.now }
+    ensures { result ≡ true → (maker : ℕ) × IsOneMaker machine.now.code (state_at machine.now) maker }
+{
+    match one_maker(machine, turns) {
+        Some(_) => true,
+        None => false,
+    }
+}
+
+// Takes the turns of a flat state, and the updates behind them where more than one of the turns makes such, with what these cause.
+// Answers whether the entries taken stand for all: they don't where that may come in several ways.
 fn go_ahead(
     alloc: Global,
     networked: &Networked<'_>,
-    machine: &Machine<'_>,
     turns: &[Turned],
-    ahead: &mut Machine<'_>,
+    machine: &mut Machine<'_>,
     moves: &mut Vec<Entry>,
 ) -> Result<bool, AllocError>
-    requires code { machine.now.code ≡ networked.now }
-    requires flat { IsFlatState machine.now.code (state_at machine.now) }
-    requires turns { AreTurned machine.now.code (state_at machine.now) turns.now }
+    requires code { machine.old.code ≡ networked.now }
+    requires flat { IsFlatState machine.old.code (state_at machine.old) }
+    requires turns { AreTurned machine.old.code (state_at machine.old) turns.now }
     requires some { turns.now ≢ [] }
-    requires copy { ahead.old ≡ machine.now }
     requires moves { moves.old.items ≡ turns_of (map event_of turns.now) }
-    ensures sole { IfOk result (λ all. all ≡ true → IsSoleWay machine.now ahead.new moves.new.items) }
-    ensures code { ahead.new.code ≡ ahead.old.code }
+    ensures sole { IfOk result (λ all. all ≡ true → IsSoleWay machine.old machine.new moves.new.items) }
+    ensures code { machine.new.code ≡ machine.old.code }
 {
-    if !take_all(ahead, moves)? {
+    let one = has_one_maker(machine, turns);
+    if !take_all(machine, moves)? {
         return Ok(false);
     }
-    match one_maker(machine, turns) {
-        Some(_) => Ok(true),
-        None => take_behind(alloc, ahead, networked, moves),
+    if one {
+        return Ok(true);
     }
+    take_behind(alloc, machine, networked, moves)
 }
 
-// The way that stands for all from a flat state, and where it leads. None where what comes behind its turns may come in several ways.
-fn sole_way<'d>(
+// Goes on by these turns of a flat state and what comes behind them, where that comes in one way. Answers whether it did.
+fn turns_way<'d>(
     alloc: Global,
     networked: &Networked<'_>,
-    machine: &Machine<'d>,
+    limits: Limits,
     turns: &[Turned],
-) -> Result<Option<Ahead<'d>>, AllocError>
-    requires code { machine.now.code ≡ networked.now }
-    requires flat { IsFlatState machine.now.code (state_at machine.now) }
-    requires turns { AreTurned machine.now.code (state_at machine.now) turns.now }
+    machine: &mut Machine<'d>,
+    trail: &mut Trail<'d>,
+) -> Result<bool, AllocError>
+    requires code { machine.old.code ≡ networked.now }
+    requires flat { IsFlatState machine.old.code (state_at machine.old) }
+    requires turns { AreTurned machine.old.code (state_at machine.old) turns.now }
     requires some { turns.now ≢ [] }
-    ensures sole { IfOk result (λ found. IfSome found (λ ahead. IsSoleWay machine.now ahead.machine.value ahead.moves.items)) }
-    ensures code { IfOk result (λ found. IfSome found (λ ahead. ahead.machine.value.code ≡ machine.now.code)) }
+    requires leads { IsTrail trail.old machine.old }
+    ensures walked { OnOk result ((s : State) → HasWalked limits s machine.old trail.old.moves.items → HasWalked limits s machine.new trail.new.moves.items) }
+    ensures counted { OnOk result ((begun : ℕ) → HasCounted limits begun machine.old trail.old.moves.items → HasCounted limits begun machine.new trail.new.moves.items) }
+    ensures leads { OnOk result (IsTrail trail.new machine.new) }
+    ensures code { machine.new.code ≡ machine.old.code }
 {
-    let mut moves = turn_entries(alloc, turns)?;
-    let mut ahead = copy_of(alloc, machine)?;
-    if !go_ahead(alloc, networked, machine, turns, &mut ahead, &mut moves)? {
-        return Ok(None);
-    }
-    Ok(Some(Ahead {
-        machine: ahead,
-        moves,
-    }))
+    let mut way = turn_entries(alloc, turns)?;
+    trail.mark(alloc, machine)?;
+    let all = go_ahead(alloc, networked, turns, machine, &mut way)?;
+    trail.end_way(limits, machine, all, &way)
 }
 
-/// The way that stands for all from where a machine stands, where its state is flat or a phase, and where it leads.
-pub(crate) fn way_ahead<'d>(
+/// Goes on by the turns of a flat state and what comes behind them, where that comes in one way and the journal has room for it. Answers
+/// whether it did.
+pub(crate) fn flat_way<'d>(
     alloc: Global,
     networked: &Networked<'_>,
+    limits: Limits,
     logs: &mut Logs,
-    machine: &Machine<'d>,
-) -> Result<Option<Ahead<'d>>, AllocError>
-    requires code { machine.now.code ≡ networked.now }
-    ensures code { IfOk result (λ found. IfSome found (λ ahead. ahead.machine.value.code ≡ machine.now.code)) }
-    ensures sole { IfOk result (λ found. IfSome found (λ ahead. IsSoleWay machine.now ahead.machine.value ahead.moves.items)) }
+    machine: &mut Machine<'d>,
+    trail: &mut Trail<'d>,
+) -> Result<bool, AllocError>
+    requires code { machine.old.code ≡ networked.now }
+    requires leads { IsTrail trail.old machine.old }
+    ensures walked { OnOk result ((s : State) → HasWalked limits s machine.old trail.old.moves.items → HasWalked limits s machine.new trail.new.moves.items) }
+    ensures counted { OnOk result ((begun : ℕ) → HasCounted limits begun machine.old trail.old.moves.items → HasCounted limits begun machine.new trail.new.moves.items) }
+    ensures leads { OnOk result (IsTrail trail.new machine.new) }
+    ensures code { machine.new.code ≡ machine.old.code }
 {
     let turns = match flat_turns(networked.design(), machine, logs)? {
         Some(turns) => turns,
-        None => return phase_way(alloc, networked, machine),
+        None => return Ok(false),
     };
     if turns.is_empty() {
-        return Ok(None);
+        return Ok(false);
     }
-    let found = sole_way(alloc, networked, machine, &turns)?;
+    let gone = turns_way(alloc, networked, limits, &turns, machine, trail)?;
     logs.keep_all(turns)?;
-    match found {
-        Some(ahead) => Ok(Some(ahead)),
-        None => phase_way(alloc, networked, machine),
-    }
+    Ok(gone)
 }

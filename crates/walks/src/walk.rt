@@ -5,9 +5,12 @@ ghost use Rattle.model.specs.declared.end.Limits.{Limits};
 ghost use Rattle.model.specs.Runs.{refusal, step};
 ghost use Rattle.design.specs.Compiled.{design_of};
 ghost use Rattle.regions.specs.Machine.{most_entries, state_at, IsNotTaken};
+ghost use Rattle.walks.specs.Trails.{IsTrail};
 ghost use Rattle.walks.specs.Walking.{HasCounted, HasWalked, IsOnlyEntry, IsWithoutTurns};
 
-use crate::settle::way_ahead;
+use crate::phase::phase_way;
+use crate::settle::flat_way;
+use crate::trail::{Trail, pending};
 use flat::Logs;
 use model::end::Limits;
 use model::entry::Entry;
@@ -15,10 +18,10 @@ use regions::{Machine, TakeFault};
 use seeded::halting::is_timely;
 use settling::Networked;
 use std::alloc::{AllocError, Global};
-use std::mem;
 
-// The most steps of one walk: a search looks for a state that it has seen at the end of each.
-const MOST_STEPS: u32 = 256;
+// The most steps of one walk where less is pending: a search looks for a state that it has seen at the end of each. That takes as long as
+// all that is pending, and so it is done once in as many steps.
+const MOST_STEPS: usize = 256;
 
 /// Tells that an entry, which the rules permit, wasn't taken since it is a turn that isn't short. Fails where memory was refused to it
 /// instead.
@@ -90,10 +93,12 @@ fn only_entry(limits: Limits, machine: &Machine<'_>) -> Option<Entry>
 fn step(
     limits: Limits,
     machine: &mut Machine<'_>,
-    moves: &mut Vec<Entry>,
+    trail: &mut Trail<'_>,
 ) -> Result<bool, AllocError>
-    ensures walked { OnOk result ((s : State) → HasWalked limits s machine.old moves.old.items → HasWalked limits s machine.new moves.new.items) }
-    ensures counted { OnOk result ((begun : ℕ) → HasCounted limits begun machine.old moves.old.items → HasCounted limits begun machine.new moves.new.items) }
+    requires leads { IsTrail trail.old machine.old }
+    ensures walked { OnOk result ((s : State) → HasWalked limits s machine.old trail.old.moves.items → HasWalked limits s machine.new trail.new.moves.items) }
+    ensures counted { OnOk result ((begun : ℕ) → HasCounted limits begun machine.old trail.old.moves.items → HasCounted limits begun machine.new trail.new.moves.items) }
+    ensures leads { OnOk result (IsTrail trail.new machine.new) }
     ensures code { machine.new.code ≡ machine.old.code }
 {
     if machine.state().entries() >= u64::from(limits.max_entries) {
@@ -105,7 +110,7 @@ fn step(
     };
     match machine.take(entry) {
         Ok(()) => {
-            moves.push(entry)?;
+            trail.moves.push(entry)?;
             Ok(true)
         }
         Err(fault) => {
@@ -115,38 +120,34 @@ fn step(
     }
 }
 
-// Goes on by the only entry, or else by the way ahead that stands for all, where there is one and the journal has room for it. Answers
-// whether it did.
-fn go_on(
+// Goes on by the only entry, or else by the turns of a flat state or through a phase, where one of these stands for all and the journal
+// has room for it. Answers whether it did.
+fn go_on<'d>(
     alloc: Global,
     networked: &Networked<'_>,
     limits: Limits,
     logs: &mut Logs,
-    machine: &mut Machine<'_>,
-    moves: &mut Vec<Entry>,
+    machine: &mut Machine<'d>,
+    trail: &mut Trail<'d>,
 ) -> Result<bool, AllocError>
     requires code { machine.old.code ≡ networked.now }
-    ensures walked { OnOk result ((s : State) → HasWalked limits s machine.old moves.old.items → HasWalked limits s machine.new moves.new.items) }
-    ensures counted { OnOk result ((begun : ℕ) → HasCounted limits begun machine.old moves.old.items → HasCounted limits begun machine.new moves.new.items) }
+    requires leads { IsTrail trail.old machine.old }
+    ensures walked { OnOk result ((s : State) → HasWalked limits s machine.old trail.old.moves.items → HasWalked limits s machine.new trail.new.moves.items) }
+    ensures counted { OnOk result ((begun : ℕ) → HasCounted limits begun machine.old trail.old.moves.items → HasCounted limits begun machine.new trail.new.moves.items) }
+    ensures leads { OnOk result (IsTrail trail.new machine.new) }
     ensures code { machine.new.code ≡ machine.old.code }
 {
-    if step(limits, machine, moves)? {
+    if step(limits, machine, trail)? {
         return Ok(true);
     }
-    let mut ahead = match way_ahead(alloc, networked, logs, machine)? {
-        Some(ahead) => ahead,
-        None => return Ok(false),
-    };
-    if ahead.machine.state().entries() > u64::from(limits.max_entries) {
-        return Ok(false);
+    if flat_way(alloc, networked, limits, logs, machine, trail)? {
+        return Ok(true);
     }
-    moves.extend_from_slice(&ahead.moves)?;
-    mem::swap(machine, &mut ahead.machine);
-    Ok(true)
+    phase_way(alloc, networked, limits, machine, trail)
 }
 
-/// Goes on from where a machine stands as long as one order stands for all, for some hundred steps at most, and never past
-/// the most entries. Answers the entries that the machine took. The logs are kept for the next walk.
+/// Goes on from where a machine stands as long as one order stands for all, and never past the most entries: for some hundred steps at
+/// most, or as many as what is pending, if that is more. Answers the entries that the machine took. The logs are kept for the next walk.
 pub fn walk_on(
     alloc: Global,
     networked: &Networked<'_>,
@@ -160,11 +161,12 @@ pub fn walk_on(
     ensures counted { IfOk result (λ moves. HasCounted limits machine.old.core.entries machine.new moves.items) }
     ensures code { machine.new.code ≡ machine.old.code }
 {
-    let mut moves = Vec::new(alloc);
-    for _ in 0..MOST_STEPS {
-        if !go_on(alloc, networked, limits, logs, machine, &mut moves)? {
-            return Ok(moves);
+    let mut trail = Trail::new(alloc);
+    let most = MOST_STEPS.max(pending(machine));
+    for _ in 0..most {
+        if !go_on(alloc, networked, limits, logs, machine, &mut trail)? {
+            return Ok(trail.into_moves());
         }
     }
-    Ok(moves)
+    Ok(trail.into_moves())
 }
