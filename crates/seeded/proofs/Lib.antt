@@ -1,5 +1,6 @@
 -- Which entries may be next (Permits), where a run halts (Halts), how it goes on by an entry (Journals), a machine with it
--- (Comings), the entry at a place of a list (Choosing), runs that are apart (Parting), and lists of them (Keeping).
+-- (Comings), the entry at a place of a list (Choosing), runs that are apart (Parting), lists of them (Keeping), what a
+-- generator's draws choose (Drawing), and the runs of several seeds (Sampling).
 pub mod Permits
 pub mod Halts
 pub mod Journals
@@ -7,3 +8,5 @@ pub mod Comings
 pub mod Choosing
 pub mod Parting
 pub mod Keeping
+pub mod Drawing
+pub mod Sampling

@@ -38,7 +38,8 @@ earlier_there (e ∷ es) n some = earlier_here (not (is_evaluation e.1) && ltb e
 abbrev pub SomeNext : Limits → State → Type 0
 SomeNext limits s = (entry : Entry) × MayBeNext limits s entry
 
-turn_next : (limits : Limits) (s : State) (n p : ℕ) → s.finished ≡ false → action_in s.active n ≡ Some (Evaluate p) → SomeNext limits s
+-- a turn of an active evaluation may be next
+pub turn_next : (limits : Limits) (s : State) (n p : ℕ) → s.finished ≡ false → action_in s.active n ≡ Some (Evaluate p) → SomeNext limits s
 turn_next limits s n p going there = (
   Turn n,
   (ap (λ b. refused_where b Finished (turn_refusal (action_in s.active n))) going ∙ ap turn_refusal there, tt),

@@ -1,3 +1,4 @@
 pub mod Halting
 pub mod SeededRun
 pub mod Samples
+pub mod Seeds

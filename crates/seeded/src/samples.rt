@@ -3,6 +3,7 @@ ghost use Rattle.std.specs.Prelude.{◌≡◌, ◌+◌, ◌≤◌, ◌⊎◌, �
 ghost use Rattle.std.specs.List.{All, AllPairs, Contains};
 ghost use Rattle.model.specs.Runs.{last_time};
 ghost use Rattle.seeded.specs.SeededRun.{IsRun};
+ghost use Rattle.seeded.specs.Seeds.{AreSampled};
 ghost use Rattle.seeded.specs.declared.run.SeededRun.{SeededRun};
 ghost use Rattle.seeded.specs.Samples.{AreApart, AreLike, AreStillIn, GivesWay, IsTold, IsWhole, WantsNoMemory};
 
@@ -99,6 +100,7 @@ fn keep(kept: &mut Vec<SeededRun>, run: SeededRun) -> Result<(), AllocError>
     ensures told { OnOk result (IsTold kept.new.items run) }
     ensures few { vec_len kept.new ≤ vec_len kept.old + 1 }
     ensures stay { OnErr result (vec_len kept.new ≡ vec_len kept.old) }
+    ensures same { OnErr result (kept.new.items ≡ kept.old.items) }
 {
     if is_told(kept.as_slice(), &run) {
         return Ok(());
@@ -139,6 +141,7 @@ pub fn sample<P: Progress>(
     ensures most { vec_len result.kept ≤ bounds.kept }
     ensures kept { vec_len result.kept ≤ result.made }
     ensures made { result.made ≤ seeds.count }
+    ensures sampled { AreSampled design.now limits seeds.first result.made result.kept.items }
 {
     let mut kept = Vec::new(alloc);
     let mut entries: u64 = 0;

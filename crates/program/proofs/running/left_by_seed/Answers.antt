@@ -17,4 +17,4 @@ returns-clause-left g c = record {
 pub returns-clause-ended : goal.returns-clause-ended
 returns-clause-ended g c =
     let run = c.run_seeded-run.result in
-    ended (design_of c.args.design.now) (limits_of c.args.request.now.options) run.journal.items run.end c.run_seeded-run.ensures.ends
+    ended (design_of c.args.design.now) (limits_of c.args.request.now.options) run.journal.items run.end c.run_seeded-run.ensures.run.ends

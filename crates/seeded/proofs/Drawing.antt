@@ -1,0 +1,141 @@
+-- What a generator's draws choose.
+use Rattle.std.proofs.Common.{◌≡◌, ℕ, ◌+◌, ◌<◌, List, [], ◌∷◌, ◌++◌, length, min, Option, Some, None, refl, sym, ◌∙◌, ap, subst, arith, inl}
+use Rattle.std.specs.Prelude.{◌↔◌, IfSome, option_map, slice_get}
+use Rattle.std.specs.List.{Contains}
+use Rattle.rand_core.specs.Stream.{Stream}
+use Rattle.rand_core.specs.Pcg32Seed.{pcg32_seed}
+use Rattle.rand_pcg.specs.Lcg.{Lcg}
+use Rattle.rand_pcg.specs.Pcg.{pcg32_of_seed}
+use Rattle.rand.specs.Draw.{Gives}
+use Rattle.rand.specs.Uniform.{usize_single}
+use Rattle.model.specs.declared.entry.Entry.{Entry}
+use Rattle.model.specs.declared.entry.Entry.TheVariants.{Turn}
+use Rattle.model.specs.declared.end.Limits.{Limits}
+use Rattle.model.specs.declared.end.Why.TheVariants.{Finish, Until, Entries, TooLong, Time, Memory}
+use Rattle.model.specs.declared.end.End.{End}
+use Rattle.model.specs.declared.end.End.TheVariants.{Quiet, Running, Stopped}
+use Rattle.model.specs.Design.{Design}
+use Rattle.model.specs.States.{State, Evaluate}
+use Rattle.model.specs.Runs.{Effect, action_in, after, refusal, turn_of, EndsIn}
+use Rattle.design.specs.Compiled.{Compiled, design_of}
+use Rattle.regions.specs.declared.state.MadeEvent.{MadeEvent}
+use Rattle.regions.specs.Machine.{AreInOrder, MachineView, state_at}
+use Rattle.seeded.specs.declared.run.SeededRun.{SeededRun}
+use Rattle.seeded.specs.Halting.{HaltsAt}
+use Rattle.seeded.specs.SeededRun.{HasComeTo}
+use Rattle.seeded.specs.Seeds.{AreChosen, EndsByChoice, EndsByEntry, FollowsSeed, IsChosen, IsDrawn, IsLongTurn, IsOneMore, Nothing, More, stream_from}
+use Rattle.seeded.proofs.Permits.{turn_next}
+
+-- the entry at the place that is drawn is chosen
+pub drawn_at : (s : State) (choices : List Entry) (o : Option Entry) (place count : ℕ) (stream rest : Stream) → ((e : Entry) → Contains choices e ↔ (refusal s e ≡ None)) → AreInOrder choices
+    → count ≡ min (length choices) 18446744073709551615 → Gives (usize_single 0 count) stream place rest → o ≡ slice_get choices place → IfSome o (λ entry. IsChosen s stream entry rest)
+drawn_at s choices None place count stream rest all order count_is drawn is = tt
+drawn_at s choices (Some entry) place count stream rest all order count_is drawn is =
+    record {
+      choices = choices;
+      all = all;
+      order = order;
+      place = place;
+      drawn = drawn ∙ ap (λ (n : ℕ). usize_single 0 n stream) count_is;
+      there = sym is;
+    }
+
+-- the state behind a journal is that of the machine that has come to it
+pub come_after : (limits : Limits) (journal : List Entry) (p : MachineView) → HasComeTo limits journal p → after (design_of p.code) journal ≡ Some (state_at p)
+come_after limits journal p come =
+    ap (option_map (λ (f : Effect). f.state)) come.lawful ∙ ap (λ (t : State). Some t) come.state_is
+
+-- the turn of an evaluation that has no short one is too long
+pub long_turn : (design : Design) (s : State) (entry : Entry) (n p : ℕ) → entry ≡ Turn n → action_in s.active n ≡ Some (Evaluate p) → turn_of design s p ≡ None
+    → EndsByEntry design s entry (Stopped (TooLong p))
+long_turn design s entry n p is there none = (n, is, there, none)
+
+-- what an entry that isn't taken leaves ends by it too
+pub still_long : (old new : MachineView) (made : List MadeEvent) (entry : Entry) (end : End) → new ≡ record old { made = made }
+    → EndsByEntry (design_of new.code) (state_at new) entry end → EndsByEntry (design_of old.code) (state_at old) entry end
+still_long old new made entry end is long = subst (λ (p : MachineView). EndsByEntry (design_of p.code) (state_at p) entry end) is long
+
+-- a run that halts doesn't end by a turn that is too long
+pub halt_by_choice : (design : Design) (limits : Limits) (journal : List Entry) (stream : Stream) (s : State) (end : End) → 0 < limits.max_entries → HaltsAt design limits s end
+    → EndsByChoice design journal stream end
+halt_by_choice design limits journal stream s Quiet some halts = tt
+halt_by_choice design limits journal stream s Running some halts = tt
+halt_by_choice design limits journal stream s (Stopped Finish) some halts = tt
+halt_by_choice design limits journal stream s (Stopped Until) some halts = tt
+halt_by_choice design limits journal stream s (Stopped Entries) some halts = tt
+halt_by_choice design limits journal stream s (Stopped (TooLong p)) some halts =
+    let (few, going, (n, there, none)) = (halts.ends (inl some)).2 in
+    let next = turn_next limits s n p going there in
+    absurd (halts.nothing next.0 next.1)
+halt_by_choice design limits journal stream s (Stopped Time) some halts = tt
+halt_by_choice design limits journal stream s (Stopped Memory) some halts = tt
+
+-- nor does one whose journal has the most entries
+pub full_by_choice : (design : Design) (limits : Limits) (journal : List Entry) (stream : Stream) (s : State) (end : End) → EndsIn design limits limits.max_entries s end
+    → EndsByChoice design journal stream end
+full_by_choice design limits journal stream s Quiet ends = tt
+full_by_choice design limits journal stream s Running ends = tt
+full_by_choice design limits journal stream s (Stopped Finish) ends = tt
+full_by_choice design limits journal stream s (Stopped Until) ends = tt
+full_by_choice design limits journal stream s (Stopped Entries) ends = tt
+full_by_choice design limits journal stream s (Stopped (TooLong p)) ends = absurd (omega (arith, ends.0))
+full_by_choice design limits journal stream s (Stopped Time) ends = tt
+full_by_choice design limits journal stream s (Stopped Memory) ends = tt
+
+-- a run that ends by an entry ends by the choice of it
+end_by_choice : (design : Design) (journal : List Entry) (s : State) (entry : Entry) (stream rest : Stream) (end : End) → after design journal ≡ Some s → IsChosen s stream entry rest
+    → EndsByEntry design s entry end → EndsByChoice design journal stream end
+end_by_choice design journal s entry stream rest Quiet is chosen long = tt
+end_by_choice design journal s entry stream rest Running is chosen long = tt
+end_by_choice design journal s entry stream rest (Stopped Finish) is chosen long = tt
+end_by_choice design journal s entry stream rest (Stopped Until) is chosen long = tt
+end_by_choice design journal s entry stream rest (Stopped Entries) is chosen long = tt
+end_by_choice design journal s entry stream rest (Stopped (TooLong p)) is chosen long =
+    record { state = s; entry = entry; rest = rest; is_after = is; chosen = chosen; long = long }
+end_by_choice design journal s entry stream rest (Stopped Time) is chosen long = tt
+end_by_choice design journal s entry stream rest (Stopped Memory) is chosen long = tt
+
+pub ended_by_choice : (design : Design) (journal : List Entry) (s : State) (entry : Entry) (stream rest : Stream) (o : Option End) → after design journal ≡ Some s
+    → IsChosen s stream entry rest → IfSome o (EndsByEntry design s entry) → IfSome o (EndsByChoice design journal stream)
+ended_by_choice design journal s entry stream rest None is chosen long = tt
+ended_by_choice design journal s entry stream rest (Some end) is chosen long = end_by_choice design journal s entry stream rest end is chosen long
+
+-- the journal that the entry was put behind has one entry more
+pub one_more : (design : Design) (journal longer : List Entry) (s : State) (entry : Entry) (stream rest : Stream) → after design journal ≡ Some s → IsChosen s stream entry rest
+    → longer ≡ journal ++ entry ∷ [] → IsOneMore design journal stream longer rest
+one_more design journal longer s entry stream rest is chosen longer_is =
+    record { state = s; entry = entry; is_after = is; chosen = chosen; longer_is = longer_is }
+
+-- of a journal without an entry none is chosen
+pub none_chosen : (design : Design) (stream : Stream) (journal : List Entry) → journal ≡ [] → AreChosen design stream journal stream
+none_chosen design stream journal empty = subst (λ (es : List Entry). AreChosen design stream es stream) (sym empty) Nothing
+
+-- with the next entry, all are chosen
+pub more_chosen : (code code' : Compiled) (stream left rest : Stream) (journal longer : List Entry) → code' ≡ code → AreChosen (design_of code) stream journal left
+    → IsOneMore (design_of code') journal left longer rest → AreChosen (design_of code) stream longer rest
+more_chosen code code' stream left rest journal longer same chosen more =
+    More journal left longer rest chosen (subst (λ (k : Compiled). IsOneMore (design_of k) journal left longer rest) same more)
+
+-- a run that ends behind its last entry
+pub drawn_end : (code code' : Compiled) (stream left : Stream) (journal last : List Entry) (end : End) → code' ≡ code → last ≡ journal
+    → AreChosen (design_of code) stream journal left → EndsByChoice (design_of code') journal left end → IsDrawn (design_of code) stream last end
+drawn_end code code' stream left journal last end same is chosen by =
+    let kept : IsDrawn (design_of code) stream journal end =
+    record {
+      rest = left;
+      chosen = chosen;
+      last = subst (λ (k : Compiled). EndsByChoice (design_of k) journal left end) same by;
+    } in
+    subst (λ (es : List Entry). IsDrawn (design_of code) stream es end) (sym is) kept
+
+-- a run that wants memory at its start
+pub none_drawn : (design : Design) (stream : Stream) (journal : List Entry) → journal ≡ [] → IsDrawn design stream journal (Stopped Memory)
+none_drawn design stream journal empty = record { rest = stream; chosen = none_chosen design stream journal empty; last = tt }
+
+-- the draws of the generator that a seed begins
+pub follows_seed : (code code' : Compiled) (seed : ℕ) (generator : Lcg) (r : SeededRun) → code' ≡ code → generator ≡ pcg32_of_seed (pcg32_seed 16 seed)
+    → IsDrawn (design_of code') (stream_from generator) r.journal.items r.end → FollowsSeed code seed r
+follows_seed code code' seed generator r same begun drawn =
+    let here : IsDrawn (design_of code) (stream_from generator) r.journal.items r.end =
+    subst (λ (k : Compiled). IsDrawn (design_of k) (stream_from generator) r.journal.items r.end) same drawn in
+    subst (λ (g : Lcg). IsDrawn (design_of code) (stream_from g) r.journal.items r.end) begun here
