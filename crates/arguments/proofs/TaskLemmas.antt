@@ -78,8 +78,9 @@ task_gives task.Races cmd m p h = record {
   max_entries = given cmd m (rules_of task.Races) 2 (rule (codes "max-entries") false (Some entries_parser)) entries_parser p h refl refl refl refl;
   max_states = given cmd m (rules_of task.Races) 3 (rule (codes "max-states") false (Some entries_parser)) entries_parser p h refl refl refl refl;
   max_texts = given cmd m (rules_of task.Races) 4 (rule (codes "max-texts") false (Some entries_parser)) entries_parser p h refl refl refl refl;
-  samples = given cmd m (rules_of task.Races) 6 (rule (codes "samples") false (Some entries_parser)) entries_parser p h refl refl refl refl;
-  seed = given cmd m (rules_of task.Races) 7 (rule (codes "seed") false (Some seed_parser)) seed_parser p h refl refl refl refl;
+  max_memory = given cmd m (rules_of task.Races) 5 (rule (codes "max-memory") false (Some entries_parser)) entries_parser p h refl refl refl refl;
+  samples = given cmd m (rules_of task.Races) 7 (rule (codes "samples") false (Some entries_parser)) entries_parser p h refl refl refl refl;
+  seed = given cmd m (rules_of task.Races) 8 (rule (codes "seed") false (Some seed_parser)) seed_parser p h refl refl refl refl;
 }
 task_gives task.Check cmd m p h = record { file = required_text cmd m (rules_of task.Check) 0 (rule (codes "FILE") true None) p h refl refl refl refl }
 task_gives task.Explain cmd m p h = record {

@@ -82,6 +82,7 @@ parameters_of task.Races =
     ∷ parameter.MaxEntries
     ∷ parameter.MaxStates
     ∷ parameter.MaxTexts
+    ∷ parameter.MaxMemory
     ∷ parameter.JournalsTo
     ∷ parameter.Samples
     ∷ parameter.Seed
@@ -99,6 +100,7 @@ rule_for parameter.Until = rule (codes "until") false (Some until_parser)
 rule_for parameter.MaxEntries = rule (codes "max-entries") false (Some entries_parser)
 rule_for parameter.MaxStates = rule (codes "max-states") false (Some entries_parser)
 rule_for parameter.MaxTexts = rule (codes "max-texts") false (Some entries_parser)
+rule_for parameter.MaxMemory = rule (codes "max-memory") false (Some entries_parser)
 rule_for parameter.Samples = rule (codes "samples") false (Some entries_parser)
 rule_for parameter.Seed = rule (codes "seed") false (Some seed_parser)
 rule_for parameter.From = rule (codes "from") false (Some entries_parser)
@@ -136,6 +138,7 @@ pub record GivesRaces (f : Found) : Type 0 where
   pub max_entries : IsGiven f (codes "max-entries") entries_parser
   pub max_states : IsGiven f (codes "max-states") entries_parser
   pub max_texts : IsGiven f (codes "max-texts") entries_parser
+  pub max_memory : IsGiven f (codes "max-memory") entries_parser
   pub samples : IsGiven f (codes "samples") entries_parser
   pub seed : IsGiven f (codes "seed") seed_parser
 

@@ -57,6 +57,7 @@ argument_of parameter.Until = choice (codes "until") (Some until_parser)
 argument_of parameter.MaxEntries = choice (codes "max-entries") (Some entries_parser)
 argument_of parameter.MaxStates = choice (codes "max-states") (Some entries_parser)
 argument_of parameter.MaxTexts = choice (codes "max-texts") (Some entries_parser)
+argument_of parameter.MaxMemory = choice (codes "max-memory") (Some entries_parser)
 argument_of parameter.Samples = choice (codes "samples") (Some entries_parser)
 argument_of parameter.Seed = choice (codes "seed") (Some seed_parser)
 argument_of parameter.From = choice (codes "from") (Some entries_parser)
@@ -102,11 +103,13 @@ races_app =
     (with_rule
     (with_rule
     (with_rule
+    (with_rule
     (with_rule (new_app (codes "races")) (place (codes "FILE")))
     (choice (codes "until") (Some until_parser)))
     (choice (codes "max-entries") (Some entries_parser)))
     (choice (codes "max-states") (Some entries_parser)))
     (choice (codes "max-texts") (Some entries_parser)))
+    (choice (codes "max-memory") (Some entries_parser)))
     (choice (codes "journals") None))
     (choice (codes "samples") (Some entries_parser)))
     (choice (codes "seed") (Some seed_parser))
@@ -212,14 +215,15 @@ options_of rows = record {
   max_entries = unwrap_or (number_given (codes "max-entries") rows) 1000000;
 }
 
--- how far orders are searched: no limit of time, 1,000,000 entries, 1,000,000 states and 8 texts where the words give no other
--- number; whether random orders are tried in place of the search, and from which seed
+-- how far orders are searched: no limit of time, 1,000,000 entries, 1,000,000 states, 8 texts and 4,096 megabytes where the words
+-- give no other number; whether random orders are tried in place of the search, and from which seed
 abbrev pub extent_of : List Row → Extent
 extent_of rows = record {
   until = number_given (codes "until") rows;
   max_entries = unwrap_or (number_given (codes "max-entries") rows) 1000000;
   max_states = unwrap_or (number_given (codes "max-states") rows) 1000000;
   max_texts = unwrap_or (number_given (codes "max-texts") rows) 8;
+  max_memory = unwrap_or (number_given (codes "max-memory") rows) 4096;
   samples = number_given (codes "samples") rows;
   seed = unwrap_or (number_given (codes "seed") rows) 0;
 }

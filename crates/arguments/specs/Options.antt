@@ -12,9 +12,10 @@ pub record CanRun (options : Options) : Type 0 where
   pub until : ForSome options.until (λ t. t ≤ last_time)
   pub some_entry : 1 ≤ options.max_entries
 
--- at least one entry, one state and one text, and no time past 2 to the 48
+-- at least one entry, one state, one text and one megabyte, and no time past 2 to the 48
 pub record CanSearch (extent : Extent) : Type 0 where
   pub until : ForSome extent.until (λ t. t ≤ last_time)
   pub some_entry : 1 ≤ extent.max_entries
   pub some_state : 1 ≤ extent.max_states
   pub some_text : 1 ≤ extent.max_texts
+  pub some_memory : 1 ≤ extent.max_memory

@@ -22,6 +22,8 @@ const DEFAULT_MAX_STATES: u32 = 1_000_000;
 
 const DEFAULT_MAX_TEXTS: u32 = 8;
 
+const DEFAULT_MAX_MEMORY: u32 = 4096;
+
 const DEFAULT_SEED: u64 = 0;
 
 pub fn run_request<'a>(matches: &ArgMatches<'a>) -> RunRequest<'a>
@@ -130,6 +132,7 @@ fn extent(matches: &ArgMatches<'_>) -> Extent
         max_entries: given_count(matches, "max-entries", DEFAULT_MAX_ENTRIES),
         max_states: given_count(matches, "max-states", DEFAULT_MAX_STATES),
         max_texts: given_count(matches, "max-texts", DEFAULT_MAX_TEXTS),
+        max_memory: given_count(matches, "max-memory", DEFAULT_MAX_MEMORY),
         samples: given_number(matches, "samples"),
         seed: given_seed(matches).unwrap_or(DEFAULT_SEED),
     }

@@ -15,6 +15,8 @@ const MAX_STATES: &str = "Most states of the search, 1 to 4294967295 [default: 1
 
 const MAX_TEXTS: &str = "Most different texts that are shown, 1 to 4294967295 [default: 8]";
 
+const MAX_MEMORY: &str = "Most megabytes that the search keeps, 1 to 4294967295 [default: 4096]";
+
 const SAMPLES: &str = "Tries N random lawful orders in place of the search, 1 to 4294967295";
 
 /// A word or an option of a command.
@@ -27,6 +29,7 @@ pub enum Parameter {
     MaxEntries,
     MaxStates,
     MaxTexts,
+    MaxMemory,
     Samples,
     Seed,
     From,
@@ -56,6 +59,7 @@ pub fn parameters(task: Task) -> &'static [Parameter]
             Parameter::MaxEntries,
             Parameter::MaxStates,
             Parameter::MaxTexts,
+            Parameter::MaxMemory,
             Parameter::JournalsTo,
             Parameter::Samples,
             Parameter::Seed,
@@ -94,6 +98,7 @@ pub fn argument<'a>(alloc: Global, parameter: Parameter) -> Arg<'a>
         Parameter::MaxEntries => count(alloc, "max-entries", MAX_ENTRIES),
         Parameter::MaxStates => count(alloc, "max-states", MAX_STATES),
         Parameter::MaxTexts => count(alloc, "max-texts", MAX_TEXTS),
+        Parameter::MaxMemory => memory(alloc),
         Parameter::Samples => count(alloc, "samples", SAMPLES),
         Parameter::Seed => seed(alloc),
         Parameter::From => count(alloc, "from", FROM),
@@ -133,6 +138,13 @@ fn count<'a>(alloc: Global, name: &'a str, help: &'a str) -> Arg<'a>
     ensures rule { rule_of result ≡ choice name.entry.now (Some entries_parser) }
 {
     option(alloc, name, "N", help).value_parser(value_parser!(u32).range(1..))
+}
+
+fn memory<'a>(alloc: Global) -> Arg<'a>
+    ensures takes { Takes result (rule (codes "max-memory") false (Some entries_parser)) }
+    ensures rule { rule_of result ≡ choice (codes "max-memory") (Some entries_parser) }
+{
+    option(alloc, "max-memory", "MB", MAX_MEMORY).value_parser(value_parser!(u32).range(1..))
 }
 
 fn workers<'a>(alloc: Global) -> Arg<'a>

@@ -5,7 +5,7 @@ use Rattle.verdict.specs.RaceLines.{journal_text}
 use Rattle.verdict.specs.declared.claim.Claim.{Claim}
 use Rattle.verdict.specs.declared.claim.Claim.TheVariants.{Every, SoFar, Sampled}
 use Rattle.verdict.specs.declared.claim.Met.{Met}
-use Rattle.verdict.specs.declared.claim.Met.TheVariants.{States, Texts, Entries, Memory}
+use Rattle.verdict.specs.declared.claim.Met.TheVariants.{States, Texts, Entries, Megabytes, Memory}
 
 -- a comma, and the three digits of a number below a thousand
 abbrev pub group : ℕ → List ℕ
@@ -66,6 +66,7 @@ abbrev pub met_text : Met → List ℕ
 met_text (States most) = limit_text most (codes " state)\n") (codes " states)\n")
 met_text (Texts most) = limit_text most (codes " text)\n") (codes " texts)\n")
 met_text (Entries most) = limit_text most (codes " entry)\n") (codes " entries)\n")
+met_text (Megabytes most) = limit_text most (codes " MB)\n") (codes " MB)\n")
 met_text Memory = codes "memory was refused\n"
 
 -- that there may be others: several texts are all that is known, and so is one or none so far

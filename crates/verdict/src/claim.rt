@@ -9,6 +9,8 @@ pub enum Met {
     Texts(u32),
     /// Runs with the most entries were left.
     Entries(u32),
+    /// The search kept the most megabytes.
+    Megabytes(u32),
     /// Memory was refused.
     Memory,
 }

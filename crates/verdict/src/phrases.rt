@@ -155,6 +155,7 @@ pub(crate) fn push_met(text: &mut Vec<u8>, met: Met) -> Result<(), AllocError>
         Met::States(most) => push_limit(text, most as u64, b" state)\n", b" states)\n"),
         Met::Texts(most) => push_limit(text, most as u64, b" text)\n", b" texts)\n"),
         Met::Entries(most) => push_limit(text, most as u64, b" entry)\n", b" entries)\n"),
+        Met::Megabytes(most) => push_limit(text, most as u64, b" MB)\n", b" MB)\n"),
         Met::Memory => text.extend_from_slice(b"memory was refused\n"),
     }
 }
