@@ -1,2 +1,3 @@
 pub mod FileStatuses
 pub mod Saved
+pub mod Reading

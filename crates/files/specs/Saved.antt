@@ -4,6 +4,18 @@ use Rattle.model.specs.declared.entry.Entry.{Entry}
 use Rattle.model.specs.declared.entry.JournalVersion.TheVariants.{Two}
 use Rattle.model.specs.Journal.{journal_text}
 
+-- the bytes that files hold at their paths are known still, and are the same
+abbrev pub KeepsHeld : Option (List ℕ → List ℕ) → Option (List ℕ → List ℕ) → Type 0
+KeepsHeld old new = IfSome old (λ holds. new ≡ Some holds)
+
+-- where it is known what files hold, these are the bytes at this path
+abbrev pub IsHeld : Option (List ℕ → List ℕ) → List ℕ → List ℕ → Type 0
+IsHeld known path bytes = IfSome known (λ holds. bytes ≡ holds path)
+
+-- where it is known what files hold, a reader will give the bytes at this path
+abbrev pub IsOpened : Option (List ℕ → List ℕ) → List ℕ → Option (List ℕ) → Type 0
+IsOpened known path remaining = IfSome known (λ holds. remaining ≡ Some (holds path))
+
 -- a file that was made and put into its place: its path, and its bytes
 pub record Made : Type 0 where
   pub path : List ℕ

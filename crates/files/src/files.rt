@@ -1,7 +1,7 @@
 //! Where the paths of a command line lead.
 
 ghost use Rattle.std.specs.Prelude.{◌≡◌, Bool, IfOk, IfSome, List, None, OnErr, OnOk, Option, ℕ};
-ghost use Rattle.files.specs.Saved.{Made, KeepsFiles, HoldsNothing, ClosesFile};
+ghost use Rattle.files.specs.Saved.{Made, KeepsFiles, KeepsHeld, IsOpened, HoldsNothing, ClosesFile};
 
 use progress::Progress;
 use std::io;
@@ -23,9 +23,14 @@ pub trait Files {
     // Whether two paths lead to one file, where that is known.
     ghost alike: { Self → Option (List ℕ → List ℕ → Bool) } = { λ _. None };
 
+    // The bytes that the files hold at their paths, where they are known.
+    ghost held: { Self → Option (List ℕ → List ℕ) } = { λ _. None };
+
     /// Opens a file for reading. The path `-` is standard input.
     fn open(&mut self, path: &str) -> io::Result<Self::Source>
-        ensures { KeepsFiles (made self.old) (made self.new) };
+        ensures kept { KeepsFiles (made self.old) (made self.new) }
+        ensures opened { IfOk result (λ source. IsOpened (held self.old) path.now (Self.Source.remaining source)) }
+        ensures held { KeepsHeld (held self.old) (held self.new) };
 
     /// Whether what is written to the path `out` would take the place of what the path `source` leads to.
     fn same(&self, source: &str, out: &str) -> bool

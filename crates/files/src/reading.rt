@@ -1,6 +1,8 @@
 //! Files that are read.
 
-ghost use Rattle.files.specs.Saved.{KeepsFiles};
+ghost use Rattle.std.specs.Prelude.{IfOk};
+ghost use Rattle.files.specs.Reading.{inner};
+ghost use Rattle.files.specs.Saved.{IsHeld, IsOpened, KeepsFiles, KeepsHeld};
 
 use crate::fault::FileFault;
 use crate::files::Files;
@@ -15,6 +17,8 @@ pub struct Retrying<R> {
 }
 
 impl<R: Read> Read for Retrying<R> {
+    ghost remaining = { λ retrying. R.remaining retrying.file };
+
     fn read(&mut self, buf: &mut [u8]) -> io::Result<usize> {
         for _ in 0..u64::MAX {
             match self.file.read(buf) {
@@ -32,7 +36,9 @@ pub fn read_file<'a, F: Files>(
     path: &'a str,
     files: &mut F,
 ) -> Result<Vec<u8>, FileFault<'a>>
-    ensures { KeepsFiles (F.made files.old) (F.made files.new) }
+    ensures kept { KeepsFiles (F.made files.old) (F.made files.new) }
+    ensures read { IfOk result (λ text. IsHeld (F.held files.old) path.now text.items) }
+    ensures held { KeepsHeld (F.held files.old) (F.held files.new) }
 {
     let mut file = open_file(path, files)?;
     let mut text = Vec::new(alloc);
@@ -47,7 +53,9 @@ pub fn open_file<'a, F: Files>(
     path: &'a str,
     files: &mut F,
 ) -> Result<Retrying<F::Source>, FileFault<'a>>
-    ensures { KeepsFiles (F.made files.old) (F.made files.new) }
+    ensures kept { KeepsFiles (F.made files.old) (F.made files.new) }
+    ensures opened { IfOk result (λ opened. IsOpened (F.held files.old) path.now (F.Source.remaining (inner opened))) }
+    ensures held { KeepsHeld (F.held files.old) (F.held files.new) }
 {
     match files.open(path) {
         Ok(file) => Ok(Retrying { file }),

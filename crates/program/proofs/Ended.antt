@@ -6,7 +6,6 @@ use Rattle.model.specs.declared.end.End.{End}
 use Rattle.explore.specs.declared.Shown.{Shown}
 use Rattle.arguments.specs.declared.options.Options.{Options}
 use Rattle.clap.specs.Words.{Text, first_of}
-use Rattle.explain.specs.declared.telling.Window.{Window}
 use Rattle.program.specs.declared.fault.Stop.{Stop}
 use Rattle.program.specs.declared.running.LeftByRun.{LeftByRun}
 use Rattle.arguments.specs.declared.request.NoRequest.{NoRequest}
@@ -28,11 +27,11 @@ use Rattle.program.specs.declared.ending.Ending.{Ending}
 use Rattle.program.specs.declared.ending.Ending.TheVariants as ending
 use Rattle.program.specs.declared.finding.Finding.TheVariants as finding
 use Rattle.program.specs.Program.{IsNoRequestStatus, ended_status, ending_of, finding_status, help_text, right_text, status_of, stop_of, stop_status, version_text}
-use Rattle.program.specs.Printed.{AsksCheckOf, HasBegun, HasEnded, HasLeft, HasPrintedBy, HasRefused, HasRun, HasSavedSome, HasSearched, HasChecked, HasDumped, HasExplainedSome, HasShown, HasWaves, IsDone, IsLeft, IsLeftByRun, IsRight, IsUnprinted, IsWrong, begun, checked, helped, interrupted, ran, searched, untouched, versioned}
+use Rattle.program.specs.Printed.{AsksCheckOf, HasBegun, HasEnded, HasLeft, HasPrintedBy, HasRefused, HasRun, HasSavedSome, HasSearched, HasChecked, HasDumped, HasExplainedPart, HasShown, HasWaves, IsDone, IsLeft, IsLeftByRun, IsRight, IsUnprinted, IsWrong, begun, checked, helped, interrupted, ran, searched, untouched, versioned}
 use Rattle.program.specs.StandardError.{HasExplainedTold, IsEndTold, IsTold, IsUnfinished, IsWanting, nothing, of_fault, of_source, of_stop}
 use Rattle.program.proofs.Statuses.{not_of_fault, not_of_stop}
 use Rattle.journal.specs.declared.counted.Counted.{Counted}
-use Rattle.files.specs.Saved.{AddsFile, SavesAllWhereAsked, KeepsFiles, Made, SavesSomeWhereAsked, SavesWhereAsked}
+use Rattle.files.specs.Saved.{AddsFile, IsOpened, SavesAllWhereAsked, KeepsFiles, KeepsHeld, Made, SavesSomeWhereAsked, SavesWhereAsked}
 use Rattle.arguments.specs.CommandWords.{AreWrong, Asks, Begins, AsksRaces, AsksRun, AsksWaves, IsNoRequest, extent_of, options_of, races_rows, run_rows}
 
 -- files
@@ -40,6 +39,11 @@ use Rattle.arguments.specs.CommandWords.{AreWrong, Asks, Begins, AsksRaces, Asks
 pub kept : (files : Option (List Made)) → KeepsFiles files files
 kept None = tt
 kept (Some fs) = refl
+
+-- what files hold stays known
+pub held_on : (a b : Option (List ℕ → List ℕ)) (path : List ℕ) (left : Option (List ℕ)) → KeepsHeld a b → IsOpened b path left → IsOpened a path left
+held_on None b path left h k = tt
+held_on (Some holds) b path left h k = subst (λ (o : Option (List ℕ → List ℕ)). IsOpened o path left) h k
 
 pub kept_on : (a b c : Option (List Made)) → KeepsFiles a b → KeepsFiles b c → KeepsFiles a c
 kept_on None b c h k = tt
@@ -55,17 +59,17 @@ saved_on a b c None entries h k = kept_on a b c h k
 saved_on a b c (Some p) entries h k = added_on a b c _ h k
 
 -- what was printed and saved is what the run left
-pub printed_by : (seed : Option ℕ) (options : Options) (path : Option (List ℕ)) (old new : Option (List ℕ)) (files files' : Option (List Made)) (left : LeftByRun) (told : Option Stop)
-    → IsLeftByRun seed options left → Appends old new (string_bytes left.lines) → SavesWhereAsked files files' path left.journal.items → told ≡ stop_of left.end
-    → HasPrintedBy seed options path old new files files' told
-printed_by None options path old new files files' left told made lines saved end = record {
+pub printed_by : (holding : Option (List ℕ → List ℕ)) (file : List ℕ) (seed : Option ℕ) (options : Options) (path : Option (List ℕ)) (old new : Option (List ℕ)) (files files' : Option (List Made)) (left : LeftByRun) (told : Option Stop)
+    → IsLeftByRun holding file seed options left → Appends old new (string_bytes left.lines) → SavesWhereAsked files files' path left.journal.items → told ≡ stop_of left.end
+    → HasPrintedBy holding file seed options path old new files files' told
+printed_by holding file None options path old new files files' left told made lines saved end = record {
   closed = made.closed;
   is_run = made.is_run;
   lines = subst (λ (text : List ℕ). Appends old new text) made.lines lines;
   saved = subst (λ (entries : List Entry). SavesWhereAsked files files' path entries) made.journal saved;
   end = end ∙ ap stop_of made.end;
 }
-printed_by (Some seed) options path old new files files' left told made lines saved end = record {
+printed_by holding file (Some seed) options path old new files files' left told made lines saved end = record {
   run = made.run;
   is_run = made.is_run;
   lines = subst (λ (text : List ℕ). Appends old new text) made.lines lines;
@@ -81,25 +85,29 @@ all_saved_on (Some fs) b c (Some p) journals h k = subst (λ (o : Option (List M
 
 -- requests
 
-pub run_of_words : (words : List Text) (run : RunRequest) (old new : Option (List ℕ)) (files files' : Option (List Made)) (told : Option Stop)
-    → AsksRun words run → HasPrintedBy run.seed run.options (option_map (λ path. path.now) run.journal) old new files files' told
-    → HasRun words old new files files' told
-run_of_words words run old new files files' told asks h = record {
+pub run_of_words : (holding : Option (List ℕ → List ℕ)) (words : List Text) (run : RunRequest) (old new : Option (List ℕ)) (files files' : Option (List Made)) (told : Option Stop)
+    → AsksRun words run → HasPrintedBy holding run.file.now run.seed run.options (option_map (λ path. path.now) run.journal) old new files files' told
+    → HasRun holding words old new files files' told
+run_of_words holding words run old new files files' told asks h = record {
   begins = asks.begins;
   can_run = subst CanRun asks.is_run.options asks.is_run.in_range;
-  printed = subst (λ (seed : Option ℕ). HasPrintedBy seed (options_of (run_rows (drop 1 words))) (first_of (codes "journal") (run_rows (drop 1 words))) old new files files' told) asks.is_run.seed
-      (subst (λ (path : Option (List ℕ)). HasPrintedBy run.seed (options_of (run_rows (drop 1 words))) path old new files files' told) (sym asks.is_run.journal)
-      (subst (λ (options : Options). HasPrintedBy run.seed options (option_map (λ path. path.now) run.journal) old new files files' told) asks.is_run.options h));
+  file = run.file.now;
+  is_file = asks.is_run.file;
+  printed = subst (λ (seed : Option ℕ). HasPrintedBy holding run.file.now seed (options_of (run_rows (drop 1 words))) (first_of (codes "journal") (run_rows (drop 1 words))) old new files files' told) asks.is_run.seed
+      (subst (λ (path : Option (List ℕ)). HasPrintedBy holding run.file.now run.seed (options_of (run_rows (drop 1 words))) path old new files files' told) (sym asks.is_run.journal)
+      (subst (λ (options : Options). HasPrintedBy holding run.file.now run.seed options (option_map (λ path. path.now) run.journal) old new files files' told) asks.is_run.options h));
 }
 
-pub search_of_words : (words : List Text) (races : RacesRequest) (old new : Option (List ℕ)) (files files' : Option (List Made)) (found : Finding)
-    → AsksRaces words races → HasShown races.extent (option_map (λ path. path.now) races.journals) old new files files' found
-    → HasSearched words old new files files' found
-search_of_words words races old new files files' found asks h = record {
+pub search_of_words : (holding : Option (List ℕ → List ℕ)) (words : List Text) (races : RacesRequest) (old new : Option (List ℕ)) (files files' : Option (List Made)) (found : Finding)
+    → AsksRaces words races → HasShown holding races.file.now races.extent (option_map (λ path. path.now) races.journals) old new files files' found
+    → HasSearched holding words old new files files' found
+search_of_words holding words races old new files files' found asks h = record {
   begins = asks.begins;
   can_search = subst CanSearch asks.is_races.extent asks.is_races.in_range;
-  shown = subst (λ (path : Option (List ℕ)). HasShown (extent_of (races_rows (drop 1 words))) path old new files files' found) (sym asks.is_races.journals)
-      (subst (λ (extent : Extent). HasShown extent (option_map (λ path. path.now) races.journals) old new files files' found) asks.is_races.extent h);
+  file = races.file.now;
+  is_file = asks.is_races.file;
+  shown = subst (λ (path : Option (List ℕ)). HasShown holding races.file.now (extent_of (races_rows (drop 1 words))) path old new files files' found) (sym asks.is_races.journals)
+      (subst (λ (extent : Extent). HasShown holding races.file.now extent (option_map (λ path. path.now) races.journals) old new files files' found) asks.is_races.extent h);
 }
 
 pub some_saved_on : (a b c : Option (List Made)) (prefix : Option (List ℕ)) (journals : List (List Entry)) → KeepsFiles a b
@@ -121,11 +129,12 @@ more_on design extent prefix known first old new a b c h (inr m) = inr (record {
 })
 
 -- what a search left, where the files were the same before it
-left_on : (extent : Extent) (prefix : Option (List ℕ)) (old new : Option (List ℕ)) (a b c : Option (List Made)) → KeepsFiles a b
-    → HasLeft extent prefix old new b c → HasLeft extent prefix old new a c
-left_on extent prefix old new a b c h (inl (k, s)) = inl (k, kept_on a b c h s)
-left_on extent prefix old new a b c h (inr begins) = inr (record {
+left_on : (holding : Option (List ℕ → List ℕ)) (file : List ℕ) (extent : Extent) (prefix : Option (List ℕ)) (old new : Option (List ℕ)) (a b c : Option (List Made)) → KeepsFiles a b
+    → HasLeft holding file extent prefix old new b c → HasLeft holding file extent prefix old new a c
+left_on holding file extent prefix old new a b c h (inl (k, s)) = inl (k, kept_on a b c h s)
+left_on holding file extent prefix old new a b c h (inr begins) = inr (record {
   source = begins.source;
+  held = begins.held;
   design = begins.design;
   is_design = begins.is_design;
   known = begins.known;
@@ -134,16 +143,17 @@ left_on extent prefix old new a b c h (inr begins) = inr (record {
   left = more_on begins.design extent prefix begins.known begins.first old new a b c h begins.left;
 })
 
-pub search_left_on : (extent : Extent) (prefix : Option (List ℕ)) (old new : Option (List ℕ)) (a b c : Option (List Made)) (r : Result Finding Fault) → KeepsFiles a b
-    → IfErr r (λ f. status_of f ≡ 6 → HasLeft extent prefix old new b c) → IfErr r (λ f. status_of f ≡ 6 → HasLeft extent prefix old new a c)
-search_left_on extent prefix old new a b c (Ok found) h k = tt
-search_left_on extent prefix old new a b c (Err f) h k = λ six. left_on extent prefix old new a b c h (k six)
+pub search_left_on : (holding : Option (List ℕ → List ℕ)) (file : List ℕ) (extent : Extent) (prefix : Option (List ℕ)) (old new : Option (List ℕ)) (a b c : Option (List Made)) (r : Result Finding Fault) → KeepsFiles a b
+    → IfErr r (λ f. status_of f ≡ 6 → HasLeft holding file extent prefix old new b c) → IfErr r (λ f. status_of f ≡ 6 → HasLeft holding file extent prefix old new a c)
+search_left_on holding file extent prefix old new a b c (Ok found) h k = tt
+search_left_on holding file extent prefix old new a b c (Err f) h k = λ six. left_on holding file extent prefix old new a b c h (k six)
 
 -- what a search shows, where the files were the same before it
-pub shown_on : (extent : Extent) (prefix : Option (List ℕ)) (old new : Option (List ℕ)) (a b c : Option (List Made)) (r : Result Finding Fault) → KeepsFiles a b
-    → IfOk r (HasShown extent prefix old new b c) → IfOk r (HasShown extent prefix old new a c)
-shown_on extent prefix old new a b c (Ok found) h k = record {
+pub shown_on : (holding : Option (List ℕ → List ℕ)) (file : List ℕ) (extent : Extent) (prefix : Option (List ℕ)) (old new : Option (List ℕ)) (a b c : Option (List Made)) (r : Result Finding Fault) → KeepsFiles a b
+    → IfOk r (HasShown holding file extent prefix old new b c) → IfOk r (HasShown holding file extent prefix old new a c)
+shown_on holding file extent prefix old new a b c (Ok found) h k = record {
   source = k.source;
+  held = k.held;
   design = k.design;
   is_design = k.is_design;
   known = k.known;
@@ -155,7 +165,7 @@ shown_on extent prefix old new a b c (Ok found) h k = record {
   saved = all_saved_on a b c prefix (journals_of k.has_found.shown k.has_found.endless) h k.saved;
   finding = k.finding;
 }
-shown_on extent prefix old new a b c (Err fault) h k = tt
+shown_on holding file extent prefix old new a b c (Err fault) h k = tt
 
 -- faults of output and of memory are none of a source
 pub output_kept : (K : Type 0) (r : Result Finding Fault) → IfErr r (λ f. (status_of f ≡ 1) ⊎ (status_of f ≡ 6))
@@ -171,14 +181,14 @@ output_kept K (Err fault) h = λ e. absurd (neither (status_of fault) h e)
 
 -- refusals
 
-pub refused_done : (words : List Text) (r : NoRequest) (n : ℕ) (old new : Option (List ℕ)) (files : Option (List Made)) → IsNoRequest words r
-    → IsNoRequestStatus r n → (n ≡ 0 → Appends old new (help_text r)) → n ≡ 0 → IsDone words old new files files
-refused_done words (no_request.Help text) n old new files is status shown e = helped is (help_text (no_request.Help text)) (shown e) (kept files)
-refused_done words (no_request.Usage text) n old new files is status shown e = absurd (clash (sym status ∙ e))
+pub refused_done : (holding : Option (List ℕ → List ℕ)) (words : List Text) (r : NoRequest) (n : ℕ) (old new : Option (List ℕ)) (files : Option (List Made)) → IsNoRequest words r
+    → IsNoRequestStatus r n → (n ≡ 0 → Appends old new (help_text r)) → n ≡ 0 → IsDone holding words old new files files
+refused_done holding words (no_request.Help text) n old new files is status shown e = helped is (help_text (no_request.Help text)) (shown e) (kept files)
+refused_done holding words (no_request.Usage text) n old new files is status shown e = absurd (clash (sym status ∙ e))
   where
     clash : ◌≡◌ {A = ℕ} 2 0 → ⊥
     clash q = cc
-refused_done words no_request.Memory n old new files is status shown e = absurd (clash (sym status ∙ e))
+refused_done holding words no_request.Memory n old new files is status shown e = absurd (clash (sym status ∙ e))
   where
     clash : ◌≡◌ {A = ℕ} 6 0 → ⊥
     clash q = cc
@@ -217,16 +227,16 @@ not_of_no_request r n k is h e = wrong_one (is_no_request_status k) (subst (λ (
 
 -- what a status tells of how a command ended
 
-pub done_by_status : (words : List Text) (old new : Option (List ℕ)) (files files' : Option (List Made)) (ended : Result Ending Fault)
-    → IfOk ended (HasEnded words old new files files') → ended_status ended ≡ 0 → IsDone words old new files files'
-done_by_status words old new files files' (Ok ending.Done) h e = h
-done_by_status words old new files files' (Ok (ending.Stopped s)) h e = absurd (not_of_stop s 0 refl e)
-done_by_status words old new files files' (Ok (ending.Found finding.One)) h e = searched h
-done_by_status words old new files files' (Ok (ending.Found finding.Unfinished)) h e = cc
-done_by_status words old new files files' (Ok (ending.Found finding.Memory)) h e = cc
-done_by_status words old new files files' (Ok (ending.Found finding.Several)) h e = cc
-done_by_status words old new files files' (Ok (ending.Wrong text)) h e = cc
-done_by_status words old new files files' (Err f) h e = absurd (not_of_fault f 0 refl e)
+pub done_by_status : (holding : Option (List ℕ → List ℕ)) (words : List Text) (old new : Option (List ℕ)) (files files' : Option (List Made)) (ended : Result Ending Fault)
+    → IfOk ended (HasEnded holding words old new files files') → ended_status ended ≡ 0 → IsDone holding words old new files files'
+done_by_status holding words old new files files' (Ok ending.Done) h e = h
+done_by_status holding words old new files files' (Ok (ending.Stopped s)) h e = absurd (not_of_stop s 0 refl e)
+done_by_status holding words old new files files' (Ok (ending.Found finding.One)) h e = searched h
+done_by_status holding words old new files files' (Ok (ending.Found finding.Unfinished)) h e = cc
+done_by_status holding words old new files files' (Ok (ending.Found finding.Memory)) h e = cc
+done_by_status holding words old new files files' (Ok (ending.Found finding.Several)) h e = cc
+done_by_status holding words old new files files' (Ok (ending.Wrong text)) h e = cc
+done_by_status holding words old new files files' (Err f) h e = absurd (not_of_fault f 0 refl e)
 
 pub right_by_status : (ended : Result Ending Fault) → ended_status ended ≡ 2 → ⊥
 right_by_status (Ok ending.Done) e = cc
@@ -238,65 +248,65 @@ right_by_status (Ok (ending.Found finding.Several)) e = cc
 right_by_status (Ok (ending.Wrong text)) e = cc
 right_by_status (Err f) e = not_of_fault f 2 refl e
 
-pub refused_by_status : (words : List Text) (old new : Option (List ℕ)) (files files' : Option (List Made)) (ended : Result Ending Fault)
-    → IfOk ended (HasEnded words old new files files') → IfErr ended (λ f. (status_of f ≡ 1) ⊎ (status_of f ≡ 6)) → ended_status ended ≡ 3
-    → HasRefused words old new files files'
-refused_by_status words old new files files' (Ok ending.Done) h k e = cc
-refused_by_status words old new files files' (Ok (ending.Stopped s)) h k e = absurd (not_of_stop s 3 refl e)
-refused_by_status words old new files files' (Ok (ending.Found finding.One)) h k e = cc
-refused_by_status words old new files files' (Ok (ending.Found finding.Unfinished)) h k e = cc
-refused_by_status words old new files files' (Ok (ending.Found finding.Memory)) h k e = cc
-refused_by_status words old new files files' (Ok (ending.Found finding.Several)) h k e = cc
-refused_by_status words old new files files' (Ok (ending.Wrong text)) h k e = h
-refused_by_status words old new files files' (Err f) h (inl one) e = absurd (omega (arith, one, e))
-refused_by_status words old new files files' (Err f) h (inr six) e = absurd (omega (arith, six, e))
+pub refused_by_status : (holding : Option (List ℕ → List ℕ)) (words : List Text) (old new : Option (List ℕ)) (files files' : Option (List Made)) (ended : Result Ending Fault)
+    → IfOk ended (HasEnded holding words old new files files') → IfErr ended (λ f. (status_of f ≡ 1) ⊎ (status_of f ≡ 6)) → ended_status ended ≡ 3
+    → HasRefused holding words old new files files'
+refused_by_status holding words old new files files' (Ok ending.Done) h k e = cc
+refused_by_status holding words old new files files' (Ok (ending.Stopped s)) h k e = absurd (not_of_stop s 3 refl e)
+refused_by_status holding words old new files files' (Ok (ending.Found finding.One)) h k e = cc
+refused_by_status holding words old new files files' (Ok (ending.Found finding.Unfinished)) h k e = cc
+refused_by_status holding words old new files files' (Ok (ending.Found finding.Memory)) h k e = cc
+refused_by_status holding words old new files files' (Ok (ending.Found finding.Several)) h k e = cc
+refused_by_status holding words old new files files' (Ok (ending.Wrong text)) h k e = h
+refused_by_status holding words old new files files' (Err f) h (inl one) e = absurd (omega (arith, one, e))
+refused_by_status holding words old new files files' (Err f) h (inr six) e = absurd (omega (arith, six, e))
 
-pub faulty_by_status : {E : Type 0} (window : Window) (old new : Option (List ℕ)) (contents : E → Option (List ℕ)) (err err' : Counted E) (ended : Result Ending Fault)
-    → IfErr ended (λ f. status_of f ≡ 5 → HasExplainedSome window old new f) → IsEndTold contents err err' ended → ended_status ended ≡ 5
-    → HasExplainedTold window old new contents err err'
-faulty_by_status window old new contents err err' (Ok ending.Done) h t e = cc
-faulty_by_status window old new contents err err' (Ok (ending.Stopped s)) h t e = absurd (not_of_stop s 5 refl e)
-faulty_by_status window old new contents err err' (Ok (ending.Found finding.One)) h t e = cc
-faulty_by_status window old new contents err err' (Ok (ending.Found finding.Unfinished)) h t e = cc
-faulty_by_status window old new contents err err' (Ok (ending.Found finding.Memory)) h t e = cc
-faulty_by_status window old new contents err err' (Ok (ending.Found finding.Several)) h t e = cc
-faulty_by_status window old new contents err err' (Ok (ending.Wrong text)) h t e = cc
-faulty_by_status window old new contents err err' (Err f) h t e = record { fault = f; explained = h e; told = t }
+pub faulty_by_status : {E : Type 0} (holding : Option (List ℕ → List ℕ)) (words : List Text) (old new : Option (List ℕ)) (contents : E → Option (List ℕ)) (err err' : Counted E) (ended : Result Ending Fault)
+    → IfErr ended (λ f. status_of f ≡ 5 → HasExplainedPart holding words old new f) → IsEndTold contents err err' ended → ended_status ended ≡ 5
+    → HasExplainedTold holding words old new contents err err'
+faulty_by_status holding words old new contents err err' (Ok ending.Done) h t e = cc
+faulty_by_status holding words old new contents err err' (Ok (ending.Stopped s)) h t e = absurd (not_of_stop s 5 refl e)
+faulty_by_status holding words old new contents err err' (Ok (ending.Found finding.One)) h t e = cc
+faulty_by_status holding words old new contents err err' (Ok (ending.Found finding.Unfinished)) h t e = cc
+faulty_by_status holding words old new contents err err' (Ok (ending.Found finding.Memory)) h t e = cc
+faulty_by_status holding words old new contents err err' (Ok (ending.Found finding.Several)) h t e = cc
+faulty_by_status holding words old new contents err err' (Ok (ending.Wrong text)) h t e = cc
+faulty_by_status holding words old new contents err err' (Err f) h t e = record { fault = f; explained = h e; told = t }
 
-pub stopped_by_status : {E : Type 0} (words : List Text) (old new : Option (List ℕ)) (files files' : Option (List Made)) (contents : E → Option (List ℕ))
-    (err err' : Counted E) (ended : Result Ending Fault) → IfOk ended (HasEnded words old new files files') → IsEndTold contents err err' ended
-    → ended_status ended ≡ 4 → IsUnfinished words old new files files' contents err err'
-stopped_by_status words old new files files' contents err err' (Ok ending.Done) h t e = cc
-stopped_by_status words old new files files' contents err err' (Ok (ending.Stopped s)) h t e = inl (record { stop = s; status_is = e; has_run = h; told = t })
-stopped_by_status words old new files files' contents err err' (Ok (ending.Found finding.One)) h t e = cc
-stopped_by_status words old new files files' contents err err' (Ok (ending.Found finding.Unfinished)) h t e = inr (h, t)
-stopped_by_status words old new files files' contents err err' (Ok (ending.Found finding.Memory)) h t e = cc
-stopped_by_status words old new files files' contents err err' (Ok (ending.Found finding.Several)) h t e = cc
-stopped_by_status words old new files files' contents err err' (Ok (ending.Wrong text)) h t e = cc
-stopped_by_status words old new files files' contents err err' (Err f) h t e = absurd (not_of_fault f 4 refl e)
+pub stopped_by_status : {E : Type 0} (holding : Option (List ℕ → List ℕ)) (words : List Text) (old new : Option (List ℕ)) (files files' : Option (List Made)) (contents : E → Option (List ℕ))
+    (err err' : Counted E) (ended : Result Ending Fault) → IfOk ended (HasEnded holding words old new files files') → IsEndTold contents err err' ended
+    → ended_status ended ≡ 4 → IsUnfinished holding words old new files files' contents err err'
+stopped_by_status holding words old new files files' contents err err' (Ok ending.Done) h t e = cc
+stopped_by_status holding words old new files files' contents err err' (Ok (ending.Stopped s)) h t e = inl (record { stop = s; status_is = e; has_run = h; told = t })
+stopped_by_status holding words old new files files' contents err err' (Ok (ending.Found finding.One)) h t e = cc
+stopped_by_status holding words old new files files' contents err err' (Ok (ending.Found finding.Unfinished)) h t e = inr (h, t)
+stopped_by_status holding words old new files files' contents err err' (Ok (ending.Found finding.Memory)) h t e = cc
+stopped_by_status holding words old new files files' contents err err' (Ok (ending.Found finding.Several)) h t e = cc
+stopped_by_status holding words old new files files' contents err err' (Ok (ending.Wrong text)) h t e = cc
+stopped_by_status holding words old new files files' contents err err' (Err f) h t e = absurd (not_of_fault f 4 refl e)
 
-pub wanting_by_status : {E : Type 0} (words : List Text) (old new : Option (List ℕ)) (files files' : Option (List Made)) (contents : E → Option (List ℕ))
-    (err err' : Counted E) (ended : Result Ending Fault) → IfOk ended (HasEnded words old new files files') → IfErr ended (λ f. status_of f ≡ 6 → IsLeft words old new files files')
-    → IsEndTold contents err err' ended → ended_status ended ≡ 6 → IsWanting words old new files files' contents err err'
-wanting_by_status words old new files files' contents err err' (Ok ending.Done) h k t e = cc
-wanting_by_status words old new files files' contents err err' (Ok (ending.Stopped s)) h k t e = inl (inl (record { stop = s; status_is = e; has_run = h; told = t }))
-wanting_by_status words old new files files' contents err err' (Ok (ending.Found finding.One)) h k t e = cc
-wanting_by_status words old new files files' contents err err' (Ok (ending.Found finding.Unfinished)) h k t e = cc
-wanting_by_status words old new files files' contents err err' (Ok (ending.Found finding.Memory)) h k t e = inl (inr (record { has_searched = h; told = t }))
-wanting_by_status words old new files files' contents err err' (Ok (ending.Found finding.Several)) h k t e = cc
-wanting_by_status words old new files files' contents err err' (Ok (ending.Wrong text)) h k t e = cc
-wanting_by_status words old new files files' contents err err' (Err f) h k t e = inr (k e)
+pub wanting_by_status : {E : Type 0} (holding : Option (List ℕ → List ℕ)) (words : List Text) (old new : Option (List ℕ)) (files files' : Option (List Made)) (contents : E → Option (List ℕ))
+    (err err' : Counted E) (ended : Result Ending Fault) → IfOk ended (HasEnded holding words old new files files') → IfErr ended (λ f. status_of f ≡ 6 → IsLeft holding words old new files files')
+    → IsEndTold contents err err' ended → ended_status ended ≡ 6 → IsWanting holding words old new files files' contents err err'
+wanting_by_status holding words old new files files' contents err err' (Ok ending.Done) h k t e = cc
+wanting_by_status holding words old new files files' contents err err' (Ok (ending.Stopped s)) h k t e = inl (inl (record { stop = s; status_is = e; has_run = h; told = t }))
+wanting_by_status holding words old new files files' contents err err' (Ok (ending.Found finding.One)) h k t e = cc
+wanting_by_status holding words old new files files' contents err err' (Ok (ending.Found finding.Unfinished)) h k t e = cc
+wanting_by_status holding words old new files files' contents err err' (Ok (ending.Found finding.Memory)) h k t e = inl (inr (record { has_searched = h; told = t }))
+wanting_by_status holding words old new files files' contents err err' (Ok (ending.Found finding.Several)) h k t e = cc
+wanting_by_status holding words old new files files' contents err err' (Ok (ending.Wrong text)) h k t e = cc
+wanting_by_status holding words old new files files' contents err err' (Err f) h k t e = inr (k e)
 
-pub several_by_status : (words : List Text) (old new : Option (List ℕ)) (files files' : Option (List Made)) (ended : Result Ending Fault)
-    → IfOk ended (HasEnded words old new files files') → ended_status ended ≡ 7 → HasSearched words old new files files' finding.Several
-several_by_status words old new files files' (Ok ending.Done) h e = cc
-several_by_status words old new files files' (Ok (ending.Stopped s)) h e = absurd (not_of_stop s 7 refl e)
-several_by_status words old new files files' (Ok (ending.Found finding.One)) h e = cc
-several_by_status words old new files files' (Ok (ending.Found finding.Unfinished)) h e = cc
-several_by_status words old new files files' (Ok (ending.Found finding.Memory)) h e = cc
-several_by_status words old new files files' (Ok (ending.Found finding.Several)) h e = h
-several_by_status words old new files files' (Ok (ending.Wrong text)) h e = cc
-several_by_status words old new files files' (Err f) h e = absurd (not_of_fault f 7 refl e)
+pub several_by_status : (holding : Option (List ℕ → List ℕ)) (words : List Text) (old new : Option (List ℕ)) (files files' : Option (List Made)) (ended : Result Ending Fault)
+    → IfOk ended (HasEnded holding words old new files files') → ended_status ended ≡ 7 → HasSearched holding words old new files files' finding.Several
+several_by_status holding words old new files files' (Ok ending.Done) h e = cc
+several_by_status holding words old new files files' (Ok (ending.Stopped s)) h e = absurd (not_of_stop s 7 refl e)
+several_by_status holding words old new files files' (Ok (ending.Found finding.One)) h e = cc
+several_by_status holding words old new files files' (Ok (ending.Found finding.Unfinished)) h e = cc
+several_by_status holding words old new files files' (Ok (ending.Found finding.Memory)) h e = cc
+several_by_status holding words old new files files' (Ok (ending.Found finding.Several)) h e = h
+several_by_status holding words old new files files' (Ok (ending.Wrong text)) h e = cc
+several_by_status holding words old new files files' (Err f) h e = absurd (not_of_fault f 7 refl e)
 
 -- statuses 2, 3 and 5
 abbrev pub IsSourceStatus : ℕ → Type 0
@@ -339,23 +349,23 @@ source_status words n (inl e) = inl e
 source_status words n (inr (inl e)) = inr (inl e)
 source_status words n (inr (inr (e, other))) = inr (inr e)
 
-pub nothing_by_status : (words : List Text) (old new : Option (List ℕ)) (files files' : Option (List Made)) (ended : Result Ending Fault)
-    → IfOk ended (HasEnded words old new files files') → IfErr ended (λ f. IsUnprinted words (status_of f) → Keeps old new)
+pub nothing_by_status : (holding : Option (List ℕ → List ℕ)) (words : List Text) (old new : Option (List ℕ)) (files files' : Option (List Made)) (ended : Result Ending Fault)
+    → IfOk ended (HasEnded holding words old new files files') → IfErr ended (λ f. IsUnprinted words (status_of f) → Keeps old new)
     → IsUnprinted words (ended_status ended) → Keeps old new
-nothing_by_status words old new files files' (Ok ending.Done) h k e = absurd (no_zero (source_status words 0 e))
-nothing_by_status words old new files files' (Ok (ending.Stopped s)) h k e = absurd (no_stop s (source_status words (stop_status s) e))
-nothing_by_status words old new files files' (Ok (ending.Found found)) h k e = absurd (no_finding found (source_status words (finding_status found) e))
-nothing_by_status words old new files files' (Ok (ending.Wrong text)) h k e = h.unprinted
-nothing_by_status words old new files files' (Err f) h k e = k e
+nothing_by_status holding words old new files files' (Ok ending.Done) h k e = absurd (no_zero (source_status words 0 e))
+nothing_by_status holding words old new files files' (Ok (ending.Stopped s)) h k e = absurd (no_stop s (source_status words (stop_status s) e))
+nothing_by_status holding words old new files files' (Ok (ending.Found found)) h k e = absurd (no_finding found (source_status words (finding_status found) e))
+nothing_by_status holding words old new files files' (Ok (ending.Wrong text)) h k e = h.unprinted
+nothing_by_status holding words old new files files' (Err f) h k e = k e
 
-pub unsaved_by_status : (words : List Text) (old new : Option (List ℕ)) (files files' : Option (List Made)) (ended : Result Ending Fault)
-    → IfOk ended (HasEnded words old new files files') → IfErr ended (λ f. (status_of f ≡ 3) ⊎ (status_of f ≡ 5) → KeepsFiles files files')
+pub unsaved_by_status : (holding : Option (List ℕ → List ℕ)) (words : List Text) (old new : Option (List ℕ)) (files files' : Option (List Made)) (ended : Result Ending Fault)
+    → IfOk ended (HasEnded holding words old new files files') → IfErr ended (λ f. (status_of f ≡ 3) ⊎ (status_of f ≡ 5) → KeepsFiles files files')
     → IsSourceStatus (ended_status ended) → KeepsFiles files files'
-unsaved_by_status words old new files files' (Ok ending.Done) h k e = absurd (no_zero e)
-unsaved_by_status words old new files files' (Ok (ending.Stopped s)) h k e = absurd (no_stop s e)
-unsaved_by_status words old new files files' (Ok (ending.Found found)) h k e = absurd (no_finding found e)
-unsaved_by_status words old new files files' (Ok (ending.Wrong text)) h k e = h.unsaved
-unsaved_by_status words old new files files' (Err f) h k e = k (of_source_or_journal f e)
+unsaved_by_status holding words old new files files' (Ok ending.Done) h k e = absurd (no_zero e)
+unsaved_by_status holding words old new files files' (Ok (ending.Stopped s)) h k e = absurd (no_stop s e)
+unsaved_by_status holding words old new files files' (Ok (ending.Found found)) h k e = absurd (no_finding found e)
+unsaved_by_status holding words old new files files' (Ok (ending.Wrong text)) h k e = h.unsaved
+unsaved_by_status holding words old new files files' (Err f) h k e = k (of_source_or_journal f e)
 
 pub silent_by_status : {E : Type 0} (contents : E → Option (List ℕ)) (err err' : Counted E) (ended : Result Ending Fault) → IsEndTold contents err err' ended
     → (ended_status ended ≡ 0) ⊎ (ended_status ended ≡ 7) → err' ≡ err
@@ -372,16 +382,16 @@ silent_by_status contents err err' (Ok (ending.Wrong text)) t (inr e) = cc
 silent_by_status contents err err' (Err f) t (inl e) = absurd (not_of_fault f 0 refl e)
 silent_by_status contents err err' (Err f) t (inr e) = absurd (not_of_fault f 7 refl e)
 
-pub told_by_status : {E : Type 0} (contents : E → Option (List ℕ)) (err err' : Counted E) (words : List Text) (old new : Option (List ℕ)) (files files' : Option (List Made)) (ended : Result Ending Fault)
-    → IfOk ended (HasEnded words old new files files') → IsEndTold contents err err' ended → IsTold contents err err' words (ended_status ended)
-told_by_status contents err err' words old new files files' (Ok ending.Done) h t = nothing (inl refl) t
-told_by_status contents err err' words old new files files' (Ok (ending.Stopped s)) h t = of_stop s refl t
-told_by_status contents err err' words old new files files' (Ok (ending.Found finding.One)) h t = nothing (inl refl) t
-told_by_status contents err err' words old new files files' (Ok (ending.Found finding.Unfinished)) h t = nothing (inr (inl refl)) t
-told_by_status contents err err' words old new files files' (Ok (ending.Found finding.Memory)) h t = of_fault faults.Memory refl t
-told_by_status contents err err' words old new files files' (Ok (ending.Found finding.Several)) h t = nothing (inr (inr refl)) t
-told_by_status contents err err' words old new files files' (Ok (ending.Wrong text)) h t = of_source h.begins refl (string_bytes text) t
-told_by_status contents err err' words old new files files' (Err f) h t = of_fault f refl t
+pub told_by_status : {E : Type 0} (holding : Option (List ℕ → List ℕ)) (contents : E → Option (List ℕ)) (err err' : Counted E) (words : List Text) (old new : Option (List ℕ)) (files files' : Option (List Made)) (ended : Result Ending Fault)
+    → IfOk ended (HasEnded holding words old new files files') → IsEndTold contents err err' ended → IsTold contents err err' words (ended_status ended)
+told_by_status holding contents err err' words old new files files' (Ok ending.Done) h t = nothing (inl refl) t
+told_by_status holding contents err err' words old new files files' (Ok (ending.Stopped s)) h t = of_stop s refl t
+told_by_status holding contents err err' words old new files files' (Ok (ending.Found finding.One)) h t = nothing (inl refl) t
+told_by_status holding contents err err' words old new files files' (Ok (ending.Found finding.Unfinished)) h t = nothing (inr (inl refl)) t
+told_by_status holding contents err err' words old new files files' (Ok (ending.Found finding.Memory)) h t = of_fault faults.Memory refl t
+told_by_status holding contents err err' words old new files files' (Ok (ending.Found finding.Several)) h t = nothing (inr (inr refl)) t
+told_by_status holding contents err err' words old new files files' (Ok (ending.Wrong text)) h t = of_source h.begins refl (string_bytes text) t
+told_by_status holding contents err err' words old new files files' (Err f) h t = of_fault f refl t
 
 -- output that nothing was written to
 pub output_same : (known : Option (List ℕ)) → Keeps known known
@@ -390,19 +400,19 @@ output_same (Some xs) = refl
 
 -- requests, performed
 
-pub run_performed : (words : List Text) (run : RunRequest) (old new : Option (List ℕ)) (files files' : Option (List Made)) (told : Option Stop)
-    → AsksRun words run → HasPrintedBy run.seed run.options (option_map (λ path. path.now) run.journal) old new files files' told
-    → HasEnded words old new files files' (ending_of told)
-run_performed words run old new files files' None asks h = ran (run_of_words words run old new files files' None asks h)
-run_performed words run old new files files' (Some s) asks h = run_of_words words run old new files files' (Some s) asks h
+pub run_performed : (holding : Option (List ℕ → List ℕ)) (words : List Text) (run : RunRequest) (old new : Option (List ℕ)) (files files' : Option (List Made)) (told : Option Stop)
+    → AsksRun words run → HasPrintedBy holding run.file.now run.seed run.options (option_map (λ path. path.now) run.journal) old new files files' told
+    → HasEnded holding words old new files files' (ending_of told)
+run_performed holding words run old new files files' None asks h = ran (run_of_words holding words run old new files files' None asks h)
+run_performed holding words run old new files files' (Some s) asks h = run_of_words holding words run old new files files' (Some s) asks h
 
-pub version_performed : (words : List Text) (old new : Option (List ℕ)) (files : Option (List Made)) (r : Result Ending Fault) → Begins words (codes "--version")
-    → OnOk r (Appends old new version_text) → IfOk r (λ e. e ≡ ending.Done) → IfOk r (HasEnded words old new files files)
-version_performed words old new files (Ok ending.Done) begins shown is = versioned begins shown (kept files)
-version_performed words old new files (Ok (ending.Stopped s)) begins shown is = cc
-version_performed words old new files (Ok (ending.Found found)) begins shown is = cc
-version_performed words old new files (Ok (ending.Wrong text)) begins shown is = cc
-version_performed words old new files (Err f) begins shown is = tt
+pub version_performed : (holding : Option (List ℕ → List ℕ)) (words : List Text) (old new : Option (List ℕ)) (files : Option (List Made)) (r : Result Ending Fault) → Begins words (codes "--version")
+    → OnOk r (Appends old new version_text) → IfOk r (λ e. e ≡ ending.Done) → IfOk r (HasEnded holding words old new files files)
+version_performed holding words old new files (Ok ending.Done) begins shown is = versioned begins shown (kept files)
+version_performed holding words old new files (Ok (ending.Stopped s)) begins shown is = cc
+version_performed holding words old new files (Ok (ending.Found found)) begins shown is = cc
+version_performed holding words old new files (Ok (ending.Wrong text)) begins shown is = cc
+version_performed holding words old new files (Err f) begins shown is = tt
 
 -- whatever the fault
 pub if_err : {T E : Type 0} (P : E → Type 0) (r : Result T E) → ((e : E) → P e) → IfErr r P
@@ -424,33 +434,35 @@ if_read K words (Err f) h = λ e. h (of_source_or_journal f (source_status words
 six_not_one : (n : ℕ) → n ≡ 6 → n ≢ 1
 six_not_one n six one = omega (arith, six, one)
 
-pub left_unless_one : (words : List Text) (old new : Option (List ℕ)) (files files' : Option (List Made)) (r : Result Ending Fault) → IfErr r (λ f. status_of f ≢ 1 → Keeps old new)
-    → IfErr r (λ f. status_of f ≢ 1 → KeepsFiles files files') → IfErr r (λ f. status_of f ≡ 6 → IsLeft words old new files files')
-left_unless_one words old new files files' (Ok e) h k = tt
-left_unless_one words old new files files' (Err f) h k = λ six. untouched (h (six_not_one (status_of f) six)) (k (six_not_one (status_of f) six))
+pub left_unless_one : (holding : Option (List ℕ → List ℕ)) (words : List Text) (old new : Option (List ℕ)) (files files' : Option (List Made)) (r : Result Ending Fault) → IfErr r (λ f. status_of f ≢ 1 → Keeps old new)
+    → IfErr r (λ f. status_of f ≢ 1 → KeepsFiles files files') → IfErr r (λ f. status_of f ≡ 6 → IsLeft holding words old new files files')
+left_unless_one holding words old new files files' (Ok e) h k = tt
+left_unless_one holding words old new files files' (Err f) h k = λ six. untouched (h (six_not_one (status_of f) six)) (k (six_not_one (status_of f) six))
 
 -- what holds at any fault holds at one of these statuses
 pub at_any_fault : (P : Type 0) (r : Result Ending Fault) → OnErr r P → IfErr r (λ f. (status_of f ≡ 3) ⊎ (status_of f ≡ 5) → P)
 at_any_fault P (Ok e) h = tt
 at_any_fault P (Err f) h = λ source. h
 
-pub left_of_dump : (words : List Text) (known : Option (List ℕ)) (files files' : Option (List Made)) (r : Result Ending Fault) → OnErr r (KeepsFiles files files')
-    → IfErr r (λ f. status_of f ≡ 6 → IsLeft words known known files files')
-left_of_dump words known files files' (Ok e) h = tt
-left_of_dump words known files files' (Err f) h = λ six. untouched (output_same known) h
+pub left_of_dump : (holding : Option (List ℕ → List ℕ)) (words : List Text) (known : Option (List ℕ)) (files files' : Option (List Made)) (r : Result Ending Fault) → OnErr r (KeepsFiles files files')
+    → IfErr r (λ f. status_of f ≡ 6 → IsLeft holding words known known files files')
+left_of_dump holding words known files files' (Ok e) h = tt
+left_of_dump holding words known files files' (Err f) h = λ six. untouched (output_same known) h
 
-pub left_of_telling : (words : List Text) (old new : Option (List ℕ)) (files files' : Option (List Made)) (r : Result Ending Fault) → Begins words (codes "explain") → KeepsFiles files files'
-    → IfErr r (λ f. status_of f ≡ 6 → IsLeft words old new files files')
-left_of_telling words old new files files' (Ok e) begins k = tt
-left_of_telling words old new files files' (Err f) begins k = λ six. interrupted begins k
+pub left_of_telling : (holding : Option (List ℕ → List ℕ)) (words : List Text) (old new : Option (List ℕ)) (files files' : Option (List Made)) (r : Result Ending Fault) → Begins words (codes "explain") → KeepsFiles files files'
+    → IfErr r (λ f. status_of f ≡ 6 → IsLeft holding words old new files files')
+left_of_telling holding words old new files files' (Ok e) begins k = tt
+left_of_telling holding words old new files files' (Err f) begins k = λ six. interrupted begins k
 
-pub left_of_search : (words : List Text) (races : RacesRequest) (old new : Option (List ℕ)) (files files' : Option (List Made)) → AsksRaces words races
-    → HasLeft races.extent (option_map (λ path. path.now) races.journals) old new files files' → IsLeft words old new files files'
-left_of_search words races old new files files' asks (inl (k, s)) = untouched k s
-left_of_search words races old new files files' asks (inr h) = begun (record {
+pub left_of_search : (holding : Option (List ℕ → List ℕ)) (words : List Text) (races : RacesRequest) (old new : Option (List ℕ)) (files files' : Option (List Made)) → AsksRaces words races
+    → HasLeft holding races.file.now races.extent (option_map (λ path. path.now) races.journals) old new files files' → IsLeft holding words old new files files'
+left_of_search holding words races old new files files' asks (inl (k, s)) = untouched k s
+left_of_search holding words races old new files files' asks (inr h) = begun (record {
   begins = asks.begins;
-  begun = subst (λ (path : Option (List ℕ)). HasBegun (extent_of (races_rows (drop 1 words))) path old new files files') (sym asks.is_races.journals)
-      (subst (λ (extent : Extent). HasBegun extent (option_map (λ path. path.now) races.journals) old new files files') asks.is_races.extent h);
+  file = races.file.now;
+  is_file = asks.is_races.file;
+  begun = subst (λ (path : Option (List ℕ)). HasBegun holding races.file.now (extent_of (races_rows (drop 1 words))) path old new files files') (sym asks.is_races.journals)
+      (subst (λ (extent : Extent). HasBegun holding races.file.now extent (option_map (λ path. path.now) races.journals) old new files files') asks.is_races.extent h);
 })
 
 -- a journal is told up to its fault
@@ -468,28 +480,32 @@ pub one_only : (K : Type 0) (r : Result Ending Fault) → IfErr r (λ f. status_
 one_only K (Ok e) h = tt
 one_only K (Err f) h = λ other. absurd (other h)
 
-pub check_performed : (words : List Text) (path : List ℕ) (old new : Option (List ℕ)) (files files' : Option (List Made)) (r : Result Ending Fault)
-    → AsksCheckOf words path → IsRight → KeepsFiles files files' → OnOk r (Appends old new (right_text path)) → IfOk r (λ e. e ≡ ending.Done)
-    → IfOk r (HasEnded words old new files files')
-check_performed words path old new files files' (Ok ending.Done) asks right keeps shown is = checked (record {
+pub check_performed : (holding : Option (List ℕ → List ℕ)) (words : List Text) (path : List ℕ) (old new : Option (List ℕ)) (files files' : Option (List Made)) (r : Result Ending Fault)
+    → AsksCheckOf words path → IsRight holding path → KeepsFiles files files' → OnOk r (Appends old new (right_text path)) → IfOk r (λ e. e ≡ ending.Done)
+    → IfOk r (HasEnded holding words old new files files')
+check_performed holding words path old new files files' (Ok ending.Done) asks right keeps shown is = checked (record {
   begins = asks.begins;
-  is_right = right;
   path = path;
+  is_right = right;
   file = asks.file;
   shown = shown;
   unsaved = keeps;
 })
-check_performed words path old new files files' (Ok (ending.Stopped s)) asks right keeps shown is = cc
-check_performed words path old new files files' (Ok (ending.Found found)) asks right keeps shown is = cc
-check_performed words path old new files files' (Ok (ending.Wrong text)) asks right keeps shown is = cc
-check_performed words path old new files files' (Err f) asks right keeps shown is = tt
+check_performed holding words path old new files files' (Ok (ending.Stopped s)) asks right keeps shown is = cc
+check_performed holding words path old new files files' (Ok (ending.Found found)) asks right keeps shown is = cc
+check_performed holding words path old new files files' (Ok (ending.Wrong text)) asks right keeps shown is = cc
+check_performed holding words path old new files files' (Err f) asks right keeps shown is = tt
 
-pub waves_performed : (words : List Text) (waves : WavesRequest) (known : Option (List ℕ)) (files files' : Option (List Made)) → AsksWaves words waves
-    → HasDumped waves.out.now files files' → HasWaves words known known files files'
-waves_performed words waves known files files' asks h = record {
+pub waves_performed : (holding : Option (List ℕ → List ℕ)) (words : List Text) (waves : WavesRequest) (known : Option (List ℕ)) (files files' : Option (List Made)) → AsksWaves words waves
+    → HasDumped holding waves.file.now waves.journal.now waves.out.now files files' → HasWaves holding words known known files files'
+waves_performed holding words waves known files files' asks h = record {
   begins = asks.begins;
   path = waves.out.now;
   out = asks.is_waves.out;
+  file = waves.file.now;
+  is_file = asks.is_waves.file;
+  journal = waves.journal.now;
+  is_journal = asks.is_waves.journal;
   dumped = h;
   unprinted = output_same known;
 }
@@ -503,13 +519,13 @@ appends_then (Some a) (Some b) (Some c) xs ys h g = g ∙ ap (λ t. t ++ ys) h �
 
 -- what a check has told
 
-pub right_if : {T : Type 0} (told : Option T) → told ≡ None → HasChecked told → IsRight
-right_if None e h = h
-right_if (Some x) e h = cc
+pub right_if : {T : Type 0} (holding : Option (List ℕ → List ℕ)) (file : List ℕ) (told : Option T) → told ≡ None → HasChecked holding file told → IsRight holding file
+right_if holding file None e h = h
+right_if holding file (Some x) e h = cc
 
-pub wrong_if : {T : Type 0} (told : Option T) (x : T) → told ≡ Some x → HasChecked told → IsWrong
-wrong_if None x e h = cc
-wrong_if (Some y) x e h = h
+pub wrong_if : {T : Type 0} (holding : Option (List ℕ → List ℕ)) (file : List ℕ) (told : Option T) (x : T) → told ≡ Some x → HasChecked holding file told → IsWrong holding file
+wrong_if holding file None x e h = cc
+wrong_if holding file (Some y) x e h = h
 
 -- words that make no request, and are no call for help
 pub wrong_usage : (words : List Text) (r : NoRequest) (text : _) → r ≡ no_request.Usage text → IsNoRequest words r → AreWrong words

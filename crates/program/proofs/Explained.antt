@@ -10,9 +10,9 @@ use Rattle.explain.specs.declared.telling.Window.{Window}
 use Rattle.explain.specs.Explained.{IfReplay, IsLawfulText, UnlessBegun}
 use Rattle.explain.specs.ExplainedText.{ExplainsText, ExplainsTextFault, window_of}
 use Rattle.program.specs.declared.fault.Fault.{Fault}
-use Rattle.program.specs.Printed.{HasExplained, HasExplainedSome, HasTold, window_in}
+use Rattle.program.specs.Printed.{HasExplained, HasExplainedPart, HasExplainedSome, HasTold, window_in}
 use Rattle.program.specs.Program.{explain_fault, status_of}
-use Rattle.files.specs.Saved.{KeepsFiles, Made}
+use Rattle.files.specs.Saved.{IsHeld, IsOpened, KeepsFiles, Made}
 
 -- what was written, and then sent off
 pub appends_kept : (a b c : Option (List ℕ)) (xs : List ℕ) → Appends a b xs → Keeps b c → Appends a c xs
@@ -41,17 +41,17 @@ told_on source window left a b c h k = record {
   };
 }
 
-pub explained_by : (source : List ℕ) (window : Window) (left a b c : Option (List ℕ)) → IsLawfulText source left → ExplainsText source window left a b → Keeps b c → HasExplained window a c
-explained_by source window left a b c lawful h k = record { source = source; left = left; lawful = lawful; explains = told_on source window left a b c h k }
+pub explained_by : (holding : Option (List ℕ → List ℕ)) (file journal : List ℕ) (source : List ℕ) (window : Window) (left a b c : Option (List ℕ)) → IsHeld holding file source → IsOpened holding journal left → IsLawfulText source left → ExplainsText source window left a b → Keeps b c → HasExplained holding file journal window a c
+explained_by holding file journal source window left a b c held opened lawful h k = record { source = source; held = held; left = left; opened = opened; lawful = lawful; explains = told_on source window left a b c h k }
 
 -- no journal was read, or one was told up to its fault
-pub refused_of : (source : List ℕ) (window : Window) (left a b : Option (List ℕ)) (f : ExplainFault) → UnlessBegun {X = Unit {0}} (Err f) (Keeps a b)
-    → IfReplay {X = Unit {0}} (Err f) (ExplainsTextFault source window left a b) → status_of (explain_fault f) ≡ 5 → HasExplainedSome window a b (explain_fault f)
-refused_of source window left a b (explaining.Source f) h t e = inl h
-refused_of source window left a b (explaining.Read f) h t e = inl h
-refused_of source window left a b (explaining.Replay f) h t e = inr (f, refl, record { source = source; left = left; explains = t })
-refused_of source window left a b explaining.CannotWrite h t e = cc
-refused_of source window left a b explaining.Memory h t e = cc
+pub refused_of : (holding : Option (List ℕ → List ℕ)) (file journal : List ℕ) (source : List ℕ) (window : Window) (left a b : Option (List ℕ)) (f : ExplainFault) → IsHeld holding file source → IsOpened holding journal left → UnlessBegun {X = Unit {0}} (Err f) (Keeps a b)
+    → IfReplay {X = Unit {0}} (Err f) (ExplainsTextFault source window left a b) → status_of (explain_fault f) ≡ 5 → HasExplainedSome holding file journal window a b (explain_fault f)
+refused_of holding file journal source window left a b (explaining.Source f) held opened h t e = inl h
+refused_of holding file journal source window left a b (explaining.Read f) held opened h t e = inl h
+refused_of holding file journal source window left a b (explaining.Replay f) held opened h t e = inr (f, refl, record { source = source; held = held; left = left; opened = opened; explains = t })
+refused_of holding file journal source window left a b explaining.CannotWrite held opened h t e = cc
+refused_of holding file journal source window left a b explaining.Memory held opened h t e = cc
 
 -- the window of a request is that of its words
 window_asked : (words : List Text) (explain : ExplainRequest) → AsksExplain words explain → window_of explain.from explain.to ≡ window_in words
@@ -59,14 +59,24 @@ window_asked words explain asks =
     ap (λ (from : ℕ). window_of from explain.to) asks.is_explain.from
     ∙ ap (window_of (unwrap_or (number_given (codes "from") (explain_rows (drop 1 words))) 1)) asks.is_explain.to
 
-pub told_performed : (words : List Text) (explain : ExplainRequest) (old new : Option (List ℕ)) (files files' : Option (List Made)) → AsksExplain words explain
-    → HasExplained (window_of explain.from explain.to) old new → KeepsFiles files files' → HasTold words old new files files'
-told_performed words explain old new files files' asks h k = record {
+pub told_performed : (holding : Option (List ℕ → List ℕ)) (words : List Text) (explain : ExplainRequest) (old new : Option (List ℕ)) (files files' : Option (List Made)) → AsksExplain words explain
+    → HasExplained holding explain.file.now explain.journal.now (window_of explain.from explain.to) old new → KeepsFiles files files' → HasTold holding words old new files files'
+told_performed holding words explain old new files files' asks h k = record {
   begins = asks.begins;
-  explained = subst (λ (w : Window). HasExplained w old new) (window_asked words explain asks) h;
+  file = explain.file.now;
+  is_file = asks.is_explain.file;
+  journal = explain.journal.now;
+  is_journal = asks.is_explain.journal;
+  explained = subst (λ (w : Window). HasExplained holding explain.file.now explain.journal.now w old new) (window_asked words explain asks) h;
   unsaved = k;
 }
 
-pub refused_performed : (words : List Text) (explain : ExplainRequest) (old new : Option (List ℕ)) (f : Fault) → AsksExplain words explain
-    → (status_of f ≡ 5 → HasExplainedSome (window_of explain.from explain.to) old new f) → status_of f ≡ 5 → HasExplainedSome (window_in words) old new f
-refused_performed words explain old new f asks h e = subst (λ (w : Window). HasExplainedSome w old new f) (window_asked words explain asks) (h e)
+pub refused_performed : (holding : Option (List ℕ → List ℕ)) (words : List Text) (explain : ExplainRequest) (old new : Option (List ℕ)) (f : Fault) → AsksExplain words explain
+    → (status_of f ≡ 5 → HasExplainedSome holding explain.file.now explain.journal.now (window_of explain.from explain.to) old new f) → status_of f ≡ 5 → HasExplainedPart holding words old new f
+refused_performed holding words explain old new f asks h e = record {
+  file = explain.file.now;
+  is_file = asks.is_explain.file;
+  journal = explain.journal.now;
+  is_journal = asks.is_explain.journal;
+  some = subst (λ (w : Window). HasExplainedSome holding explain.file.now explain.journal.now w old new f) (window_asked words explain asks) (h e);
+}

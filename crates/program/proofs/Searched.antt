@@ -20,7 +20,7 @@ use Rattle.verdict.specs.declared.claim.Claim.TheVariants.{Every, SoFar, Sampled
 use Rattle.verdict.specs.declared.claim.Met.TheVariants.{States, Texts, Entries, Memory}
 use Rattle.std.specs.Io.KnownBytes.{Appends, Keeps}
 use Rattle.frontend.specs.Sources.{IsDesignOf}
-use Rattle.files.specs.Saved.{KeepsFiles, Made, SavesAllWhereAsked, SavesSomeWhereAsked}
+use Rattle.files.specs.Saved.{IsHeld, KeepsFiles, Made, SavesAllWhereAsked, SavesSomeWhereAsked}
 use Rattle.arguments.specs.declared.extent.Extent.{Extent}
 use Rattle.program.specs.declared.finding.Finding.{Finding}
 use Rattle.program.specs.declared.fault.Fault.{Fault}
@@ -162,12 +162,13 @@ pub tells_alone : (source : List ℕ) (code : Compiled) (shown : List (Shown Ent
 tells_alone source code shown prefix tries found begun lines empty h = subst (TellsRaces source code shown prefix tries found) (sym (h.new_is ∙ ap (λ l. l ++ h.lines) empty)) h.tells
 
 -- a search that was told first and last, with the journals of what was found
-pub search_shown : (source : List ℕ) (code : Compiled) (extent : Extent) (prefix : Option (List ℕ)) (known : List (Shown Entry End)) (claim : Claim) (shown : List (Shown Entry End)) (endless : Option (List Entry)) (a b c : Option (List ℕ))
-    (files tried files' : Option (List Made)) (last : List ℕ) (found : Finding) → IsDesignOf source code → ((first : List ℕ) × IsToldFirst source code extent prefix known first × Appends a b first)
+pub search_shown : (holding : Option (List ℕ → List ℕ)) (file : List ℕ) (source : List ℕ) (code : Compiled) (extent : Extent) (prefix : Option (List ℕ)) (known : List (Shown Entry End)) (claim : Claim) (shown : List (Shown Entry End)) (endless : Option (List Entry)) (a b c : Option (List ℕ))
+    (files tried files' : Option (List Made)) (last : List ℕ) (found : Finding) → IsHeld holding file source → IsDesignOf source code → ((first : List ℕ) × IsToldFirst source code extent prefix known first × Appends a b first)
     → AreFound code extent claim shown endless → Extends known shown → IsToldLast extent prefix claim shown last → Appends b c last → KeepsFiles files tried → SavesAllWhereAsked tried files' prefix (journals_of shown endless)
-    → found ≡ finding_of claim (length shown) → HasShown extent prefix a c files files' found
-search_shown source code extent prefix known claim shown endless a b c files tried files' last found is_design (first, is_first, begins) are_found grown is_last ends kept saved is = record {
+    → found ≡ finding_of claim (length shown) → HasShown holding file extent prefix a c files files' found
+search_shown holding file source code extent prefix known claim shown endless a b c files tried files' last found held is_design (first, is_first, begins) are_found grown is_last ends kept saved is = record {
   source = source;
+  held = held;
   design = code;
   is_design = is_design;
   known = known;
@@ -181,10 +182,11 @@ search_shown source code extent prefix known claim shown endless a b c files tri
 }
 
 -- a search that was told first, and didn't come further
-pub search_begun : (source : List ℕ) (code : Compiled) (extent : Extent) (prefix : Option (List ℕ)) (known : List (Shown Entry End)) (a b : Option (List ℕ)) (files files' : Option (List Made)) → IsDesignOf source code
-    → ((first : List ℕ) × IsToldFirst source code extent prefix known first × Appends a b first) → KeepsFiles files files' → HasLeft extent prefix a b files files'
-search_begun source code extent prefix known a b files files' is_design (first, is_first, begins) kept = inr (record {
+pub search_begun : (holding : Option (List ℕ → List ℕ)) (file : List ℕ) (source : List ℕ) (code : Compiled) (extent : Extent) (prefix : Option (List ℕ)) (known : List (Shown Entry End)) (a b : Option (List ℕ)) (files files' : Option (List Made)) → IsHeld holding file source → IsDesignOf source code
+    → ((first : List ℕ) × IsToldFirst source code extent prefix known first × Appends a b first) → KeepsFiles files files' → HasLeft holding file extent prefix a b files files'
+search_begun holding file source code extent prefix known a b files files' held is_design (first, is_first, begins) kept = inr (record {
   source = source;
+  held = held;
   design = code;
   is_design = is_design;
   known = known;
@@ -201,12 +203,13 @@ appends_kept (Some x) (Some y) None text h k = absurd k
 appends_kept (Some x) (Some y) (Some z) text h k = k ∙ h
 
 -- a search that was told first and last, and whose journals may not all have been saved
-pub search_left : (source : List ℕ) (code : Compiled) (extent : Extent) (prefix : Option (List ℕ)) (known : List (Shown Entry End)) (claim : Claim) (shown : List (Shown Entry End)) (endless : Option (List Entry)) (a b c : Option (List ℕ))
-    (files tried files' : Option (List Made)) (last : List ℕ) → IsDesignOf source code → ((first : List ℕ) × IsToldFirst source code extent prefix known first × Appends a b first)
+pub search_left : (holding : Option (List ℕ → List ℕ)) (file : List ℕ) (source : List ℕ) (code : Compiled) (extent : Extent) (prefix : Option (List ℕ)) (known : List (Shown Entry End)) (claim : Claim) (shown : List (Shown Entry End)) (endless : Option (List Entry)) (a b c : Option (List ℕ))
+    (files tried files' : Option (List Made)) (last : List ℕ) → IsHeld holding file source → IsDesignOf source code → ((first : List ℕ) × IsToldFirst source code extent prefix known first × Appends a b first)
     → AreFound code extent claim shown endless → Extends known shown → IsToldLast extent prefix claim shown last → KeepsFiles files tried
-    → (Keeps b c × KeepsFiles tried files') ⊎ (Appends b c last × SavesSomeWhereAsked tried files' prefix (journals_of shown endless)) → HasLeft extent prefix a c files files'
-search_left source code extent prefix known claim shown endless a b c files tried files' last is_design (first, is_first, begins) are_found grown is_last kept (inl (same, saved)) = inr (record {
+    → (Keeps b c × KeepsFiles tried files') ⊎ (Appends b c last × SavesSomeWhereAsked tried files' prefix (journals_of shown endless)) → HasLeft holding file extent prefix a c files files'
+search_left holding file source code extent prefix known claim shown endless a b c files tried files' last held is_design (first, is_first, begins) are_found grown is_last kept (inl (same, saved)) = inr (record {
   source = source;
+  held = held;
   design = code;
   is_design = is_design;
   known = known;
@@ -214,8 +217,9 @@ search_left source code extent prefix known claim shown endless a b c files trie
   is_first = is_first;
   left = inl (appends_kept a b c first begins same, kept_on files tried files' kept saved);
 })
-search_left source code extent prefix known claim shown endless a b c files tried files' last is_design (first, is_first, begins) are_found grown is_last kept (inr (ends, saved)) = inr (record {
+search_left holding file source code extent prefix known claim shown endless a b c files tried files' last held is_design (first, is_first, begins) are_found grown is_last kept (inr (ends, saved)) = inr (record {
   source = source;
+  held = held;
   design = code;
   is_design = is_design;
   known = known;
@@ -230,20 +234,20 @@ search_left source code extent prefix known claim shown endless a b c files trie
 })
 
 -- what is left where a search ended for want of memory behind its races
-pub texts_left : (source : List ℕ) (code : Compiled) (extent : Extent) (prefix : Option (List ℕ)) (known : List (Shown Entry End)) (claim : Claim) (shown : List (Shown Entry End)) (endless : Option (List Entry)) (a b c : Option (List ℕ))
-    (files tried files' : Option (List Made)) (last : List ℕ) (r : Result Finding Fault) → IsDesignOf source code → ((first : List ℕ) × IsToldFirst source code extent prefix known first × Appends a b first)
+pub texts_left : (holding : Option (List ℕ → List ℕ)) (file : List ℕ) (source : List ℕ) (code : Compiled) (extent : Extent) (prefix : Option (List ℕ)) (known : List (Shown Entry End)) (claim : Claim) (shown : List (Shown Entry End)) (endless : Option (List Entry)) (a b c : Option (List ℕ))
+    (files tried files' : Option (List Made)) (last : List ℕ) (r : Result Finding Fault) → IsHeld holding file source → IsDesignOf source code → ((first : List ℕ) × IsToldFirst source code extent prefix known first × Appends a b first)
     → AreFound code extent claim shown endless → Extends known shown → IsToldLast extent prefix claim shown last → KeepsFiles files tried
     → IfErr r (λ f. status_of f ≡ 6 → (Keeps b c × KeepsFiles tried files') ⊎ (Appends b c last × SavesSomeWhereAsked tried files' prefix (journals_of shown endless)))
-    → IfErr r (λ f. status_of f ≡ 6 → HasLeft extent prefix a c files files')
-texts_left source code extent prefix known claim shown endless a b c files tried files' last (Ok found) is_design first are_found grown is_last kept h = tt
-texts_left source code extent prefix known claim shown endless a b c files tried files' last (Err f) is_design first are_found grown is_last kept h =
-    λ six. search_left source code extent prefix known claim shown endless a b c files tried files' last is_design first are_found grown is_last kept (h six)
+    → IfErr r (λ f. status_of f ≡ 6 → HasLeft holding file extent prefix a c files files')
+texts_left holding file source code extent prefix known claim shown endless a b c files tried files' last (Ok found) held is_design first are_found grown is_last kept h = tt
+texts_left holding file source code extent prefix known claim shown endless a b c files tried files' last (Err f) held is_design first are_found grown is_last kept h =
+    λ six. search_left holding file source code extent prefix known claim shown endless a b c files tried files' last held is_design first are_found grown is_last kept (h six)
 
 -- what was told, where that went well
-pub texts_shown : (source : List ℕ) (code : Compiled) (extent : Extent) (prefix : Option (List ℕ)) (known : List (Shown Entry End)) (claim : Claim) (shown : List (Shown Entry End)) (endless : Option (List Entry)) (a b c : Option (List ℕ))
-    (files tried files' : Option (List Made)) (last : List ℕ) (r : Result Finding Fault) → IsDesignOf source code → ((first : List ℕ) × IsToldFirst source code extent prefix known first × Appends a b first)
+pub texts_shown : (holding : Option (List ℕ → List ℕ)) (file : List ℕ) (source : List ℕ) (code : Compiled) (extent : Extent) (prefix : Option (List ℕ)) (known : List (Shown Entry End)) (claim : Claim) (shown : List (Shown Entry End)) (endless : Option (List Entry)) (a b c : Option (List ℕ))
+    (files tried files' : Option (List Made)) (last : List ℕ) (r : Result Finding Fault) → IsHeld holding file source → IsDesignOf source code → ((first : List ℕ) × IsToldFirst source code extent prefix known first × Appends a b first)
     → AreFound code extent claim shown endless → Extends known shown → IsToldLast extent prefix claim shown last → KeepsFiles files tried → OnOk r (Appends b c last)
-    → OnOk r (SavesAllWhereAsked tried files' prefix (journals_of shown endless)) → IfOk r (λ found. found ≡ finding_of claim (length shown)) → IfOk r (HasShown extent prefix a c files files')
-texts_shown source code extent prefix known claim shown endless a b c files tried files' last (Ok found) is_design first are_found grown is_last kept ends saved is =
-    search_shown source code extent prefix known claim shown endless a b c files tried files' last found is_design first are_found grown is_last ends kept saved is
-texts_shown source code extent prefix known claim shown endless a b c files tried files' last (Err f) is_design first are_found grown is_last kept ends saved is = tt
+    → OnOk r (SavesAllWhereAsked tried files' prefix (journals_of shown endless)) → IfOk r (λ found. found ≡ finding_of claim (length shown)) → IfOk r (HasShown holding file extent prefix a c files files')
+texts_shown holding file source code extent prefix known claim shown endless a b c files tried files' last (Ok found) held is_design first are_found grown is_last kept ends saved is =
+    search_shown holding file source code extent prefix known claim shown endless a b c files tried files' last found held is_design first are_found grown is_last ends kept saved is
+texts_shown holding file source code extent prefix known claim shown endless a b c files tried files' last (Err f) held is_design first are_found grown is_last kept ends saved is = tt

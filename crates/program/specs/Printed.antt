@@ -39,83 +39,95 @@ use Rattle.program.specs.Findings.{AreFound, AreKnown, AreRaces, HaveSomeEnds, f
 use Rattle.program.specs.declared.fault.Fault.{Fault}
 use Rattle.program.specs.declared.fault.Stop.{Stop}
 use Rattle.program.specs.declared.running.LeftByRun.{LeftByRun}
-use Rattle.clap.specs.Words.{Text, first_of}
+use Rattle.clap.specs.Words.{Row, Text, first_of}
 use Rattle.arguments.specs.Options.{CanRun, CanSearch}
 use Rattle.program.specs.declared.ending.Ending.{Ending}
 use Rattle.program.specs.declared.ending.Ending.TheVariants as ending
 use Rattle.program.specs.Program.{explain_fault, right_text, source_status_of, stop_of, version_text}
-use Rattle.files.specs.Saved.{AddsFile, Made, KeepsFiles, SavesAllWhereAsked, SavesSomeWhereAsked, SavesWhereAsked}
-use Rattle.arguments.specs.CommandWords.{AsksHelp, Begins, check_rows, explain_rows, extent_of, number_given, options_of, races_rows, run_rows, waves_rows}
+use Rattle.files.specs.Saved.{AddsFile, IsHeld, IsOpened, Made, KeepsFiles, SavesAllWhereAsked, SavesSomeWhereAsked, SavesWhereAsked}
+use Rattle.arguments.specs.CommandWords.{AsksHelp, Begins, check_rows, explain_rows, extent_of, number_given, options_of, races_rows, replay_rows, run_rows, waves_rows}
 
 -- the limits of a run
 abbrev pub limits_of : Options → Limits
 limits_of options = record { until = options.until; max_entries = options.max_entries }
 
--- a run, by these options, of the design that some source describes, with its tickets and the evaluations of its workers
-pub record IsRun (options : Options) (closed : ClosedView) : Type 0 where
-  pub source : List ℕ
+-- the source in a file, where it is known what files hold, describes this design
+abbrev pub IsDesignIn : Option (List ℕ → List ℕ) → List ℕ → Compiled → Type 0
+IsDesignIn holding file design = (source : List ℕ) × IsHeld holding file source × IsDesignOf source design
+
+-- a run, by these options, of the design that the source in a file describes, with its tickets and the evaluations of its workers
+pub record IsRun (holding : Option (List ℕ → List ℕ)) (file : List ℕ) (options : Options) (closed : ClosedView) : Type 0 where
   pub design : Compiled
-  pub is_design : IsDesignOf source design
+  pub is_design : IsDesignIn holding file design
   pub tally : Counts
   pub evaluations : List ℕ
   pub is_outcome : IsOutcome design (limits_of options) options.workers closed tally evaluations
 
--- Output grew by the lines of a run with these options, the same run's journal was saved where a path is given, and this
+-- Output grew by the lines of a run of a file with these options, the same run's journal was saved where a path is given, and this
 -- is told of its end.
-pub record HasPrinted (options : Options) (path : Option (List ℕ)) (old new : Option (List ℕ)) (files files' : Option (List Made)) (told : Option Stop) : Type 0 where
+pub record HasPrinted (holding : Option (List ℕ → List ℕ)) (file : List ℕ) (options : Options) (path : Option (List ℕ)) (old new : Option (List ℕ)) (files files' : Option (List Made)) (told : Option Stop) : Type 0 where
   pub closed : ClosedView
-  pub is_run : IsRun options closed
+  pub is_run : IsRun holding file options closed
   pub lines : Appends old new closed.lines
   pub saved : SavesWhereAsked files files' path closed.entries
   pub end : told ≡ stop_of closed.end
 
--- a run by a seed, with these options, of the design that some source describes
-pub record IsSeeded (options : Options) (run : SeededRun) : Type 0 where
-  pub source : List ℕ
+-- a run by a seed, with these options, of the design that the source in a file describes
+pub record IsSeeded (holding : Option (List ℕ → List ℕ)) (file : List ℕ) (options : Options) (run : SeededRun) : Type 0 where
   pub design : Compiled
-  pub is_design : IsDesignOf source design
+  pub is_design : IsDesignIn holding file design
   pub is_run : seeded.IsRun design (limits_of options) run
 
 -- Output grew by the lines of such a run, its journal was saved where a path is given, and this is told of its end.
-pub record HasPrintedSeeded (options : Options) (path : Option (List ℕ)) (old new : Option (List ℕ)) (files files' : Option (List Made)) (told : Option Stop) : Type 0 where
+pub record HasPrintedSeeded (holding : Option (List ℕ → List ℕ)) (file : List ℕ) (options : Options) (path : Option (List ℕ)) (old new : Option (List ℕ)) (files files' : Option (List Made)) (told : Option Stop) : Type 0 where
   pub run : SeededRun
-  pub is_run : IsSeeded options run
+  pub is_run : IsSeeded holding file options run
   pub lines : Appends old new (string_bytes run.lines)
   pub saved : SavesWhereAsked files files' path run.journal.items
   pub end : told ≡ stop_of run.end
 
--- what a run on workers leaves that has these options
-pub record IsLeftOnWorkers (options : Options) (left : LeftByRun) : Type 0 where
+-- what a run of a file on workers leaves that has these options
+pub record IsLeftOnWorkers (holding : Option (List ℕ → List ℕ)) (file : List ℕ) (options : Options) (left : LeftByRun) : Type 0 where
   pub closed : ClosedView
-  pub is_run : IsRun options closed
+  pub is_run : IsRun holding file options closed
   pub journal : left.journal.items ≡ closed.entries
   pub lines : string_bytes left.lines ≡ closed.lines
   pub end : left.end ≡ closed.end
 
--- what a run by a seed leaves that has these options
-pub record IsLeftBySeed (options : Options) (left : LeftByRun) : Type 0 where
+-- what a run of a file by a seed leaves that has these options
+pub record IsLeftBySeed (holding : Option (List ℕ → List ℕ)) (file : List ℕ) (options : Options) (left : LeftByRun) : Type 0 where
   pub run : SeededRun
-  pub is_run : IsSeeded options run
+  pub is_run : IsSeeded holding file options run
   pub journal : left.journal.items ≡ run.journal.items
   pub lines : string_bytes left.lines ≡ string_bytes run.lines
   pub end : left.end ≡ run.end
 
 -- what a run leaves, by a seed where one is given and else on workers
-abbrev pub IsLeftByRun : Option ℕ → Options → LeftByRun → Type 0
-IsLeftByRun None options left = IsLeftOnWorkers options left
-IsLeftByRun (Some seed) options left = IsLeftBySeed options left
+abbrev pub IsLeftByRun : Option (List ℕ → List ℕ) → List ℕ → Option ℕ → Options → LeftByRun → Type 0
+IsLeftByRun holding file None options left = IsLeftOnWorkers holding file options left
+IsLeftByRun holding file (Some seed) options left = IsLeftBySeed holding file options left
 
 -- so it is where a seed is given, and else the run was one on workers
-abbrev pub HasPrintedBy : Option ℕ → Options → Option (List ℕ) → Option (List ℕ) → Option (List ℕ) → Option (List Made) → Option (List Made) → Option Stop → Type 0
-HasPrintedBy None options path old new files files' told = HasPrinted options path old new files files' told
-HasPrintedBy (Some seed) options path old new files files' told = HasPrintedSeeded options path old new files files' told
+abbrev pub HasPrintedBy : Option (List ℕ → List ℕ) → List ℕ → Option ℕ → Options → Option (List ℕ) → Option (List ℕ) → Option (List ℕ) → Option (List Made) → Option (List Made) → Option Stop → Type 0
+HasPrintedBy holding file None options path old new files files' told = HasPrinted holding file options path old new files files' told
+HasPrintedBy holding file (Some seed) options path old new files files' told = HasPrintedSeeded holding file options path old new files files' told
 
--- The words ask for a run. Output and files are as a run leaves them that has the options of these words, is by their seed if
+-- the words name this FILE
+abbrev pub NamesFile : List Row → List ℕ → Type 0
+NamesFile rows file = first_of (codes "FILE") rows ≡ Some file
+
+-- the words name this JOURNAL
+abbrev pub NamesJournal : List Row → List ℕ → Type 0
+NamesJournal rows journal = first_of (codes "JOURNAL") rows ≡ Some journal
+
+-- The words ask for a run. Output and files are as a run of their FILE leaves them that has the options of these words, is by their seed if
 -- they give one, and saves its journal in the OUT of these words, if they give one, and this is told of its end.
-pub record HasRun (words : List Text) (old new : Option (List ℕ)) (files files' : Option (List Made)) (told : Option Stop) : Type 0 where
+pub record HasRun (holding : Option (List ℕ → List ℕ)) (words : List Text) (old new : Option (List ℕ)) (files files' : Option (List Made)) (told : Option Stop) : Type 0 where
   pub begins : Begins words (codes "run")
   pub can_run : CanRun (options_of (run_rows (drop 1 words)))
-  pub printed : HasPrintedBy (number_given (codes "seed") (run_rows (drop 1 words))) (options_of (run_rows (drop 1 words))) (first_of (codes "journal") (run_rows (drop 1 words))) old new files files' told
+  pub file : List ℕ
+  pub is_file : NamesFile (run_rows (drop 1 words)) file
+  pub printed : HasPrintedBy holding file (number_given (codes "seed") (run_rows (drop 1 words))) (options_of (run_rows (drop 1 words))) (first_of (codes "journal") (run_rows (drop 1 words))) old new files files' told
 
 -- What is told before a search: the races that were found in the design of a source, with the numbers of journals of texts that are known from then on.
 pub record IsToldFirst (source : List ℕ) (design : Compiled) (extent : Extent) (prefix : Option (List ℕ)) (known : List (Shown Entry End)) (first : List ℕ) : Type 0 where
@@ -140,10 +152,11 @@ pub record HasFound (design : Compiled) (extent : Extent) (prefix : Option (List
   pub grown : Extends known shown
   pub is_last : IsToldLast extent prefix claim shown last
 
--- Of the design that some source describes races were told, and then what was found of its texts, so far as this says. Output grew by both, the journals of the texts, and of a run that comes to no
+-- Of the design that the source in a file describes races were told, and then what was found of its texts, so far as this says. Output grew by both, the journals of the texts, and of a run that comes to no
 -- end, were saved where a prefix is given, and this is what it has come to.
-pub record HasShown (extent : Extent) (prefix : Option (List ℕ)) (old new : Option (List ℕ)) (files files' : Option (List Made)) (found : Finding) : Type 0 where
+pub record HasShown (holding : Option (List ℕ → List ℕ)) (file : List ℕ) (extent : Extent) (prefix : Option (List ℕ)) (old new : Option (List ℕ)) (files files' : Option (List Made)) (found : Finding) : Type 0 where
   pub source : List ℕ
+  pub held : IsHeld holding file source
   pub design : Compiled
   pub is_design : IsDesignOf source design
   pub known : List (Shown Entry End)
@@ -155,12 +168,14 @@ pub record HasShown (extent : Extent) (prefix : Option (List ℕ)) (old new : Op
   pub saved : SavesAllWhereAsked files files' prefix (journals_of has_found.shown has_found.endless)
   pub finding : found ≡ finding_of has_found.claim (length has_found.shown)
 
--- The words ask for a search for races. Output and files are as a search leaves them that goes as far as these words say and
+-- The words ask for a search for races. Output and files are as a search of their FILE leaves them that goes as far as these words say and
 -- saves journals at paths that begin with the PREFIX of these words, if they give one, and this was found.
-pub record HasSearched (words : List Text) (old new : Option (List ℕ)) (files files' : Option (List Made)) (found : Finding) : Type 0 where
+pub record HasSearched (holding : Option (List ℕ → List ℕ)) (words : List Text) (old new : Option (List ℕ)) (files files' : Option (List Made)) (found : Finding) : Type 0 where
   pub begins : Begins words (codes "races")
   pub can_search : CanSearch (extent_of (races_rows (drop 1 words)))
-  pub shown : HasShown (extent_of (races_rows (drop 1 words))) (first_of (codes "journals") (races_rows (drop 1 words))) old new files files' found
+  pub file : List ℕ
+  pub is_file : NamesFile (races_rows (drop 1 words)) file
+  pub shown : HasShown holding file (extent_of (races_rows (drop 1 words))) (first_of (codes "journals") (races_rows (drop 1 words))) old new files files' found
 
 -- output and files are as they were
 abbrev pub AreUntouched : Option (List ℕ) → Option (List ℕ) → Option (List Made) → Option (List Made) → Type 0
@@ -173,10 +188,11 @@ pub record HasSavedSome (design : Compiled) (extent : Extent) (prefix : Option (
   pub printed : Appends old new (first ++ last)
   pub saved : SavesSomeWhereAsked files files' prefix (journals_of has_found.shown has_found.endless)
 
--- A search of the design that some source describes didn't come to its end: output grew by the races and by nothing else, and the files are as they
+-- A search of the design that the source in a file describes didn't come to its end: output grew by the races and by nothing else, and the files are as they
 -- were; or it grew by all that is said of it, and the files by journals of what was found.
-pub record HasBegun (extent : Extent) (prefix : Option (List ℕ)) (old new : Option (List ℕ)) (files files' : Option (List Made)) : Type 0 where
+pub record HasBegun (holding : Option (List ℕ → List ℕ)) (file : List ℕ) (extent : Extent) (prefix : Option (List ℕ)) (old new : Option (List ℕ)) (files files' : Option (List Made)) : Type 0 where
   pub source : List ℕ
+  pub held : IsHeld holding file source
   pub design : Compiled
   pub is_design : IsDesignOf source design
   pub known : List (Shown Entry End)
@@ -185,50 +201,79 @@ pub record HasBegun (extent : Extent) (prefix : Option (List ℕ)) (old new : Op
   pub left : (Appends old new first × KeepsFiles files files') ⊎ HasSavedSome design extent prefix known first old new files files'
 
 -- a search left nothing, or came so far
-abbrev pub HasLeft : Extent → Option (List ℕ) → Option (List ℕ) → Option (List ℕ) → Option (List Made) → Option (List Made) → Type 0
-HasLeft extent prefix old new files files' = AreUntouched old new files files' ⊎ HasBegun extent prefix old new files files'
+abbrev pub HasLeft : Option (List ℕ → List ℕ) → List ℕ → Extent → Option (List ℕ) → Option (List ℕ) → Option (List ℕ) → Option (List Made) → Option (List Made) → Type 0
+HasLeft holding file extent prefix old new files files' = AreUntouched old new files files' ⊎ HasBegun holding file extent prefix old new files files'
 
--- The words ask for a search for races. Output and files are as a search leaves them that goes as far as these words say, saves journals at paths that begin with the
+-- The words ask for a search for races. Output and files are as a search of their FILE leaves them that goes as far as these words say, saves journals at paths that begin with the
 -- PREFIX of these words, if they give one, and didn't come to its end.
-pub record HasBegunSearch (words : List Text) (old new : Option (List ℕ)) (files files' : Option (List Made)) : Type 0 where
+pub record HasBegunSearch (holding : Option (List ℕ → List ℕ)) (words : List Text) (old new : Option (List ℕ)) (files files' : Option (List Made)) : Type 0 where
   pub begins : Begins words (codes "races")
-  pub begun : HasBegun (extent_of (races_rows (drop 1 words))) (first_of (codes "journals") (races_rows (drop 1 words))) old new files files'
+  pub file : List ℕ
+  pub is_file : NamesFile (races_rows (drop 1 words)) file
+  pub begun : HasBegun holding file (extent_of (races_rows (drop 1 words))) (first_of (codes "journals") (races_rows (drop 1 words))) old new files files'
 
--- output grew by the lines of a journal that is lawful for the design that some source describes, and what was left to
--- read, where that is known, is the text of this journal
-pub record HasReplayed (old new : Option (List ℕ)) : Type 0 where
+-- output grew by the lines of a journal that is lawful for the design that the source in a file describes, and what is in
+-- the journal's file, where that is known, is the text of this journal
+pub record HasReplayed (holding : Option (List ℕ → List ℕ)) (file journal : List ℕ) (old new : Option (List ℕ)) : Type 0 where
   pub source : List ℕ
+  pub held : IsHeld holding file source
   pub left : Option (List ℕ)
+  pub opened : IsOpened holding journal left
   pub prints : Prints source left old new
 
+-- The words ask for a replay of their JOURNAL on their FILE, and output is as that leaves it.
+pub record HasPlayed (holding : Option (List ℕ → List ℕ)) (words : List Text) (old new : Option (List ℕ)) : Type 0 where
+  pub begins : Begins words (codes "replay")
+  pub file : List ℕ
+  pub is_file : NamesFile (replay_rows (drop 1 words)) file
+  pub journal : List ℕ
+  pub is_journal : NamesJournal (replay_rows (drop 1 words)) journal
+  pub replayed : HasReplayed holding file journal old new
+
 -- Output grew by a journal in words, in this window: by a line for each entry that it has, and how the run stands behind them. The
--- journal is lawful for the design that some source describes, and what was left to read, where that is known, is its text.
-pub record HasExplained (window : Window) (old new : Option (List ℕ)) : Type 0 where
+-- journal is lawful for the design that the source in a file describes, and what is in the journal's file, where that is known, is its text.
+pub record HasExplained (holding : Option (List ℕ → List ℕ)) (file journal : List ℕ) (window : Window) (old new : Option (List ℕ)) : Type 0 where
   pub source : List ℕ
+  pub held : IsHeld holding file source
   pub left : Option (List ℕ)
+  pub opened : IsOpened holding journal left
   pub lawful : IsLawfulText source left
   pub explains : ExplainsText source window left old new
 
 -- So it is of a journal up to its first entry that isn't taken, and output grew by why it isn't.
-pub record HasExplainedFault (window : Window) (old new : Option (List ℕ)) (fault : ReplayFault) : Type 0 where
+pub record HasExplainedFault (holding : Option (List ℕ → List ℕ)) (file journal : List ℕ) (window : Window) (old new : Option (List ℕ)) (fault : ReplayFault) : Type 0 where
   pub source : List ℕ
+  pub held : IsHeld holding file source
   pub left : Option (List ℕ)
+  pub opened : IsOpened holding journal left
   pub explains : ExplainsTextFault source window left old new fault
 
 -- no journal was read, and output is as it was; or one was told up to its fault, and this is that fault
-abbrev pub HasExplainedSome : Window → Option (List ℕ) → Option (List ℕ) → Fault → Type 0
-HasExplainedSome window old new f =
-    Keeps old new ⊎ ((fault : ReplayFault) × (f ≡ explain_fault (explaining.Replay fault)) × HasExplainedFault window old new fault)
+abbrev pub HasExplainedSome : Option (List ℕ → List ℕ) → List ℕ → List ℕ → Window → Option (List ℕ) → Option (List ℕ) → Fault → Type 0
+HasExplainedSome holding file journal window old new f =
+    Keeps old new ⊎ ((fault : ReplayFault) × (f ≡ explain_fault (explaining.Replay fault)) × HasExplainedFault holding file journal window old new fault)
 
 -- the window that these words ask for
 abbrev pub window_in : List Text → Window
 window_in words =
     window_of (unwrap_or (number_given (codes "from") (explain_rows (drop 1 words))) 1) (number_given (codes "to") (explain_rows (drop 1 words)))
 
--- The words ask to be told a journal, and it was told in the window of these words.
-pub record HasTold (words : List Text) (old new : Option (List ℕ)) (files files' : Option (List Made)) : Type 0 where
+-- The words name a FILE and a JOURNAL, and no journal was read, or theirs was told on theirs, in the window of these words, up to its fault, and this is that fault.
+pub record HasExplainedPart (holding : Option (List ℕ → List ℕ)) (words : List Text) (old new : Option (List ℕ)) (fault : Fault) : Type 0 where
+  pub file : List ℕ
+  pub is_file : NamesFile (explain_rows (drop 1 words)) file
+  pub journal : List ℕ
+  pub is_journal : NamesJournal (explain_rows (drop 1 words)) journal
+  pub some : HasExplainedSome holding file journal (window_in words) old new fault
+
+-- The words ask to be told their JOURNAL on their FILE, and it was told in the window of these words.
+pub record HasTold (holding : Option (List ℕ → List ℕ)) (words : List Text) (old new : Option (List ℕ)) (files files' : Option (List Made)) : Type 0 where
   pub begins : Begins words (codes "explain")
-  pub explained : HasExplained (window_in words) old new
+  pub file : List ℕ
+  pub is_file : NamesFile (explain_rows (drop 1 words)) file
+  pub journal : List ℕ
+  pub is_journal : NamesJournal (explain_rows (drop 1 words)) journal
+  pub explained : HasExplained holding file journal (window_in words) old new
   pub unsaved : KeepsFiles files files'
 
 -- This is the value change dump of a journal on the design of a source: the text of the journal's wave, in a scope with the name of
@@ -240,11 +285,13 @@ pub record IsDumpOf (source : List ℕ) (design : Compiled) (journal : List Entr
   pub is_wave : IsWaveOf (design_of design) journal wave
   pub text_is : text ≡ vcd_text parsed.name design.names design.widths wave.changes.items wave.end
 
--- The dump of a journal, which is lawful for the design that some source describes and whose text was left to read, where that is
--- known, was put at a path, and no other file was made.
-pub record HasDumped (path : List ℕ) (files files' : Option (List Made)) : Type 0 where
+-- The dump of a journal, which is lawful for the design that the source in a file describes and whose text is in the journal's file, where
+-- that is known, was put at a path, and no other file was made.
+pub record HasDumped (holding : Option (List ℕ → List ℕ)) (file journal_file : List ℕ) (path : List ℕ) (files files' : Option (List Made)) : Type 0 where
   pub source : List ℕ
+  pub held : IsHeld holding file source
   pub left : Option (List ℕ)
+  pub opened : IsOpened holding journal_file left
   pub design : Compiled
   pub journal : List Entry
   pub are_read : AreRead source left design journal
@@ -252,42 +299,48 @@ pub record HasDumped (path : List ℕ) (files files' : Option (List Made)) : Typ
   pub is_dump : IsDumpOf source design journal text
   pub saved : AddsFile files files' (record { path = path; bytes = text })
 
--- The words ask for a value change dump, which was put at the OUT of these words, and nothing was left on output.
-pub record HasWaves (words : List Text) (old new : Option (List ℕ)) (files files' : Option (List Made)) : Type 0 where
+-- The words ask for a value change dump of their JOURNAL on their FILE, which was put at the OUT of these words, and nothing was left on output.
+pub record HasWaves (holding : Option (List ℕ → List ℕ)) (words : List Text) (old new : Option (List ℕ)) (files files' : Option (List Made)) : Type 0 where
   pub begins : Begins words (codes "waves")
   pub path : List ℕ
   pub out : first_of (codes "out") (waves_rows (drop 1 words)) ≡ Some path
-  pub dumped : HasDumped path files files'
+  pub file : List ℕ
+  pub is_file : NamesFile (waves_rows (drop 1 words)) file
+  pub journal : List ℕ
+  pub is_journal : NamesJournal (waves_rows (drop 1 words)) journal
+  pub dumped : HasDumped holding file journal path files files'
   pub unprinted : Keeps old new
 
--- a source that was checked describes a design
-pub record IsRight : Type 0 where
+-- the source in a file, which was checked, describes a design
+pub record IsRight (holding : Option (List ℕ → List ℕ)) (file : List ℕ) : Type 0 where
   pub source : List ℕ
+  pub held : IsHeld holding file source
   pub design : Compiled
   pub is_design : IsDesignOf source design
 
--- a source that was checked has a fault, which isn't want of memory
-pub record IsWrong : Type 0 where
+-- the source in a file, which was checked, has a fault, which isn't want of memory
+pub record IsWrong (holding : Option (List ℕ → List ℕ)) (file : List ℕ) : Type 0 where
   pub source : List ℕ
+  pub held : IsHeld holding file source
   pub fault : SourceFault
   pub is_fault : IsSourceFault source fault
   pub of_source : source_status_of fault ≡ 3
 
--- a source was checked, and this is told of what is wrong with it
-abbrev pub HasChecked : {T : Type 0} → Option T → Type 0
-HasChecked None = IsRight
-HasChecked (Some text) = IsWrong
+-- the source in a file was checked, and this is told of what is wrong with it
+abbrev pub HasChecked : {T : Type 0} → Option (List ℕ → List ℕ) → List ℕ → Option T → Type 0
+HasChecked holding file None = IsRight holding file
+HasChecked holding file (Some text) = IsWrong holding file
 
 -- the words ask for a check of this FILE
 pub record AsksCheckOf (words : List Text) (path : List ℕ) : Type 0 where
   pub begins : Begins words (codes "check")
   pub file : first_of (codes "FILE") (check_rows (drop 1 words)) ≡ Some path
 
--- The words ask for a check of a source, which is right, and output grew by a line that says so of the FILE of these words.
-pub record HasConfirmed (words : List Text) (old new : Option (List ℕ)) (files files' : Option (List Made)) : Type 0 where
+-- The words ask for a check of their FILE, which is right, and output grew by a line that says so of it.
+pub record HasConfirmed (holding : Option (List ℕ → List ℕ)) (words : List Text) (old new : Option (List ℕ)) (files files' : Option (List Made)) : Type 0 where
   pub begins : Begins words (codes "check")
-  pub is_right : IsRight
   pub path : List ℕ
+  pub is_right : IsRight holding path
   pub file : first_of (codes "FILE") (check_rows (drop 1 words)) ≡ Some path
   pub shown : Appends old new (right_text path)
   pub unsaved : KeepsFiles files files'
@@ -297,36 +350,38 @@ pub record HasConfirmed (words : List Text) (old new : Option (List ℕ)) (files
 -- for races, which found one text and no other possible one; or for a check of a source, which is right; or for a value change
 -- dump, which stands in its place; or to be told a journal,
 -- which is lawful.
-pub data IsDone (words : List Text) (old new : Option (List ℕ)) (files files' : Option (List Made)) : Type 0 where
-  helped : AsksHelp words → (text : List ℕ) → Appends old new text → KeepsFiles files files' → IsDone words old new files files'
-  versioned : Begins words (codes "--version") → Appends old new version_text → KeepsFiles files files' → IsDone words old new files files'
-  ran : HasRun words old new files files' None → IsDone words old new files files'
-  replayed : Begins words (codes "replay") → HasReplayed old new → KeepsFiles files files' → IsDone words old new files files'
-  searched : HasSearched words old new files files' finding.One → IsDone words old new files files'
-  checked : HasConfirmed words old new files files' → IsDone words old new files files'
-  dumped : HasWaves words old new files files' → IsDone words old new files files'
-  explained : HasTold words old new files files' → IsDone words old new files files'
+pub data IsDone (holding : Option (List ℕ → List ℕ)) (words : List Text) (old new : Option (List ℕ)) (files files' : Option (List Made)) : Type 0 where
+  helped : AsksHelp words → (text : List ℕ) → Appends old new text → KeepsFiles files files' → IsDone holding words old new files files'
+  versioned : Begins words (codes "--version") → Appends old new version_text → KeepsFiles files files' → IsDone holding words old new files files'
+  ran : HasRun holding words old new files files' None → IsDone holding words old new files files'
+  replayed : HasPlayed holding words old new → KeepsFiles files files' → IsDone holding words old new files files'
+  searched : HasSearched holding words old new files files' finding.One → IsDone holding words old new files files'
+  checked : HasConfirmed holding words old new files files' → IsDone holding words old new files files'
+  dumped : HasWaves holding words old new files files' → IsDone holding words old new files files'
+  explained : HasTold holding words old new files files' → IsDone holding words old new files files'
 
--- The words ask for a check of a source, which is wrong, and nothing was left on output.
-pub record HasRefused (words : List Text) (old new : Option (List ℕ)) (files files' : Option (List Made)) : Type 0 where
+-- The words ask for a check of their FILE, which is wrong, and nothing was left on output.
+pub record HasRefused (holding : Option (List ℕ → List ℕ)) (words : List Text) (old new : Option (List ℕ)) (files files' : Option (List Made)) : Type 0 where
   pub begins : Begins words (codes "check")
-  pub is_wrong : IsWrong
+  pub file : List ℕ
+  pub is_file : NamesFile (check_rows (drop 1 words)) file
+  pub is_wrong : IsWrong holding file
   pub unprinted : Keeps old new
   pub unsaved : KeepsFiles files files'
 
 -- What a command that ended so has done.
-abbrev pub HasEnded : List Text → Option (List ℕ) → Option (List ℕ) → Option (List Made) → Option (List Made) → Ending → Type 0
-HasEnded words old new files files' ending.Done = IsDone words old new files files'
-HasEnded words old new files files' (ending.Stopped stop) = HasRun words old new files files' (Some stop)
-HasEnded words old new files files' (ending.Found found) = HasSearched words old new files files' found
-HasEnded words old new files files' (ending.Wrong text) = HasRefused words old new files files'
+abbrev pub HasEnded : Option (List ℕ → List ℕ) → List Text → Option (List ℕ) → Option (List ℕ) → Option (List Made) → Option (List Made) → Ending → Type 0
+HasEnded holding words old new files files' ending.Done = IsDone holding words old new files files'
+HasEnded holding words old new files files' (ending.Stopped stop) = HasRun holding words old new files files' (Some stop)
+HasEnded holding words old new files files' (ending.Found found) = HasSearched holding words old new files files' found
+HasEnded holding words old new files files' (ending.Wrong text) = HasRefused holding words old new files files'
 
 -- What is left where memory was refused, or a worker couldn't be started, before anything was done: output and files as they were; or of a search, what it left before
 -- its end; or where the words ask to be told a journal, the files as they were.
-pub data IsLeft (words : List Text) (old new : Option (List ℕ)) (files files' : Option (List Made)) : Type 0 where
-  untouched : Keeps old new → KeepsFiles files files' → IsLeft words old new files files'
-  begun : HasBegunSearch words old new files files' → IsLeft words old new files files'
-  interrupted : Begins words (codes "explain") → KeepsFiles files files' → IsLeft words old new files files'
+pub data IsLeft (holding : Option (List ℕ → List ℕ)) (words : List Text) (old new : Option (List ℕ)) (files files' : Option (List Made)) : Type 0 where
+  untouched : Keeps old new → KeepsFiles files files' → IsLeft holding words old new files files'
+  begun : HasBegunSearch holding words old new files files' → IsLeft holding words old new files files'
+  interrupted : Begins words (codes "explain") → KeepsFiles files files' → IsLeft holding words old new files files'
 
 -- At status 2 and 3 nothing is printed, and at 5 neither, unless a journal is told, up to its fault.
 abbrev pub IsUnprinted : List Text → ℕ → Type 0

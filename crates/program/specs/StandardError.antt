@@ -12,8 +12,7 @@ use Rattle.program.specs.declared.fault.Stop.{Stop}
 use Rattle.program.specs.ProgramLines.{fault_line, stop_line}
 use Rattle.program.specs.declared.finding.Finding.{Finding}
 use Rattle.program.specs.declared.finding.Finding.TheVariants as finding
-use Rattle.explain.specs.declared.telling.Window.{Window}
-use Rattle.program.specs.Printed.{HasExplainedSome, HasRun, HasSearched, IsLeft}
+use Rattle.program.specs.Printed.{HasExplainedPart, HasRun, HasSearched, IsLeft}
 use Rattle.program.specs.Program.{status_of, stop_status}
 use Rattle.files.specs.Saved.{Made}
 
@@ -46,29 +45,29 @@ pub data IsTold {E : Type 0} (contents : E → Option (List ℕ)) (old new : Cou
   nothing : (status ≡ 0) ⊎ ((status ≡ 4) ⊎ (status ≡ 7)) → new ≡ old → IsTold contents old new words status
 
 -- a run was stopped, its stop has this status, and the line of its stop was told
-pub record HasStopped {E : Type 0} (words : List Text) (old new : Option (List ℕ)) (files files' : Option (List Made)) (contents : E → Option (List ℕ)) (err err' : Counted E) (status : ℕ) : Type 0 where
+pub record HasStopped {E : Type 0} (holding : Option (List ℕ → List ℕ)) (words : List Text) (old new : Option (List ℕ)) (files files' : Option (List Made)) (contents : E → Option (List ℕ)) (err err' : Counted E) (status : ℕ) : Type 0 where
   pub stop : Stop
   pub status_is : stop_status stop ≡ status
-  pub has_run : HasRun words old new files files' (Some stop)
+  pub has_run : HasRun holding words old new files files' (Some stop)
   pub told : Tells contents err err' (stop_line stop)
 
 -- so it is, or a search met a limit and found no second text, and nothing was told
-abbrev pub IsUnfinished : {E : Type 0} → List Text → Option (List ℕ) → Option (List ℕ) → Option (List Made) → Option (List Made) → (E → Option (List ℕ)) → Counted E → Counted E → Type 0
-IsUnfinished words old new files files' contents err err' =
-    HasStopped words old new files files' contents err err' 4 ⊎ (HasSearched words old new files files' finding.Unfinished × (err' ≡ err))
+abbrev pub IsUnfinished : {E : Type 0} → Option (List ℕ → List ℕ) → List Text → Option (List ℕ) → Option (List ℕ) → Option (List Made) → Option (List Made) → (E → Option (List ℕ)) → Counted E → Counted E → Type 0
+IsUnfinished holding words old new files files' contents err err' =
+    HasStopped holding words old new files files' contents err err' 4 ⊎ (HasSearched holding words old new files files' finding.Unfinished × (err' ≡ err))
 
 -- memory was refused to a search that found no second text, and the line of that was told
-pub record HasSearchedInVain {E : Type 0} (words : List Text) (old new : Option (List ℕ)) (files files' : Option (List Made)) (contents : E → Option (List ℕ)) (err err' : Counted E) : Type 0 where
-  pub has_searched : HasSearched words old new files files' finding.Memory
+pub record HasSearchedInVain {E : Type 0} (holding : Option (List ℕ → List ℕ)) (words : List Text) (old new : Option (List ℕ)) (files files' : Option (List Made)) (contents : E → Option (List ℕ)) (err err' : Counted E) : Type 0 where
+  pub has_searched : HasSearched holding words old new files files' finding.Memory
   pub told : Tells contents err err' (fault_line fault.Memory)
 
 -- a run was stopped for want of memory, or so was a search, and the line of that was told; or a command didn't come so far
-abbrev pub IsWanting : {E : Type 0} → List Text → Option (List ℕ) → Option (List ℕ) → Option (List Made) → Option (List Made) → (E → Option (List ℕ)) → Counted E → Counted E → Type 0
-IsWanting words old new files files' contents err err' =
-    (HasStopped words old new files files' contents err err' 6 ⊎ HasSearchedInVain words old new files files' contents err err') ⊎ IsLeft words old new files files'
+abbrev pub IsWanting : {E : Type 0} → Option (List ℕ → List ℕ) → List Text → Option (List ℕ) → Option (List ℕ) → Option (List Made) → Option (List Made) → (E → Option (List ℕ)) → Counted E → Counted E → Type 0
+IsWanting holding words old new files files' contents err err' =
+    (HasStopped holding words old new files files' contents err err' 6 ⊎ HasSearchedInVain holding words old new files files' contents err err') ⊎ IsLeft holding words old new files files'
 
 -- no journal was read, or one was told up to its fault, and the line of this very fault was told
-pub record HasExplainedTold {E : Type 0} (window : Window) (old new : Option (List ℕ)) (contents : E → Option (List ℕ)) (err err' : Counted E) : Type 0 where
+pub record HasExplainedTold {E : Type 0} (holding : Option (List ℕ → List ℕ)) (words : List Text) (old new : Option (List ℕ)) (contents : E → Option (List ℕ)) (err err' : Counted E) : Type 0 where
   pub fault : Fault
-  pub explained : HasExplainedSome window old new fault
+  pub explained : HasExplainedPart holding words old new fault
   pub told : Tells contents err err' (fault_line fault)

@@ -1,9 +1,9 @@
 //! `check FILE`: the file is read, and what is wrong with it is found.
 
-ghost use Rattle.std.specs.Prelude.{◌≡◌, ◌⊎◌, IfErr, IfOk};
+ghost use Rattle.std.specs.Prelude.{◌≡◌, ◌⊎◌, IfErr, IfOk, List, Option, ℕ};
 ghost use Rattle.program.specs.Program.{status_of};
 ghost use Rattle.program.specs.Printed.{HasChecked};
-ghost use Rattle.files.specs.Saved.{KeepsFiles};
+ghost use Rattle.files.specs.Saved.{IsHeld, KeepsFiles};
 
 use crate::fault::{Fault, source_status};
 use diagnosis::diagnose::diagnose;
@@ -17,7 +17,7 @@ pub fn check<'a, F: Files>(
     file: &'a str,
     files: &mut F,
 ) -> Result<Option<String>, Fault<'a>>
-    ensures checked { IfOk result HasChecked }
+    ensures checked { IfOk result (HasChecked (F.held files.old) file.now) }
     ensures kept { KeepsFiles (F.made files.old) (F.made files.new) }
     ensures fault { IfErr result (λ fault. (status_of fault ≡ 1) ⊎ (status_of fault ≡ 6)) }
 {
@@ -27,7 +27,7 @@ pub fn check<'a, F: Files>(
 
 /// What is wrong with a source.
 fn check_source(alloc: Global, file: &str, source: &[u8]) -> Result<Option<String>, Fault<'static>>
-    ensures checked { IfOk result HasChecked }
+    ensures checked { (holding : Option (List ℕ → List ℕ)) (path : List ℕ) → IsHeld holding path source.now → IfOk result (HasChecked holding path) }
     ensures fault { IfErr result (λ fault. status_of fault ≡ 6) }
 {
     let diagnosis = diagnose(alloc, source);

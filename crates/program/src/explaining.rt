@@ -1,8 +1,9 @@
 //! `explain FILE JOURNAL`: FILE is read and JOURNAL opened. Then the journal is told in words, entry by entry, as it is taken.
 
-ghost use Rattle.std.specs.Prelude.{◌≡◌, IfErr, OnOk};
+ghost use Rattle.std.specs.Prelude.{◌≡◌, IfErr, List, OnOk, Option, ℕ};
 ghost use Rattle.std.specs.Io.KnownBytes.{Keeps};
-ghost use Rattle.files.specs.Saved.{KeepsFiles};
+ghost use Rattle.journal.specs.Counted.{held};
+ghost use Rattle.files.specs.Saved.{IsHeld, IsOpened, KeepsFiles};
 ghost use Rattle.explain.specs.ExplainedText.{window_of};
 ghost use Rattle.program.specs.Printed.{HasExplained, HasExplainedSome};
 ghost use Rattle.program.specs.Program.{explain_fault, status_of};
@@ -24,8 +25,8 @@ pub fn explain_journal<'a, F: Files, O: Write>(
     files: &mut F,
     out: &mut O,
 ) -> Result<(), Fault<'a>>
-    ensures explained { OnOk result (HasExplained (window_of request.now.from request.now.to) (O.contents out.old) (O.contents out.new)) }
-    ensures refused { IfErr result (λ fault. status_of fault ≡ 5 → HasExplainedSome (window_of request.now.from request.now.to) (O.contents out.old) (O.contents out.new) fault) }
+    ensures explained { OnOk result (HasExplained (F.held files.old) request.now.file.now request.now.journal.now (window_of request.now.from request.now.to) (O.contents out.old) (O.contents out.new)) }
+    ensures refused { IfErr result (λ fault. status_of fault ≡ 5 → HasExplainedSome (F.held files.old) request.now.file.now request.now.journal.now (window_of request.now.from request.now.to) (O.contents out.old) (O.contents out.new) fault) }
     ensures nothing { IfErr result (λ fault. status_of fault ≡ 3 → Keeps (O.contents out.old) (O.contents out.new)) }
     ensures unsaved { KeepsFiles (F.made files.old) (F.made files.new) }
 {
@@ -50,8 +51,8 @@ fn explain_bytes<R: Read, O: Write, P: Progress>(
     out: &mut O,
     progress: &P,
 ) -> Result<(), Fault<'static>>
-    ensures explained { OnOk result (HasExplained window (O.contents out.old) (O.contents out.new)) }
-    ensures refused { IfErr result (λ fault. status_of fault ≡ 5 → HasExplainedSome window (O.contents out.old) (O.contents out.new) fault) }
+    ensures explained { (holding : Option (List ℕ → List ℕ)) (file journal_file : List ℕ) → IsHeld holding file source.now → IsOpened holding journal_file (R.remaining (held journal.old)) → OnOk result (HasExplained holding file journal_file window (O.contents out.old) (O.contents out.new)) }
+    ensures refused { (holding : Option (List ℕ → List ℕ)) (file journal_file : List ℕ) → IsHeld holding file source.now → IsOpened holding journal_file (R.remaining (held journal.old)) → IfErr result (λ fault. status_of fault ≡ 5 → HasExplainedSome holding file journal_file window (O.contents out.old) (O.contents out.new) fault) }
     ensures nothing { IfErr result (λ fault. status_of fault ≡ 3 → Keeps (O.contents out.old) (O.contents out.new)) }
 {
     let told = explain(alloc, source, journal, window, out, progress);

@@ -11,7 +11,7 @@ ghost use Rattle.std.specs.Io.KnownBytes.{Appends, Keeps};
 ghost use Rattle.journal.specs.Counted.{held};
 ghost use Rattle.arguments.specs.CommandWords.{AreWrong, Asks, AsksExplain, AsksRaces, AsksRun, Begins, IsNoRequest, texts_of};
 ghost use Rattle.program.specs.declared.finding.Finding.TheVariants as finding;
-ghost use Rattle.program.specs.Printed.{AsksCheckOf, HasEnded, HasExplainedSome, HasRefused, HasSearched, IsDone, IsLeft, IsUnprinted, window_in};
+ghost use Rattle.program.specs.Printed.{AsksCheckOf, HasEnded, HasExplainedPart, HasRefused, HasSearched, IsDone, IsLeft, IsUnprinted};
 ghost use Rattle.program.specs.Program.{IsNoRequestStatus, ended_status, help_text, right_text, status_of, version_text};
 ghost use Rattle.files.specs.Saved.{KeepsFiles};
 ghost use Rattle.program.specs.StandardError.{HasExplainedTold, IsTold, IsUnfinished, IsWanting};
@@ -50,13 +50,13 @@ pub fn command<R: Threads + Wait + Sync, F: Files, O: Write, E: Write>(
     err: &mut Counted<E>,
 ) -> u8
     ensures range { result ≤ 7 }
-    ensures done { result ≡ 0 → IsDone (texts_of words.now) (O.contents (held out.old)) (O.contents (held out.new)) (F.made files.old) (F.made files.new) }
+    ensures done { result ≡ 0 → IsDone (F.held files.old) (texts_of words.now) (O.contents (held out.old)) (O.contents (held out.new)) (F.made files.old) (F.made files.new) }
     ensures wrong { result ≡ 2 → AreWrong (texts_of words.now) }
-    ensures refused { result ≡ 3 → Begins (texts_of words.now) (codes "check") → HasRefused (texts_of words.now) (O.contents (held out.old)) (O.contents (held out.new)) (F.made files.old) (F.made files.new) }
-    ensures faulty { result ≡ 5 → Begins (texts_of words.now) (codes "explain") → HasExplainedTold (window_in (texts_of words.now)) (O.contents (held out.old)) (O.contents (held out.new)) E.contents err.old err.new }
-    ensures stopped { result ≡ 4 → IsUnfinished (texts_of words.now) (O.contents (held out.old)) (O.contents (held out.new)) (F.made files.old) (F.made files.new) E.contents err.old err.new }
-    ensures wanting { result ≡ 6 → IsWanting (texts_of words.now) (O.contents (held out.old)) (O.contents (held out.new)) (F.made files.old) (F.made files.new) E.contents err.old err.new }
-    ensures several { result ≡ 7 → HasSearched (texts_of words.now) (O.contents (held out.old)) (O.contents (held out.new)) (F.made files.old) (F.made files.new) finding.Several }
+    ensures refused { result ≡ 3 → Begins (texts_of words.now) (codes "check") → HasRefused (F.held files.old) (texts_of words.now) (O.contents (held out.old)) (O.contents (held out.new)) (F.made files.old) (F.made files.new) }
+    ensures faulty { result ≡ 5 → Begins (texts_of words.now) (codes "explain") → HasExplainedTold (F.held files.old) (texts_of words.now) (O.contents (held out.old)) (O.contents (held out.new)) E.contents err.old err.new }
+    ensures stopped { result ≡ 4 → IsUnfinished (F.held files.old) (texts_of words.now) (O.contents (held out.old)) (O.contents (held out.new)) (F.made files.old) (F.made files.new) E.contents err.old err.new }
+    ensures wanting { result ≡ 6 → IsWanting (F.held files.old) (texts_of words.now) (O.contents (held out.old)) (O.contents (held out.new)) (F.made files.old) (F.made files.new) E.contents err.old err.new }
+    ensures several { result ≡ 7 → HasSearched (F.held files.old) (texts_of words.now) (O.contents (held out.old)) (O.contents (held out.new)) (F.made files.old) (F.made files.new) finding.Several }
     ensures nothing { IsUnprinted (texts_of words.now) result → Keeps (O.contents (held out.old)) (O.contents (held out.new)) }
     ensures unsaved { (result ≡ 2) ⊎ ((result ≡ 3) ⊎ (result ≡ 5)) → KeepsFiles (F.made files.old) (F.made files.new) }
     ensures silent { (result ≡ 0) ⊎ (result ≡ 7) → err.new ≡ err.old }
@@ -79,12 +79,12 @@ fn perform<'a, R: Threads + Wait + Sync, F: Files, O: Write>(
     files: &mut F,
     out: &mut Counted<O>,
 ) -> Result<Ending, Fault<'a>>
-    ensures ended { (words : List Text) → Asks words request.now → IfOk result (HasEnded words (O.contents (held out.old)) (O.contents (held out.new)) (F.made files.old) (F.made files.new)) }
+    ensures ended { (words : List Text) → Asks words request.now → IfOk result (HasEnded (F.held files.old) words (O.contents (held out.old)) (O.contents (held out.new)) (F.made files.old) (F.made files.new)) }
     ensures checked { (words : List Text) → Asks words request.now → Begins words (codes "check") → IfErr result (λ fault. (status_of fault ≡ 1) ⊎ (status_of fault ≡ 6)) }
-    ensures refused { (words : List Text) → Asks words request.now → Begins words (codes "explain") → IfErr result (λ fault. status_of fault ≡ 5 → HasExplainedSome (window_in words) (O.contents (held out.old)) (O.contents (held out.new)) fault) }
+    ensures refused { (words : List Text) → Asks words request.now → Begins words (codes "explain") → IfErr result (λ fault. status_of fault ≡ 5 → HasExplainedPart (F.held files.old) words (O.contents (held out.old)) (O.contents (held out.new)) fault) }
     ensures nothing { (words : List Text) → Asks words request.now → IfErr result (λ fault. IsUnprinted words (status_of fault) → Keeps (O.contents (held out.old)) (O.contents (held out.new))) }
     ensures unsaved { IfErr result (λ fault. (status_of fault ≡ 3) ⊎ (status_of fault ≡ 5) → KeepsFiles (F.made files.old) (F.made files.new)) }
-    ensures wanting { (words : List Text) → Asks words request.now → IfErr result (λ fault. status_of fault ≡ 6 → IsLeft words (O.contents (held out.old)) (O.contents (held out.new)) (F.made files.old) (F.made files.new)) }
+    ensures wanting { (words : List Text) → Asks words request.now → IfErr result (λ fault. status_of fault ≡ 6 → IsLeft (F.held files.old) words (O.contents (held out.old)) (O.contents (held out.new)) (F.made files.old) (F.made files.new)) }
 {
     match request {
         Request::Run(request) => perform_run(rt, alloc, request, files, out),
@@ -106,7 +106,7 @@ fn perform_run<'a, R: Threads + Wait + Sync, F: Files, O: Write>(
 ) -> Result<Ending, Fault<'a>>
     ensures nothing { IfErr result (λ fault. status_of fault ≢ 1 → Keeps (O.contents out.old) (O.contents out.new)) }
     ensures unsaved { IfErr result (λ fault. status_of fault ≢ 1 → KeepsFiles (F.made files.old) (F.made files.new)) }
-    ensures ended { (words : List Text) → AsksRun words request.now → IfOk result (HasEnded words (O.contents out.old) (O.contents out.new) (F.made files.old) (F.made files.new)) }
+    ensures ended { (words : List Text) → AsksRun words request.now → IfOk result (HasEnded (F.held files.old) words (O.contents out.old) (O.contents out.new) (F.made files.old) (F.made files.new)) }
 {
     match run(rt, alloc, request, files, out) {
         Ok(told) => Ok(Ending::of_run(told)),
@@ -120,10 +120,10 @@ fn perform_races<'a, F: Files, O: Write>(
     files: &mut F,
     out: &mut O,
 ) -> Result<Ending, Fault<'a>>
-    ensures ended { (words : List Text) → AsksRaces words request.now → IfOk result (HasEnded words (O.contents out.old) (O.contents out.new) (F.made files.old) (F.made files.new)) }
+    ensures ended { (words : List Text) → AsksRaces words request.now → IfOk result (HasEnded (F.held files.old) words (O.contents out.old) (O.contents out.new) (F.made files.old) (F.made files.new)) }
     ensures nothing { IfErr result (λ fault. (status_of fault ≡ 3) ⊎ (status_of fault ≡ 5) → Keeps (O.contents out.old) (O.contents out.new)) }
     ensures unsaved { IfErr result (λ fault. (status_of fault ≡ 3) ⊎ (status_of fault ≡ 5) → KeepsFiles (F.made files.old) (F.made files.new)) }
-    ensures wanting { (words : List Text) → AsksRaces words request.now → IfErr result (λ fault. status_of fault ≡ 6 → IsLeft words (O.contents out.old) (O.contents out.new) (F.made files.old) (F.made files.new)) }
+    ensures wanting { (words : List Text) → AsksRaces words request.now → IfErr result (λ fault. status_of fault ≡ 6 → IsLeft (F.held files.old) words (O.contents out.old) (O.contents out.new) (F.made files.old) (F.made files.new)) }
 {
     match search_races(alloc, request, files, out) {
         Ok(found) => Ok(Ending::Found(found)),
@@ -140,7 +140,7 @@ fn perform_check<'a, F: Files, O: Write>(
     ensures fault { IfErr result (λ fault. (status_of fault ≡ 1) ⊎ (status_of fault ≡ 6)) }
     ensures nothing { IfErr result (λ fault. status_of fault ≢ 1 → Keeps (O.contents (held out.old)) (O.contents (held out.new))) }
     ensures unsaved { KeepsFiles (F.made files.old) (F.made files.new) }
-    ensures ended { (words : List Text) → AsksCheckOf words file.now → IfOk result (HasEnded words (O.contents (held out.old)) (O.contents (held out.new)) (F.made files.old) (F.made files.new)) }
+    ensures ended { (words : List Text) → AsksCheckOf words file.now → IfOk result (HasEnded (F.held files.old) words (O.contents (held out.old)) (O.contents (held out.new)) (F.made files.old) (F.made files.new)) }
 {
     match check(alloc, file, files) {
         Ok(None) => show_right(file, out),
@@ -170,8 +170,8 @@ fn perform_explain<'a, F: Files, O: Write>(
 ) -> Result<Ending, Fault<'a>>
     ensures nothing { IfErr result (λ fault. status_of fault ≡ 3 → Keeps (O.contents (held out.old)) (O.contents (held out.new))) }
     ensures unsaved { KeepsFiles (F.made files.old) (F.made files.new) }
-    ensures refused { (words : List Text) → AsksExplain words request.now → IfErr result (λ fault. status_of fault ≡ 5 → HasExplainedSome (window_in words) (O.contents (held out.old)) (O.contents (held out.new)) fault) }
-    ensures ended { (words : List Text) → AsksExplain words request.now → IfOk result (HasEnded words (O.contents (held out.old)) (O.contents (held out.new)) (F.made files.old) (F.made files.new)) }
+    ensures refused { (words : List Text) → AsksExplain words request.now → IfErr result (λ fault. status_of fault ≡ 5 → HasExplainedPart (F.held files.old) words (O.contents (held out.old)) (O.contents (held out.new)) fault) }
+    ensures ended { (words : List Text) → AsksExplain words request.now → IfOk result (HasEnded (F.held files.old) words (O.contents (held out.old)) (O.contents (held out.new)) (F.made files.old) (F.made files.new)) }
 {
     match explain_journal(alloc, request, files, out) {
         Ok(()) => Ok(Ending::Done),

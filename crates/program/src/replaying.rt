@@ -27,10 +27,10 @@ pub fn replay_journal<'a, F: Files, O: Write>(
     files: &mut F,
     out: &mut Counted<O>,
 ) -> Result<Ending, Fault<'a>>
-    ensures printed { OnOk result (HasReplayed (O.contents (held out.old)) (O.contents (held out.new))) }
+    ensures printed { OnOk result (HasReplayed (F.held files.old) request.now.file.now request.now.journal.now (O.contents (held out.old)) (O.contents (held out.new))) }
     ensures nothing { IfErr result (λ fault. status_of fault ≢ 1 → Keeps (O.contents (held out.old)) (O.contents (held out.new))) }
     ensures unsaved { KeepsFiles (F.made files.old) (F.made files.new) }
-    ensures ended { (words : List Text) → AsksReplay words request.now → IfOk result (HasEnded words (O.contents (held out.old)) (O.contents (held out.new)) (F.made files.old) (F.made files.new)) }
+    ensures ended { (words : List Text) → AsksReplay words request.now → IfOk result (HasEnded (F.held files.old) words (O.contents (held out.old)) (O.contents (held out.new)) (F.made files.old) (F.made files.new)) }
 {
     let source = read_file(alloc, request.file, files)?;
     let mut journal = Counted::new(open_file(request.journal, files)?);

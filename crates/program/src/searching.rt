@@ -1,7 +1,7 @@
 //! `races FILE`: the file is read, and races are looked for and told. Then the lawful orders are searched, which may take long, or random
 //! ones tried. What is said of their texts is told, and then the journals are written.
 
-ghost use Rattle.std.specs.Prelude.{◌≡◌, ◌≤◌, ◌⊎◌, ◌∷◌, ◌++◌, IfErr, IfOk, IfSome, List, None, OnOk, [], ◌+◌, length, option_map, ℕ};
+ghost use Rattle.std.specs.Prelude.{◌≡◌, ◌≤◌, ◌⊎◌, ◌∷◌, ◌++◌, IfErr, IfOk, IfSome, List, None, OnOk, Option, [], ◌+◌, length, option_map, ℕ};
 ghost use Rattle.std.specs.Io.KnownBytes.{Appends, Keeps};
 ghost use Rattle.explore.specs.Grown.{Extends};
 ghost use Rattle.explore.specs.Search.{AreDistinct};
@@ -11,7 +11,7 @@ ghost use Rattle.program.specs.Findings.{AreFound, HaveSomeEnds, IsLawful, IsWit
 ghost use Rattle.arguments.specs.Options.{CanSearch};
 ghost use Rattle.program.specs.Program.{status_of};
 ghost use Rattle.program.specs.Printed.{HasLeft, HasShown, IsToldLast};
-ghost use Rattle.files.specs.Saved.{KeepsFiles, LeadsElsewhere, SavesAllWhereAsked, SavesSomeWhereAsked, journal_path};
+ghost use Rattle.files.specs.Saved.{IsHeld, KeepsFiles, LeadsElsewhere, SavesAllWhereAsked, SavesSomeWhereAsked, journal_path};
 
 use crate::fault::Fault;
 use crate::finding::Finding;
@@ -39,11 +39,11 @@ pub fn search_races<'a, F: Files, O: Write>(
     files: &mut F,
     out: &mut O,
 ) -> Result<Finding, Fault<'a>>
-    ensures shown { IfOk result (HasShown request.now.extent (option_map (λ path. path.now) request.now.journals)
+    ensures shown { IfOk result (HasShown (F.held files.old) request.now.file.now request.now.extent (option_map (λ path. path.now) request.now.journals)
         (O.contents out.old) (O.contents out.new) (F.made files.old) (F.made files.new)) }
     ensures nothing { IfErr result (λ fault. (status_of fault ≡ 3) ⊎ (status_of fault ≡ 5) → Keeps (O.contents out.old) (O.contents out.new)) }
     ensures unsaved { IfErr result (λ fault. (status_of fault ≡ 3) ⊎ (status_of fault ≡ 5) → KeepsFiles (F.made files.old) (F.made files.new)) }
-    ensures wanting { IfErr result (λ fault. status_of fault ≡ 6 → HasLeft request.now.extent (option_map (λ path. path.now) request.now.journals)
+    ensures wanting { IfErr result (λ fault. status_of fault ≡ 6 → HasLeft (F.held files.old) request.now.file.now request.now.extent (option_map (λ path. path.now) request.now.journals)
         (O.contents out.old) (O.contents out.new) (F.made files.old) (F.made files.new)) }
     ensures spared { OnOk result (LeadsElsewhere (F.alike files.old) request.now.file.now (option_map (λ prefix. journal_path prefix.now 1) request.now.journals)) }
 {
@@ -64,10 +64,10 @@ fn search_design<F: Files, O: Write>(
     out: &mut O,
 ) -> Result<Finding, Fault<'static>>
     requires { IsDesignOf source.now design.now }
-    ensures shown { IfOk result (HasShown request.now.extent (option_map (λ path. path.now) request.now.journals)
+    ensures shown { (holding : Option (List ℕ → List ℕ)) (file : List ℕ) → IsHeld holding file source.now → IfOk result (HasShown holding file request.now.extent (option_map (λ path. path.now) request.now.journals)
         (O.contents out.old) (O.contents out.new) (F.made files.old) (F.made files.new)) }
     ensures fault { IfErr result (λ fault. (status_of fault ≡ 1) ⊎ (status_of fault ≡ 6)) }
-    ensures wanting { IfErr result (λ fault. status_of fault ≡ 6 → HasLeft request.now.extent (option_map (λ path. path.now) request.now.journals)
+    ensures wanting { (holding : Option (List ℕ → List ℕ)) (file : List ℕ) → IsHeld holding file source.now → IfErr result (λ fault. status_of fault ≡ 6 → HasLeft holding file request.now.extent (option_map (λ path. path.now) request.now.journals)
         (O.contents out.old) (O.contents out.new) (F.made files.old) (F.made files.new)) }
 {
     try_first(alloc, request.journals, files)?;

@@ -30,11 +30,11 @@ pub fn dump_waves<'a, F: Files>(
     request: &WavesRequest<'a>,
     files: &mut F,
 ) -> Result<Ending, Fault<'a>>
-    ensures dumped { OnOk result (HasDumped request.now.out.now (F.made files.old) (F.made files.new)) }
+    ensures dumped { OnOk result (HasDumped (F.held files.old) request.now.file.now request.now.journal.now request.now.out.now (F.made files.old) (F.made files.new)) }
     ensures unsaved { OnErr result (KeepsFiles (F.made files.old) (F.made files.new)) }
     ensures source_spared { OnOk result (LeadsElsewhere (F.alike files.old) request.now.file.now (Some request.now.out.now)) }
     ensures journal_spared { OnOk result (LeadsElsewhere (F.alike files.old) request.now.journal.now (Some request.now.out.now)) }
-    ensures ended { (words : List Text) (known : Option (List ℕ)) → AsksWaves words request.now → IfOk result (HasEnded words known known (F.made files.old) (F.made files.new)) }
+    ensures ended { (words : List Text) (known : Option (List ℕ)) → AsksWaves words request.now → IfOk result (HasEnded (F.held files.old) words known known (F.made files.old) (F.made files.new)) }
 {
     spare_source(request.file, Some(request.out), files)?;
     spare_source(request.journal, Some(request.out), files)?;

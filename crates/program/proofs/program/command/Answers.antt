@@ -2,7 +2,7 @@
 use Rattle.std.proofs.Common.{◌≡◌, ◌⊎◌, ◌≤◌, ◌∙◌, inr, sym, subst, ℕ}
 use Rattle.journal.specs.Counted.{held}
 use Rattle.arguments.specs.CommandWords.{texts_of}
-use Rattle.program.specs.Printed.{IsUnprinted, untouched, window_in}
+use Rattle.program.specs.Printed.{IsUnprinted, untouched}
 use Rattle.program.specs.StandardError.{IsTold}
 use Rattle.program.proofs.Ended.{IsSourceStatus, done_by_status, right_by_status, faulty_by_status, refused_by_status, stopped_by_status, wanting_by_status, several_by_status, nothing_by_status, unsaved_by_status, silent_by_status, source_status, told_by_status, refused_done, kept}
 use Rattle.program.proofs.Statuses.{at_most_seven}
@@ -15,42 +15,42 @@ returns-in-Ok-clause-range g c = subst (λ (n : ℕ). n ≤ 7) (sym c.finish.ens
 
 pub returns-in-Ok-clause-done : goal.returns-in-Ok-clause-done
 returns-in-Ok-clause-done g c = λ e.
-    done_by_status (texts_of c.args.words.now) (g.O.Write.contents (held c.args.out.now)) (g.O.Write.contents (held c.perform-ended.new.out)) (g.F.Files.made c.args.files.now) (g.F.Files.made c.perform-ended.new.files) c.perform-ended.result (c.perform-ended.ensures.ended (texts_of c.args.words.now) c.in-Ok.ensures.asked) (sym c.finish.ensures.status ∙ e)
+    done_by_status (g.F.Files.held c.args.files.now) (texts_of c.args.words.now) (g.O.Write.contents (held c.args.out.now)) (g.O.Write.contents (held c.perform-ended.new.out)) (g.F.Files.made c.args.files.now) (g.F.Files.made c.perform-ended.new.files) c.perform-ended.result (c.perform-ended.ensures.ended (texts_of c.args.words.now) c.in-Ok.ensures.asked) (sym c.finish.ensures.status ∙ e)
 
 pub returns-in-Ok-clause-wrong : goal.returns-in-Ok-clause-wrong
 returns-in-Ok-clause-wrong g c = λ e. absurd (right_by_status c.perform-ended.result (sym c.finish.ensures.status ∙ e))
 
 pub returns-in-Ok-clause-refused : goal.returns-in-Ok-clause-refused
 returns-in-Ok-clause-refused g c = λ e begins.
-    refused_by_status (texts_of c.args.words.now) (g.O.Write.contents (held c.args.out.now)) (g.O.Write.contents (held c.perform-ended.new.out)) (g.F.Files.made c.args.files.now) (g.F.Files.made c.perform-ended.new.files) c.perform-ended.result (c.perform-ended.ensures.ended (texts_of c.args.words.now) c.in-Ok.ensures.asked)
+    refused_by_status (g.F.Files.held c.args.files.now) (texts_of c.args.words.now) (g.O.Write.contents (held c.args.out.now)) (g.O.Write.contents (held c.perform-ended.new.out)) (g.F.Files.made c.args.files.now) (g.F.Files.made c.perform-ended.new.files) c.perform-ended.result (c.perform-ended.ensures.ended (texts_of c.args.words.now) c.in-Ok.ensures.asked)
     (c.perform-ended.ensures.checked (texts_of c.args.words.now) c.in-Ok.ensures.asked begins) (sym c.finish.ensures.status ∙ e)
 
 pub returns-in-Ok-clause-faulty : goal.returns-in-Ok-clause-faulty
 returns-in-Ok-clause-faulty g c = λ e begins.
-    faulty_by_status (window_in (texts_of c.args.words.now)) (g.O.Write.contents (held c.args.out.now)) (g.O.Write.contents (held c.perform-ended.new.out)) g.E.Write.contents c.args.err.now c.finish.new.err c.perform-ended.result
+    faulty_by_status (g.F.Files.held c.args.files.now) (texts_of c.args.words.now) (g.O.Write.contents (held c.args.out.now)) (g.O.Write.contents (held c.perform-ended.new.out)) g.E.Write.contents c.args.err.now c.finish.new.err c.perform-ended.result
     (c.perform-ended.ensures.refused (texts_of c.args.words.now) c.in-Ok.ensures.asked begins) c.finish.ensures.told (sym c.finish.ensures.status ∙ e)
 
 pub returns-in-Ok-clause-stopped : goal.returns-in-Ok-clause-stopped
 returns-in-Ok-clause-stopped g c = λ e.
-    stopped_by_status (texts_of c.args.words.now) (g.O.Write.contents (held c.args.out.now)) (g.O.Write.contents (held c.perform-ended.new.out)) (g.F.Files.made c.args.files.now) (g.F.Files.made c.perform-ended.new.files) g.E.Write.contents c.args.err.now c.finish.new.err c.perform-ended.result (c.perform-ended.ensures.ended (texts_of c.args.words.now) c.in-Ok.ensures.asked) c.finish.ensures.told (sym c.finish.ensures.status ∙ e)
+    stopped_by_status (g.F.Files.held c.args.files.now) (texts_of c.args.words.now) (g.O.Write.contents (held c.args.out.now)) (g.O.Write.contents (held c.perform-ended.new.out)) (g.F.Files.made c.args.files.now) (g.F.Files.made c.perform-ended.new.files) g.E.Write.contents c.args.err.now c.finish.new.err c.perform-ended.result (c.perform-ended.ensures.ended (texts_of c.args.words.now) c.in-Ok.ensures.asked) c.finish.ensures.told (sym c.finish.ensures.status ∙ e)
 
 pub returns-in-Ok-clause-wanting : goal.returns-in-Ok-clause-wanting
 returns-in-Ok-clause-wanting g c = λ e.
-    wanting_by_status (texts_of c.args.words.now) (g.O.Write.contents (held c.args.out.now)) (g.O.Write.contents (held c.perform-ended.new.out)) (g.F.Files.made c.args.files.now) (g.F.Files.made c.perform-ended.new.files) g.E.Write.contents c.args.err.now c.finish.new.err c.perform-ended.result (c.perform-ended.ensures.ended (texts_of c.args.words.now) c.in-Ok.ensures.asked)
+    wanting_by_status (g.F.Files.held c.args.files.now) (texts_of c.args.words.now) (g.O.Write.contents (held c.args.out.now)) (g.O.Write.contents (held c.perform-ended.new.out)) (g.F.Files.made c.args.files.now) (g.F.Files.made c.perform-ended.new.files) g.E.Write.contents c.args.err.now c.finish.new.err c.perform-ended.result (c.perform-ended.ensures.ended (texts_of c.args.words.now) c.in-Ok.ensures.asked)
     (c.perform-ended.ensures.wanting (texts_of c.args.words.now) c.in-Ok.ensures.asked) c.finish.ensures.told (sym c.finish.ensures.status ∙ e)
 
 pub returns-in-Ok-clause-several : goal.returns-in-Ok-clause-several
 returns-in-Ok-clause-several g c = λ e.
-    several_by_status (texts_of c.args.words.now) (g.O.Write.contents (held c.args.out.now)) (g.O.Write.contents (held c.perform-ended.new.out)) (g.F.Files.made c.args.files.now) (g.F.Files.made c.perform-ended.new.files) c.perform-ended.result (c.perform-ended.ensures.ended (texts_of c.args.words.now) c.in-Ok.ensures.asked) (sym c.finish.ensures.status ∙ e)
+    several_by_status (g.F.Files.held c.args.files.now) (texts_of c.args.words.now) (g.O.Write.contents (held c.args.out.now)) (g.O.Write.contents (held c.perform-ended.new.out)) (g.F.Files.made c.args.files.now) (g.F.Files.made c.perform-ended.new.files) c.perform-ended.result (c.perform-ended.ensures.ended (texts_of c.args.words.now) c.in-Ok.ensures.asked) (sym c.finish.ensures.status ∙ e)
 
 pub returns-in-Ok-clause-nothing : goal.returns-in-Ok-clause-nothing
 returns-in-Ok-clause-nothing g c = λ e.
-    nothing_by_status (texts_of c.args.words.now) (g.O.Write.contents (held c.args.out.now)) (g.O.Write.contents (held c.perform-ended.new.out)) (g.F.Files.made c.args.files.now) (g.F.Files.made c.perform-ended.new.files) c.perform-ended.result (c.perform-ended.ensures.ended (texts_of c.args.words.now) c.in-Ok.ensures.asked)
+    nothing_by_status (g.F.Files.held c.args.files.now) (texts_of c.args.words.now) (g.O.Write.contents (held c.args.out.now)) (g.O.Write.contents (held c.perform-ended.new.out)) (g.F.Files.made c.args.files.now) (g.F.Files.made c.perform-ended.new.files) c.perform-ended.result (c.perform-ended.ensures.ended (texts_of c.args.words.now) c.in-Ok.ensures.asked)
     (c.perform-ended.ensures.nothing (texts_of c.args.words.now) c.in-Ok.ensures.asked) (subst (IsUnprinted (texts_of c.args.words.now)) c.finish.ensures.status e)
 
 pub returns-in-Ok-clause-unsaved : goal.returns-in-Ok-clause-unsaved
 returns-in-Ok-clause-unsaved g c = λ e.
-    unsaved_by_status (texts_of c.args.words.now) (g.O.Write.contents (held c.args.out.now)) (g.O.Write.contents (held c.perform-ended.new.out)) (g.F.Files.made c.args.files.now) (g.F.Files.made c.perform-ended.new.files) c.perform-ended.result (c.perform-ended.ensures.ended (texts_of c.args.words.now) c.in-Ok.ensures.asked) c.perform-ended.ensures.unsaved (subst IsSourceStatus c.finish.ensures.status e)
+    unsaved_by_status (g.F.Files.held c.args.files.now) (texts_of c.args.words.now) (g.O.Write.contents (held c.args.out.now)) (g.O.Write.contents (held c.perform-ended.new.out)) (g.F.Files.made c.args.files.now) (g.F.Files.made c.perform-ended.new.files) c.perform-ended.result (c.perform-ended.ensures.ended (texts_of c.args.words.now) c.in-Ok.ensures.asked) c.perform-ended.ensures.unsaved (subst IsSourceStatus c.finish.ensures.status e)
 
 pub returns-in-Ok-clause-silent : goal.returns-in-Ok-clause-silent
 returns-in-Ok-clause-silent g c = λ e.
@@ -59,14 +59,14 @@ returns-in-Ok-clause-silent g c = λ e.
 pub returns-in-Ok-clause-told : goal.returns-in-Ok-clause-told
 returns-in-Ok-clause-told g c =
     subst (IsTold g.E.Write.contents c.args.err.now c.finish.new.err (texts_of c.args.words.now)) (sym c.finish.ensures.status)
-    (told_by_status g.E.Write.contents c.args.err.now c.finish.new.err (texts_of c.args.words.now) (g.O.Write.contents (held c.args.out.now)) (g.O.Write.contents (held c.perform-ended.new.out))
+    (told_by_status (g.F.Files.held c.args.files.now) g.E.Write.contents c.args.err.now c.finish.new.err (texts_of c.args.words.now) (g.O.Write.contents (held c.args.out.now)) (g.O.Write.contents (held c.perform-ended.new.out))
     (g.F.Files.made c.args.files.now) (g.F.Files.made c.perform-ended.new.files) c.perform-ended.result (c.perform-ended.ensures.ended (texts_of c.args.words.now) c.in-Ok.ensures.asked) c.finish.ensures.told)
 
 -- words that make no request
 
 pub returns-in-Err-clause-done : goal.returns-in-Err-clause-done
 returns-in-Err-clause-done g c =
-    refused_done (texts_of c.args.words.now) c.in-Err.no_request c.refuse.result (g.O.Write.contents (held c.args.out.now)) (g.O.Write.contents (held c.refuse.new.out))
+    refused_done (g.F.Files.held c.args.files.now) (texts_of c.args.words.now) c.in-Err.no_request c.refuse.result (g.O.Write.contents (held c.args.out.now)) (g.O.Write.contents (held c.refuse.new.out))
     (g.F.Files.made c.args.files.now) c.in-Err.ensures.refused c.refuse.ensures.status c.refuse.ensures.helped
 
 pub returns-in-Err-clause-told : goal.returns-in-Err-clause-told

@@ -89,7 +89,7 @@ returns-in-Waves-clause-unsaved g c = at_any_fault (KeepsFiles (g.F.Files.made c
 
 pub returns-in-Version-clause-ended : goal.returns-in-Version-clause-ended
 returns-in-Version-clause-ended g c = λ words asks.
-    version_performed words (g.O.Write.contents (held c.args.out.now)) (g.O.Write.contents (held c.perform_version.new.out)) (g.F.Files.made c.args.files.now)
+    version_performed (g.F.Files.held c.args.files.now) words (g.O.Write.contents (held c.args.out.now)) (g.O.Write.contents (held c.perform_version.new.out)) (g.F.Files.made c.args.files.now)
     c.perform_version.result (subst (Asks words) c.in-Version.is asks) c.perform_version.ensures.shown c.perform_version.ensures.done
 
 pub returns-in-Version-clause-checked : goal.returns-in-Version-clause-checked
@@ -105,11 +105,11 @@ returns-in-Version-clause-unsaved g c = if_err _ c.perform_version.result (λ f 
 
 pub returns-in-Run-clause-wanting : goal.returns-in-Run-clause-wanting
 returns-in-Run-clause-wanting g c = λ words asks.
-    left_unless_one words (g.O.Write.contents (held c.args.out.now)) (g.O.Write.contents (held c.perform_run.new.out)) (g.F.Files.made c.args.files.now) (g.F.Files.made c.perform_run.new.files) c.perform_run.result c.perform_run.ensures.nothing c.perform_run.ensures.unsaved
+    left_unless_one (g.F.Files.held c.args.files.now) words (g.O.Write.contents (held c.args.out.now)) (g.O.Write.contents (held c.perform_run.new.out)) (g.F.Files.made c.args.files.now) (g.F.Files.made c.perform_run.new.files) c.perform_run.result c.perform_run.ensures.nothing c.perform_run.ensures.unsaved
 
 pub returns-in-Replay-clause-wanting : goal.returns-in-Replay-clause-wanting
 returns-in-Replay-clause-wanting g c = λ words asks.
-    left_unless_one words (g.O.Write.contents (held c.args.out.now)) (g.O.Write.contents (held c.replay_journal.new.out)) (g.F.Files.made c.args.files.now) (g.F.Files.made c.replay_journal.new.files) c.replay_journal.result c.replay_journal.ensures.nothing
+    left_unless_one (g.F.Files.held c.args.files.now) words (g.O.Write.contents (held c.args.out.now)) (g.O.Write.contents (held c.replay_journal.new.out)) (g.F.Files.made c.args.files.now) (g.F.Files.made c.replay_journal.new.files) c.replay_journal.result c.replay_journal.ensures.nothing
     (if_err _ c.replay_journal.result (λ f other. c.replay_journal.ensures.unsaved))
 
 pub returns-in-Races-clause-wanting : goal.returns-in-Races-clause-wanting
@@ -117,20 +117,20 @@ returns-in-Races-clause-wanting g c = λ words asks. c.perform_races.ensures.wan
 
 pub returns-in-Check-clause-wanting : goal.returns-in-Check-clause-wanting
 returns-in-Check-clause-wanting g c = λ words asks.
-    left_unless_one words (g.O.Write.contents (held c.args.out.now)) (g.O.Write.contents (held c.perform_check.new.out)) (g.F.Files.made c.args.files.now) (g.F.Files.made c.perform_check.new.files) c.perform_check.result c.perform_check.ensures.nothing
+    left_unless_one (g.F.Files.held c.args.files.now) words (g.O.Write.contents (held c.args.out.now)) (g.O.Write.contents (held c.perform_check.new.out)) (g.F.Files.made c.args.files.now) (g.F.Files.made c.perform_check.new.files) c.perform_check.result c.perform_check.ensures.nothing
     (if_err _ c.perform_check.result (λ f other. c.perform_check.ensures.unsaved))
 
 pub returns-in-Explain-clause-wanting : goal.returns-in-Explain-clause-wanting
 returns-in-Explain-clause-wanting g c = λ words asks.
     let own : AsksExplain words c.in-Explain.request = subst (Asks words) c.in-Explain.is asks in
-    left_of_telling words (g.O.Write.contents (held c.args.out.now)) (g.O.Write.contents (held c.perform_explain.new.out)) (g.F.Files.made c.args.files.now) (g.F.Files.made c.perform_explain.new.files) c.perform_explain.result own.begins c.perform_explain.ensures.unsaved
+    left_of_telling (g.F.Files.held c.args.files.now) words (g.O.Write.contents (held c.args.out.now)) (g.O.Write.contents (held c.perform_explain.new.out)) (g.F.Files.made c.args.files.now) (g.F.Files.made c.perform_explain.new.files) c.perform_explain.result own.begins c.perform_explain.ensures.unsaved
 
 pub returns-in-Waves-clause-wanting : goal.returns-in-Waves-clause-wanting
 returns-in-Waves-clause-wanting g c = λ words asks.
-    left_of_dump words (g.O.Write.contents (held c.args.out.now)) (g.F.Files.made c.args.files.now) (g.F.Files.made c.dump_waves.new.files) c.dump_waves.result c.dump_waves.ensures.unsaved
+    left_of_dump (g.F.Files.held c.args.files.now) words (g.O.Write.contents (held c.args.out.now)) (g.F.Files.made c.args.files.now) (g.F.Files.made c.dump_waves.new.files) c.dump_waves.result c.dump_waves.ensures.unsaved
 
 pub returns-in-Version-clause-wanting : goal.returns-in-Version-clause-wanting
 returns-in-Version-clause-wanting g c = λ words asks.
     let left = Keeps (g.O.Write.contents (held c.args.out.now)) (g.O.Write.contents (held c.perform_version.new.out)) in
-    left_unless_one words (g.O.Write.contents (held c.args.out.now)) (g.O.Write.contents (held c.perform_version.new.out)) (g.F.Files.made c.args.files.now) (g.F.Files.made c.args.files.now) c.perform_version.result (one_only left c.perform_version.result c.perform_version.ensures.fault)
+    left_unless_one (g.F.Files.held c.args.files.now) words (g.O.Write.contents (held c.args.out.now)) (g.O.Write.contents (held c.perform_version.new.out)) (g.F.Files.made c.args.files.now) (g.F.Files.made c.args.files.now) c.perform_version.result (one_only left c.perform_version.result c.perform_version.ensures.fault)
     (if_err _ c.perform_version.result (λ f other. kept (g.F.Files.made c.args.files.now)))

@@ -7,8 +7,8 @@ use Rattle.program.proofs.program.perform_check.Goals as goal
 
 pub returns-in-Ok-None-clause-ended : goal.returns-in-Ok-None-clause-ended
 returns-in-Ok-None-clause-ended g c = λ words asks.
-    check_performed words c.args.file.now (g.O.Write.contents (held c.args.out.now)) (g.O.Write.contents (held c.show_right.new.out))
-    (g.F.Files.made c.args.files.now) (g.F.Files.made c.check.new.files) c.show_right.result asks (right_if c.in-Ok-None.field-0 (search rules) c.in-Ok-None.ensures.checked) c.check.ensures.kept
+    check_performed (g.F.Files.held c.args.files.now) words c.args.file.now (g.O.Write.contents (held c.args.out.now)) (g.O.Write.contents (held c.show_right.new.out))
+    (g.F.Files.made c.args.files.now) (g.F.Files.made c.check.new.files) c.show_right.result asks (right_if (g.F.Files.held c.args.files.now) c.args.file.now c.in-Ok-None.field-0 (search rules) c.in-Ok-None.ensures.checked) c.check.ensures.kept
     c.show_right.ensures.shown c.show_right.ensures.done
 
 pub returns-in-Ok-None-clause-nothing : goal.returns-in-Ok-None-clause-nothing
@@ -18,7 +18,9 @@ returns-in-Ok-None-clause-nothing g c =
 pub returns-in-Ok-Some-clause-ended : goal.returns-in-Ok-Some-clause-ended
 returns-in-Ok-Some-clause-ended g c = λ words asks. record {
   begins = asks.begins;
-  is_wrong = wrong_if c.in-Ok-Some.field-0 c.in-Ok-Some.text (search rules) c.in-Ok-Some.ensures.checked;
+  file = c.args.file.now;
+  is_file = asks.file;
+  is_wrong = wrong_if (g.F.Files.held c.args.files.now) c.args.file.now c.in-Ok-Some.field-0 c.in-Ok-Some.text (search rules) c.in-Ok-Some.ensures.checked;
   unprinted = output_same (g.O.Write.contents (held c.args.out.now));
   unsaved = c.check.ensures.kept;
 }

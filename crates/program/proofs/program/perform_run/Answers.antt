@@ -11,5 +11,5 @@ returns-in-Ok-clause-ended g c = λ words asks.
     let new = g.O.Write.contents c.run.new.out in
     let files = g.F.Files.made c.args.files.now in
     let after = g.F.Files.made c.run.new.files in
-    subst (λ (e : Ending). HasEnded words old new files after e) (sym c.of_run.ensures)
-    (run_performed words c.args.request.now old new files after c.in-Ok.told asks c.in-Ok.ensures.printed)
+    subst (λ (e : Ending). HasEnded (g.F.Files.held c.args.files.now) words old new files after e) (sym c.of_run.ensures)
+    (run_performed (g.F.Files.held c.args.files.now) words c.args.request.now old new files after c.in-Ok.told asks c.in-Ok.ensures.printed)

@@ -4,7 +4,7 @@ use Rattle.program.specs.Printed.{IsLeftByRun}
 use Rattle.program.proofs.running.left_by_run.Goals as goal
 
 pub returns-in-Some-clause-left : goal.returns-in-Some-clause-left
-returns-in-Some-clause-left g c = subst (λ (seed : Option ℕ). IsLeftByRun seed c.args.request.now.options c.left_by_seed.result) (sym c.in-Some.is) c.left_by_seed.ensures.left
+returns-in-Some-clause-left g c = λ holding file described. subst (λ (seed : Option ℕ). IsLeftByRun holding file seed c.args.request.now.options c.left_by_seed.result) (sym c.in-Some.is) (c.left_by_seed.ensures.left holding file described)
 
 pub returns-in-None-clause-left : goal.returns-in-None-clause-left
-returns-in-None-clause-left g c = subst (λ (seed : Option ℕ). IfOk c.left_on_workers.result (IsLeftByRun seed c.args.request.now.options)) (sym c.in-None.is) c.left_on_workers.ensures.left
+returns-in-None-clause-left g c = λ holding file described. subst (λ (seed : Option ℕ). IfOk c.left_on_workers.result (IsLeftByRun holding file seed c.args.request.now.options)) (sym c.in-None.is) (c.left_on_workers.ensures.left holding file described)

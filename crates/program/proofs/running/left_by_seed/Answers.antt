@@ -6,9 +6,9 @@ use Rattle.program.proofs.Endings.{ended}
 use Rattle.program.proofs.running.left_by_seed.Goals as goal
 
 pub returns-clause-left : goal.returns-clause-left
-returns-clause-left g c = record {
+returns-clause-left g c = λ holding file described. record {
   run = c.run_seeded-run.result;
-  is_run = search rules;
+  is_run = record { design = c.args.design.now; is_design = described; is_run = search rules };
   journal = refl;
   lines = refl;
   end = refl;

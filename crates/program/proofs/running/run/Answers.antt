@@ -21,7 +21,7 @@ returns-clause-printed g c =
     let saved = saved_on start begun end path left.journal.items (kept_on start read begun c.in_ok-design.ensures.kept c.in_ok-begun.ensures.kept)
     (subst (λ (l : List Entry). SavesWhereAsked begun end path l) c.as_slice.ensures.value
     (subst (λ (p : Option (List ℕ)). SavesWhereAsked begun end p c.as_slice.result.now) c.in_ok-begun.ensures.path c.in_ok-save.ensures.saved)) in
-    printed_by c.args.request.now.seed c.args.request.now.options path old new start end left c.of.result c.in_ok-left.ensures.left lines saved c.of.ensures
+    printed_by (g.F.Files.held c.args.files.now) c.args.request.now.file.now c.args.request.now.seed c.args.request.now.options path old new start end left c.of.result (c.in_ok-left.ensures.left (g.F.Files.held c.args.files.now) c.args.request.now.file.now c.in_ok-design.ensures.is_design) lines saved c.of.ensures
 
 pub returns-in_err-save-clause-unsaved : goal.returns-in_err-save-clause-unsaved
 returns-in_err-save-clause-unsaved g c =

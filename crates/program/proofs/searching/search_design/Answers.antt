@@ -9,19 +9,19 @@ use Rattle.program.proofs.Searched.{search_begun, texts_left, texts_shown}
 use Rattle.program.proofs.searching.search_design.Goals as goal
 
 pub returns-clause-shown : goal.returns-clause-shown
-returns-clause-shown g c =
+returns-clause-shown g c = λ holding file held.
     let request = c.args.request.now in
     let texts = c.in_ok-texts.texts in
     let prefix = option_map (λ path. path.now) request.journals in
     let begun = g.O.Write.contents c.tell_races.new.out in
     let end = g.O.Write.contents c.tell_texts.new.out in
-    texts_shown c.args.source.now c.args.design.now request.extent prefix c.in_ok-known.known.items texts.claim texts.shown.items (option_map (λ journal. journal.items) texts.endless) (g.O.Write.contents c.args.out.now) begun end
-    (g.F.Files.made c.args.files.now) (g.F.Files.made c.try_first.new.files) (g.F.Files.made c.tell_texts.new.files) c.in_ok-last.last.items c.tell_texts.result c.requires c.in_ok-known.ensures.told c.in_ok-texts.ensures.found
+    texts_shown holding file c.args.source.now c.args.design.now request.extent prefix c.in_ok-known.known.items texts.claim texts.shown.items (option_map (λ journal. journal.items) texts.endless) (g.O.Write.contents c.args.out.now) begun end
+    (g.F.Files.made c.args.files.now) (g.F.Files.made c.try_first.new.files) (g.F.Files.made c.tell_texts.new.files) c.in_ok-last.last.items c.tell_texts.result held c.requires c.in_ok-known.ensures.told c.in_ok-texts.ensures.found
     c.in_ok-texts.ensures.grown c.in_ok-last.ensures c.in_ok-try_first.ensures.kept (subst (λ (l : List ℕ). OnOk c.tell_texts.result (Appends begun end l)) c.as_slice.ensures.value c.tell_texts.ensures.told)
     c.tell_texts.ensures.saved c.tell_texts.ensures.finding
 
 pub returns-clause-wanting : goal.returns-clause-wanting
-returns-clause-wanting g c =
+returns-clause-wanting g c = λ holding file held.
     let request = c.args.request.now in
     let texts = c.in_ok-texts.texts in
     let prefix = option_map (λ path. path.now) request.journals in
@@ -30,22 +30,22 @@ returns-clause-wanting g c =
     let tried = g.F.Files.made c.try_first.new.files in
     let saved = g.F.Files.made c.tell_texts.new.files in
     let endless = option_map (λ journal. journal.items) texts.endless in
-    texts_left c.args.source.now c.args.design.now request.extent prefix c.in_ok-known.known.items texts.claim texts.shown.items endless (g.O.Write.contents c.args.out.now) begun end (g.F.Files.made c.args.files.now) tried saved
-    c.in_ok-last.last.items c.tell_texts.result c.requires c.in_ok-known.ensures.told c.in_ok-texts.ensures.found c.in_ok-texts.ensures.grown c.in_ok-last.ensures c.in_ok-try_first.ensures.kept
+    texts_left holding file c.args.source.now c.args.design.now request.extent prefix c.in_ok-known.known.items texts.claim texts.shown.items endless (g.O.Write.contents c.args.out.now) begun end (g.F.Files.made c.args.files.now) tried saved
+    c.in_ok-last.last.items c.tell_texts.result held c.requires c.in_ok-known.ensures.told c.in_ok-texts.ensures.found c.in_ok-texts.ensures.grown c.in_ok-last.ensures c.in_ok-try_first.ensures.kept
     (subst (λ (l : List ℕ). IfErr c.tell_texts.result (λ f. status_of f ≡ 6 → (Keeps begun end × KeepsFiles tried saved) ⊎ (Appends begun end l × SavesSomeWhereAsked tried saved prefix (journals_of texts.shown.items endless))))
     c.as_slice.ensures.value c.tell_texts.ensures.wanting)
 
 pub returns-in_err-try_first-clause-wanting : goal.returns-in_err-try_first-clause-wanting
-returns-in_err-try_first-clause-wanting g c = if_err _ c.from_residual.result (λ f six. inl (output_same (g.O.Write.contents c.args.out.now), c.in_err-try_first.ensures.kept))
+returns-in_err-try_first-clause-wanting g c = λ holding file held. if_err _ c.from_residual.result (λ f six. inl (output_same (g.O.Write.contents c.args.out.now), c.in_err-try_first.ensures.kept))
 
 pub returns-in_err-texts-clause-wanting : goal.returns-in_err-texts-clause-wanting
-returns-in_err-texts-clause-wanting g c =
+returns-in_err-texts-clause-wanting g c = λ holding file held.
     if_err _ c.from_residual-in_err-texts.result
-    (λ f six. search_begun c.args.source.now c.args.design.now c.args.request.now.extent (option_map (λ path. path.now) c.args.request.now.journals) c.in_ok-known.known.items (g.O.Write.contents c.args.out.now) (g.O.Write.contents c.tell_races.new.out)
-    (g.F.Files.made c.args.files.now) (g.F.Files.made c.try_first.new.files) c.requires c.in_ok-known.ensures.told c.in_ok-try_first.ensures.kept)
+    (λ f six. search_begun holding file c.args.source.now c.args.design.now c.args.request.now.extent (option_map (λ path. path.now) c.args.request.now.journals) c.in_ok-known.known.items (g.O.Write.contents c.args.out.now) (g.O.Write.contents c.tell_races.new.out)
+    (g.F.Files.made c.args.files.now) (g.F.Files.made c.try_first.new.files) held c.requires c.in_ok-known.ensures.told c.in_ok-try_first.ensures.kept)
 
 pub returns-in_err-last-clause-wanting : goal.returns-in_err-last-clause-wanting
-returns-in_err-last-clause-wanting g c =
+returns-in_err-last-clause-wanting g c = λ holding file held.
     if_err _ c.from_residual-in_err-last.result
-    (λ f six. search_begun c.args.source.now c.args.design.now c.args.request.now.extent (option_map (λ path. path.now) c.args.request.now.journals) c.in_ok-known.known.items (g.O.Write.contents c.args.out.now) (g.O.Write.contents c.tell_races.new.out)
-    (g.F.Files.made c.args.files.now) (g.F.Files.made c.try_first.new.files) c.requires c.in_ok-known.ensures.told c.in_ok-try_first.ensures.kept)
+    (λ f six. search_begun holding file c.args.source.now c.args.design.now c.args.request.now.extent (option_map (λ path. path.now) c.args.request.now.journals) c.in_ok-known.known.items (g.O.Write.contents c.args.out.now) (g.O.Write.contents c.tell_races.new.out)
+    (g.F.Files.made c.args.files.now) (g.F.Files.made c.try_first.new.files) held c.requires c.in_ok-known.ensures.told c.in_ok-try_first.ensures.kept)

@@ -7,7 +7,8 @@ use Rattle.program.proofs.searching.search_races.Goals as goal
 
 pub returns-clause-shown : goal.returns-clause-shown
 returns-clause-shown g c =
-    shown_on c.args.request.now.extent _ (g.O.Write.contents c.args.out.now) (g.O.Write.contents c.search_design.new.out) (g.F.Files.made c.args.files.now) (g.F.Files.made c.read_file.new.files) (g.F.Files.made c.search_design.new.files) c.search_design.result c.read_file.ensures c.search_design.ensures.shown
+    shown_on (g.F.Files.held c.args.files.now) c.args.request.now.file.now c.args.request.now.extent _ (g.O.Write.contents c.args.out.now) (g.O.Write.contents c.search_design.new.out) (g.F.Files.made c.args.files.now) (g.F.Files.made c.read_file.new.files) (g.F.Files.made c.search_design.new.files) c.search_design.result c.read_file.ensures.kept
+    (c.search_design.ensures.shown (g.F.Files.held c.args.files.now) c.args.request.now.file.now (is_read g c))
 
 pub returns-clause-unsaved : goal.returns-clause-unsaved
 returns-clause-unsaved g c = output_kept (KeepsFiles (g.F.Files.made c.args.files.now) (g.F.Files.made c.search_design.new.files)) c.search_design.result c.search_design.ensures.fault
@@ -20,11 +21,12 @@ pub returns-in_err-spare_first-clause-wanting : goal.returns-in_err-spare_first-
 returns-in_err-spare_first-clause-wanting g c = if_err _ c.from_residual.result (λ f six. inl (output_same (g.O.Write.contents c.args.out.now), kept (g.F.Files.made c.args.files.now)))
 
 pub returns-in_err-source-clause-wanting : goal.returns-in_err-source-clause-wanting
-returns-in_err-source-clause-wanting g c = if_err _ c.from_residual-in_err-source.result (λ f six. inl (output_same (g.O.Write.contents c.args.out.now), c.read_file.ensures))
+returns-in_err-source-clause-wanting g c = if_err _ c.from_residual-in_err-source.result (λ f six. inl (output_same (g.O.Write.contents c.args.out.now), c.read_file.ensures.kept))
 
 pub returns-in_err-design-clause-wanting : goal.returns-in_err-design-clause-wanting
-returns-in_err-design-clause-wanting g c = if_err _ c.from_residual-in_err-design.result (λ f six. inl (output_same (g.O.Write.contents c.args.out.now), c.read_file.ensures))
+returns-in_err-design-clause-wanting g c = if_err _ c.from_residual-in_err-design.result (λ f six. inl (output_same (g.O.Write.contents c.args.out.now), c.read_file.ensures.kept))
 
 pub returns-clause-wanting : goal.returns-clause-wanting
 returns-clause-wanting g c =
-    search_left_on c.args.request.now.extent _ (g.O.Write.contents c.args.out.now) (g.O.Write.contents c.search_design.new.out) (g.F.Files.made c.args.files.now) (g.F.Files.made c.read_file.new.files) (g.F.Files.made c.search_design.new.files) c.search_design.result c.read_file.ensures c.search_design.ensures.wanting
+    search_left_on (g.F.Files.held c.args.files.now) c.args.request.now.file.now c.args.request.now.extent _ (g.O.Write.contents c.args.out.now) (g.O.Write.contents c.search_design.new.out) (g.F.Files.made c.args.files.now) (g.F.Files.made c.read_file.new.files) (g.F.Files.made c.search_design.new.files) c.search_design.result c.read_file.ensures.kept
+    (c.search_design.ensures.wanting (g.F.Files.held c.args.files.now) c.args.request.now.file.now (is_read g c))

@@ -18,7 +18,7 @@ returns-clause-dumped g c =
     let design = c.in_ok-design.design in
     let entries = c.in_ok-entries.entries.items in
     let text = c.in_ok-text.text.items in
-    let keeps = kept_on start opened begun (kept_on start read opened c.read_file.ensures c.open_file.ensures) c.begin_at.ensures.kept in
+    let keeps = kept_on start opened begun (kept_on start read opened c.read_file.ensures.kept c.open_file.ensures.kept) c.begin_at.ensures.kept in
     let dump = subst (λ (journal : List Entry). IsDumpOf c.as_slice-2.result.now design journal text) c.as_slice-3.ensures.value c.in_ok-text.ensures in
     let saved = subst (λ (bytes : List ℕ). AddsFile begun end (record { path = path; bytes = bytes })) c.as_slice-4.ensures.value c.in_ok-save_text.ensures.saved in
     record {
@@ -34,7 +34,7 @@ returns-clause-dumped g c =
 
 pub returns-clause-ended : goal.returns-clause-ended
 returns-clause-ended g c = λ words known asks.
-    dumped (waves_performed words c.args.request.now known (g.F.Files.made c.args.files.now) (g.F.Files.made c.save_text.new.files) asks (returns-clause-dumped g c))
+    dumped (waves_performed (g.F.Files.held c.args.files.now) words c.args.request.now known (g.F.Files.made c.args.files.now) (g.F.Files.made c.save_text.new.files) asks (returns-clause-dumped g c))
 
 -- what holds whatever the fault
 on_err : {T E : Type 0} (P : Type 0) (r : Result T E) → P → OnErr r P
@@ -47,7 +47,7 @@ returns-in_err-target-clause-unsaved g c =
     let read = g.F.Files.made c.read_file.new.files in
     let opened = g.F.Files.made c.open_file.new.files in
     let begun = g.F.Files.made c.begin_at.new.files in
-    on_err _ c.from_residual-in_err-target.result (kept_on start opened begun (kept_on start read opened c.read_file.ensures c.open_file.ensures) c.begin_at.ensures.kept)
+    on_err _ c.from_residual-in_err-target.result (kept_on start opened begun (kept_on start read opened c.read_file.ensures.kept c.open_file.ensures.kept) c.begin_at.ensures.kept)
 
 pub returns-in_err-text-clause-unsaved : goal.returns-in_err-text-clause-unsaved
 returns-in_err-text-clause-unsaved g c =
@@ -55,7 +55,7 @@ returns-in_err-text-clause-unsaved g c =
     let read = g.F.Files.made c.read_file.new.files in
     let opened = g.F.Files.made c.open_file.new.files in
     let begun = g.F.Files.made c.begin_at.new.files in
-    on_err _ c.from_residual-in_err-text.result (kept_on start opened begun (kept_on start read opened c.read_file.ensures c.open_file.ensures) c.begin_at.ensures.kept)
+    on_err _ c.from_residual-in_err-text.result (kept_on start opened begun (kept_on start read opened c.read_file.ensures.kept c.open_file.ensures.kept) c.begin_at.ensures.kept)
 
 pub returns-in_err-save_text-clause-unsaved : goal.returns-in_err-save_text-clause-unsaved
 returns-in_err-save_text-clause-unsaved g c =
@@ -64,4 +64,4 @@ returns-in_err-save_text-clause-unsaved g c =
     let opened = g.F.Files.made c.open_file.new.files in
     let begun = g.F.Files.made c.begin_at.new.files in
     let end = g.F.Files.made c.save_text.new.files in
-    on_err _ c.from_residual-in_err-save_text.result (kept_on start begun end (kept_on start opened begun (kept_on start read opened c.read_file.ensures c.open_file.ensures) c.begin_at.ensures.kept) c.in_err-save_text.ensures.unsaved)
+    on_err _ c.from_residual-in_err-save_text.result (kept_on start begun end (kept_on start opened begun (kept_on start read opened c.read_file.ensures.kept c.open_file.ensures.kept) c.begin_at.ensures.kept) c.in_err-save_text.ensures.unsaved)
