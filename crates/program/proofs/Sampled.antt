@@ -10,6 +10,7 @@ use Rattle.explore.specs.declared.Shown.{Shown}
 use Rattle.explore.specs.Search.{AreDistinct}
 use Rattle.seeded.specs.SeededRun.{IsRun}
 use Rattle.seeded.specs.Samples as seeded
+use Rattle.seeded.specs.Seeds.{AreSampled}
 use Rattle.seeded.proofs.Parting.{parted_differ}
 use Rattle.seeded.specs.declared.run.SeededRun.{SeededRun}
 use Rattle.verdict.specs.declared.claim.Claim.TheVariants.{Sampled}
@@ -67,13 +68,14 @@ apart_distinct a b (inl parted) text end = parted_differ (string_bytes a.lines) 
 apart_distinct a b (inr (one, other, distinct)) text end = distinct text end
 
 pub samples_found : (n asked : ℕ) (code : Compiled) (extent : Extent) (rs : List SeededRun) (ss : List (Shown Entry End)) → extent.samples ≡ Some asked → n ≤ asked → length rs ≤ n → length rs ≤ extent.max_texts
-    → AreOf rs ss → All (IsRun code (limits_in extent)) rs → AllPairs seeded.AreApart rs → AreFound code extent (Sampled n) ss None
-samples_found n asked code extent rs ss some few enough short h all apart = record {
+    → AreOf rs ss → All (IsRun code (limits_in extent)) rs → AllPairs seeded.AreApart rs → AreSampled code (limits_in extent) extent.seed n rs → AreFound code extent (Sampled n) ss None
+samples_found n asked code extent rs ss some few enough short h all apart sampled = record {
   sound = all_found n code (limits_in extent) rs ss h all;
   distinct = all_apart rs ss h (λ i j d lt within. apart_distinct (get_or rs i d) (get_or rs j d) (apart i j d lt within));
   few = omega (arith, short, same_length rs ss h);
   within = (asked, some, few, omega (arith, enough, same_length rs ss h));
   all = tt;
   never = tt;
+  seeds = record { kept = rs; sampled = sampled; are_of = h };
   numbered = refl;
 }

@@ -17,14 +17,14 @@ use Rattle.conflicts.specs.declared.told.Tries.{Tries}
 use Rattle.naming.specs.Naming.{TellsBehind, TellsRaces}
 use Rattle.verdict.specs.declared.claim.Claim.{Claim}
 use Rattle.verdict.specs.declared.claim.Claim.TheVariants.{Every, SoFar, Sampled}
-use Rattle.verdict.specs.declared.claim.Met.TheVariants.{States, Texts, Entries, Memory}
+use Rattle.verdict.specs.declared.claim.Met.TheVariants.{States, Texts, Entries, Megabytes, Memory}
 use Rattle.std.specs.Io.KnownBytes.{Appends, Keeps}
 use Rattle.frontend.specs.Sources.{IsDesignOf}
 use Rattle.files.specs.Saved.{IsHeld, KeepsFiles, Made, SavesAllWhereAsked, SavesSomeWhereAsked}
 use Rattle.arguments.specs.declared.extent.Extent.{Extent}
 use Rattle.program.specs.declared.finding.Finding.{Finding}
 use Rattle.program.specs.declared.fault.Fault.{Fault}
-use Rattle.program.specs.Findings.{AreFound, IsFound, IsLawful, IsWithin, OnEvery, claim_of, endless_number, finding_of, journals_of, limits_in, some_journal, stop_of, unless_stopped}
+use Rattle.program.specs.Findings.{AreFound, AreOfSeeds, IsFound, IsLawful, IsWithin, OnEvery, OnSampled, claim_of, endless_number, finding_of, journals_of, limits_in, some_journal, stop_of, unless_stopped}
 use Rattle.program.specs.Printed.{HasFound, HasLeft, HasSavedSome, HasShown, IsToldFirst, IsToldLast}
 use Rattle.program.specs.Program.{status_of}
 use Rattle.program.proofs.Knowing.{few_shown}
@@ -38,6 +38,7 @@ claim_sound extent None nodes endless code limits ss h = h
 claim_sound extent (Some stopped.Nodes) nodes endless code limits ss h = h
 claim_sound extent (Some stopped.Shown) nodes endless code limits ss h = h
 claim_sound extent (Some stopped.Unfollowed) nodes endless code limits ss h = h
+claim_sound extent (Some stopped.Bytes) nodes endless code limits ss h = h
 claim_sound extent (Some stopped.Memory) nodes endless code limits ss h = h
 
 claim_within : (extent : Extent) (s : Option Stopped) (nodes : ℕ) (endless : Option ℕ) (count : ℕ) → extent.samples ≡ None → nodes ≤ extent.max_states
@@ -46,6 +47,7 @@ claim_within extent None nodes endless count none few full = (none, few)
 claim_within extent (Some stopped.Nodes) nodes endless count none few full = (none, refl)
 claim_within extent (Some stopped.Shown) nodes endless count none few full = (none, refl, full refl)
 claim_within extent (Some stopped.Unfollowed) nodes endless count none few full = (none, refl)
+claim_within extent (Some stopped.Bytes) nodes endless count none few full = (none, refl)
 claim_within extent (Some stopped.Memory) nodes endless count none few full = none
 
 claim_all : (P : Type 0) (extent : Extent) (s : Option Stopped) (nodes : ℕ) (endless : Option ℕ) → (s ≡ None → P) → OnEvery (claim_of extent s nodes endless) P
@@ -53,7 +55,17 @@ claim_all P extent None nodes endless h = h refl
 claim_all P extent (Some stopped.Nodes) nodes endless h = tt
 claim_all P extent (Some stopped.Shown) nodes endless h = tt
 claim_all P extent (Some stopped.Unfollowed) nodes endless h = tt
+claim_all P extent (Some stopped.Bytes) nodes endless h = tt
 claim_all P extent (Some stopped.Memory) nodes endless h = tt
+
+-- no random orders were tried
+claim_seeds : (P : ℕ → Type 0) (extent : Extent) (s : Option Stopped) (nodes : ℕ) (endless : Option ℕ) → OnSampled (claim_of extent s nodes endless) P
+claim_seeds P extent None nodes endless = tt
+claim_seeds P extent (Some stopped.Nodes) nodes endless = tt
+claim_seeds P extent (Some stopped.Shown) nodes endless = tt
+claim_seeds P extent (Some stopped.Unfollowed) nodes endless = tt
+claim_seeds P extent (Some stopped.Bytes) nodes endless = tt
+claim_seeds P extent (Some stopped.Memory) nodes endless = tt
 
 -- the journal of a run that comes to no end, and its number, where the search wasn't stopped
 claim_number : {J : Type 0} (items : J → List Entry) (extent : Extent) (s : Option Stopped) (nodes count : ℕ) (found told : Option J) (number : Option ℕ) → told ≡ unless_stopped s found
@@ -65,7 +77,9 @@ claim_number items extent (Some stopped.Nodes) nodes count found (Some j) number
 claim_number items extent (Some stopped.Shown) nodes count found None number is counted = refl
 claim_number items extent (Some stopped.Shown) nodes count found (Some j) number is counted = cc
 claim_number items extent (Some stopped.Unfollowed) nodes count found None number is counted = refl
+claim_number items extent (Some stopped.Bytes) nodes count found None number is counted = refl
 claim_number items extent (Some stopped.Unfollowed) nodes count found (Some j) number is counted = cc
+claim_number items extent (Some stopped.Bytes) nodes count found (Some j) number is counted = cc
 claim_number items extent (Some stopped.Memory) nodes count found None number is counted = refl
 claim_number items extent (Some stopped.Memory) nodes count found (Some j) number is counted = cc
 
@@ -128,6 +142,7 @@ searched_found items code extent s t nodes found told number claim added known o
       within = claim_within extent t nodes number (length ss) none few (λ is. shown_full s added extent.max_texts others ss (sym stops ∙ is) most apart there full);
       all = claim_all (AreAllTexts (design_of code) (limits_in extent) (IsShown ss)) extent t nodes number (λ is. every (not_stopped s added (sym stops ∙ is)));
       never = told_never items (orders.IsEndlessJournal (design_of code) (limits_in extent)) t found told tells never;
+      seeds = claim_seeds (AreOfSeeds code (limits_in extent) extent.seed ss) extent t nodes number;
       numbered = claim_number items extent t nodes (length ss) found told number tells counted;
     })
   where

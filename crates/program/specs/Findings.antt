@@ -12,6 +12,7 @@ use Rattle.explore.specs.Grown.{Extends}
 use Rattle.explore.specs.Search.{AreDistinct, IsShown}
 use Rattle.seeded.specs.SeededRun as seeded
 use Rattle.seeded.specs.Samples.{IsWhole}
+use Rattle.seeded.specs.Seeds.{AreSampled}
 use Rattle.seeded.specs.declared.run.SeededRun.{SeededRun}
 use Rattle.walks.specs.JournalsInTime.{AreAllTexts, IsLawfulText}
 use Rattle.races.specs.DesignRuns as orders
@@ -21,7 +22,7 @@ use Rattle.conflicts.specs.declared.told.Tries.{Tries}
 use Rattle.verdict.specs.declared.claim.Claim.{Claim}
 use Rattle.verdict.specs.declared.claim.Claim.TheVariants.{Every, SoFar, Sampled}
 use Rattle.verdict.specs.declared.claim.Met.{Met}
-use Rattle.verdict.specs.declared.claim.Met.TheVariants.{States, Texts, Entries, Memory}
+use Rattle.verdict.specs.declared.claim.Met.TheVariants.{States, Texts, Entries, Megabytes, Memory}
 use Rattle.arguments.specs.declared.extent.Extent.{Extent}
 use Rattle.program.specs.declared.finding.Finding.{Finding}
 use Rattle.program.specs.declared.finding.Finding.TheVariants as finding
@@ -36,6 +37,7 @@ abbrev pub stopped_of : Met → Finding
 stopped_of (States most) = finding.Unfinished
 stopped_of (Texts most) = finding.Unfinished
 stopped_of (Entries most) = finding.Unfinished
+stopped_of (Megabytes most) = finding.Unfinished
 stopped_of Memory = finding.Memory
 
 -- what no or one text is, of which this is claimed
@@ -55,13 +57,14 @@ OnEvery (SoFar met) P = Unit {0}
 OnEvery (Sampled orders) P = Unit {0}
 
 -- The claim, on so many texts, keeps to what was asked. Of a search of all orders it has no more states than the search may reach, and names the limit of states,
--- texts or entries that was given, and that of texts only where so many were found. Of random orders no more were tried than were asked for, and no fewer
+-- texts, entries or megabytes that was given, and that of texts only where so many were found. Of random orders no more were tried than were asked for, and no fewer
 -- than there are texts.
 abbrev pub IsWithin : Extent → ℕ → Claim → Type 0
 IsWithin extent count (Every states endless) = (extent.samples ≡ None) × (states ≤ extent.max_states)
 IsWithin extent count (SoFar (States most)) = (extent.samples ≡ None) × (most ≡ extent.max_states)
 IsWithin extent count (SoFar (Texts most)) = (extent.samples ≡ None) × (most ≡ extent.max_texts) × (most ≤ count)
 IsWithin extent count (SoFar (Entries most)) = (extent.samples ≡ None) × (most ≡ extent.max_entries)
+IsWithin extent count (SoFar (Megabytes most)) = (extent.samples ≡ None) × (most ≡ extent.max_memory)
 IsWithin extent count (SoFar Memory) = extent.samples ≡ None
 IsWithin extent count (Sampled orders) = (asked : ℕ) × (extent.samples ≡ Some asked) × (orders ≤ asked) × (count ≤ orders)
 
@@ -71,6 +74,7 @@ claim_of extent None nodes endless = Every nodes endless
 claim_of extent (Some stopped.Nodes) nodes endless = SoFar (States extent.max_states)
 claim_of extent (Some stopped.Shown) nodes endless = SoFar (Texts extent.max_texts)
 claim_of extent (Some stopped.Unfollowed) nodes endless = SoFar (Entries extent.max_entries)
+claim_of extent (Some stopped.Bytes) nodes endless = SoFar (Megabytes extent.max_memory)
 claim_of extent (Some stopped.Memory) nodes endless = SoFar Memory
 
 -- for what a search stopped of which texts were left out since there are the most: for its own reason, or for that
@@ -115,6 +119,25 @@ IsFound (Every states endless) code limits s = IsLawful code limits s
 IsFound (SoFar met) code limits s = IsLawful code limits s
 IsFound (Sampled orders) code limits s = (run : SeededRun) × IsOf run s × seeded.IsRun code limits run
 
+-- these texts, with their ends and their journals, are those of these runs, one by one
+abbrev pub AreOf : List SeededRun → List (Shown Entry End) → Type 0
+AreOf [] [] = Unit {0}
+AreOf [] (s ∷ ss) = ⊥
+AreOf (r ∷ rs) [] = ⊥
+AreOf (r ∷ rs) (s ∷ ss) = IsOf r s × AreOf rs ss
+
+-- P, where random orders were tried
+abbrev pub OnSampled : Claim → (ℕ → Type 0) → Type 0
+OnSampled (Every states endless) P = Unit {0}
+OnSampled (SoFar met) P = Unit {0}
+OnSampled (Sampled orders) P = P orders
+
+-- So many random orders were tried, of this seed and those that follow it, and these texts are those that were kept of them.
+pub record AreOfSeeds (design : Compiled) (limits : Limits) (first : ℕ) (shown : List (Shown Entry End)) (orders : ℕ) : Type 0 where
+  pub kept : List SeededRun
+  pub sampled : AreSampled design limits first orders kept
+  pub are_of : AreOf kept shown
+
 -- Of a design these texts were found, each with its end and a lawful journal in time that has both. No two have one text and
 -- one end, and they are no more than were asked for. Where it is claimed that they are all, each lawful journal in time has its lines and its end among them, but for
 -- ends by the most entries or for want of memory. Where it is claimed that some runs don't come to an end, a lawful journal is known from which none does, and its number is
@@ -126,6 +149,7 @@ pub record AreFound (design : Compiled) (extent : Extent) (claim : Claim) (shown
   pub within : IsWithin extent (length shown) claim
   pub all : OnEvery claim (AreAllTexts (design_of design) (limits_in extent) (IsShown shown))
   pub never : IfSome endless (orders.IsEndlessJournal (design_of design) (limits_in extent))
+  pub seeds : OnSampled claim (AreOfSeeds design (limits_in extent) extent.seed shown)
   pub numbered : endless_number claim ≡ option_map (λ journal. length shown + 1) endless
 
 -- the first text, if there is one
@@ -141,13 +165,6 @@ some_journal (Some journal) = journal ∷ []
 -- the journals that are saved: that of each text, and of a run that comes to no end
 abbrev pub journals_of : List (Shown Entry End) → Option (List Entry) → List (List Entry)
 journals_of shown endless = map (λ s. s.moves.items) shown ++ some_journal endless
-
--- so they are, one by one
-abbrev pub AreOf : List SeededRun → List (Shown Entry End) → Type 0
-AreOf [] [] = Unit {0}
-AreOf [] (s ∷ ss) = ⊥
-AreOf (r ∷ rs) [] = ⊥
-AreOf (r ∷ rs) (s ∷ ss) = IsOf r s × AreOf rs ss
 
 -- all of the texts have one end
 abbrev pub HaveOneEnd : List (Shown Entry End) → Type 0

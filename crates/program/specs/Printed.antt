@@ -21,6 +21,7 @@ use Rattle.model.specs.declared.end.Limits.{Limits}
 use Rattle.arguments.specs.declared.options.Options.{Options}
 use Rattle.replay.specs.ReplayBytes.{AreRead, Prints}
 use Rattle.seeded.specs.SeededRun as seeded
+use Rattle.seeded.specs.Seeds.{FollowsSeed}
 use Rattle.seeded.specs.declared.run.SeededRun.{SeededRun}
 use Rattle.model.specs.declared.entry.Entry.{Entry}
 use Rattle.model.specs.declared.end.End.{End}
@@ -72,16 +73,17 @@ pub record HasPrinted (holding : Option (List ℕ → List ℕ)) (file : List �
   pub saved : SavesWhereAsked files files' path closed.entries
   pub end : told ≡ stop_of closed.end
 
--- a run by a seed, with these options, of the design that the source in a file describes
-pub record IsSeeded (holding : Option (List ℕ → List ℕ)) (file : List ℕ) (options : Options) (run : SeededRun) : Type 0 where
+-- the run of this seed, with these options, of the design that the source in a file describes
+pub record IsSeeded (holding : Option (List ℕ → List ℕ)) (file : List ℕ) (options : Options) (seed : ℕ) (run : SeededRun) : Type 0 where
   pub design : Compiled
   pub is_design : IsDesignIn holding file design
   pub is_run : seeded.IsRun design (limits_of options) run
+  pub follows : FollowsSeed design seed run
 
 -- Output grew by the lines of such a run, its journal was saved where a path is given, and this is told of its end.
-pub record HasPrintedSeeded (holding : Option (List ℕ → List ℕ)) (file : List ℕ) (options : Options) (path : Option (List ℕ)) (old new : Option (List ℕ)) (files files' : Option (List Made)) (told : Option Stop) : Type 0 where
+pub record HasPrintedSeeded (holding : Option (List ℕ → List ℕ)) (file : List ℕ) (options : Options) (seed : ℕ) (path : Option (List ℕ)) (old new : Option (List ℕ)) (files files' : Option (List Made)) (told : Option Stop) : Type 0 where
   pub run : SeededRun
-  pub is_run : IsSeeded holding file options run
+  pub is_run : IsSeeded holding file options seed run
   pub lines : Appends old new (string_bytes run.lines)
   pub saved : SavesWhereAsked files files' path run.journal.items
   pub end : told ≡ stop_of run.end
@@ -94,10 +96,10 @@ pub record IsLeftOnWorkers (holding : Option (List ℕ → List ℕ)) (file : Li
   pub lines : string_bytes left.lines ≡ closed.lines
   pub end : left.end ≡ closed.end
 
--- what a run of a file by a seed leaves that has these options
-pub record IsLeftBySeed (holding : Option (List ℕ → List ℕ)) (file : List ℕ) (options : Options) (left : LeftByRun) : Type 0 where
+-- what the run of a file by this seed leaves that has these options
+pub record IsLeftBySeed (holding : Option (List ℕ → List ℕ)) (file : List ℕ) (options : Options) (seed : ℕ) (left : LeftByRun) : Type 0 where
   pub run : SeededRun
-  pub is_run : IsSeeded holding file options run
+  pub is_run : IsSeeded holding file options seed run
   pub journal : left.journal.items ≡ run.journal.items
   pub lines : string_bytes left.lines ≡ string_bytes run.lines
   pub end : left.end ≡ run.end
@@ -105,12 +107,12 @@ pub record IsLeftBySeed (holding : Option (List ℕ → List ℕ)) (file : List 
 -- what a run leaves, by a seed where one is given and else on workers
 abbrev pub IsLeftByRun : Option (List ℕ → List ℕ) → List ℕ → Option ℕ → Options → LeftByRun → Type 0
 IsLeftByRun holding file None options left = IsLeftOnWorkers holding file options left
-IsLeftByRun holding file (Some seed) options left = IsLeftBySeed holding file options left
+IsLeftByRun holding file (Some seed) options left = IsLeftBySeed holding file options seed left
 
 -- so it is where a seed is given, and else the run was one on workers
 abbrev pub HasPrintedBy : Option (List ℕ → List ℕ) → List ℕ → Option ℕ → Options → Option (List ℕ) → Option (List ℕ) → Option (List ℕ) → Option (List Made) → Option (List Made) → Option Stop → Type 0
 HasPrintedBy holding file None options path old new files files' told = HasPrinted holding file options path old new files files' told
-HasPrintedBy holding file (Some seed) options path old new files files' told = HasPrintedSeeded holding file options path old new files files' told
+HasPrintedBy holding file (Some seed) options path old new files files' told = HasPrintedSeeded holding file options seed path old new files files' told
 
 -- the words name this FILE
 abbrev pub NamesFile : List Row → List ℕ → Type 0

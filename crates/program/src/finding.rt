@@ -55,7 +55,9 @@ impl Finding {
     {
         match met {
             Met::Memory => Finding::Memory,
-            Met::States(_) | Met::Texts(_) | Met::Entries(_) => Finding::Unfinished,
+            Met::States(_) | Met::Texts(_) | Met::Entries(_) | Met::Megabytes(_) => {
+                Finding::Unfinished
+            }
         }
     }
 

@@ -32,6 +32,9 @@ use std::alloc::{AllocError, Global};
 use std::io::Write;
 use verdict::{Claim, Met, Verdict, push_verdict};
 
+/// How many bytes a megabyte has.
+const MEGABYTE: usize = 1_000_000;
+
 /// Searches for races of FILE and writes what came of it.
 pub fn search_races<'a, F: Files, O: Write>(
     alloc: Global,
@@ -189,6 +192,7 @@ fn searched<P: Progress>(
     let bounds = Bounds {
         nodes: extent.max_states as usize,
         shown: extent.max_texts as usize,
+        bytes: extent.max_memory as usize * MEGABYTE,
     };
     let explored = lawful_orders(alloc, design, limits, bounds, progress);
     progress.end();
@@ -266,6 +270,7 @@ fn claim_of(extent: Extent, stopped: Option<Stopped>, nodes: usize, endless: Opt
         Some(Stopped::Nodes) => Claim::SoFar(Met::States(extent.max_states)),
         Some(Stopped::Shown) => Claim::SoFar(Met::Texts(extent.max_texts)),
         Some(Stopped::Unfollowed) => Claim::SoFar(Met::Entries(extent.max_entries)),
+        Some(Stopped::Bytes) => Claim::SoFar(Met::Megabytes(extent.max_memory)),
         Some(Stopped::Memory) => Claim::SoFar(Met::Memory),
     }
 }

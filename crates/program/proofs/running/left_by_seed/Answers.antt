@@ -8,7 +8,7 @@ use Rattle.program.proofs.running.left_by_seed.Goals as goal
 pub returns-clause-left : goal.returns-clause-left
 returns-clause-left g c = λ holding file described. record {
   run = c.run_seeded-run.result;
-  is_run = record { design = c.args.design.now; is_design = described; is_run = search rules };
+  is_run = record { design = c.args.design.now; is_design = described; is_run = c.run_seeded-run.ensures.run; follows = c.run_seeded-run.ensures.follows };
   journal = refl;
   lines = refl;
   end = refl;
