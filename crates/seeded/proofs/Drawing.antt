@@ -1,5 +1,5 @@
 -- What a generator's draws choose.
-use Rattle.std.proofs.Common.{◌≡◌, ℕ, ◌+◌, ◌<◌, List, [], ◌∷◌, ◌++◌, length, min, Option, Some, None, refl, sym, ◌∙◌, ap, subst, arith, inl}
+use Rattle.std.proofs.Common.{◌≡◌, ℕ, ◌+◌, ◌<◌, List, [], ◌∷◌, ◌++◌, length, min, Option, Some, None, sym, ◌∙◌, ap, subst, arith, inl}
 use Rattle.std.specs.Prelude.{◌↔◌, IfSome, option_map, slice_get}
 use Rattle.std.specs.List.{Contains}
 use Rattle.rand_core.specs.Stream.{Stream}
@@ -23,7 +23,7 @@ use Rattle.regions.specs.Machine.{AreInOrder, MachineView, state_at}
 use Rattle.seeded.specs.declared.run.SeededRun.{SeededRun}
 use Rattle.seeded.specs.Halting.{HaltsAt}
 use Rattle.seeded.specs.SeededRun.{HasComeTo}
-use Rattle.seeded.specs.Seeds.{AreChosen, EndsByChoice, EndsByEntry, FollowsSeed, IsChosen, IsDrawn, IsLongTurn, IsOneMore, Nothing, More, stream_from}
+use Rattle.seeded.specs.Seeds.{AreChosen, EndsByChoice, EndsByEntry, FollowsSeed, IsChosen, IsDrawn, IsOneMore, Nothing, More, stream_from}
 use Rattle.seeded.proofs.Permits.{turn_next}
 
 -- the entry at the place that is drawn is chosen
