@@ -1,6 +1,6 @@
 -- What a generator's draws choose.
-use Rattle.std.proofs.Common.{◌≡◌, ℕ, ◌+◌, ◌<◌, List, [], ◌∷◌, ◌++◌, length, min, Option, Some, None, refl, sym, ◌∙◌, ap, subst, arith, inl}
-use Rattle.std.specs.Prelude.{◌↔◌, IfSome, option_map, slice_get}
+use Rattle.std.proofs.Common.{◌≡◌, ℕ, ◌<◌, List, [], length, min, Option, Some, None, sym, ◌∙◌, ap, subst, arith, inl}
+use Rattle.std.specs.Prelude.{◌↔◌, IfSome, slice_get}
 use Rattle.std.specs.List.{Contains}
 use Rattle.rand_core.specs.Stream.{Stream}
 use Rattle.rand_core.specs.Pcg32Seed.{pcg32_seed}
@@ -16,14 +16,13 @@ use Rattle.model.specs.declared.end.End.{End}
 use Rattle.model.specs.declared.end.End.TheVariants.{Quiet, Running, Stopped}
 use Rattle.model.specs.Design.{Design}
 use Rattle.model.specs.States.{State, Evaluate}
-use Rattle.model.specs.Runs.{Effect, action_in, after, refusal, turn_of, EndsIn}
+use Rattle.model.specs.Runs.{action_in, refusal, turn_of, EndsIn}
 use Rattle.design.specs.Compiled.{Compiled, design_of}
 use Rattle.regions.specs.declared.state.MadeEvent.{MadeEvent}
 use Rattle.regions.specs.Machine.{AreInOrder, MachineView, state_at}
 use Rattle.seeded.specs.declared.run.SeededRun.{SeededRun}
 use Rattle.seeded.specs.Halting.{HaltsAt}
-use Rattle.seeded.specs.SeededRun.{HasComeTo}
-use Rattle.seeded.specs.Seeds.{AreChosen, EndsByChoice, EndsByEntry, FollowsSeed, IsChosen, IsDrawn, IsLongTurn, IsOneMore, Nothing, More, stream_from}
+use Rattle.seeded.specs.Seeds.{AreChosen, EndsByChoice, EndsByEntry, FollowsSeed, IsChosen, IsDrawn, IsOneMore, Nothing, More, stream_from}
 use Rattle.seeded.proofs.Permits.{turn_next}
 
 -- the entry at the place that is drawn is chosen
@@ -39,11 +38,6 @@ drawn_at s choices (Some entry) place count stream rest all order count_is drawn
       drawn = drawn ∙ ap (λ (n : ℕ). usize_single 0 n stream) count_is;
       there = sym is;
     }
-
--- the state behind a journal is that of the machine that has come to it
-pub come_after : (limits : Limits) (journal : List Entry) (p : MachineView) → HasComeTo limits journal p → after (design_of p.code) journal ≡ Some (state_at p)
-come_after limits journal p come =
-    ap (option_map (λ (f : Effect). f.state)) come.lawful ∙ ap (λ (t : State). Some t) come.state_is
 
 -- the turn of an evaluation that has no short one is too long
 pub long_turn : (design : Design) (s : State) (entry : Entry) (n p : ℕ) → entry ≡ Turn n → action_in s.active n ≡ Some (Evaluate p) → turn_of design s p ≡ None
@@ -81,30 +75,6 @@ full_by_choice design limits journal stream s (Stopped Entries) ends = tt
 full_by_choice design limits journal stream s (Stopped (TooLong p)) ends = absurd (omega (arith, ends.0))
 full_by_choice design limits journal stream s (Stopped Time) ends = tt
 full_by_choice design limits journal stream s (Stopped Memory) ends = tt
-
--- a run that ends by an entry ends by the choice of it
-end_by_choice : (design : Design) (journal : List Entry) (s : State) (entry : Entry) (stream rest : Stream) (end : End) → after design journal ≡ Some s → IsChosen s stream entry rest
-    → EndsByEntry design s entry end → EndsByChoice design journal stream end
-end_by_choice design journal s entry stream rest Quiet is chosen long = tt
-end_by_choice design journal s entry stream rest Running is chosen long = tt
-end_by_choice design journal s entry stream rest (Stopped Finish) is chosen long = tt
-end_by_choice design journal s entry stream rest (Stopped Until) is chosen long = tt
-end_by_choice design journal s entry stream rest (Stopped Entries) is chosen long = tt
-end_by_choice design journal s entry stream rest (Stopped (TooLong p)) is chosen long =
-    record { state = s; entry = entry; rest = rest; is_after = is; chosen = chosen; long = long }
-end_by_choice design journal s entry stream rest (Stopped Time) is chosen long = tt
-end_by_choice design journal s entry stream rest (Stopped Memory) is chosen long = tt
-
-pub ended_by_choice : (design : Design) (journal : List Entry) (s : State) (entry : Entry) (stream rest : Stream) (o : Option End) → after design journal ≡ Some s
-    → IsChosen s stream entry rest → IfSome o (EndsByEntry design s entry) → IfSome o (EndsByChoice design journal stream)
-ended_by_choice design journal s entry stream rest None is chosen long = tt
-ended_by_choice design journal s entry stream rest (Some end) is chosen long = end_by_choice design journal s entry stream rest end is chosen long
-
--- the journal that the entry was put behind has one entry more
-pub one_more : (design : Design) (journal longer : List Entry) (s : State) (entry : Entry) (stream rest : Stream) → after design journal ≡ Some s → IsChosen s stream entry rest
-    → longer ≡ journal ++ entry ∷ [] → IsOneMore design journal stream longer rest
-one_more design journal longer s entry stream rest is chosen longer_is =
-    record { state = s; entry = entry; is_after = is; chosen = chosen; longer_is = longer_is }
 
 -- of a journal without an entry none is chosen
 pub none_chosen : (design : Design) (stream : Stream) (journal : List Entry) → journal ≡ [] → AreChosen design stream journal stream
