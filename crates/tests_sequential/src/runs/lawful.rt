@@ -48,6 +48,7 @@ const PLAIN: Row<'static> = Row {
     bounds: Bounds {
         nodes: 10_000,
         shown: 100,
+        bytes: 1_000_000,
     },
     texts: &["0\n", "1\n"],
     shown: 2,
@@ -157,6 +158,7 @@ const ROWS: &[Row<'static>] = &[
         bounds: Bounds {
             nodes: 10_000,
             shown: 1,
+            bytes: 1_000_000,
         },
         shown: 1,
         stopped: "texts",
@@ -167,9 +169,21 @@ const ROWS: &[Row<'static>] = &[
         bounds: Bounds {
             nodes: 1,
             shown: 100,
+            bytes: 1_000_000,
         },
         shown: 0,
         stopped: "nodes",
+        ..PLAIN
+    },
+    // no room for what is kept of a node
+    Row {
+        bounds: Bounds {
+            nodes: 10_000,
+            shown: 100,
+            bytes: 1,
+        },
+        shown: 0,
+        stopped: "bytes",
         ..PLAIN
     },
     // fewer entries than a run has
@@ -222,6 +236,7 @@ fn reason_of(found: &Explored<Entry, End>) -> &'static str {
         Some(Stopped::Nodes) => "nodes",
         Some(Stopped::Shown) => "texts",
         Some(Stopped::Unfollowed) => "entries",
+        Some(Stopped::Bytes) => "bytes",
         Some(Stopped::Memory) => "memory",
     }
 }
