@@ -28,7 +28,7 @@ use std::alloc::{AllocError, Global};
 const FEW_ORDERS: u32 = 8;
 
 /// As many entries as these have together, or more, where no further one is tried.
-const FEW_ENTRIES: u64 = 1_000_000;
+const FEW_ENTRIES: u64 = 50_000;
 
 /// Whether this text and this end are those of one that is known.
 fn is_same(one: &Shown<Entry, End>, text: &[u8], end: End) -> bool
