@@ -6,7 +6,6 @@ use Rattle.std.proofs.lemmas.List.{get_or_default}
 use Rattle.std.proofs.lemmas.List.Elements.{All-nil}
 use Rattle.std.proofs.lemmas.Option.{slice_get-get_or}
 use Rattle.explore.specs.Visited.{visits}
-use Rattle.explore.specs.Pieces.{pieces}
 use Rattle.explore.specs.SearchKept.{AreKept, AreContinued}
 use Rattle.explore.specs.SearchedRuns.{Runs}
 use Rattle.explore.specs.Search.{Serves, IsShown, IsFollowed, AreCounted, IsEndless}

@@ -8,7 +8,7 @@ use Rattle.std.proofs.lemmas.Bool.{cases_lt}
 use Rattle.std.proofs.lemmas.List.{get_or_append_left}
 use Rattle.std.proofs.Math.Seq.{get_or-append_seam}
 use Rattle.explore.specs.Grown.{Extends, grown}
-use Rattle.explore.specs.Pieces.{pieces, ArePieces}
+use Rattle.explore.specs.Pieces.{pieces}
 use Rattle.explore.specs.SearchKept.{IsText, IsVisited, IsPending, AreKept, Grows}
 use Rattle.explore.specs.SearchedRuns.{Runs}
 use Rattle.explore.specs.Search.{IsPrinted, Serves, IsShown, IsFollowed}

@@ -3,7 +3,6 @@ use Rattle.std.specs.List.{Any}
 use Rattle.std.proofs.lemmas.List.Quantifiers.{Any-push}
 use Rattle.explore.specs.Visited.{visits}
 use Rattle.explore.specs.declared.kept.Pending.{Pending}
-use Rattle.explore.specs.Pieces.{pieces}
 use Rattle.explore.proofs.Keeping.{AreKept-first, keys_first}
 use Rattle.explore.proofs.kept.first.Goals as goal
 
