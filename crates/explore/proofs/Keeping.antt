@@ -8,13 +8,13 @@ use Rattle.std.proofs.lemmas.Bool.{cases_lt}
 use Rattle.std.proofs.lemmas.List.{get_or_append_left}
 use Rattle.std.proofs.Math.Seq.{get_or-append_seam}
 use Rattle.explore.specs.Grown.{Extends, grown}
-use Rattle.explore.specs.Pieces.{pieces, ArePieces}
+use Rattle.explore.specs.Pieces.{pieces}
 use Rattle.explore.specs.SearchKept.{IsText, IsVisited, IsPending, AreKept, Grows}
 use Rattle.explore.specs.SearchedRuns.{Runs}
 use Rattle.explore.specs.Search.{IsPrinted, Serves, IsShown, IsFollowed}
 use Rattle.explore.specs.NumberedTexts.{texts, IsTexts}
 use Rattle.explore.specs.Lineage.{ways, IsLineage}
-use Rattle.explore.specs.Visited.{IsThere}
+use Rattle.explore.specs.Visited.{IsThere, visits, AreVisits}
 use Rattle.explore.specs.declared.Shown.{Shown}
 use Rattle.explore.specs.declared.kept.KeptNodes.{KeptNodes}
 use Rattle.explore.specs.declared.kept.Pending.{Pending}
@@ -52,7 +52,7 @@ IsPending-more {M} runs old new told told' p more longer pending =
 
 -- what is kept is good where texts are added
 pub AreKept-texts : {M N E : Type 0} (runs : Runs M N E) (HasKey : N → List ℕ → Type 0) (old new : KeptNodes N M) → AreKept runs HasKey old → new.lineage ≡ old.lineage → IsTexts new.texts → Extends (texts old.texts) (texts new.texts) →
-    ArePieces new.visited.visits → pieces new.visited.visits ≡ pieces old.visited.visits → new.pending.items ≡ old.pending.items → AreKept runs HasKey new
+    AreVisits new.visited → visits new.visited ≡ visits old.visited → new.pending.items ≡ old.pending.items → AreKept runs HasKey new
 AreKept-texts {M} {N} runs HasKey old new kept lineage ok longer whole keys pending =
     let more : Extends (ways old.lineage) (ways new.lineage) = subst (λ t. Extends (ways old.lineage) (ways t)) (sym lineage) (Extends-itself (ways old.lineage)) in
     record {
@@ -106,7 +106,7 @@ visited_pushed runs HasKey old new told told' keys visit v k more longer count b
 -- what is kept is good where a run is added, with its text, its visit and its node
 pub AreKept-push : {M N E : Type 0} (runs : Runs M N E) (HasKey : N → List ℕ → Type 0) (old new : KeptNodes N M) (from text : ℕ) (moves : List M) (visit : ℕ × List ℕ) (p : Pending N) → AreKept runs HasKey old →
     IsLineage new.lineage → ways new.lineage ≡ grown (ways old.lineage) from moves → IsTexts new.texts → Extends (texts old.texts) (texts new.texts) →
-    ArePieces new.visited.visits → pieces new.visited.visits ≡ pieces old.visited.visits ++ visit ∷ [] → new.pending.items ≡ old.pending.items ++ p ∷ [] →
+    AreVisits new.visited → visits new.visited ≡ visits old.visited ++ visit ∷ [] → new.pending.items ≡ old.pending.items ++ p ∷ [] →
     IsVisited runs HasKey (ways new.lineage) (texts new.texts) (record { number = length (ways old.lineage); text = visit.0 }) visit.1 → IsPending runs (ways new.lineage) (texts new.texts) p → AreKept runs HasKey new
 AreKept-push {M} {N} runs HasKey old new from text moves visit p kept lineage added ok longer whole keys pending seen last =
     let more : Extends (ways old.lineage) (ways new.lineage) = (_, added) in
@@ -114,8 +114,8 @@ AreKept-push {M} {N} runs HasKey old new from text moves visit p kept lineage ad
       lineage = lineage;
       told = ok;
       whole = whole;
-      count = omega (arith, ap length keys, length-append (pieces old.visited.visits) (visit ∷ []), kept.count, ap length added, length-grown (ways old.lineage) from moves);
-      visited = λ k v e. visited_pushed runs HasKey (ways old.lineage) (ways new.lineage) (texts old.texts) (texts new.texts) (pieces old.visited.visits) visit v k more longer kept.count kept.visited seen
+      count = omega (arith, ap length keys, length-append (visits old.visited) (visit ∷ []), kept.count, ap length added, length-grown (ways old.lineage) from moves);
+      visited = λ k v e. visited_pushed runs HasKey (ways old.lineage) (ways new.lineage) (texts old.texts) (texts new.texts) (visits old.visited) visit v k more longer kept.count kept.visited seen
           (ap (λ (l : List (ℕ × List ℕ)). slice_get l k) (sym keys) ∙ e);
       pending = subst (λ (l : List (Pending N)). All (IsPending runs (ways new.lineage) (texts new.texts)) l) (sym pending)
           (All-push (IsPending runs (ways new.lineage) (texts new.texts)) old.pending.items p
@@ -188,10 +188,10 @@ AreKept-pop {M} {N} runs HasKey old new p kept lineage told visited pending =
       record {
         lineage = subst IsLineage (sym lineage) kept.lineage;
         told = subst IsTexts (sym told) kept.told;
-        whole = subst (λ v. ArePieces v.visits) (sym visited) kept.whole;
-        count = ap (λ v. length (pieces v.visits)) visited ∙ (kept.count ∙ ap (λ t. length (ways t)) (sym lineage));
+        whole = subst AreVisits (sym visited) kept.whole;
+        count = ap (λ v. length (visits v)) visited ∙ (kept.count ∙ ap (λ t. length (ways t)) (sym lineage));
         visited = λ k v e. subst (λ t. IsVisited runs HasKey (ways t) (texts new.texts) (record { number = k; text = v.0 }) v.1) (sym lineage)
-            (subst (λ t. IsVisited runs HasKey (ways old.lineage) (texts t) (record { number = k; text = v.0 }) v.1) (sym told) (kept.visited k v (ap (λ s. slice_get (pieces s.visits) k) (sym visited) ∙ e)));
+            (subst (λ t. IsVisited runs HasKey (ways old.lineage) (texts t) (record { number = k; text = v.0 }) v.1) (sym told) (kept.visited k v (ap (λ s. slice_get (visits s) k) (sym visited) ∙ e)));
         pending = subst (λ t. All (IsPending runs (ways t) (texts new.texts)) new.pending.items) (sym lineage) (subst (λ t. All (IsPending runs (ways old.lineage) (texts t)) new.pending.items) (sym told) parts.0);
       },
       parts.1,
@@ -209,7 +209,7 @@ only_visit runs HasKey w t visit v k first e = elim (slice_get_push [] visit v k
 ]
 
 -- what is kept at first
-pub AreKept-first : {M N E : Type 0} (runs : Runs M N E) (HasKey : N → List ℕ → Type 0) (new : KeptNodes N M) (p : Pending N) (visit : ℕ × List ℕ) → IsLineage new.lineage → ways new.lineage ≡ [] ∷ [] → IsTexts new.texts → texts new.texts ≡ [] ∷ [] → ArePieces new.visited.visits → pieces new.visited.visits ≡ visit ∷ [] → new.pending.items ≡ [] ++ p ∷ [] →
+pub AreKept-first : {M N E : Type 0} (runs : Runs M N E) (HasKey : N → List ℕ → Type 0) (new : KeptNodes N M) (p : Pending N) (visit : ℕ × List ℕ) → IsLineage new.lineage → ways new.lineage ≡ [] ∷ [] → IsTexts new.texts → texts new.texts ≡ [] ∷ [] → AreVisits new.visited → visits new.visited ≡ visit ∷ [] → new.pending.items ≡ [] ++ p ∷ [] →
     visit.0 ≡ 0 → p.reached ≡ record { number = 0; text = 0 } → runs.Stands p.node [] → HasKey p.node visit.1 → runs.text [] ≡ [] → AreKept runs HasKey new
 AreKept-first {M} {N} runs HasKey new p visit lineage one told none whole keys pending zeroth reached stands keyed silent =
     let first : get_or (ways new.lineage) 0 [] ≡ [] = ap (λ (l : List (List M)). get_or l 0 []) one in

@@ -1,6 +1,7 @@
 -- What a search keeps.
 use Rattle.std.specs.Prelude.{◌≡◌, ℕ, ◌+◌, ◌<◌, ◌≤◌, List, [], ◌++◌, length, get_or, Some, slice_get}
 use Rattle.std.specs.List.{All, Any}
+use Rattle.explore.specs.Visited.{visits, AreVisits}
 use Rattle.explore.specs.Grown.{Extends}
 use Rattle.explore.specs.Pieces.{pieces, ArePieces}
 use Rattle.explore.specs.SearchedRuns.{Runs}
@@ -42,9 +43,9 @@ pub record IsPending {Move Node End : Type 0} (runs : Runs Move Node End) (ways 
 pub record AreKept {Move Node End : Type 0} (runs : Runs Move Node End) (HasKey : Node → List ℕ → Type 0) (kept : KeptNodes Node Move) : Type 0 where
   pub lineage : IsLineage kept.lineage
   pub told : IsTexts kept.texts
-  pub whole : ArePieces kept.visited.visits
-  pub count : length (pieces kept.visited.visits) ≡ length (ways kept.lineage)
-  pub visited : (k : ℕ) (visit : ℕ × List ℕ) → slice_get (pieces kept.visited.visits) k ≡ Some visit → IsVisited runs HasKey (ways kept.lineage) (texts kept.texts) (record { number = k; text = visit.0 }) visit.1
+  pub whole : AreVisits kept.visited
+  pub count : length (visits kept.visited) ≡ length (ways kept.lineage)
+  pub visited : (k : ℕ) (visit : ℕ × List ℕ) → slice_get (visits kept.visited) k ≡ Some visit → IsVisited runs HasKey (ways kept.lineage) (texts kept.texts) (record { number = k; text = visit.0 }) visit.1
   pub pending : All (IsPending runs (ways kept.lineage) (texts kept.texts)) kept.pending.items
 
 -- runs, their steps, edges and texts stay, and for each run that was added there is a node more that is pending

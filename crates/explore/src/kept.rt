@@ -105,8 +105,8 @@ fn follow<O: Orders>(
     let bytes = kept.key.as_slice();
     let number = kept.lineage.len();
     if number >= scope.bounds.nodes {
-        let there = kept.visited.find(text, bytes);
-        let known = kept.links.join(from.number, there)?;
+        let seen = kept.visited.find(scope.alloc, text, bytes)?;
+        let known = kept.links.join(from.number, seen)?;
         return Ok(known);
     }
     let there = kept.visited.add(scope.alloc, text, bytes)?;

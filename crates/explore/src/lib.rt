@@ -5,7 +5,7 @@
 //! 2. `explore` takes the last node off a stack, follows its ways, and puts the nodes that they lead to on the stack,
 //!    but for those of which one that goes on alike was there before.
 //! 3. The node itself is dropped then. What stays of it is the step that led to it (`lineage`), the number of what its run
-//!    printed (`texts`), and its key (`visited`).
+//!    printed (`texts`), and its key, shortened by `sharing` (`visited`).
 //! 4. Where a way ends, its text and end are shown, with the moves of the whole run, unless they are there already.
 //! 5. The search is over when the stack is empty. If nothing was left out on the way, each text and end of every run is
 //!    shown: that is the contract of `explore`.

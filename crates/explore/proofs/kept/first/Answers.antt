@@ -1,8 +1,8 @@
 use Rattle.std.proofs.Common.{◌≡◌, ℕ, List, [], ◌∷◌, ◌++◌, refl, sym, ap, ◌∙◌, subst}
 use Rattle.std.specs.List.{Any}
 use Rattle.std.proofs.lemmas.List.Quantifiers.{Any-push}
+use Rattle.explore.specs.Visited.{visits}
 use Rattle.explore.specs.declared.kept.Pending.{Pending}
-use Rattle.explore.specs.Pieces.{pieces}
 use Rattle.explore.proofs.Keeping.{AreKept-first, keys_first}
 use Rattle.explore.proofs.kept.first.Goals as goal
 
@@ -12,7 +12,7 @@ returns-clause-kept g c =
     let visit : ℕ × List ℕ = (0, c.as_slice.result.now) in
     let p : Pending g.row.O-Node.Denot = record { node = c.in_ok-node.node; reached = record { number = 0; text = 0 } } in
     AreKept-first (g.O.Orders.runs orders) (g.O.Orders.has_key orders) _ p visit c.new.ensures.lineage c.new.ensures.ways c.new-2.ensures.ok c.new-2.ensures.texts c.in_ok-_there.ensures.whole
-    (keys_first c.in_ok-_there._there (pieces c.new-visited.result.visits) (pieces c.add.new.self.visits) visit c.new-visited.ensures.none c.in_ok-_there.ensures.there c.in_ok-_there.ensures.added)
+    (keys_first c.in_ok-_there._there (visits c.new-visited.result) (visits c.add.new.self) visit c.new-visited.ensures.none c.in_ok-_there.ensures.there c.in_ok-_there.ensures.added)
     (c.in_ok-push.ensures.items ∙ ap (λ (l : List (Pending g.row.O-Node.Denot)). l ++ p ∷ []) c.new-pending.ensures.items)
     refl refl c.in_ok-node.ensures (subst (g.O.Orders.has_key orders c.in_ok-node.node) (sym c.as_slice.ensures.value) c.in_ok-key.ensures) (g.met.O.Orders.silent orders)
 

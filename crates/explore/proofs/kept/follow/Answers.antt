@@ -4,7 +4,7 @@ use Rattle.explore.specs.Links.{IsUnmarked}
 use Rattle.explore.specs.NumberedTexts.{texts}
 use Rattle.explore.specs.Lineage.{ways}
 use Rattle.explore.specs.Pieces.{pieces}
-use Rattle.explore.specs.Visited.{IsThere}
+use Rattle.explore.specs.Visited.{IsThere, visits}
 use Rattle.explore.specs.declared.kept.Pending.{Pending}
 use Rattle.explore.specs.declared.links.Edge.{Edge}
 use Rattle.explore.proofs.Keeping.{AreKept-texts, Grows-texts, IsText-next, IsVisited-next, IsPending-next, AreKept-push, Grows-push}
@@ -14,7 +14,7 @@ use Rattle.explore.proofs.kept.follow.Goals as goal
 
 pub returns-then-number-scope-clause-kept : goal.returns-then-number-scope-clause-kept
 returns-then-number-scope-clause-kept g c =
-    AreKept-texts (g.O.Orders.runs c.args.orders.now) (g.O.Orders.has_key c.args.orders.now) c.args.kept.now _ c.requires.kept refl c.in_ok-text.ensures.ok c.in_ok-text.ensures.grows c.requires.kept.whole refl refl
+    AreKept-texts (g.O.Orders.runs c.args.orders.now) (g.O.Orders.has_key c.args.orders.now) c.args.kept.now _ c.requires.kept refl c.in_ok-text.ensures.ok c.in_ok-text.ensures.grows c.in_ok-seen.ensures.whole c.in_ok-seen.ensures.same refl
 
 pub returns-then-number-scope-clause-grows : goal.returns-then-number-scope-clause-grows
 returns-then-number-scope-clause-grows g c = Grows-texts c.args.kept.now _ refl c.in_ok-known.ensures.edges c.in_ok-text.ensures.grows refl
@@ -29,7 +29,7 @@ returns-then-number-scope-clause-leads g c there =
     let text : get_or (texts c.longer.new.self) visit.0 [] ≡ runs.text (get_or (ways old.lineage) c.args.from.number [] ++ next.moves.items) =
     c.in_ok-text.ensures.text ∙ (ap (λ l. get_or (texts old.texts) c.args.from.text [] ++ l) c.deref.ensures.value ∙ (ap (λ l. l ++ next.printed.items) c.requires.from.same ∙ sym c.requires.next.1)) in
     let edge = c.in_ok-known.ensures.joined there in
-    let seen : IsThere visit (pieces old.visited.visits) edge.0 = found_at c.find-there.result edge.0 (IsThere visit (pieces old.visited.visits)) edge.1 c.find-there.ensures in
+    let seen : IsThere visit (visits old.visited) edge.0 = found_at c.in_ok-seen.seen edge.0 (IsThere visit (visits old.visited)) edge.1 c.in_ok-seen.ensures.there in
     there_leads runs (g.O.Orders.has_key orders) old _ (texts c.longer.new.self) next.node c.args.from.number (get_or (ways old.lineage) c.args.from.number [] ++ next.moves.items) visit edge.0
     (λ a b i j k of_a of_b at bt t. g.met.O.Orders.alike orders i j (g.met.O.Orders.keyed orders a b i j k of_a of_b at bt t))
     c.requires.kept c.in_ok-text.ensures.grows c.requires.next.0 (subst (g.O.Orders.has_key orders next.node) (sym c.as_slice-bytes.ensures.value) c.in_ok-key.ensures) text seen refl edge.2
@@ -39,7 +39,7 @@ returns-then-joined-clause-kept g c =
     let old = c.args.kept.now in
     let visit : ℕ × List ℕ = (c.in_ok-text.text, c.as_slice-bytes.result.now) in
     let edge = c.in_ok-joined.ensures.joined c.if-joined.true in
-    let seen = found_at c.in_ok-there.there edge.0 (λ number. (pieces c.add.new.self.visits ≡ pieces old.visited.visits) × IsThere visit (pieces old.visited.visits) number) edge.1 c.in_ok-there.ensures.there in
+    let seen = found_at c.in_ok-there.there edge.0 (λ number. (visits c.add.new.self ≡ visits old.visited) × IsThere visit (visits old.visited) number) edge.1 c.in_ok-there.ensures.there in
     AreKept-texts (g.O.Orders.runs c.args.orders.now) (g.O.Orders.has_key c.args.orders.now) old _ c.requires.kept refl c.in_ok-text.ensures.ok c.in_ok-text.ensures.grows c.in_ok-there.ensures.whole seen.0 refl
 
 pub returns-then-joined-clause-grows : goal.returns-then-joined-clause-grows
@@ -55,7 +55,7 @@ returns-then-joined-clause-leads g c _ =
     let text : get_or (texts c.longer.new.self) visit.0 [] ≡ runs.text (get_or (ways old.lineage) c.args.from.number [] ++ next.moves.items) =
     c.in_ok-text.ensures.text ∙ (ap (λ l. get_or (texts old.texts) c.args.from.text [] ++ l) c.deref.ensures.value ∙ (ap (λ l. l ++ next.printed.items) c.requires.from.same ∙ sym c.requires.next.1)) in
     let edge = c.in_ok-joined.ensures.joined c.if-joined.true in
-    let seen = found_at c.in_ok-there.there edge.0 (λ number. (pieces c.add.new.self.visits ≡ pieces old.visited.visits) × IsThere visit (pieces old.visited.visits) number) edge.1 c.in_ok-there.ensures.there in
+    let seen = found_at c.in_ok-there.there edge.0 (λ number. (visits c.add.new.self ≡ visits old.visited) × IsThere visit (visits old.visited) number) edge.1 c.in_ok-there.ensures.there in
     there_leads runs (g.O.Orders.has_key orders) old _ (texts c.longer.new.self) next.node c.args.from.number (get_or (ways old.lineage) c.args.from.number [] ++ next.moves.items) visit edge.0
     (λ a b i j k of_a of_b at bt t. g.met.O.Orders.alike orders i j (g.met.O.Orders.keyed orders a b i j k of_a of_b at bt t))
     c.requires.kept c.in_ok-text.ensures.grows c.requires.next.0 (subst (g.O.Orders.has_key orders next.node) (sym c.as_slice-bytes.ensures.value) c.in_ok-key.ensures) text seen.1 refl edge.2
