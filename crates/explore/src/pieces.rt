@@ -41,6 +41,13 @@ impl<T: Copy> Pieces<T> {
         }
     }
 
+    /// About how many bytes they take.
+    pub(crate) fn bytes(&self) -> usize {
+        let rows = self.rows.capacity().saturating_mul(size_of::<Piece>());
+        let arena = self.arena.capacity().saturating_mul(1 * size_of::<T>());
+        rows.saturating_add(arena)
+    }
+
     /// How many lists there are.
     pub(crate) fn len(&self) -> usize
         ensures { result ≡ length (pieces self.now) }

@@ -6,6 +6,9 @@ use indexmap::IndexSet;
 use sharing::{Parts, Shortened};
 use std::alloc::{AllocError, Global};
 
+// About how many bytes a visit takes, with its hash and its place in the table.
+const VISIT_BYTES: usize = 32;
+
 /// A visit: the number of the text that a node's run printed, and what the node's key was shortened to.
 #[derive(Clone, Copy, PartialEq, Eq, Hash)]
 pub(crate) struct Visit {
@@ -42,6 +45,12 @@ impl Visited {
             parts: Parts::new(alloc),
             rows: IndexSet::new(alloc),
         }
+    }
+
+    /// About how many bytes they take.
+    pub(crate) fn bytes(&self) -> usize {
+        let rows = self.rows.capacity().saturating_mul(VISIT_BYTES);
+        rows.saturating_add(self.parts.bytes())
     }
 
     /// The number of such a visit, where there was one. Nothing is added.

@@ -131,6 +131,14 @@ impl Chunks {
         }
     }
 
+    /// About how many bytes they take.
+    pub(crate) fn bytes(&self) -> usize {
+        let rows = self.rows.capacity().saturating_mul(size_of::<Row>());
+        let slots = self.slots.capacity().saturating_mul(size_of::<u64>());
+        rows.saturating_add(slots)
+            .saturating_add(self.arena.capacity())
+    }
+
     // The chunk in a slot, where it is this one.
     fn same_in(&self, slot: u64, bytes: &[u8]) -> Option<u32>
         requires whole { AreChunks self.now }

@@ -46,6 +46,11 @@ impl Parts {
         }
     }
 
+    /// About how many bytes they take.
+    pub fn bytes(&self) -> usize {
+        self.chunks.bytes()
+    }
+
     // What a byte string is shortened to. None where a part of it isn't there and isn't to be added.
     fn shortened(
         &mut self,
