@@ -44,7 +44,6 @@ IsVisited-more {M} runs HasKey old new told told' reached key more longer visit 
       text = IsText-more runs old new told told' reached more longer visit.text;
     }
 
-
 -- what is kept is good where texts are added
 pub AreKept-texts : {M N E : Type 0} (runs : Runs M N E) (HasKey : N → List ℕ → Type 0) (old new : KeptNodes N M) → AreKept runs HasKey old → new.lineage ≡ old.lineage → IsTexts new.texts → Extends (texts old.texts) (texts new.texts) →
     AreVisits new.visited → visits new.visited ≡ visits old.visited → new.pending.items ≡ old.pending.items → new.nodes ≡ old.nodes → AreKept runs HasKey new

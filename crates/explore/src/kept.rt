@@ -80,7 +80,7 @@ pub(crate) fn first<O: Orders>(
     links.add()?;
     let mut pending = Vec::new(alloc);
     pending.push(Reached { number: 0, text: 0 })?;
-    let weight = orders.weight(&node, key.as_slice());
+    let weight = orders.weight(&node);
     let placed = Placed {
         number: 0,
         node,
@@ -128,7 +128,7 @@ fn follow<O: Orders>(
     let text = kept.texts.longer(from.text, &printed)?;
     orders.key(room, &mut kept.key, &node)?;
     let bytes = kept.key.as_slice();
-    let weight = orders.weight(&node, bytes);
+    let weight = orders.weight(&node);
     let number = kept.lineage.len();
     if number >= scope.bounds.nodes {
         let seen = kept.visited.find(scope.alloc, text, bytes)?;

@@ -57,8 +57,8 @@ pub trait Orders {
     ) -> Result<(), AllocError>
         ensures { OnOk result (has_key self.now node.now key.new.items) };
 
-    /// About how many bytes a node with this key takes.
-    fn weight(&self, node: &Self::Node, key: &[u8]) -> usize;
+    /// About how many bytes a node takes.
+    fn weight(&self, node: &Self::Node) -> usize;
 
     /// The node of a run that goes on by these moves from the run of a node. That some node stands there was found before.
     fn again(
