@@ -103,8 +103,8 @@ pub AreKept-push : {M N E : Type 0} (runs : Runs M N E) (HasKey : N → List ℕ
     IsLineage new.lineage → ways new.lineage ≡ grown (ways old.lineage) from moves → IsTexts new.texts → Extends (texts old.texts) (texts new.texts) →
     AreVisits new.visited → visits new.visited ≡ visits old.visited ++ visit ∷ [] → new.pending.items ≡ old.pending.items ++ p ∷ [] →
     IsVisited runs HasKey (ways new.lineage) (texts new.texts) (record { number = length (ways old.lineage); text = visit.0 }) visit.1 → IsText runs (ways new.lineage) (texts new.texts) p →
-    IsLastPart new.nodes.newest.nodes.items (old.nodes.newest.nodes.items ++ last ∷ []) → new.nodes.marks ≡ old.nodes.marks → IsPlaced runs (ways new.lineage) last → AreKept runs HasKey new
-AreKept-push {M} {N} runs HasKey old new from text moves visit p last kept lineage added ok longer whole keys pending seen told newest marks placed =
+    IsLastPart new.nodes.newest.nodes.items (old.nodes.newest.nodes.items ++ last ∷ []) → new.nodes.checkpoints ≡ old.nodes.checkpoints → IsPlaced runs (ways new.lineage) last → AreKept runs HasKey new
+AreKept-push {M} {N} runs HasKey old new from text moves visit p last kept lineage added ok longer whole keys pending seen told newest checkpoints placed =
     let more : Extends (ways old.lineage) (ways new.lineage) = (_, added) in
     record {
       lineage = lineage;
@@ -116,7 +116,7 @@ AreKept-push {M} {N} runs HasKey old new from text moves visit p last kept linea
       pending = subst (λ (l : List Reached). All (IsText runs (ways new.lineage) (texts new.texts)) l) (sym pending)
           (All-push (IsText runs (ways new.lineage) (texts new.texts)) old.pending.items p
           (λ k d less. IsText-more runs (ways old.lineage) (ways new.lineage) (texts old.texts) (texts new.texts) (get_or old.pending.items k d) more longer (kept.pending k d less)) told);
-      placed = ArePlaced-push runs (ways old.lineage) (ways new.lineage) old.nodes new.nodes last more kept.placed newest marks placed;
+      placed = ArePlaced-push runs (ways old.lineage) (ways new.lineage) old.nodes new.nodes last more kept.placed newest checkpoints placed;
     }
 
 -- what is kept grows where a run is added, with its node
@@ -208,9 +208,9 @@ only_visit runs HasKey w t visit v k first e = elim (slice_get_push [] visit v k
 
 -- what is kept at first
 pub AreKept-first : {M N E : Type 0} (runs : Runs M N E) (HasKey : N → List ℕ → Type 0) (new : KeptNodes N M) (p : Reached) (first_node : Placed N) (visit : ℕ × List ℕ) → IsLineage new.lineage → ways new.lineage ≡ [] ∷ [] → IsTexts new.texts → texts new.texts ≡ [] ∷ [] → AreVisits new.visited → visits new.visited ≡ visit ∷ [] → new.pending.items ≡ [] ++ p ∷ [] →
-    IsLastPart new.nodes.newest.nodes.items ([] ++ first_node ∷ []) → new.nodes.marks.nodes.items ≡ [] → first_node.number ≡ 0 →
+    IsLastPart new.nodes.newest.nodes.items ([] ++ first_node ∷ []) → new.nodes.checkpoints.nodes.items ≡ [] → first_node.number ≡ 0 →
     visit.0 ≡ 0 → p ≡ record { number = 0; text = 0 } → runs.Stands first_node.node [] → HasKey first_node.node visit.1 → runs.text [] ≡ [] → AreKept runs HasKey new
-AreKept-first {M} {N} runs HasKey new p first_node visit lineage one told none whole keys pending newest marks number zeroth reached stands keyed silent =
+AreKept-first {M} {N} runs HasKey new p first_node visit lineage one told none whole keys pending newest checkpoints number zeroth reached stands keyed silent =
     let first : get_or (ways new.lineage) 0 [] ≡ [] = ap (λ (l : List (List M)). get_or l 0 []) one in
     let at : IsText runs (ways new.lineage) (texts new.texts) (record { number = 0; text = 0 }) = record {
       way = omega (arith, ap length one);
@@ -239,7 +239,7 @@ AreKept-first {M} {N} runs HasKey new p first_node visit lineage one told none w
           (All-push (IsText runs (ways new.lineage) (texts new.texts)) [] p (All-nil (IsText runs (ways new.lineage) (texts new.texts))) last);
       placed = record {
         newest = All-last (IsPlaced runs (ways new.lineage)) new.nodes.newest.nodes.items ([] ++ first_node ∷ []) newest (All-push (IsPlaced runs (ways new.lineage)) [] first_node (All-nil (IsPlaced runs (ways new.lineage))) placed);
-        marks = subst (All (IsPlaced runs (ways new.lineage))) (sym marks) (All-nil (IsPlaced runs (ways new.lineage)));
+        checkpoints = subst (All (IsPlaced runs (ways new.lineage))) (sym checkpoints) (All-nil (IsPlaced runs (ways new.lineage)));
       };
     }
 

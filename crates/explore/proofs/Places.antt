@@ -4,7 +4,7 @@ use Rattle.std.specs.Prelude.{IfSome}
 use Rattle.std.specs.List.{All, Any, Contains}
 use Rattle.std.proofs.lemmas.List.Elements.{All-push, All-contains, Contains-append_left, Contains-append_right}
 use Rattle.explore.specs.Grown.{Extends, IsLastPart}
-use Rattle.explore.specs.Placed.{IsAt, IsPlaced, ArePlaced}
+use Rattle.explore.specs.Placed.{IsAt, IsPlaced, ArePlaced, AreStood}
 use Rattle.explore.specs.SearchedRuns.{Runs}
 use Rattle.explore.specs.declared.again.Nodes.{Nodes}
 use Rattle.explore.specs.declared.recent.Placed.{Placed}
@@ -49,16 +49,16 @@ pub ArePlaced-more : {M N E : Type 0} (runs : Runs M N E) (old new : List (List 
 ArePlaced-more runs old new nodes more placed =
     record {
       newest = all_more runs old new nodes.newest.nodes.items more placed.newest;
-      marks = all_more runs old new nodes.marks.nodes.items more placed.marks;
+      checkpoints = all_more runs old new nodes.checkpoints.nodes.items more placed.checkpoints;
     }
 
 -- nodes stand at their runs where one is added, and the oldest may have gone
 pub ArePlaced-push : {M N E : Type 0} (runs : Runs M N E) (old new : List (List M)) (nodes nodes' : Nodes N) (p : Placed N) → Extends old new → ArePlaced runs old nodes →
-    IsLastPart nodes'.newest.nodes.items (nodes.newest.nodes.items ++ p ∷ []) → nodes'.marks ≡ nodes.marks → IsPlaced runs new p → ArePlaced runs new nodes'
-ArePlaced-push {M} {N} runs old new nodes nodes' p more placed part marks at =
+    IsLastPart nodes'.newest.nodes.items (nodes.newest.nodes.items ++ p ∷ []) → nodes'.checkpoints ≡ nodes.checkpoints → IsPlaced runs new p → ArePlaced runs new nodes'
+ArePlaced-push {M} {N} runs old new nodes nodes' p more placed part checkpoints at =
     record {
       newest = All-last (IsPlaced runs new) nodes'.newest.nodes.items (nodes.newest.nodes.items ++ p ∷ []) part (All-push (IsPlaced runs new) nodes.newest.nodes.items p (all_more runs old new nodes.newest.nodes.items more placed.newest) at);
-      marks = subst (λ (m : Recent N). All (IsPlaced runs new) m.nodes.items) (sym marks) (all_more runs old new nodes.marks.nodes.items more placed.marks);
+      checkpoints = subst (λ (m : Recent N). All (IsPlaced runs new) m.nodes.items) (sym checkpoints) (all_more runs old new nodes.checkpoints.nodes.items more placed.checkpoints);
     }
 
 -- the node that was taken out stands at the run with its number
@@ -66,3 +66,10 @@ pub taken_stands : {M N E : Type 0} (runs : Runs M N E) (ways : List (List M)) (
 taken_stands {M} {N} runs ways ps number node all (k, p, within, at, (same, is)) =
     let here : IsPlaced runs ways p = subst (IsPlaced runs ways) at (all k p within) in
     subst (λ (n : N). runs.Stands n (get_or ways number [])) is (subst (λ (n : ℕ). runs.Stands p.node (get_or ways n [])) same here.stands)
+
+-- a node that is made again from that of one run stands at the run with a number that goes on from it, where some node stands
+pub again_stands : {M N E : Type 0} (runs : Runs M N E) (ways : List (List M)) (number : ℕ) (run moves : List M) (from node : N) → number < length ways → AreStood runs ways → get_or ways number [] ≡ run ++ moves → runs.Stands from run
+    → ((way : List M) (other : N) → runs.Stands from way → runs.Stands other (way ++ moves) → runs.Stands node (way ++ moves)) → runs.Stands node (get_or ways number [])
+again_stands {M} runs ways number run moves from node within stood is stands made =
+    let at = stood number within in
+    subst (λ (l : List M). runs.Stands node l) (sym is) (made run at.0 stands (subst (λ (l : List M). runs.Stands at.0 l) is at.1))

@@ -18,7 +18,7 @@ pub record IsPlaced {Move Node End : Type 0} (runs : Runs Move Node End) (ways :
 abbrev pub AreStood : {Move Node End : Type 0} → Runs Move Node End → List (List Move) → Type 0
 AreStood {Move} {Node} runs ways = (k : ℕ) → k < length ways → (node : Node) × runs.Stands node (get_or ways k [])
 
--- the newest nodes and the marks stand at the runs with their numbers
+-- the newest nodes and the checkpoints stand at the runs with their numbers
 pub record ArePlaced {Move Node End : Type 0} (runs : Runs Move Node End) (ways : List (List Move)) (nodes : Nodes Node) : Type 0 where
   pub newest : All (IsPlaced runs ways) nodes.newest.nodes.items
-  pub marks : All (IsPlaced runs ways) nodes.marks.nodes.items
+  pub checkpoints : All (IsPlaced runs ways) nodes.checkpoints.nodes.items

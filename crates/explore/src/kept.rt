@@ -44,7 +44,7 @@ pub(crate) struct KeptNodes<N, M> {
     pub(crate) key: Vec<u8>,
 }
 
-impl<N, M: Copy> KeptNodes<N, M> {
+impl<N: Drop, M: Copy> KeptNodes<N, M> {
     /// About how many bytes it takes.
     pub(crate) fn bytes(&self) -> usize {
         let reached = self.pending.capacity().saturating_mul(size_of::<Reached>());

@@ -29,7 +29,7 @@ pub(crate) struct Recent<N> {
     pub(crate) weight: usize,
 }
 
-impl<N> Recent<N> {
+impl<N: Drop> Recent<N> {
     /// No nodes.
     pub(crate) fn new(alloc: Global) -> Self
         ensures { result.nodes.items ≡ [] }

@@ -17,7 +17,7 @@ returns-clause-kept g c =
     AreKept-first (g.O.Orders.runs orders) (g.O.Orders.has_key orders) _ p first visit c.new.ensures.lineage c.new.ensures.ways c.new-2.ensures.ok c.new-2.ensures.texts c.in_ok-_there.ensures.whole
     (keys_first c.in_ok-_there._there (visits c.new-visited.result) (visits c.add.new.self) visit c.new-visited.ensures.none c.in_ok-_there.ensures.there c.in_ok-_there.ensures.added)
     (c.in_ok-push.ensures.items ∙ ap (λ (l : List Reached). l ++ p ∷ []) c.new-pending.ensures.items)
-    (subst (λ (l : List (Placed g.row.O-Node.Denot)). IsLastPart c.push-2.new.self.nodes.items (l ++ first ∷ [])) c.new-nodes.ensures.newest c.in_ok-push-2.ensures) c.new-nodes.ensures.marks
+    (subst (λ (l : List (Placed g.row.O-Node.Denot)). IsLastPart c.push-2.new.self.nodes.items (l ++ first ∷ [])) c.new-nodes.ensures.newest c.in_ok-push-2.ensures) c.new-nodes.ensures.checkpoints
     refl refl refl c.in_ok-node.ensures (subst (g.O.Orders.has_key orders c.in_ok-node.node) (sym c.as_slice.ensures.value) c.in_ok-key.ensures) (g.met.O.Orders.silent orders)
 
 pub returns-clause-waits : goal.returns-clause-waits

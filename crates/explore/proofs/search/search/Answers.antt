@@ -10,7 +10,7 @@ use Rattle.explore.specs.declared.stopped.Stopped.TheVariants as stop
 use Rattle.explore.proofs.Growing.{Extends-itself, get_or-extends, length-extends}
 use Rattle.explore.proofs.Complete.{all_shown}
 use Rattle.explore.proofs.Continuing.{AreContinued-more}
-use Rattle.explore.proofs.Counting.{counted, none_counted, endless_of, by_memory, some_none, none_some}
+use Rattle.explore.proofs.Counting.{stood_at, counted, none_counted, endless_of, by_memory, some_none, none_some}
 use Rattle.explore.proofs.Edges.{none_unmarked}
 use Rattle.explore.proofs.Keeping.{AreKept-pop, known_more, all_followed}
 use Rattle.explore.proofs.search.search.Goals as goal
@@ -38,18 +38,32 @@ loop-reached-init g c =
           subst (λ (n : ℕ). Any (λ p. p.number ≡ n) c.in_ok-kept.kept.pending.items) none c.in_ok-kept.ensures.waits);
     }
 
+pub node_at-requires-clause-within : goal.node_at-requires-clause-within
+node_at-requires-clause-within g c =
+    let old = c.loop-reached.kept in
+    let at = (AreKept-pop (g.O.Orders.runs c.args.orders.now) (g.O.Orders.has_key c.args.orders.now) old (record { lineage = old.lineage; texts = old.texts; visited = old.visited; links = old.links; pending = c.pop.new.self; nodes = old.nodes; key = old.key }) c.in-Some.reached c.loop-reached.invariant.kept refl refl refl c.in-Some.ensures.items c.loop-reached.invariant.kept.placed).1 in
+    at.way
+
+pub node_at-requires-clause-stood : goal.node_at-requires-clause-stood
+node_at-requires-clause-stood g c k within = stood_at (g.O.Orders.runs c.args.orders.now) (g.O.Orders.has_key c.args.orders.now) c.loop-reached.kept k c.loop-reached.invariant.kept within
+
 pub turn-requires-clause-kept : goal.turn-requires-clause-kept
 turn-requires-clause-kept g c =
-    (AreKept-pop (g.O.Orders.runs c.args.orders.now) (g.O.Orders.has_key c.args.orders.now) c.loop-reached.kept (record { lineage = c.loop-reached.kept.lineage; texts = c.loop-reached.kept.texts; visited = c.loop-reached.kept.visited; links = c.loop-reached.kept.links; pending = c.pop.new.self; key = c.loop-reached.kept.key }) c.in-Some.at c.loop-reached.invariant.kept refl refl refl c.in-Some.ensures.items).0
+    let old = c.loop-reached.kept in
+    (AreKept-pop (g.O.Orders.runs c.args.orders.now) (g.O.Orders.has_key c.args.orders.now) old (record { lineage = old.lineage; texts = old.texts; visited = old.visited; links = old.links; pending = c.pop.new.self; nodes = c.node_at.new.nodes; key = old.key }) c.in-Some.reached c.loop-reached.invariant.kept refl refl refl c.in-Some.ensures.items c.in_ok-node.ensures.placed).0
 
 pub turn-requires-clause-continued : goal.turn-requires-clause-continued
 turn-requires-clause-continued g c =
     let old = c.loop-reached.kept in
-    AreContinued-more (g.O.Orders.runs c.args.orders.now) old (record { lineage = old.lineage; texts = old.texts; visited = old.visited; links = old.links; pending = c.pop.new.self; key = old.key }) (Extends-itself (ways old.lineage)) (Extends-itself (pieces old.lineage.steps)) (Extends-itself old.links.edges.items) (λ k none. none) c.loop-reached.invariant.continued
+    AreContinued-more (g.O.Orders.runs c.args.orders.now) old (record { lineage = old.lineage; texts = old.texts; visited = old.visited; links = old.links; pending = c.pop.new.self; nodes = c.node_at.new.nodes; key = old.key }) (Extends-itself (ways old.lineage)) (Extends-itself (pieces old.lineage.steps)) (Extends-itself old.links.edges.items) (λ k none. none) c.loop-reached.invariant.continued
 
 pub turn-requires-clause-at : goal.turn-requires-clause-at
 turn-requires-clause-at g c =
-    (AreKept-pop (g.O.Orders.runs c.args.orders.now) (g.O.Orders.has_key c.args.orders.now) c.loop-reached.kept (record { lineage = c.loop-reached.kept.lineage; texts = c.loop-reached.kept.texts; visited = c.loop-reached.kept.visited; links = c.loop-reached.kept.links; pending = c.pop.new.self; key = c.loop-reached.kept.key }) c.in-Some.at c.loop-reached.invariant.kept refl refl refl c.in-Some.ensures.items).1
+    let old = c.loop-reached.kept in
+    record {
+      stands = c.in_ok-node.ensures.node;
+      text = (AreKept-pop (g.O.Orders.runs c.args.orders.now) (g.O.Orders.has_key c.args.orders.now) old (record { lineage = old.lineage; texts = old.texts; visited = old.visited; links = old.links; pending = c.pop.new.self; nodes = old.nodes; key = old.key }) c.in-Some.reached c.loop-reached.invariant.kept refl refl refl c.in-Some.ensures.items c.loop-reached.invariant.kept.placed).1;
+    }
 
 pub loop-reached-preserved : goal.loop-reached-preserved
 loop-reached-preserved g c =
@@ -66,7 +80,7 @@ loop-reached-preserved g c =
       some = omega (arith, before.some, longer);
       starts = get_or-extends old new 0 [] more before.some ∙ before.starts;
       room = room;
-      nodes = c.len-reached.ensures;
+      nodes = c.len-count.ensures;
       most = λ at. elim c.earlier-stopped.ensures.which [
         | inl one ↦ let full : length old ≡ c.args.scope.bounds.nodes = before.most (sym one ∙ at) in omega (arith, full, longer, room)
         | inr other ↦ c.in_ok-left.ensures.nodes (sym other ∙ at)
@@ -80,7 +94,7 @@ loop-reached-preserved g c =
       distinct = c.in_ok-left.ensures.distinct;
       followed = λ none k less.
           let both = c.earlier-stopped.ensures.none none in
-          known_more runs c.loop-reached.kept (record { lineage = c.loop-reached.kept.lineage; texts = c.loop-reached.kept.texts; visited = c.loop-reached.kept.visited; links = c.loop-reached.kept.links; pending = c.pop.new.self; key = c.loop-reached.kept.key }) c.turn.new.kept c.in-Some.at c.loop-reached.shown.items c.turn.new.shown.items k refl c.in-Some.ensures.items
+          known_more runs c.loop-reached.kept (record { lineage = c.loop-reached.kept.lineage; texts = c.loop-reached.kept.texts; visited = c.loop-reached.kept.visited; links = c.loop-reached.kept.links; pending = c.pop.new.self; nodes = c.node_at.new.nodes; key = c.loop-reached.kept.key }) c.turn.new.kept c.in-Some.reached c.loop-reached.shown.items c.turn.new.shown.items k refl c.in-Some.ensures.items
           c.in_ok-left.ensures.grows c.in_ok-left.ensures.shown (c.in_ok-left.ensures.followed both.1) (before.followed both.0) less;
     }
 
@@ -110,7 +124,7 @@ returns-then-is_full-clause-counted g c =
     let new = ways c.turn.new.kept.lineage in
     let more = c.in_ok-left.ensures.grows.lineage in
     let longer : length old ≤ length new = length-extends old new more in
-    counted (g.O.Orders.runs c.args.orders.now) (g.O.Orders.has_key c.args.orders.now) c.turn.new.kept c.turn.new.shown.items c.in_ok-left.left c.len-reached.result c.in_ok-left.ensures.kept c.len-reached.ensures
+    counted (g.O.Orders.runs c.args.orders.now) (g.O.Orders.has_key c.args.orders.now) c.turn.new.kept c.turn.new.shown.items c.in_ok-left.left c.len-count.result c.in_ok-left.ensures.kept c.len-count.ensures
     (omega (arith, before.some, longer)) (get_or-extends old new 0 [] more before.some ∙ before.starts) (λ none. absurd (some_none stop.Shown (sym (c.is_full.ensures.full c.if-is_full.true) ∙ none)))
 
 pub returns-then-is_full-clause-all : goal.returns-then-is_full-clause-all
