@@ -2,6 +2,7 @@
 use Rattle.std.proofs.Common.{◌≡◌, ℕ, ◌<◌, List, [], ◌∷◌, ◌++◌, length, get_or, refl, sym, ap, ◌∙◌, append_assoc, subst, arith, Option, Some, None}
 use Rattle.std.specs.Prelude.{IfSome}
 use Rattle.std.specs.List.{All, Any, Contains}
+use Rattle.std.proofs.lemmas.List.{get_or_default}
 use Rattle.std.proofs.lemmas.List.Elements.{All-push, All-contains, Contains-append_left, Contains-append_right}
 use Rattle.explore.specs.Grown.{Extends, IsLastPart}
 use Rattle.explore.specs.Placed.{IsAt, IsPlaced, ArePlaced, AreStood}
@@ -13,7 +14,7 @@ use Rattle.explore.proofs.Growing.{get_or-extends, length-extends}
 
 -- what holds of whatever is among some elements holds of each
 all_contained : {X : Type 0} (P : X → Type 0) (xs : List X) → ((x : X) → Contains xs x → P x) → All P xs
-all_contained P xs each k d within = each (get_or xs k d) (k, within, refl)
+all_contained P xs each k d within = each (get_or xs k d) (k, within, get_or_default xs k (get_or xs k d) d within)
 
 -- what holds of each element holds of those of the last part
 pub All-last : {X : Type 0} (P : X → Type 0) (part whole : List X) → IsLastPart part whole → All P whole → All P part

@@ -6,4 +6,4 @@ pub loop-init : goal.loop-init
 loop-init g c = record { front = Extends-itself c.args.checkpoints.now.nodes.items }
 
 pub loop-preserved : goal.loop-preserved
-loop-preserved g c = record { front = Extends-through c.take-_gone.new.self.nodes.items c.loop.checkpoints.nodes.items c.args.checkpoints.now.nodes.items c.take-_gone.ensures.rest c.loop.invariant.front }
+loop-preserved g c = record { front = Extends-through c.take-gone.new.self.nodes.items c.loop.checkpoints.nodes.items c.args.checkpoints.now.nodes.items c.take-gone.ensures.rest c.loop.invariant.front }

@@ -11,7 +11,7 @@ returns-in-Some-clause-placed g c =
 
 pub returns-in-Some-clause-node : goal.returns-in-Some-clause-node
 returns-in-Some-clause-node g c =
-    taken_stands (g.O.Orders.runs c.args.orders.now) (ways c.args.lineage.now) c.args.nodes.now.newest.nodes.items c.args.number c.in-Some.node c.requires.placed.newest c.in-Some.ensures
+    taken_stands (g.O.Orders.runs c.args.orders.now) (ways c.args.lineage.now) c.args.nodes.now.newest.nodes.items c.args.number c.in-Some.node c.requires.placed.newest c.in-Some.ensures.node
 
 pub place_all-requires-clause-checkpoints : goal.place_all-requires-clause-checkpoints
 place_all-requires-clause-checkpoints g c =

@@ -13,7 +13,7 @@ returns-clause-kept g c =
     let orders = c.args.orders.now in
     let visit : ℕ × List ℕ = (0, c.as_slice.result.now) in
     let p : Reached = record { number = 0; text = 0 } in
-    let first : Placed g.row.O-Node.Denot = record { number = 0; node = c.in_ok-node.node; weight = c.weight.result } in
+    let first : Placed g.row.O-Node.Denot = record { number = 0; node = c.in_ok-node.node; weight = c.weight-weight.result } in
     AreKept-first (g.O.Orders.runs orders) (g.O.Orders.has_key orders) _ p first visit c.new.ensures.lineage c.new.ensures.ways c.new-2.ensures.ok c.new-2.ensures.texts c.in_ok-_there.ensures.whole
     (keys_first c.in_ok-_there._there (visits c.new-visited.result) (visits c.add.new.self) visit c.new-visited.ensures.none c.in_ok-_there.ensures.there c.in_ok-_there.ensures.added)
     (c.in_ok-push.ensures.items ∙ ap (λ (l : List Reached). l ++ p ∷ []) c.new-pending.ensures.items)

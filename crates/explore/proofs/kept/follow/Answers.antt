@@ -73,7 +73,7 @@ returns-clause-kept g c =
     let told = texts c.longer.new.self in
     let visit : ℕ × List ℕ = (c.in_ok-text.text, c.as_slice-bytes.result.now) in
     let p : Reached = record { number = c.len-number.result; text = c.in_ok-text.text } in
-    let last : Placed g.row.O-Node.Denot = record { number = c.len-number.result; node = next.node; weight = c.weight.result } in
+    let last : Placed g.row.O-Node.Denot = record { number = c.len-number.result; node = next.node; weight = c.weight-weight.result } in
     let added : new ≡ grown (ways old.lineage) c.args.from.number next.moves.items = c.in_ok-push.ensures.ways ∙ ap (λ (l : List g.row.O-Move.Denot). grown (ways old.lineage) c.args.from.number l) c.deref-2.ensures.value in
     let text = c.in_ok-text.ensures.text ∙ ap (λ l. get_or (texts old.texts) c.args.from.text [] ++ l) c.deref.ensures.value in
     let at = IsText-next runs (ways old.lineage) new (texts old.texts) told c.args.from c.in_ok-text.text next.moves.items next.printed.items c.requires.from c.requires.next.1 added c.in_ok-text.ensures.within text in
