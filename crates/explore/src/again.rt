@@ -76,7 +76,8 @@ fn make_from<O: Orders>(
     requires checkpoint { IsPlaced (O.runs orders.now) (ways lineage.now) checkpoint.now }
     ensures { IfOk result (λ found. IfSome found (λ node. (O.runs orders.now).Stands node (get_or (ways lineage.now) number []))) }
 {
-    match lineage.way_from(scope.alloc, checkpoint.number, number)? {
+    let further = lineage.way_from(scope.alloc, checkpoint.number, number)?;
+    match further {
         Some(moves) => {
             let node = orders.again(scope.alloc, room, &checkpoint.node, &moves)?;
             Ok(Some(node))

@@ -8,6 +8,9 @@ ghost use Rattle.explore.specs.Pieces.{pieces};
 use crate::pieces::Pieces;
 use std::alloc::{AllocError, Global};
 
+// About how many bytes a move takes.
+const MOVE_BYTES: usize = 16;
+
 /// Runs by their numbers. The run of number 0 has no moves, and the others have a step each: the number of the run that they go on
 /// from, and their further moves.
 #[derive(Drop)]
@@ -43,7 +46,7 @@ impl<M: Copy> Lineage<M> {
 
     /// About how many bytes they take.
     pub(crate) fn bytes(&self) -> usize {
-        self.steps.bytes()
+        self.steps.bytes(MOVE_BYTES)
     }
 
     /// How many runs there are.

@@ -41,10 +41,10 @@ impl<T: Copy> Pieces<T> {
         }
     }
 
-    /// About how many bytes they take.
-    pub(crate) fn bytes(&self) -> usize {
+    /// About how many bytes they take, where each item takes so many.
+    pub(crate) fn bytes(&self, item: usize) -> usize {
         let rows = self.rows.capacity().saturating_mul(size_of::<Piece>());
-        let arena = self.arena.capacity().saturating_mul(1 * size_of::<T>());
+        let arena = self.arena.capacity().saturating_mul(item);
         rows.saturating_add(arena)
     }
 

@@ -127,6 +127,18 @@ returns-then-is_full-clause-counted g c =
     counted (g.O.Orders.runs c.args.orders.now) (g.O.Orders.has_key c.args.orders.now) c.turn.new.kept c.turn.new.shown.items c.in_ok-left.left c.len-count.result c.in_ok-left.ensures.kept c.len-count.ensures
     (omega (arith, before.some, longer)) (get_or-extends old new 0 [] more before.some ∙ before.starts) (λ none. absurd (some_none stop.Shown (sym (c.is_full.ensures.full c.if-is_full.true) ∙ none)))
 
+pub returns-then-bytes-scope-clause-counted : goal.returns-then-bytes-scope-clause-counted
+returns-then-bytes-scope-clause-counted g c =
+    let before = c.loop-reached.invariant in
+    counted (g.O.Orders.runs c.args.orders.now) (g.O.Orders.has_key c.args.orders.now) c.loop-reached.kept c.loop-reached.shown.items (Some stop.Bytes) c.loop-reached.nodes before.kept before.nodes before.some before.starts (λ none. absurd (some_none stop.Bytes none))
+
+pub returns-in_err-node-clause-counted : goal.returns-in_err-node-clause-counted
+returns-in_err-node-clause-counted g c =
+    let before = c.loop-reached.invariant in
+    let runs = g.O.Orders.runs c.args.orders.now in
+    subst (λ (s : Option Stopped). AreCounted runs c.loop-reached.shown.items s c.loop-reached.nodes) (sym (by_memory c.from_residual-in_err-node.result _ c.from_residual-in_err-node.ensures.1))
+    (counted runs (g.O.Orders.has_key c.args.orders.now) c.loop-reached.kept c.loop-reached.shown.items (Some stop.Memory) c.loop-reached.nodes before.kept before.nodes before.some before.starts (λ none. absurd (some_none stop.Memory none)))
+
 pub returns-then-is_full-clause-all : goal.returns-then-is_full-clause-all
 returns-then-is_full-clause-all g c none = absurd (some_none stop.Shown (sym (c.is_full.ensures.full c.if-is_full.true) ∙ none))
 
