@@ -13,7 +13,7 @@ use Rattle.explore.specs.SearchedRuns.{Runs}
 use Rattle.explore.specs.Search.{Serves, IsCovered, NeverEnds}
 use Rattle.explore.specs.NumberedTexts.{texts}
 use Rattle.explore.specs.Lineage.{ways}
-use Rattle.explore.specs.Visited.{IsThere}
+use Rattle.explore.specs.Visited.{IsThere, visits}
 use Rattle.explore.specs.declared.Ended.{Ended}
 use Rattle.explore.specs.declared.Next.{Next}
 use Rattle.explore.specs.declared.kept.KeptNodes.{KeptNodes}
@@ -97,7 +97,7 @@ AreContinued-more runs old new more steps edges stay before k none = IsContinued
 -- where the visit of the same key and the same text is there, an edge leads to a run that serves the one that leads to the node
 pub there_leads : {M N E : Type 0} (runs : Runs M N E) (HasKey : N → List ℕ → Type 0) (old new : KeptNodes N M) (told : List (List ℕ)) (node : N) (from : ℕ) (run : List M) (visit : ℕ × List ℕ) (number : ℕ) →
     ((a b : N) (i j : List M) (key : List ℕ) → HasKey a key → HasKey b key → runs.Stands a i → runs.Stands b j → runs.text i ≡ runs.text j → Serves runs i j) →
-    AreKept runs HasKey old → Extends (texts old.texts) told → runs.Stands node run → HasKey node visit.1 → get_or told visit.0 [] ≡ runs.text run → IsThere visit (pieces old.visited.visits) number →
+    AreKept runs HasKey old → Extends (texts old.texts) told → runs.Stands node run → HasKey node visit.1 → get_or told visit.0 [] ≡ runs.text run → IsThere visit (visits old.visited) number →
     new.lineage ≡ old.lineage → Any (IsEdge from number) new.links.edges.items → LeadsOn runs new from run
 there_leads {M} {N} runs HasKey old new told node from run visit number law kept longer stands keyed text there lineage edge =
     let seen = kept.visited number visit there in

@@ -5,7 +5,7 @@ use Rattle.std.specs.List.{All}
 use Rattle.std.proofs.lemmas.List.{get_or_default}
 use Rattle.std.proofs.lemmas.List.Elements.{All-nil}
 use Rattle.std.proofs.lemmas.Option.{slice_get-get_or}
-use Rattle.explore.specs.Pieces.{pieces}
+use Rattle.explore.specs.Visited.{visits}
 use Rattle.explore.specs.SearchKept.{AreKept, AreContinued}
 use Rattle.explore.specs.SearchedRuns.{Runs}
 use Rattle.explore.specs.Search.{Serves, IsShown, IsFollowed, AreCounted, IsEndless}
@@ -30,9 +30,9 @@ none_some x e = cc
 -- a node stands at each run that was reached
 pub stood_at : {M N E : Type 0} (runs : Runs M N E) (HasKey : N → List ℕ → Type 0) (kept : KeptNodes N M) (k : ℕ) → AreKept runs HasKey kept → k < length (ways kept.lineage) → (node : N) × runs.Stands node (get_or (ways kept.lineage) k [])
 stood_at runs HasKey kept k known within =
-    let visits = pieces kept.visited.visits in
+    let all = visits kept.visited in
     let count = known.count in
-    let seen = known.visited k (get_or visits k (0, [])) (slice_get-get_or visits k (0, []) (omega (arith, within, count))) in
+    let seen = known.visited k (get_or all k (0, [])) (slice_get-get_or all k (0, []) (omega (arith, within, count))) in
     (seen.node, seen.stands)
 
 all_stand : {M N E : Type 0} (runs : Runs M N E) (HasKey : N → List ℕ → Type 0) (kept : KeptNodes N M) → AreKept runs HasKey kept → All (λ run. (node : N) × runs.Stands node run) (ways kept.lineage)

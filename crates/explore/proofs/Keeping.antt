@@ -7,20 +7,22 @@ use Rattle.std.proofs.lemmas.List.Quantifiers.{Any-push}
 use Rattle.std.proofs.lemmas.Bool.{cases_lt}
 use Rattle.std.proofs.lemmas.List.{get_or_append_left}
 use Rattle.std.proofs.Math.Seq.{get_or-append_seam}
-use Rattle.explore.specs.Grown.{Extends, grown}
-use Rattle.explore.specs.Pieces.{pieces, ArePieces}
-use Rattle.explore.specs.SearchKept.{IsText, IsVisited, IsPending, AreKept, Grows}
+use Rattle.explore.specs.Grown.{Extends, IsLastPart, grown}
+use Rattle.explore.specs.Pieces.{pieces}
+use Rattle.explore.specs.Placed.{IsPlaced, ArePlaced}
+use Rattle.explore.specs.SearchKept.{IsText, IsVisited, AreKept, Grows}
 use Rattle.explore.specs.SearchedRuns.{Runs}
 use Rattle.explore.specs.Search.{IsPrinted, Serves, IsShown, IsFollowed}
 use Rattle.explore.specs.NumberedTexts.{texts, IsTexts}
 use Rattle.explore.specs.Lineage.{ways, IsLineage}
-use Rattle.explore.specs.Visited.{IsThere}
+use Rattle.explore.specs.Visited.{IsThere, visits, AreVisits}
 use Rattle.explore.specs.declared.Shown.{Shown}
 use Rattle.explore.specs.declared.kept.KeptNodes.{KeptNodes}
-use Rattle.explore.specs.declared.kept.Pending.{Pending}
 use Rattle.explore.specs.declared.kept.Reached.{Reached}
+use Rattle.explore.specs.declared.recent.Placed.{Placed}
 use Rattle.explore.specs.declared.lineage.Lineage.{Lineage}
 use Rattle.explore.proofs.Growing.{Extends-itself, Extends-through, length-extends, get_or-extends, length-grown, get_or-grown, slice_get_push, none_some}
+use Rattle.explore.proofs.Places.{All-last, ArePlaced-more, ArePlaced-push}
 use Rattle.explore.proofs.Complete.{Any-extends, IsFollowed-more, AreFollowed}
 
 -- a run's text stays its text
@@ -42,18 +44,10 @@ IsVisited-more {M} runs HasKey old new told told' reached key more longer visit 
       text = IsText-more runs old new told told' reached more longer visit.text;
     }
 
--- a pending node stays one
-IsPending-more : {M N E : Type 0} (runs : Runs M N E) (old new : List (List M)) (told told' : List (List ℕ)) (p : Pending N) → Extends old new → Extends told told' → IsPending runs old told p → IsPending runs new told' p
-IsPending-more {M} runs old new told told' p more longer pending =
-    record {
-      stands = subst (λ (l : List M). runs.Stands p.node l) (sym (get_or-extends old new p.reached.number [] more pending.text.way)) pending.stands;
-      text = IsText-more runs old new told told' p.reached more longer pending.text;
-    }
-
 -- what is kept is good where texts are added
 pub AreKept-texts : {M N E : Type 0} (runs : Runs M N E) (HasKey : N → List ℕ → Type 0) (old new : KeptNodes N M) → AreKept runs HasKey old → new.lineage ≡ old.lineage → IsTexts new.texts → Extends (texts old.texts) (texts new.texts) →
-    ArePieces new.visited.visits → pieces new.visited.visits ≡ pieces old.visited.visits → new.pending.items ≡ old.pending.items → AreKept runs HasKey new
-AreKept-texts {M} {N} runs HasKey old new kept lineage ok longer whole keys pending =
+    AreVisits new.visited → visits new.visited ≡ visits old.visited → new.pending.items ≡ old.pending.items → new.nodes ≡ old.nodes → AreKept runs HasKey new
+AreKept-texts {M} {N} runs HasKey old new kept lineage ok longer whole keys pending nodes =
     let more : Extends (ways old.lineage) (ways new.lineage) = subst (λ t. Extends (ways old.lineage) (ways t)) (sym lineage) (Extends-itself (ways old.lineage)) in
     record {
       lineage = subst IsLineage (sym lineage) kept.lineage;
@@ -62,8 +56,9 @@ AreKept-texts {M} {N} runs HasKey old new kept lineage ok longer whole keys pend
       count = ap length keys ∙ (kept.count ∙ ap (λ t. length (ways t)) (sym lineage));
       visited = λ k visit e. IsVisited-more runs HasKey (ways old.lineage) (ways new.lineage) (texts old.texts) (texts new.texts) (record { number = k; text = visit.0 }) visit.1 more longer
           (kept.visited k visit (ap (λ (l : List (ℕ × List ℕ)). slice_get l k) (sym keys) ∙ e));
-      pending = subst (λ (l : List (Pending N)). All (IsPending runs (ways new.lineage) (texts new.texts)) l) (sym pending)
-          (λ k d less. IsPending-more runs (ways old.lineage) (ways new.lineage) (texts old.texts) (texts new.texts) (get_or old.pending.items k d) more longer (kept.pending k d less));
+      pending = subst (λ (l : List Reached). All (IsText runs (ways new.lineage) (texts new.texts)) l) (sym pending)
+          (λ k d less. IsText-more runs (ways old.lineage) (ways new.lineage) (texts old.texts) (texts new.texts) (get_or old.pending.items k d) more longer (kept.pending k d less));
+      placed = subst (ArePlaced runs (ways new.lineage)) (sym nodes) (ArePlaced-more runs (ways old.lineage) (ways new.lineage) old.nodes more kept.placed);
     }
 
 -- what is kept grows where texts are added
@@ -75,7 +70,7 @@ Grows-texts {M} {N} old new lineage edges longer pending =
       steps = subst (λ (t : Lineage M). Extends (pieces old.lineage.steps) (pieces t.steps)) (sym lineage) (Extends-itself (pieces old.lineage.steps));
       edges = edges;
       texts = longer;
-      pending = subst (λ (l : List (Pending N)). Extends old.pending.items l) (sym pending) (Extends-itself old.pending.items);
+      pending = subst (λ (l : List Reached). Extends old.pending.items l) (sym pending) (Extends-itself old.pending.items);
       count = omega (arith, same, ap length pending);
       waits = λ k low high. absurd (omega (arith, same));
     }
@@ -104,27 +99,29 @@ visited_pushed runs HasKey old new told told' keys visit v k more longer count b
 ]
 
 -- what is kept is good where a run is added, with its text, its visit and its node
-pub AreKept-push : {M N E : Type 0} (runs : Runs M N E) (HasKey : N → List ℕ → Type 0) (old new : KeptNodes N M) (from text : ℕ) (moves : List M) (visit : ℕ × List ℕ) (p : Pending N) → AreKept runs HasKey old →
+pub AreKept-push : {M N E : Type 0} (runs : Runs M N E) (HasKey : N → List ℕ → Type 0) (old new : KeptNodes N M) (from text : ℕ) (moves : List M) (visit : ℕ × List ℕ) (p : Reached) (last : Placed N) → AreKept runs HasKey old →
     IsLineage new.lineage → ways new.lineage ≡ grown (ways old.lineage) from moves → IsTexts new.texts → Extends (texts old.texts) (texts new.texts) →
-    ArePieces new.visited.visits → pieces new.visited.visits ≡ pieces old.visited.visits ++ visit ∷ [] → new.pending.items ≡ old.pending.items ++ p ∷ [] →
-    IsVisited runs HasKey (ways new.lineage) (texts new.texts) (record { number = length (ways old.lineage); text = visit.0 }) visit.1 → IsPending runs (ways new.lineage) (texts new.texts) p → AreKept runs HasKey new
-AreKept-push {M} {N} runs HasKey old new from text moves visit p kept lineage added ok longer whole keys pending seen last =
+    AreVisits new.visited → visits new.visited ≡ visits old.visited ++ visit ∷ [] → new.pending.items ≡ old.pending.items ++ p ∷ [] →
+    IsVisited runs HasKey (ways new.lineage) (texts new.texts) (record { number = length (ways old.lineage); text = visit.0 }) visit.1 → IsText runs (ways new.lineage) (texts new.texts) p →
+    IsLastPart new.nodes.newest.nodes.items (old.nodes.newest.nodes.items ++ last ∷ []) → new.nodes.checkpoints ≡ old.nodes.checkpoints → IsPlaced runs (ways new.lineage) last → AreKept runs HasKey new
+AreKept-push {M} {N} runs HasKey old new from text moves visit p last kept lineage added ok longer whole keys pending seen told newest checkpoints placed =
     let more : Extends (ways old.lineage) (ways new.lineage) = (_, added) in
     record {
       lineage = lineage;
       told = ok;
       whole = whole;
-      count = omega (arith, ap length keys, length-append (pieces old.visited.visits) (visit ∷ []), kept.count, ap length added, length-grown (ways old.lineage) from moves);
-      visited = λ k v e. visited_pushed runs HasKey (ways old.lineage) (ways new.lineage) (texts old.texts) (texts new.texts) (pieces old.visited.visits) visit v k more longer kept.count kept.visited seen
+      count = omega (arith, ap length keys, length-append (visits old.visited) (visit ∷ []), kept.count, ap length added, length-grown (ways old.lineage) from moves);
+      visited = λ k v e. visited_pushed runs HasKey (ways old.lineage) (ways new.lineage) (texts old.texts) (texts new.texts) (visits old.visited) visit v k more longer kept.count kept.visited seen
           (ap (λ (l : List (ℕ × List ℕ)). slice_get l k) (sym keys) ∙ e);
-      pending = subst (λ (l : List (Pending N)). All (IsPending runs (ways new.lineage) (texts new.texts)) l) (sym pending)
-          (All-push (IsPending runs (ways new.lineage) (texts new.texts)) old.pending.items p
-          (λ k d less. IsPending-more runs (ways old.lineage) (ways new.lineage) (texts old.texts) (texts new.texts) (get_or old.pending.items k d) more longer (kept.pending k d less)) last);
+      pending = subst (λ (l : List Reached). All (IsText runs (ways new.lineage) (texts new.texts)) l) (sym pending)
+          (All-push (IsText runs (ways new.lineage) (texts new.texts)) old.pending.items p
+          (λ k d less. IsText-more runs (ways old.lineage) (ways new.lineage) (texts old.texts) (texts new.texts) (get_or old.pending.items k d) more longer (kept.pending k d less)) told);
+      placed = ArePlaced-push runs (ways old.lineage) (ways new.lineage) old.nodes new.nodes last more kept.placed newest checkpoints placed;
     }
 
 -- what is kept grows where a run is added, with its node
-pub Grows-push : {M N : Type 0} (old new : KeptNodes N M) (from : ℕ) (moves : List M) (p : Pending N) → ways new.lineage ≡ grown (ways old.lineage) from moves → Extends (pieces old.lineage.steps) (pieces new.lineage.steps) → Extends old.links.edges.items new.links.edges.items → Extends (texts old.texts) (texts new.texts) →
-    new.pending.items ≡ old.pending.items ++ p ∷ [] → p.reached.number ≡ length (ways old.lineage) → Grows old new
+pub Grows-push : {M N : Type 0} (old new : KeptNodes N M) (from : ℕ) (moves : List M) (p : Reached) → ways new.lineage ≡ grown (ways old.lineage) from moves → Extends (pieces old.lineage.steps) (pieces new.lineage.steps) → Extends old.links.edges.items new.links.edges.items → Extends (texts old.texts) (texts new.texts) →
+    new.pending.items ≡ old.pending.items ++ p ∷ [] → p.number ≡ length (ways old.lineage) → Grows old new
 Grows-push {M} {N} old new from moves p added steps edges longer pending number =
     let long : length (ways new.lineage) ≡ suc (length (ways old.lineage)) = ap length added ∙ length-grown (ways old.lineage) from moves in
     record {
@@ -135,13 +132,13 @@ Grows-push {M} {N} old new from moves p added steps edges longer pending number 
       pending = (p ∷ [], pending);
       count = omega (arith, long, ap length pending, length-append old.pending.items (p ∷ []));
       waits = λ k low high.
-          let at : p.reached.number ≡ k = omega (arith, number, long) in
-          subst (λ (l : List (Pending N)). Any (λ x. x.reached.number ≡ k) l) (sym pending) (Any-push (λ (x : Pending N). x.reached.number ≡ k) old.pending.items p at);
+          let at : p.number ≡ k = omega (arith, number, long) in
+          subst (λ (l : List Reached). Any (λ x. x.number ≡ k) l) (sym pending) (Any-push (λ (x : Reached). x.number ≡ k) old.pending.items p at);
     }
 
-waits_through : {M N : Type 0} (a b c : KeptNodes N M) (k : ℕ) → Grows a b → Grows b c → length (ways a.lineage) ≤ k → k < length (ways c.lineage) → Any (λ x. x.reached.number ≡ k) c.pending.items
+waits_through : {M N : Type 0} (a b c : KeptNodes N M) (k : ℕ) → Grows a b → Grows b c → length (ways a.lineage) ≤ k → k < length (ways c.lineage) → Any (λ x. x.number ≡ k) c.pending.items
 waits_through {M} {N} a b c k first second low high = elim (cases_lt k (length (ways b.lineage))) [
-  | inl less ↦ Any-extends (λ (x : Pending N). x.reached.number ≡ k) b.pending.items c.pending.items second.pending (first.waits k low less)
+  | inl less ↦ Any-extends (λ (x : Reached). x.number ≡ k) b.pending.items c.pending.items second.pending (first.waits k low less)
   | inr far ↦ second.waits k far high
 ]
 
@@ -172,27 +169,28 @@ pub IsVisited-next : {M N E : Type 0} (runs : Runs M N E) (HasKey : N → List �
 IsVisited-next {M} runs HasKey old new told node from text moves key more stands keyed at =
     record { node = node; stands = subst (λ (l : List M). runs.Stands node l) (sym (last_grown old new from moves more)) stands; keyed = keyed; text = at }
 
--- a node that is added is pending
-pub IsPending-next : {M N E : Type 0} (runs : Runs M N E) (old new : List (List M)) (told : List (List ℕ)) (p : Pending N) (from : ℕ) (moves : List M) → new ≡ grown old from moves → runs.Stands p.node (get_or old from [] ++ moves) → p.reached.number ≡ length old →
-    IsText runs new told (record { number = length old; text = p.reached.text }) → IsPending runs new told p
-IsPending-next {M} runs old new told p from moves more stands number at =
+-- a node that is added stands at the run that is added
+pub IsPlaced-next : {M N E : Type 0} (runs : Runs M N E) (old new : List (List M)) (p : Placed N) (from : ℕ) (moves : List M) → new ≡ grown old from moves → runs.Stands p.node (get_or old from [] ++ moves) → p.number ≡ length old → IsPlaced runs new p
+IsPlaced-next {M} runs old new p from moves more stands number =
     record {
+      within = omega (arith, ap length more, length-grown old from moves, number);
       stands = subst (λ (l : List M). runs.Stands p.node l) (sym (ap (λ (n : ℕ). get_or new n []) number ∙ last_grown old new from moves more)) stands;
-      text = subst (λ (n : ℕ). IsText runs new told (record { number = n; text = p.reached.text })) (sym number) at;
     }
 
--- what is kept is good without the node that was added last, which is pending
-pub AreKept-pop : {M N E : Type 0} (runs : Runs M N E) (HasKey : N → List ℕ → Type 0) (old new : KeptNodes N M) (p : Pending N) → AreKept runs HasKey old → new.lineage ≡ old.lineage → new.texts ≡ old.texts → new.visited ≡ old.visited → old.pending.items ≡ new.pending.items ++ p ∷ [] → AreKept runs HasKey new × IsPending runs (ways old.lineage) (texts old.texts) p
-AreKept-pop {M} {N} runs HasKey old new p kept lineage told visited pending =
-    let parts = All-pop (IsPending runs (ways old.lineage) (texts old.texts)) old.pending.items new.pending.items (Some p) pending kept.pending in (
+-- what is kept is good without the node that was added last, which is pending, and with other nodes that stand at their runs
+pub AreKept-pop : {M N E : Type 0} (runs : Runs M N E) (HasKey : N → List ℕ → Type 0) (old new : KeptNodes N M) (p : Reached) → AreKept runs HasKey old → new.lineage ≡ old.lineage → new.texts ≡ old.texts → new.visited ≡ old.visited → old.pending.items ≡ new.pending.items ++ p ∷ [] → ArePlaced runs (ways old.lineage) new.nodes →
+    AreKept runs HasKey new × IsText runs (ways old.lineage) (texts old.texts) p
+AreKept-pop {M} {N} runs HasKey old new p kept lineage told visited pending placed =
+    let parts = All-pop (IsText runs (ways old.lineage) (texts old.texts)) old.pending.items new.pending.items (Some p) pending kept.pending in (
       record {
         lineage = subst IsLineage (sym lineage) kept.lineage;
         told = subst IsTexts (sym told) kept.told;
-        whole = subst (λ v. ArePieces v.visits) (sym visited) kept.whole;
-        count = ap (λ v. length (pieces v.visits)) visited ∙ (kept.count ∙ ap (λ t. length (ways t)) (sym lineage));
+        whole = subst AreVisits (sym visited) kept.whole;
+        count = ap (λ v. length (visits v)) visited ∙ (kept.count ∙ ap (λ t. length (ways t)) (sym lineage));
         visited = λ k v e. subst (λ t. IsVisited runs HasKey (ways t) (texts new.texts) (record { number = k; text = v.0 }) v.1) (sym lineage)
-            (subst (λ t. IsVisited runs HasKey (ways old.lineage) (texts t) (record { number = k; text = v.0 }) v.1) (sym told) (kept.visited k v (ap (λ s. slice_get (pieces s.visits) k) (sym visited) ∙ e)));
-        pending = subst (λ t. All (IsPending runs (ways t) (texts new.texts)) new.pending.items) (sym lineage) (subst (λ t. All (IsPending runs (ways old.lineage) (texts t)) new.pending.items) (sym told) parts.0);
+            (subst (λ t. IsVisited runs HasKey (ways old.lineage) (texts t) (record { number = k; text = v.0 }) v.1) (sym told) (kept.visited k v (ap (λ s. slice_get (visits s) k) (sym visited) ∙ e)));
+        pending = subst (λ t. All (IsText runs (ways t) (texts new.texts)) new.pending.items) (sym lineage) (subst (λ t. All (IsText runs (ways old.lineage) (texts t)) new.pending.items) (sym told) parts.0);
+        placed = subst (λ t. ArePlaced runs (ways t) new.nodes) (sym lineage) placed;
       },
       parts.1,
     )
@@ -209,25 +207,27 @@ only_visit runs HasKey w t visit v k first e = elim (slice_get_push [] visit v k
 ]
 
 -- what is kept at first
-pub AreKept-first : {M N E : Type 0} (runs : Runs M N E) (HasKey : N → List ℕ → Type 0) (new : KeptNodes N M) (p : Pending N) (visit : ℕ × List ℕ) → IsLineage new.lineage → ways new.lineage ≡ [] ∷ [] → IsTexts new.texts → texts new.texts ≡ [] ∷ [] → ArePieces new.visited.visits → pieces new.visited.visits ≡ visit ∷ [] → new.pending.items ≡ [] ++ p ∷ [] →
-    visit.0 ≡ 0 → p.reached ≡ record { number = 0; text = 0 } → runs.Stands p.node [] → HasKey p.node visit.1 → runs.text [] ≡ [] → AreKept runs HasKey new
-AreKept-first {M} {N} runs HasKey new p visit lineage one told none whole keys pending zeroth reached stands keyed silent =
+pub AreKept-first : {M N E : Type 0} (runs : Runs M N E) (HasKey : N → List ℕ → Type 0) (new : KeptNodes N M) (p : Reached) (first_node : Placed N) (visit : ℕ × List ℕ) → IsLineage new.lineage → ways new.lineage ≡ [] ∷ [] → IsTexts new.texts → texts new.texts ≡ [] ∷ [] → AreVisits new.visited → visits new.visited ≡ visit ∷ [] → new.pending.items ≡ [] ++ p ∷ [] →
+    IsLastPart new.nodes.newest.nodes.items ([] ++ first_node ∷ []) → new.nodes.checkpoints.nodes.items ≡ [] → first_node.number ≡ 0 →
+    visit.0 ≡ 0 → p ≡ record { number = 0; text = 0 } → runs.Stands first_node.node [] → HasKey first_node.node visit.1 → runs.text [] ≡ [] → AreKept runs HasKey new
+AreKept-first {M} {N} runs HasKey new p first_node visit lineage one told none whole keys pending newest checkpoints number zeroth reached stands keyed silent =
     let first : get_or (ways new.lineage) 0 [] ≡ [] = ap (λ (l : List (List M)). get_or l 0 []) one in
     let at : IsText runs (ways new.lineage) (texts new.texts) (record { number = 0; text = 0 }) = record {
       way = omega (arith, ap length one);
       told = omega (arith, ap length none);
       same = ap (λ (l : List (List ℕ)). get_or l 0 []) none ∙ (sym silent ∙ ap runs.text (sym first));
     } in
-    let standing : runs.Stands p.node (get_or (ways new.lineage) 0 []) = subst (λ (l : List M). runs.Stands p.node l) (sym first) stands in
+    let standing : runs.Stands first_node.node (get_or (ways new.lineage) 0 []) = subst (λ (l : List M). runs.Stands first_node.node l) (sym first) stands in
     let seen : IsVisited runs HasKey (ways new.lineage) (texts new.texts) (record { number = 0; text = visit.0 }) visit.1 = record {
-      node = p.node;
+      node = first_node.node;
       stands = standing;
       keyed = keyed;
       text = subst (λ (n : ℕ). IsText runs (ways new.lineage) (texts new.texts) (record { number = 0; text = n })) (sym zeroth) at;
     } in
-    let last : IsPending runs (ways new.lineage) (texts new.texts) p = record {
-      stands = subst (λ (x : Reached). runs.Stands p.node (get_or (ways new.lineage) x.number [])) (sym reached) standing;
-      text = subst (λ (x : Reached). IsText runs (ways new.lineage) (texts new.texts) x) (sym reached) at;
+    let last : IsText runs (ways new.lineage) (texts new.texts) p = subst (λ (x : Reached). IsText runs (ways new.lineage) (texts new.texts) x) (sym reached) at in
+    let placed : IsPlaced runs (ways new.lineage) first_node = record {
+      within = omega (arith, ap length one, number);
+      stands = subst (λ (n : ℕ). runs.Stands first_node.node (get_or (ways new.lineage) n [])) (sym number) standing;
     } in
     record {
       lineage = lineage;
@@ -235,8 +235,12 @@ AreKept-first {M} {N} runs HasKey new p visit lineage one told none whole keys p
       whole = whole;
       count = omega (arith, ap length keys, ap length one);
       visited = λ k v e. only_visit runs HasKey (ways new.lineage) (texts new.texts) visit v k seen (ap (λ (l : List (ℕ × List ℕ)). slice_get l k) (sym keys) ∙ e);
-      pending = subst (λ (l : List (Pending N)). All (IsPending runs (ways new.lineage) (texts new.texts)) l) (sym pending)
-          (All-push (IsPending runs (ways new.lineage) (texts new.texts)) [] p (All-nil (IsPending runs (ways new.lineage) (texts new.texts))) last);
+      pending = subst (λ (l : List Reached). All (IsText runs (ways new.lineage) (texts new.texts)) l) (sym pending)
+          (All-push (IsText runs (ways new.lineage) (texts new.texts)) [] p (All-nil (IsText runs (ways new.lineage) (texts new.texts))) last);
+      placed = record {
+        newest = All-last (IsPlaced runs (ways new.lineage)) new.nodes.newest.nodes.items ([] ++ first_node ∷ []) newest (All-push (IsPlaced runs (ways new.lineage)) [] first_node (All-nil (IsPlaced runs (ways new.lineage))) placed);
+        checkpoints = subst (All (IsPlaced runs (ways new.lineage))) (sym checkpoints) (All-nil (IsPlaced runs (ways new.lineage)));
+      };
     }
 
 Any-split : {X : Type 0} (P : X → Type 0) (xs : List X) (x : X) → Any P (xs ++ x ∷ []) → Any P xs ⊎ P x
@@ -249,16 +253,16 @@ Any-split P xs x at = elim (cases_lt at.0 (length xs)) [
 
 -- what is known of the run with a number: its node is pending, or it is followed
 abbrev pub IsKnown : {M N E : Type 0} → Runs M N E → KeptNodes N M → List (Shown M E) → ℕ → Type 0
-IsKnown runs kept shown k = Any (λ p. p.reached.number ≡ k) kept.pending.items ⊎ IsFollowed runs (IsShown shown) (Serves runs) (ways kept.lineage) (get_or (ways kept.lineage) k [])
+IsKnown runs kept shown k = Any (λ p. p.number ≡ k) kept.pending.items ⊎ IsFollowed runs (IsShown shown) (Serves runs) (ways kept.lineage) (get_or (ways kept.lineage) k [])
 
-known_before : {M N E : Type 0} (runs : Runs M N E) (old mid new : KeptNodes N M) (p : Pending N) (shown shown' : List (Shown M E)) (k : ℕ) → mid.lineage ≡ old.lineage → old.pending.items ≡ mid.pending.items ++ p ∷ [] → Grows mid new → Extends shown shown' →
-    k < length (ways old.lineage) → IsFollowed runs (IsShown shown') (Serves runs) (ways new.lineage) (get_or (ways old.lineage) p.reached.number []) → IsKnown runs old shown k → IsKnown runs new shown' k
+known_before : {M N E : Type 0} (runs : Runs M N E) (old mid new : KeptNodes N M) (p : Reached) (shown shown' : List (Shown M E)) (k : ℕ) → mid.lineage ≡ old.lineage → old.pending.items ≡ mid.pending.items ++ p ∷ [] → Grows mid new → Extends shown shown' →
+    k < length (ways old.lineage) → IsFollowed runs (IsShown shown') (Serves runs) (ways new.lineage) (get_or (ways old.lineage) p.number []) → IsKnown runs old shown k → IsKnown runs new shown' k
 known_before {M} {N} {E} runs old mid new p shown shown' k lineage popped grows told less now known =
     let more : Extends (ways old.lineage) (ways new.lineage) = subst (λ t. Extends (ways t) (ways new.lineage)) lineage grows.lineage in
     let same : get_or (ways new.lineage) k [] ≡ get_or (ways old.lineage) k [] = get_or-extends (ways old.lineage) (ways new.lineage) k [] more less in
     elim known [
-      | inl at ↦ elim (Any-split (λ (x : Pending N). x.reached.number ≡ k) mid.pending.items p (subst (λ (l : List (Pending N)). Any (λ x. x.reached.number ≡ k) l) popped at)) [
-        | inl there ↦ inl (Any-extends (λ (x : Pending N). x.reached.number ≡ k) mid.pending.items new.pending.items grows.pending there)
+      | inl at ↦ elim (Any-split (λ (x : Reached). x.number ≡ k) mid.pending.items p (subst (λ (l : List Reached). Any (λ x. x.number ≡ k) l) popped at)) [
+        | inl there ↦ inl (Any-extends (λ (x : Reached). x.number ≡ k) mid.pending.items new.pending.items grows.pending there)
         | inr is ↦ inr (subst (λ (l : List M). IsFollowed runs (IsShown shown') (Serves runs) (ways new.lineage) l) (ap (λ (n : ℕ). get_or (ways old.lineage) n []) is ∙ sym same) now)
       ]
       | inr followed ↦ inr (subst (λ (l : List M). IsFollowed runs (IsShown shown') (Serves runs) (ways new.lineage) l) (sym same)
@@ -266,8 +270,8 @@ known_before {M} {N} {E} runs old mid new p shown shown' k lineage popped grows 
     ]
 
 -- what is known of each run, after the node that was added last was expanded
-pub known_more : {M N E : Type 0} (runs : Runs M N E) (old mid new : KeptNodes N M) (p : Pending N) (shown shown' : List (Shown M E)) (k : ℕ) → mid.lineage ≡ old.lineage → old.pending.items ≡ mid.pending.items ++ p ∷ [] → Grows mid new → Extends shown shown' →
-    IsFollowed runs (IsShown shown') (Serves runs) (ways new.lineage) (get_or (ways old.lineage) p.reached.number []) → ((k : ℕ) → k < length (ways old.lineage) → IsKnown runs old shown k) → k < length (ways new.lineage) → IsKnown runs new shown' k
+pub known_more : {M N E : Type 0} (runs : Runs M N E) (old mid new : KeptNodes N M) (p : Reached) (shown shown' : List (Shown M E)) (k : ℕ) → mid.lineage ≡ old.lineage → old.pending.items ≡ mid.pending.items ++ p ∷ [] → Grows mid new → Extends shown shown' →
+    IsFollowed runs (IsShown shown') (Serves runs) (ways new.lineage) (get_or (ways old.lineage) p.number []) → ((k : ℕ) → k < length (ways old.lineage) → IsKnown runs old shown k) → k < length (ways new.lineage) → IsKnown runs new shown' k
 known_more runs old mid new p shown shown' k lineage popped grows told now before less = elim (cases_lt k (length (ways old.lineage))) [
   | inl low ↦ known_before runs old mid new p shown shown' k lineage popped grows told low now (before k low)
   | inr high ↦ inl (grows.waits k (let same : length (ways mid.lineage) ≡ length (ways old.lineage) = ap (λ t. length (ways t)) lineage in omega (arith, same, high)) less)

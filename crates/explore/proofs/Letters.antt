@@ -70,7 +70,7 @@ letter_back text front front' back back' byte h one b =
     h ∙ (ap (λ l. l ++ reverse back) one ∙ (append_assoc front' (byte ∷ []) (reverse back) ∙ ap (λ l. front' ++ l) (sym turned)))
 
 -- two tests pass where both do
-both : (a b : Bool) → (a && b) ≡ true → (a ≡ true) × (b ≡ true)
+pub both : (a b : Bool) → (a && b) ≡ true → (a ≡ true) × (b ≡ true)
 both true b h = (refl, h)
 both false b h = cc
 

@@ -5,6 +5,7 @@ pub mod Edges
 pub mod Growing
 pub mod Keeping
 pub mod Letters
+pub mod Places
 pub mod Rows
 pub mod Shows
 pub mod Steps

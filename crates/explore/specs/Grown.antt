@@ -5,6 +5,10 @@ use Rattle.std.specs.Prelude.{◌≡◌, ℕ, List, [], ◌∷◌, ◌++◌, get
 abbrev pub Extends : {X : Type 0} → List X → List X → Type 0
 Extends {X} old new = (added : List X) × (new ≡ old ++ added)
 
+-- the first list is the last part of the second
+abbrev pub IsLastPart : {X : Type 0} → List X → List X → Type 0
+IsLastPart {X} part whole = (gone : List X) × (whole ≡ gone ++ part)
+
 -- these lists, and one more, which goes on from the one with a number by a piece
 abbrev pub grown : {X : Type 0} → List (List X) → ℕ → List X → List (List X)
 grown lists from piece = lists ++ (get_or lists from [] ++ piece) ∷ []

@@ -8,4 +8,5 @@ pub mod NumberedTexts
 pub mod Lineage
 pub mod Links
 pub mod Outcome
+pub mod Placed
 pub mod Visited

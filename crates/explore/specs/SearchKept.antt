@@ -1,6 +1,7 @@
 -- What a search keeps.
 use Rattle.std.specs.Prelude.{◌≡◌, ℕ, ◌+◌, ◌<◌, ◌≤◌, List, [], ◌++◌, length, get_or, Some, slice_get}
 use Rattle.std.specs.List.{All, Any}
+use Rattle.explore.specs.Visited.{visits, AreVisits}
 use Rattle.explore.specs.Grown.{Extends}
 use Rattle.explore.specs.Pieces.{pieces, ArePieces}
 use Rattle.explore.specs.SearchedRuns.{Runs}
@@ -8,6 +9,7 @@ use Rattle.explore.specs.Search.{Serves}
 use Rattle.explore.specs.NumberedTexts.{texts, IsTexts}
 use Rattle.explore.specs.Lineage.{ways, IsLineage}
 use Rattle.explore.specs.Links.{IsLinked, IsUnmarked}
+use Rattle.explore.specs.Placed.{ArePlaced}
 use Rattle.explore.specs.declared.kept.KeptNodes.{KeptNodes}
 use Rattle.explore.specs.declared.kept.Pending.{Pending}
 use Rattle.explore.specs.declared.kept.Reached.{Reached}
@@ -33,21 +35,23 @@ pub record IsVisited {Move Node End : Type 0} (runs : Runs Move Node End) (HasKe
   pub keyed : HasKey node key
   pub text : IsText runs ways texts reached
 
--- the pending node stands at the run of its number
+-- the node that is expanded next stands at the run of its number
 pub record IsPending {Move Node End : Type 0} (runs : Runs Move Node End) (ways : List (List Move)) (texts : List (List ℕ)) (pending : Pending Node) : Type 0 where
   pub stands : runs.Stands pending.node (get_or ways pending.reached.number [])
   pub text : IsText runs ways texts pending.reached
 
--- runs, texts and pending nodes belong together, and for each run there is the visit of a node that stands at it
+-- runs, texts and nodes belong together, the runs of pending nodes are there, and for each run there is the visit of a node that
+-- stands at it
 pub record AreKept {Move Node End : Type 0} (runs : Runs Move Node End) (HasKey : Node → List ℕ → Type 0) (kept : KeptNodes Node Move) : Type 0 where
   pub lineage : IsLineage kept.lineage
   pub told : IsTexts kept.texts
-  pub whole : ArePieces kept.visited.visits
-  pub count : length (pieces kept.visited.visits) ≡ length (ways kept.lineage)
-  pub visited : (k : ℕ) (visit : ℕ × List ℕ) → slice_get (pieces kept.visited.visits) k ≡ Some visit → IsVisited runs HasKey (ways kept.lineage) (texts kept.texts) (record { number = k; text = visit.0 }) visit.1
-  pub pending : All (IsPending runs (ways kept.lineage) (texts kept.texts)) kept.pending.items
+  pub whole : AreVisits kept.visited
+  pub count : length (visits kept.visited) ≡ length (ways kept.lineage)
+  pub visited : (k : ℕ) (visit : ℕ × List ℕ) → slice_get (visits kept.visited) k ≡ Some visit → IsVisited runs HasKey (ways kept.lineage) (texts kept.texts) (record { number = k; text = visit.0 }) visit.1
+  pub pending : All (IsText runs (ways kept.lineage) (texts kept.texts)) kept.pending.items
+  pub placed : ArePlaced runs (ways kept.lineage) kept.nodes
 
--- runs, their steps, edges and texts stay, and for each run that was added there is a node more that is pending
+-- runs, their steps, edges and texts stay, and for each run that was added there is one more whose node is pending
 pub record Grows {Node Move : Type 0} (old new : KeptNodes Node Move) : Type 0 where
   pub lineage : Extends (ways old.lineage) (ways new.lineage)
   pub steps : Extends (pieces old.lineage.steps) (pieces new.lineage.steps)
@@ -55,7 +59,7 @@ pub record Grows {Node Move : Type 0} (old new : KeptNodes Node Move) : Type 0 w
   pub texts : Extends (texts old.texts) (texts new.texts)
   pub pending : Extends old.pending.items new.pending.items
   pub count : length new.pending.items + length (ways old.lineage) ≡ length old.pending.items + length (ways new.lineage)
-  pub waits : (k : ℕ) → length (ways old.lineage) ≤ k → k < length (ways new.lineage) → Any (λ pending. pending.reached.number ≡ k) new.pending.items
+  pub waits : (k : ℕ) → length (ways old.lineage) ≤ k → k < length (ways new.lineage) → Any (λ reached. reached.number ≡ k) new.pending.items
 
 -- one of the runs that were reached serves this one
 abbrev pub Leads : {Move Node End : Type 0} → Runs Move Node End → List (List Move) → List Move → Type 0

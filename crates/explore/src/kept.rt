@@ -6,8 +6,10 @@ ghost use Rattle.explore.specs.Search.{IsNext};
 ghost use Rattle.explore.specs.NumberedTexts.{texts};
 ghost use Rattle.explore.specs.Lineage.{ways};
 
+use crate::again::{Nodes, most_newest};
 use crate::lineage::Lineage;
 use crate::links::Links;
+use crate::recent::Placed;
 use crate::texts::Texts;
 use crate::visited::Visited;
 use crate::{Next, Orders, Scope};
@@ -20,29 +22,45 @@ pub(crate) struct Reached {
     pub(crate) text: usize,
 }
 
-/// A node that is still to be expanded, and the numbers of its run.
+/// A node that is expanded next, and the numbers of its run.
 #[derive(Drop)]
 pub(crate) struct Pending<N> {
     pub(crate) node: N,
     pub(crate) reached: Reached,
 }
 
-/// The runs that were reached, what they printed, a visit for each of them, what is known of their nodes, and the nodes that are
-/// still to be expanded.
+/// The runs that were reached, what they printed, a visit for each of them, what is known of their nodes, and those of which the
+/// nodes are still to be expanded.
 #[derive(Drop)]
 pub(crate) struct KeptNodes<N, M> {
     pub(crate) lineage: Lineage<M>,
     pub(crate) texts: Texts,
     pub(crate) visited: Visited,
     pub(crate) links: Links,
-    pub(crate) pending: Vec<Pending<N>>,
+    pub(crate) pending: Vec<Reached>,
+    /// Nodes of runs that were reached.
+    pub(crate) nodes: Nodes<N>,
     /// The last key that was asked for.
     pub(crate) key: Vec<u8>,
 }
 
+impl<N: Drop, M: Copy> KeptNodes<N, M> {
+    /// About how many bytes it takes.
+    pub(crate) fn bytes(&self) -> usize {
+        let reached = self.pending.capacity().saturating_mul(size_of::<Reached>());
+        self.lineage
+            .bytes()
+            .saturating_add(self.texts.bytes())
+            .saturating_add(self.visited.bytes())
+            .saturating_add(self.links.bytes())
+            .saturating_add(self.nodes.bytes())
+            .saturating_add(reached)
+    }
+}
+
 /// What is kept at first: the node at which each run starts.
 pub(crate) fn first<O: Orders>(
-    alloc: Global,
+    scope: Scope,
     orders: &O,
     room: &mut O::Room,
 ) -> Result<KeptNodes<O::Node, O::Move>, AllocError>
@@ -50,8 +68,9 @@ pub(crate) fn first<O: Orders>(
     ensures ways { IfOk result (λ kept. ways kept.lineage ≡ [] ∷ []) }
     ensures one { IfOk result (λ kept. length kept.pending.items ≡ 1) }
     ensures unmarked { IfOk result (λ kept. kept.links.may_end.items ≡ true ∷ []) }
-    ensures waits { IfOk result (λ kept. Any (λ pending. pending.reached.number ≡ 0) kept.pending.items) }
+    ensures waits { IfOk result (λ kept. Any (λ reached. reached.number ≡ 0) kept.pending.items) }
 {
+    let alloc = scope.alloc;
     let node = orders.start(alloc)?;
     let mut key = Vec::new(alloc);
     orders.key(room, &mut key, &node)?;
@@ -60,16 +79,22 @@ pub(crate) fn first<O: Orders>(
     let mut links = Links::new(alloc);
     links.add()?;
     let mut pending = Vec::new(alloc);
-    pending.push(Pending {
+    pending.push(Reached { number: 0, text: 0 })?;
+    let weight = orders.weight(&node);
+    let placed = Placed {
+        number: 0,
         node,
-        reached: Reached { number: 0, text: 0 },
-    })?;
+        weight,
+    };
+    let mut nodes = Nodes::new(alloc);
+    nodes.newest.push(placed, most_newest(scope.bounds))?;
     Ok(KeptNodes {
         lineage: Lineage::new(alloc),
         texts: Texts::new(alloc),
         visited,
         links,
         pending,
+        nodes,
         key,
     })
 }
@@ -103,10 +128,11 @@ fn follow<O: Orders>(
     let text = kept.texts.longer(from.text, &printed)?;
     orders.key(room, &mut kept.key, &node)?;
     let bytes = kept.key.as_slice();
+    let weight = orders.weight(&node);
     let number = kept.lineage.len();
     if number >= scope.bounds.nodes {
-        let there = kept.visited.find(text, bytes);
-        let known = kept.links.join(from.number, there)?;
+        let seen = kept.visited.find(scope.alloc, text, bytes)?;
+        let known = kept.links.join(from.number, seen)?;
         return Ok(known);
     }
     let there = kept.visited.add(scope.alloc, text, bytes)?;
@@ -116,10 +142,13 @@ fn follow<O: Orders>(
     }
     kept.lineage.push(from.number, &moves)?;
     kept.links.add()?;
-    kept.pending.push(Pending {
+    let placed = Placed {
+        number,
         node,
-        reached: Reached { number, text },
-    })?;
+        weight,
+    };
+    kept.nodes.newest.push(placed, most_newest(scope.bounds))?;
+    kept.pending.push(Reached { number, text })?;
     Ok(true)
 }
 

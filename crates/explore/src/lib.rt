@@ -5,7 +5,8 @@
 //! 2. `explore` takes the last node off a stack, follows its ways, and puts the nodes that they lead to on the stack,
 //!    but for those of which one that goes on alike was there before.
 //! 3. The node itself is dropped then. What stays of it is the step that led to it (`lineage`), the number of what its run
-//!    printed (`texts`), and its key (`visited`).
+//!    printed (`texts`), and its key, shortened by `sharing` (`visited`). Of the nodes on the stack the newest are kept (`recent`), and
+//!    the others are made again by their moves when their turn comes (`again`).
 //! 4. Where a way ends, its text and end are shown, with the moves of the whole run, unless they are there already.
 //! 5. The search is over when the stack is empty. If nothing was left out on the way, each text and end of every run is
 //!    shown: that is the contract of `explore`.
@@ -13,12 +14,14 @@
 //!    before (`links`). From these a node is found from which no end is reached, where there is one (`endless`).
 #![tactic(auto)]
 
+mod again;
 mod endless;
 mod kept;
 mod lineage;
 mod links;
 mod orders;
 mod pieces;
+mod recent;
 mod search;
 mod show;
 mod stopped;
@@ -86,6 +89,8 @@ pub struct Bounds {
     pub nodes: usize,
     /// The most texts and ends that are shown.
     pub shown: usize,
+    /// About the most bytes that are kept.
+    pub bytes: usize,
 }
 
 /// How far a search goes, and what gives it memory.

@@ -1,11 +1,15 @@
 //! The moves of the runs that were reached, each told by the run that it goes on from.
-ghost use Rattle.std.specs.Prelude.{◌≡◌, ◌<◌, ◌++◌, ℕ, suc, [], ◌∷◌, length, reverse, get_or, slice_get, Some, IfOk, OnOk};
+ghost use Rattle.std.specs.Prelude.{◌≡◌, ◌<◌, ◌++◌, ℕ, suc, [], ◌∷◌, length, reverse, get_or, slice_get, Some, IfOk, IfSome, OnOk};
+ghost use Rattle.std.specs.List.{All};
 ghost use Rattle.explore.specs.Grown.{grown};
 ghost use Rattle.explore.specs.Lineage.{ways, IsLineage};
 ghost use Rattle.explore.specs.Pieces.{pieces};
 
 use crate::pieces::Pieces;
 use std::alloc::{AllocError, Global};
+
+// About how many bytes a move takes.
+const MOVE_BYTES: usize = 16;
 
 /// Runs by their numbers. The run of number 0 has no moves, and the others have a step each: the number of the run that they go on
 /// from, and their further moves.
@@ -40,6 +44,11 @@ impl<M: Copy> Lineage<M> {
         }
     }
 
+    /// About how many bytes they take.
+    pub(crate) fn bytes(&self) -> usize {
+        self.steps.bytes(MOVE_BYTES)
+    }
+
     /// How many runs there are.
     pub(crate) fn len(&self) -> usize
         ensures { result ≡ length (ways self.now) }
@@ -69,6 +78,65 @@ impl<M: Copy> Lineage<M> {
         ensures step { (k : ℕ) → number ≡ suc k → slice_get (pieces self.now.steps) k ≡ Some (result.0, result.1.now) }
     {
         self.steps.piece(number - 1)
+    }
+
+    /// Whether the run with a number goes on from another, or is it.
+    pub(crate) fn passes(&self, from: usize, number: usize) -> bool
+        requires lineage { IsLineage self.now }
+        requires within { number < length (ways self.now) }
+    {
+        let mut k = number;
+        while k > from {
+            let (before, _) = self.last_step(k);
+            k = before;
+        }
+        k == from
+    }
+
+    /// The numbers of the runs that the one with a number goes on from, back to another: it first, and that other left out.
+    pub(crate) fn passed(
+        &self,
+        alloc: Global,
+        from: usize,
+        number: usize,
+    ) -> Result<Vec<usize>, AllocError>
+        requires lineage { IsLineage self.now }
+        requires within { number < length (ways self.now) }
+        ensures { IfOk result (λ passed. All (λ k. k < length (ways self.now)) passed.items) }
+    {
+        let mut passed = Vec::new(alloc);
+        let mut k = number;
+        while k > from {
+            passed.push(k)?;
+            let (before, _) = self.last_step(k);
+            k = before;
+        }
+        Ok(passed)
+    }
+
+    /// The further moves by which the run with a number goes on from another, where it does.
+    pub(crate) fn way_from(
+        &self,
+        alloc: Global,
+        from: usize,
+        number: usize,
+    ) -> Result<Option<Vec<M>>, AllocError>
+        requires lineage { IsLineage self.now }
+        requires within { number < length (ways self.now) }
+        ensures { IfOk result (λ found. IfSome found (λ moves. get_or (ways self.now) number [] ≡ get_or (ways self.now) from [] ++ moves.items)) }
+    {
+        let mut back = Vec::new(alloc);
+        let mut k = number;
+        while k > from {
+            let (before, moves) = self.last_step(k);
+            push_back_to_front(alloc, &mut back, moves)?;
+            k = before;
+        }
+        if k != from {
+            return Ok(None);
+        }
+        back.reverse();
+        Ok(Some(back))
     }
 
     /// The moves of the run with a number.

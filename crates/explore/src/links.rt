@@ -34,6 +34,12 @@ impl Links {
         }
     }
 
+    /// About how many bytes they take.
+    pub(crate) fn bytes(&self) -> usize {
+        let edges = self.edges.capacity().saturating_mul(size_of::<Edge>());
+        edges.saturating_add(self.may_end.capacity())
+    }
+
     /// Adds a node of which nothing is known yet.
     pub(crate) fn add(&mut self) -> Result<(), AllocError>
         ensures edges { OnOk result (self.new.edges.items ≡ self.old.edges.items) }

@@ -1,5 +1,5 @@
 //! What a search needs of what it searches.
-ghost use Rattle.std.specs.Prelude.{◌≡◌, ◌↔◌, ℕ, List, [], IsTrue, IfOk, OnOk};
+ghost use Rattle.std.specs.Prelude.{◌≡◌, ◌↔◌, ℕ, List, [], ◌++◌, IsTrue, IfOk, OnOk};
 ghost use Rattle.std.specs.List.{All};
 ghost use Rattle.explore.specs.Search.{IsEnded, IsReached, IsNext, IsCovered, Serves};
 
@@ -56,6 +56,19 @@ pub trait Orders {
         node: &Self::Node,
     ) -> Result<(), AllocError>
         ensures { OnOk result (has_key self.now node.now key.new.items) };
+
+    /// About how many bytes a node takes.
+    fn weight(&self, node: &Self::Node) -> usize;
+
+    /// The node of a run that goes on by these moves from the run of a node. That some node stands there was found before.
+    fn again(
+        &self,
+        alloc: Global,
+        room: &mut Self::Room,
+        from: &Self::Node,
+        moves: &[Self::Move],
+    ) -> Result<Self::Node, AllocError>
+        ensures { IfOk result (λ node. (run : List Self.Move) (other : Self.Node) → (runs self.now).Stands from.now run → (runs self.now).Stands other (run ++ moves.now) → (runs self.now).Stands node (run ++ moves.now)) };
 
     /// Whether two ends are one.
     fn same_end(&self, a: &Self::End, b: &Self::End) -> bool

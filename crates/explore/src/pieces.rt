@@ -41,6 +41,13 @@ impl<T: Copy> Pieces<T> {
         }
     }
 
+    /// About how many bytes they take, where each item takes so many.
+    pub(crate) fn bytes(&self, item: usize) -> usize {
+        let rows = self.rows.capacity().saturating_mul(size_of::<Piece>());
+        let arena = self.arena.capacity().saturating_mul(item);
+        rows.saturating_add(arena)
+    }
+
     /// How many lists there are.
     pub(crate) fn len(&self) -> usize
         ensures { result ≡ length (pieces self.now) }

@@ -9,6 +9,7 @@ ghost use Rattle.explore.specs.NumberedTexts.{texts};
 ghost use Rattle.explore.specs.Lineage.{ways};
 ghost use Rattle.explore.specs.declared.stopped.Stopped.TheVariants as stop;
 
+use crate::again::node_at;
 use crate::endless::find_endless;
 use crate::kept::{KeptNodes, Pending, first, follow_all};
 use crate::show::{Run, show_all};
@@ -154,14 +155,29 @@ fn search<O: Orders, P: Progress>(
     ensures endless { IfOk result (λ outcome. IfSome outcome.endless (λ moves. IsEndless (O.runs orders.now) moves.items)) }
 {
     let mut room = orders.room(scope.alloc);
-    let mut kept = first(scope.alloc, orders, &mut room)?;
+    let mut kept = first(scope, orders, &mut room)?;
     *nodes = kept.lineage.len();
     let mut stopped = None;
-    while let Some(at) = kept.pending.pop() {
+    while let Some(reached) = kept.pending.pop() {
+        if kept.bytes() > scope.bounds.bytes {
+            return Ok(Outcome {
+                stopped: Some(Stopped::Bytes),
+                endless: None,
+            });
+        }
+        let node = node_at(
+            scope,
+            orders,
+            &mut room,
+            &kept.lineage,
+            &mut kept.nodes,
+            reached.number,
+        )?;
+        let at = Pending { node, reached };
         let left = turn(scope, orders, &mut room, &mut kept, shown, at)?;
-        let reached = kept.lineage.len();
-        tell_nodes(progress, *nodes, reached);
-        *nodes = reached;
+        let count = kept.lineage.len();
+        tell_nodes(progress, *nodes, count);
+        *nodes = count;
         if is_full(left) {
             return Ok(Outcome {
                 stopped: left,
@@ -179,8 +195,8 @@ fn search<O: Orders, P: Progress>(
 ///
 /// What stopped it is the first of these: an expansion wasn't whole, or a node was left out since `bounds.nodes` were
 /// reached; the search then goes on with those that were reached, which may still show more. At the first text too many,
-/// where `bounds.shown` are shown, and at the first refusal of memory it goes no further, that is what stopped it, and what
-/// was shown until then stays. How many nodes were reached is told at times.
+/// where `bounds.shown` are shown, once what is kept takes more than `bounds.bytes`, about, and at the first refusal of memory it
+/// goes no further, that is what stopped it, and what was shown until then stays. How many nodes were reached is told at times.
 ///
 /// Where it came to its own end it looks for a run from which no end is reached. Nodes that weren't expanded, or not whole,
 /// count as such where a run may end.

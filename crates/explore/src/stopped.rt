@@ -9,6 +9,8 @@ pub enum Stopped {
     Shown,
     /// The ways from a node weren't all followed.
     Unfollowed,
+    /// What is kept takes more bytes than it may.
+    Bytes,
     /// Memory was refused.
     Memory,
 }

@@ -6,6 +6,9 @@ ghost use Rattle.explore.specs.NumberedTexts.{texts, IsTexts};
 use indexmap::IndexSet;
 use std::alloc::{AllocError, Global};
 
+// About how many bytes a letter takes, with its hash and its place in the table.
+const LETTER_BYTES: usize = 32;
+
 /// A text's last byte, and the number of the text before it.
 #[derive(Clone, Copy, PartialEq, Eq, Hash)]
 pub(crate) struct Letter {
@@ -28,6 +31,11 @@ impl Texts {
         Texts {
             letters: IndexSet::new(alloc),
         }
+    }
+
+    /// About how many bytes they take.
+    pub(crate) fn bytes(&self) -> usize {
+        self.letters.capacity().saturating_mul(LETTER_BYTES)
     }
 
     /// The number of the text that is one byte longer than another.

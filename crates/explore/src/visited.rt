@@ -1,161 +1,78 @@
 //! What was visited: the keys of the nodes that were reached, with the texts of their runs.
-ghost use Rattle.std.specs.Prelude.{◌≡◌, ◌<◌, ◌++◌, [], ◌∷◌, None, length, IfOk, IfSome, OnOk};
-ghost use Rattle.explore.specs.Pieces.{pieces, ArePieces};
-ghost use Rattle.explore.specs.Visited.{IsThere};
+ghost use Rattle.std.specs.Prelude.{◌≡◌, ◌++◌, [], ◌∷◌, None, IfOk, IfSome, OnOk};
+ghost use Rattle.explore.specs.Visited.{visits, AreVisits, IsThere};
 
-use crate::pieces::{Pieces, narrow};
+use indexmap::IndexSet;
+use sharing::{Parts, Shortened};
 use std::alloc::{AllocError, Global};
 
-// The slots of the first table.
-const FIRST_SLOTS: usize = 16;
+// About how many bytes a visit takes, with its hash and its place in the table.
+const VISIT_BYTES: usize = 32;
 
-// The half of a slot that the number of a visit has.
-const NUMBERS: u64 = 0xffff_ffff;
+/// A visit: the number of the text that a node's run printed, and what the node's key was shortened to.
+#[derive(Clone, Copy, PartialEq, Eq, Hash)]
+pub(crate) struct Visit {
+    pub(crate) text: usize,
+    pub(crate) number: u32,
+    pub(crate) levels: u32,
+}
 
-/// The visits, in the order of the numbers of the nodes: the number of the text that a node's run printed, and the node's key. They
-/// are found by a table: in each of its slots is 0, or the half of a visit's hash and one more than the visit's number. From where
-/// the hash of a visit leads to its own slot, no slot is free.
+/// The visits, in the order of the numbers of the nodes, and the parts that their keys share.
 #[derive(Drop)]
 pub(crate) struct Visited {
-    pub(crate) visits: Pieces<u8>,
-    pub(crate) slots: Vec<u64>,
+    pub(crate) parts: Parts,
+    pub(crate) rows: IndexSet<Visit>,
 }
 
-// A hash that goes on by these bits.
-fn mixed(hash: u64, bits: u64) -> u64 {
-    let product = (hash ^ bits).wrapping_mul(0x9e37_79b9_7f4a_7c15);
-    product ^ (product >> 32)
-}
-
-// A hash of a text's number and a key, eight bytes of it at a time.
-fn hash_of(text: usize, key: &[u8]) -> u64 {
-    let (words, rest) = key.as_chunks::<8>();
-    let mut hash = mixed(key.len() as u64, text as u64);
-    for word in words {
-        hash = mixed(hash, u64::from_le_bytes(*word));
-    }
-    for byte in rest {
-        hash = mixed(hash, u64::from(*byte));
-    }
-    hash
-}
-
-// What stands in the slot of a visit.
-fn slot(hash: u64, number: u32) -> u64 {
-    (hash & !NUMBERS) | u64::from(number)
-}
-
-// The place to which the hash in a slot leads.
-fn place_of(slot: u64, count: usize) -> usize
-    requires { 0 < count }
-    ensures { result < count }
+// The visit of a text and of what a key was shortened to.
+fn visit_of(text: usize, key: Shortened) -> Visit
+    ensures { result ≡ record { text = text; number = key.number; levels = key.levels } }
 {
-    ((slot >> 32) % count as u64) as usize
-}
-
-// The place after another, round the table.
-fn after(at: usize, count: usize) -> usize
-    requires { at < count }
-    ensures { result < count }
-{
-    let next = at + 1;
-    if next < count { next } else { 0 }
-}
-
-// Puts what is to stand in a slot into the first free one from where its hash leads.
-fn put(slots: &mut Vec<u64>, slot: u64)
-    ensures { length slots.new.items ≡ length slots.old.items }
-{
-    let count = slots.len();
-    if count == 0 {
-        return;
+    Visit {
+        text,
+        number: key.number,
+        levels: key.levels,
     }
-    let mut at = place_of(slot, count);
-    for _ in 0..count {
-        if slots[at] == 0 {
-            slots[at] = slot;
-            return;
-        }
-        at = after(at, count);
-    }
-}
-
-// The number of the visit in a slot, where that visit has this text and this key.
-fn visit_in(visits: &Pieces<u8>, slot: u64, text: usize, key: &[u8]) -> Option<usize>
-    requires whole { ArePieces visits.now }
-    ensures { IfSome result (IsThere (text, key.now) (pieces visits.now)) }
-{
-    let number = ((slot & NUMBERS) as usize).wrapping_sub(1);
-    if number >= visits.len() {
-        return None;
-    }
-    let (other, bytes) = visits.piece(number);
-    if other == text {
-        if bytes == key {
-            return Some(number);
-        }
-    }
-    None
-}
-
-// A table of so many slots, with what stands in those of another.
-fn wider(alloc: Global, slots: &[u64], count: usize) -> Result<Vec<u64>, AllocError>
-    ensures { IfOk result (λ wider. length wider.items ≡ count) }
-{
-    let mut wider = Vec::new(alloc);
-    wider.resize(count, 0)?;
-    for slot in slots {
-        if *slot != 0 {
-            put(&mut wider, *slot);
-        }
-    }
-    Ok(wider)
 }
 
 impl Visited {
     /// No visits.
     pub(crate) fn new(alloc: Global) -> Self
-        ensures whole { ArePieces result.visits }
-        ensures none { pieces result.visits ≡ [] }
+        ensures whole { AreVisits result }
+        ensures none { visits result ≡ [] }
     {
         Visited {
-            visits: Pieces::new(alloc),
-            slots: Vec::new(alloc),
+            parts: Parts::new(alloc),
+            rows: IndexSet::new(alloc),
         }
     }
 
-    // The number of such a visit with this hash, where there was one.
-    fn find_by(&self, hash: u64, text: usize, key: &[u8]) -> Option<usize>
-        requires whole { ArePieces self.now.visits }
-        ensures { IfSome result (IsThere (text, key.now) (pieces self.now.visits)) }
-    {
-        let count = self.slots.len();
-        if count == 0 {
-            return None;
-        }
-        let mut at = place_of(hash, count);
-        for _ in 0..count {
-            let slot = self.slots[at];
-            if slot == 0 {
-                return None;
-            }
-            if slot >> 32 == hash >> 32 {
-                match visit_in(&self.visits, slot, text, key) {
-                    Some(number) => return Some(number),
-                    None => {}
-                }
-            }
-            at = after(at, count);
-        }
-        None
+    /// About how many bytes they take.
+    pub(crate) fn bytes(&self) -> usize {
+        let rows = self.rows.capacity().saturating_mul(VISIT_BYTES);
+        rows.saturating_add(self.parts.bytes())
     }
 
-    /// The number of such a visit, where there was one.
-    pub(crate) fn find(&self, text: usize, key: &[u8]) -> Option<usize>
-        requires whole { ArePieces self.now.visits }
-        ensures { IfSome result (IsThere (text, key.now) (pieces self.now.visits)) }
+    /// The number of such a visit, where there was one. Nothing is added.
+    pub(crate) fn find(
+        &mut self,
+        alloc: Global,
+        text: usize,
+        key: &[u8],
+    ) -> Result<Option<usize>, AllocError>
+        requires whole { AreVisits self.old }
+        ensures whole { OnOk result (AreVisits self.new) }
+        ensures same { OnOk result (visits self.new ≡ visits self.old) }
+        ensures there { IfOk result (λ there. IfSome there (IsThere (text, key.now) (visits self.old))) }
     {
-        self.find_by(hash_of(text, key), text, key)
+        let key = match self.parts.find(alloc, key)? {
+            Some(key) => key,
+            None => return Ok(None),
+        };
+        match self.rows.get_full(&visit_of(text, key)) {
+            Some((number, _)) => Ok(Some(number)),
+            None => Ok(None),
+        }
     }
 
     /// Adds a visit, unless there was such a one. The answer is the number of the one that was there.
@@ -165,27 +82,16 @@ impl Visited {
         text: usize,
         key: &[u8],
     ) -> Result<Option<usize>, AllocError>
-        requires whole { ArePieces self.old.visits }
-        ensures whole { OnOk result (ArePieces self.new.visits) }
-        ensures there { IfOk result (λ there. IfSome there (λ number. (pieces self.new.visits ≡ pieces self.old.visits) × IsThere (text, key.now) (pieces self.old.visits) number)) }
-        ensures added { IfOk result (λ there. there ≡ None → pieces self.new.visits ≡ pieces self.old.visits ++ (text, key.now) ∷ []) }
+        requires whole { AreVisits self.old }
+        ensures whole { OnOk result (AreVisits self.new) }
+        ensures there { IfOk result (λ there. IfSome there (λ number. (visits self.new ≡ visits self.old) × IsThere (text, key.now) (visits self.old) number)) }
+        ensures added { IfOk result (λ there. there ≡ None → visits self.new ≡ visits self.old ++ (text, key.now) ∷ []) }
     {
-        let hash = hash_of(text, key);
-        match self.find_by(hash, text, key) {
-            Some(number) => return Ok(Some(number)),
-            None => {}
+        let key = self.parts.shorten(alloc, key)?;
+        let (number, is_new) = self.rows.insert_full(visit_of(text, key))?;
+        if is_new {
+            return Ok(None);
         }
-        self.visits.push(text, key)?;
-        let number = self.visits.len();
-        let count = self.slots.len();
-        if number > count / 4 * 3 {
-            self.slots = wider(
-                alloc,
-                &self.slots,
-                count.saturating_add(count / 2).max(FIRST_SLOTS),
-            )?;
-        }
-        put(&mut self.slots, slot(hash, narrow(number)?));
-        Ok(None)
+        Ok(Some(number))
     }
 }

@@ -2,3 +2,4 @@
 pub mod Searches
 pub mod Ways
 pub mod Expansions
+pub mod Remade

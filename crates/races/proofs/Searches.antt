@@ -1,17 +1,15 @@
 -- What a search of a design's runs says of its lawful journals, and what it has to know of them, whatever its nodes hold.
 use Rattle.std.proofs.Common.{◌≡◌, ℕ, List, [], ◌∷◌, ◌++◌, inl, inr, refl, sym, ap, ◌∙◌, subst, Option, Some, None, Vec, Global}
-use Rattle.std.specs.Prelude.{option_and_then, IfSome}
+use Rattle.std.specs.Prelude.{IfSome}
 use Rattle.std.specs.List.{All}
 use Rattle.std.proofs.lemmas.List.{append-nil}
-use Rattle.std.proofs.lemmas.List.Elements.{All-nil, All-cons, All-append, All-weaker}
+use Rattle.std.proofs.lemmas.List.Elements.{All-weaker}
 use Rattle.model.specs.declared.entry.Entry.{Entry}
 use Rattle.model.specs.declared.end.Limits.{Limits}
 use Rattle.model.specs.declared.end.End.{End}
 use Rattle.model.specs.Design.{Design}
-use Rattle.model.specs.Runs.{Effect, silent, joined, step, run_from, IsTimely}
-use Rattle.model.proofs.RunLaws.{run_from-append}
+use Rattle.model.specs.Runs.{Effect, joined}
 use Rattle.orders.specs.SearchLaws.{IsOneNode, EndsHere}
-use Rattle.orders.proofs.SearchLaws.{then_some}
 use Rattle.explore.specs.declared.Next.{Next}
 use Rattle.explore.specs.declared.Ended.{Ended}
 use Rattle.explore.specs.declared.Shown.{Shown}

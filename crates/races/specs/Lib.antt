@@ -1,3 +1,4 @@
+pub mod Again
 pub mod DesignRuns
 pub mod Expanding
 pub mod SearchNodes

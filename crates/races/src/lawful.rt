@@ -11,6 +11,7 @@ ghost use Rattle.races.specs.DesignRuns.{IsEndlessJournal, IsWithin};
 ghost use Rattle.races.specs.SearchNodes.{AreBounded};
 ghost use Rattle.explore.specs.declared.stopped.Stopped.TheVariants as stop;
 
+use crate::again::{again, weight};
 use crate::expand::expand;
 use crate::node::{DesignNode, Room};
 use design::Design;
@@ -87,6 +88,21 @@ impl<'d> Orders for Lawful<'d> {
         node: &DesignNode<'d>,
     ) -> Result<(), AllocError> {
         room.fill_key(key, &node.machine)
+    }
+
+    fn weight(&self, node: &DesignNode<'d>) -> usize {
+        weight(&node.machine)
+    }
+
+    fn again(
+        &self,
+        alloc: Global,
+        room: &mut Room,
+        from: &DesignNode<'d>,
+        moves: &[Entry],
+    ) -> Result<DesignNode<'d>, AllocError> {
+        let machine = again(alloc, room, &from.machine, moves)?;
+        Ok(DesignNode { machine })
     }
 
     fn same_end(&self, a: &End, b: &End) -> bool {

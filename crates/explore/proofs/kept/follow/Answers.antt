@@ -4,17 +4,19 @@ use Rattle.explore.specs.Links.{IsUnmarked}
 use Rattle.explore.specs.NumberedTexts.{texts}
 use Rattle.explore.specs.Lineage.{ways}
 use Rattle.explore.specs.Pieces.{pieces}
-use Rattle.explore.specs.Visited.{IsThere}
-use Rattle.explore.specs.declared.kept.Pending.{Pending}
+use Rattle.explore.specs.Visited.{IsThere, visits}
+use Rattle.explore.specs.SearchKept.{IsText}
+use Rattle.explore.specs.declared.kept.Reached.{Reached}
+use Rattle.explore.specs.declared.recent.Placed.{Placed}
 use Rattle.explore.specs.declared.links.Edge.{Edge}
-use Rattle.explore.proofs.Keeping.{AreKept-texts, Grows-texts, IsText-next, IsVisited-next, IsPending-next, AreKept-push, Grows-push}
+use Rattle.explore.proofs.Keeping.{AreKept-texts, Grows-texts, IsText-next, IsVisited-next, IsPlaced-next, AreKept-push, Grows-push}
 use Rattle.explore.proofs.Continuing.{found_at, there_leads, pushed_leads, never_false}
 use Rattle.explore.proofs.Edges.{unmarked_before}
 use Rattle.explore.proofs.kept.follow.Goals as goal
 
 pub returns-then-number-scope-clause-kept : goal.returns-then-number-scope-clause-kept
 returns-then-number-scope-clause-kept g c =
-    AreKept-texts (g.O.Orders.runs c.args.orders.now) (g.O.Orders.has_key c.args.orders.now) c.args.kept.now _ c.requires.kept refl c.in_ok-text.ensures.ok c.in_ok-text.ensures.grows c.requires.kept.whole refl refl
+    AreKept-texts (g.O.Orders.runs c.args.orders.now) (g.O.Orders.has_key c.args.orders.now) c.args.kept.now _ c.requires.kept refl c.in_ok-text.ensures.ok c.in_ok-text.ensures.grows c.in_ok-seen.ensures.whole c.in_ok-seen.ensures.same refl refl
 
 pub returns-then-number-scope-clause-grows : goal.returns-then-number-scope-clause-grows
 returns-then-number-scope-clause-grows g c = Grows-texts c.args.kept.now _ refl c.in_ok-known.ensures.edges c.in_ok-text.ensures.grows refl
@@ -29,7 +31,7 @@ returns-then-number-scope-clause-leads g c there =
     let text : get_or (texts c.longer.new.self) visit.0 [] ≡ runs.text (get_or (ways old.lineage) c.args.from.number [] ++ next.moves.items) =
     c.in_ok-text.ensures.text ∙ (ap (λ l. get_or (texts old.texts) c.args.from.text [] ++ l) c.deref.ensures.value ∙ (ap (λ l. l ++ next.printed.items) c.requires.from.same ∙ sym c.requires.next.1)) in
     let edge = c.in_ok-known.ensures.joined there in
-    let seen : IsThere visit (pieces old.visited.visits) edge.0 = found_at c.find-there.result edge.0 (IsThere visit (pieces old.visited.visits)) edge.1 c.find-there.ensures in
+    let seen : IsThere visit (visits old.visited) edge.0 = found_at c.in_ok-seen.seen edge.0 (IsThere visit (visits old.visited)) edge.1 c.in_ok-seen.ensures.there in
     there_leads runs (g.O.Orders.has_key orders) old _ (texts c.longer.new.self) next.node c.args.from.number (get_or (ways old.lineage) c.args.from.number [] ++ next.moves.items) visit edge.0
     (λ a b i j k of_a of_b at bt t. g.met.O.Orders.alike orders i j (g.met.O.Orders.keyed orders a b i j k of_a of_b at bt t))
     c.requires.kept c.in_ok-text.ensures.grows c.requires.next.0 (subst (g.O.Orders.has_key orders next.node) (sym c.as_slice-bytes.ensures.value) c.in_ok-key.ensures) text seen refl edge.2
@@ -39,8 +41,8 @@ returns-then-joined-clause-kept g c =
     let old = c.args.kept.now in
     let visit : ℕ × List ℕ = (c.in_ok-text.text, c.as_slice-bytes.result.now) in
     let edge = c.in_ok-joined.ensures.joined c.if-joined.true in
-    let seen = found_at c.in_ok-there.there edge.0 (λ number. (pieces c.add.new.self.visits ≡ pieces old.visited.visits) × IsThere visit (pieces old.visited.visits) number) edge.1 c.in_ok-there.ensures.there in
-    AreKept-texts (g.O.Orders.runs c.args.orders.now) (g.O.Orders.has_key c.args.orders.now) old _ c.requires.kept refl c.in_ok-text.ensures.ok c.in_ok-text.ensures.grows c.in_ok-there.ensures.whole seen.0 refl
+    let seen = found_at c.in_ok-there.there edge.0 (λ number. (visits c.add.new.self ≡ visits old.visited) × IsThere visit (visits old.visited) number) edge.1 c.in_ok-there.ensures.there in
+    AreKept-texts (g.O.Orders.runs c.args.orders.now) (g.O.Orders.has_key c.args.orders.now) old _ c.requires.kept refl c.in_ok-text.ensures.ok c.in_ok-text.ensures.grows c.in_ok-there.ensures.whole seen.0 refl refl
 
 pub returns-then-joined-clause-grows : goal.returns-then-joined-clause-grows
 returns-then-joined-clause-grows g c = Grows-texts c.args.kept.now _ refl c.in_ok-joined.ensures.edges c.in_ok-text.ensures.grows refl
@@ -55,7 +57,7 @@ returns-then-joined-clause-leads g c _ =
     let text : get_or (texts c.longer.new.self) visit.0 [] ≡ runs.text (get_or (ways old.lineage) c.args.from.number [] ++ next.moves.items) =
     c.in_ok-text.ensures.text ∙ (ap (λ l. get_or (texts old.texts) c.args.from.text [] ++ l) c.deref.ensures.value ∙ (ap (λ l. l ++ next.printed.items) c.requires.from.same ∙ sym c.requires.next.1)) in
     let edge = c.in_ok-joined.ensures.joined c.if-joined.true in
-    let seen = found_at c.in_ok-there.there edge.0 (λ number. (pieces c.add.new.self.visits ≡ pieces old.visited.visits) × IsThere visit (pieces old.visited.visits) number) edge.1 c.in_ok-there.ensures.there in
+    let seen = found_at c.in_ok-there.there edge.0 (λ number. (visits c.add.new.self ≡ visits old.visited) × IsThere visit (visits old.visited) number) edge.1 c.in_ok-there.ensures.there in
     there_leads runs (g.O.Orders.has_key orders) old _ (texts c.longer.new.self) next.node c.args.from.number (get_or (ways old.lineage) c.args.from.number [] ++ next.moves.items) visit edge.0
     (λ a b i j k of_a of_b at bt t. g.met.O.Orders.alike orders i j (g.met.O.Orders.keyed orders a b i j k of_a of_b at bt t))
     c.requires.kept c.in_ok-text.ensures.grows c.requires.next.0 (subst (g.O.Orders.has_key orders next.node) (sym c.as_slice-bytes.ensures.value) c.in_ok-key.ensures) text seen.1 refl edge.2
@@ -70,23 +72,25 @@ returns-clause-kept g c =
     let new = ways c.push.new.self in
     let told = texts c.longer.new.self in
     let visit : ℕ × List ℕ = (c.in_ok-text.text, c.as_slice-bytes.result.now) in
-    let p : Pending g.row.O-Node.Denot = record { node = next.node; reached = record { number = c.len-number.result; text = c.in_ok-text.text } } in
+    let p : Reached = record { number = c.len-number.result; text = c.in_ok-text.text } in
+    let last : Placed g.row.O-Node.Denot = record { number = c.len-number.result; node = next.node; weight = c.weight-weight.result } in
     let added : new ≡ grown (ways old.lineage) c.args.from.number next.moves.items = c.in_ok-push.ensures.ways ∙ ap (λ (l : List g.row.O-Move.Denot). grown (ways old.lineage) c.args.from.number l) c.deref-2.ensures.value in
     let text = c.in_ok-text.ensures.text ∙ ap (λ l. get_or (texts old.texts) c.args.from.text [] ++ l) c.deref.ensures.value in
     let at = IsText-next runs (ways old.lineage) new (texts old.texts) told c.args.from c.in_ok-text.text next.moves.items next.printed.items c.requires.from c.requires.next.1 added c.in_ok-text.ensures.within text in
-    AreKept-push runs HasKey old _ c.args.from.number c.in_ok-text.text next.moves.items visit p c.requires.kept c.in_ok-push.ensures.lineage added c.in_ok-text.ensures.ok c.in_ok-text.ensures.grows c.in_ok-there.ensures.whole (c.in_ok-there.ensures.added (c.in_ok-joined.ensures.none c.if-joined.false)) c.in_ok-push-2.ensures.items
+    AreKept-push runs HasKey old _ c.args.from.number c.in_ok-text.text next.moves.items visit p last c.requires.kept c.in_ok-push.ensures.lineage added c.in_ok-text.ensures.ok c.in_ok-text.ensures.grows c.in_ok-there.ensures.whole (c.in_ok-there.ensures.added (c.in_ok-joined.ensures.none c.if-joined.false)) c.in_ok-push-3.ensures.items
     (IsVisited-next runs HasKey (ways old.lineage) new told next.node c.args.from.number c.in_ok-text.text next.moves.items c.as_slice-bytes.result.now added c.requires.next.0 (subst (g.O.Orders.has_key orders next.node) (sym c.as_slice-bytes.ensures.value) c.in_ok-key.ensures) at)
-    (IsPending-next runs (ways old.lineage) new told p c.args.from.number next.moves.items added c.requires.next.0 c.len-number.ensures at)
+    (subst (λ (n : ℕ). IsText runs new told (record { number = n; text = c.in_ok-text.text })) (sym c.len-number.ensures) at) c.in_ok-push-2.ensures refl
+    (IsPlaced-next runs (ways old.lineage) new last c.args.from.number next.moves.items added c.requires.next.0 c.len-number.ensures)
 
 pub returns-clause-grows : goal.returns-clause-grows
 returns-clause-grows g c =
     let old = c.args.kept.now in
     let next = c.args.next in
-    let p : Pending g.row.O-Node.Denot = record { node = next.node; reached = record { number = c.len-number.result; text = c.in_ok-text.text } } in
+    let p : Reached = record { number = c.len-number.result; text = c.in_ok-text.text } in
     let added : ways c.push.new.self ≡ grown (ways old.lineage) c.args.from.number next.moves.items = c.in_ok-push.ensures.ways ∙ ap (λ (l : List g.row.O-Move.Denot). grown (ways old.lineage) c.args.from.number l) c.deref-2.ensures.value in
     let steps : Extends (pieces old.lineage.steps) (pieces c.push.new.self.steps) = ((c.args.from.number, c.deref-2.result.now) ∷ [], c.in_ok-push.ensures.steps) in
     let edges : Extends old.links.edges.items c.add-2.new.self.edges.items = subst (λ (l : List Edge). Extends old.links.edges.items l) (sym c.in_ok-add.ensures.edges) c.in_ok-joined.ensures.edges in
-    Grows-push old _ c.args.from.number next.moves.items p added steps edges c.in_ok-text.ensures.grows c.in_ok-push-2.ensures.items c.len-number.ensures
+    Grows-push old _ c.args.from.number next.moves.items p added steps edges c.in_ok-text.ensures.grows c.in_ok-push-3.ensures.items c.len-number.ensures
 
 pub returns-clause-unmarked : goal.returns-clause-unmarked
 returns-clause-unmarked g c k none =

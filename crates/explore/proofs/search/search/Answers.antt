@@ -10,13 +10,13 @@ use Rattle.explore.specs.declared.stopped.Stopped.TheVariants as stop
 use Rattle.explore.proofs.Growing.{Extends-itself, get_or-extends, length-extends}
 use Rattle.explore.proofs.Complete.{all_shown}
 use Rattle.explore.proofs.Continuing.{AreContinued-more}
-use Rattle.explore.proofs.Counting.{counted, none_counted, endless_of, by_memory, some_none, none_some}
+use Rattle.explore.proofs.Counting.{stood_at, counted, none_counted, endless_of, by_memory, some_none, none_some}
 use Rattle.explore.proofs.Edges.{none_unmarked}
 use Rattle.explore.proofs.Keeping.{AreKept-pop, known_more, all_followed}
 use Rattle.explore.proofs.search.search.Goals as goal
 
-pub loop-at-init : goal.loop-at-init
-loop-at-init g c =
+pub loop-reached-init : goal.loop-reached-init
+loop-reached-init g c =
     let runs = g.O.Orders.runs c.args.orders.now in
     let one = c.in_ok-kept.ensures.ways in
     let few : length (ways c.in_ok-kept.kept.lineage) ≡ 1 = ap length one in
@@ -35,27 +35,41 @@ loop-at-init g c =
       distinct = λ i j d low high. absurd (omega (arith, high, empty));
       followed = λ _ k less. inl (
           let none : 0 ≡ k = omega (arith, less, few) in
-          subst (λ (n : ℕ). Any (λ p. p.reached.number ≡ n) c.in_ok-kept.kept.pending.items) none c.in_ok-kept.ensures.waits);
+          subst (λ (n : ℕ). Any (λ p. p.number ≡ n) c.in_ok-kept.kept.pending.items) none c.in_ok-kept.ensures.waits);
     }
+
+pub node_at-requires-clause-within : goal.node_at-requires-clause-within
+node_at-requires-clause-within g c =
+    let old = c.loop-reached.kept in
+    let at = (AreKept-pop (g.O.Orders.runs c.args.orders.now) (g.O.Orders.has_key c.args.orders.now) old (record { lineage = old.lineage; texts = old.texts; visited = old.visited; links = old.links; pending = c.pop.new.self; nodes = old.nodes; key = old.key }) c.in-Some.reached c.loop-reached.invariant.kept refl refl refl c.in-Some.ensures.items c.loop-reached.invariant.kept.placed).1 in
+    at.way
+
+pub node_at-requires-clause-stood : goal.node_at-requires-clause-stood
+node_at-requires-clause-stood g c k within = stood_at (g.O.Orders.runs c.args.orders.now) (g.O.Orders.has_key c.args.orders.now) c.loop-reached.kept k c.loop-reached.invariant.kept within
 
 pub turn-requires-clause-kept : goal.turn-requires-clause-kept
 turn-requires-clause-kept g c =
-    (AreKept-pop (g.O.Orders.runs c.args.orders.now) (g.O.Orders.has_key c.args.orders.now) c.loop-at.kept (record { lineage = c.loop-at.kept.lineage; texts = c.loop-at.kept.texts; visited = c.loop-at.kept.visited; links = c.loop-at.kept.links; pending = c.pop.new.self; key = c.loop-at.kept.key }) c.in-Some.at c.loop-at.invariant.kept refl refl refl c.in-Some.ensures.items).0
+    let old = c.loop-reached.kept in
+    (AreKept-pop (g.O.Orders.runs c.args.orders.now) (g.O.Orders.has_key c.args.orders.now) old (record { lineage = old.lineage; texts = old.texts; visited = old.visited; links = old.links; pending = c.pop.new.self; nodes = c.node_at.new.nodes; key = old.key }) c.in-Some.reached c.loop-reached.invariant.kept refl refl refl c.in-Some.ensures.items c.in_ok-node.ensures.placed).0
 
 pub turn-requires-clause-continued : goal.turn-requires-clause-continued
 turn-requires-clause-continued g c =
-    let old = c.loop-at.kept in
-    AreContinued-more (g.O.Orders.runs c.args.orders.now) old (record { lineage = old.lineage; texts = old.texts; visited = old.visited; links = old.links; pending = c.pop.new.self; key = old.key }) (Extends-itself (ways old.lineage)) (Extends-itself (pieces old.lineage.steps)) (Extends-itself old.links.edges.items) (λ k none. none) c.loop-at.invariant.continued
+    let old = c.loop-reached.kept in
+    AreContinued-more (g.O.Orders.runs c.args.orders.now) old (record { lineage = old.lineage; texts = old.texts; visited = old.visited; links = old.links; pending = c.pop.new.self; nodes = c.node_at.new.nodes; key = old.key }) (Extends-itself (ways old.lineage)) (Extends-itself (pieces old.lineage.steps)) (Extends-itself old.links.edges.items) (λ k none. none) c.loop-reached.invariant.continued
 
 pub turn-requires-clause-at : goal.turn-requires-clause-at
 turn-requires-clause-at g c =
-    (AreKept-pop (g.O.Orders.runs c.args.orders.now) (g.O.Orders.has_key c.args.orders.now) c.loop-at.kept (record { lineage = c.loop-at.kept.lineage; texts = c.loop-at.kept.texts; visited = c.loop-at.kept.visited; links = c.loop-at.kept.links; pending = c.pop.new.self; key = c.loop-at.kept.key }) c.in-Some.at c.loop-at.invariant.kept refl refl refl c.in-Some.ensures.items).1
+    let old = c.loop-reached.kept in
+    record {
+      stands = c.in_ok-node.ensures.node;
+      text = (AreKept-pop (g.O.Orders.runs c.args.orders.now) (g.O.Orders.has_key c.args.orders.now) old (record { lineage = old.lineage; texts = old.texts; visited = old.visited; links = old.links; pending = c.pop.new.self; nodes = old.nodes; key = old.key }) c.in-Some.reached c.loop-reached.invariant.kept refl refl refl c.in-Some.ensures.items c.loop-reached.invariant.kept.placed).1;
+    }
 
-pub loop-at-preserved : goal.loop-at-preserved
-loop-at-preserved g c =
+pub loop-reached-preserved : goal.loop-reached-preserved
+loop-reached-preserved g c =
     let runs = g.O.Orders.runs c.args.orders.now in
-    let before = c.loop-at.invariant in
-    let old = ways c.loop-at.kept.lineage in
+    let before = c.loop-reached.invariant in
+    let old = ways c.loop-reached.kept.lineage in
     let new = ways c.turn.new.kept.lineage in
     let more = c.in_ok-left.ensures.grows.lineage in
     let longer : length old ≤ length new = length-extends old new more in
@@ -66,7 +80,7 @@ loop-at-preserved g c =
       some = omega (arith, before.some, longer);
       starts = get_or-extends old new 0 [] more before.some ∙ before.starts;
       room = room;
-      nodes = c.len-reached.ensures;
+      nodes = c.len-count.ensures;
       most = λ at. elim c.earlier-stopped.ensures.which [
         | inl one ↦ let full : length old ≡ c.args.scope.bounds.nodes = before.most (sym one ∙ at) in omega (arith, full, longer, room)
         | inr other ↦ c.in_ok-left.ensures.nodes (sym other ∙ at)
@@ -80,7 +94,7 @@ loop-at-preserved g c =
       distinct = c.in_ok-left.ensures.distinct;
       followed = λ none k less.
           let both = c.earlier-stopped.ensures.none none in
-          known_more runs c.loop-at.kept (record { lineage = c.loop-at.kept.lineage; texts = c.loop-at.kept.texts; visited = c.loop-at.kept.visited; links = c.loop-at.kept.links; pending = c.pop.new.self; key = c.loop-at.kept.key }) c.turn.new.kept c.in-Some.at c.loop-at.shown.items c.turn.new.shown.items k refl c.in-Some.ensures.items
+          known_more runs c.loop-reached.kept (record { lineage = c.loop-reached.kept.lineage; texts = c.loop-reached.kept.texts; visited = c.loop-reached.kept.visited; links = c.loop-reached.kept.links; pending = c.pop.new.self; nodes = c.node_at.new.nodes; key = c.loop-reached.kept.key }) c.turn.new.kept c.in-Some.reached c.loop-reached.shown.items c.turn.new.shown.items k refl c.in-Some.ensures.items
           c.in_ok-left.ensures.grows c.in_ok-left.ensures.shown (c.in_ok-left.ensures.followed both.1) (before.followed both.0) less;
     }
 
@@ -91,27 +105,39 @@ returns-in_err-kept-clause-counted g c =
 
 pub returns-in_err-left-clause-counted : goal.returns-in_err-left-clause-counted
 returns-in_err-left-clause-counted g c =
-    let before = c.loop-at.invariant in
+    let before = c.loop-reached.invariant in
     let runs = g.O.Orders.runs c.args.orders.now in
-    subst (λ (s : Option Stopped). AreCounted runs c.turn.new.shown.items s c.loop-at.nodes) (sym (by_memory c.from_residual-in_err-left.result _ c.from_residual-in_err-left.ensures.1))
-    (counted runs (g.O.Orders.has_key c.args.orders.now) c.loop-at.kept c.turn.new.shown.items (Some stop.Memory) c.loop-at.nodes before.kept before.nodes before.some before.starts (λ none. absurd (some_none stop.Memory none)))
+    subst (λ (s : Option Stopped). AreCounted runs c.turn.new.shown.items s c.loop-reached.nodes) (sym (by_memory c.from_residual-in_err-left.result _ c.from_residual-in_err-left.ensures.1))
+    (counted runs (g.O.Orders.has_key c.args.orders.now) c.loop-reached.kept c.turn.new.shown.items (Some stop.Memory) c.loop-reached.nodes before.kept before.nodes before.some before.starts (λ none. absurd (some_none stop.Memory none)))
 
 pub returns-in_err-endless-clause-counted : goal.returns-in_err-endless-clause-counted
 returns-in_err-endless-clause-counted g c =
-    let before = c.loop-at.invariant in
+    let before = c.loop-reached.invariant in
     let runs = g.O.Orders.runs c.args.orders.now in
-    subst (λ (s : Option Stopped). AreCounted runs c.loop-at.shown.items s c.loop-at.nodes) (sym (by_memory c.from_residual-in_err-endless.result _ c.from_residual-in_err-endless.ensures.1))
-    (counted runs (g.O.Orders.has_key c.args.orders.now) c.loop-at.kept c.loop-at.shown.items (Some stop.Memory) c.loop-at.nodes before.kept before.nodes before.some before.starts (λ none. absurd (some_none stop.Memory none)))
+    subst (λ (s : Option Stopped). AreCounted runs c.loop-reached.shown.items s c.loop-reached.nodes) (sym (by_memory c.from_residual-in_err-endless.result _ c.from_residual-in_err-endless.ensures.1))
+    (counted runs (g.O.Orders.has_key c.args.orders.now) c.loop-reached.kept c.loop-reached.shown.items (Some stop.Memory) c.loop-reached.nodes before.kept before.nodes before.some before.starts (λ none. absurd (some_none stop.Memory none)))
 
 pub returns-then-is_full-clause-counted : goal.returns-then-is_full-clause-counted
 returns-then-is_full-clause-counted g c =
-    let before = c.loop-at.invariant in
-    let old = ways c.loop-at.kept.lineage in
+    let before = c.loop-reached.invariant in
+    let old = ways c.loop-reached.kept.lineage in
     let new = ways c.turn.new.kept.lineage in
     let more = c.in_ok-left.ensures.grows.lineage in
     let longer : length old ≤ length new = length-extends old new more in
-    counted (g.O.Orders.runs c.args.orders.now) (g.O.Orders.has_key c.args.orders.now) c.turn.new.kept c.turn.new.shown.items c.in_ok-left.left c.len-reached.result c.in_ok-left.ensures.kept c.len-reached.ensures
+    counted (g.O.Orders.runs c.args.orders.now) (g.O.Orders.has_key c.args.orders.now) c.turn.new.kept c.turn.new.shown.items c.in_ok-left.left c.len-count.result c.in_ok-left.ensures.kept c.len-count.ensures
     (omega (arith, before.some, longer)) (get_or-extends old new 0 [] more before.some ∙ before.starts) (λ none. absurd (some_none stop.Shown (sym (c.is_full.ensures.full c.if-is_full.true) ∙ none)))
+
+pub returns-then-bytes-scope-clause-counted : goal.returns-then-bytes-scope-clause-counted
+returns-then-bytes-scope-clause-counted g c =
+    let before = c.loop-reached.invariant in
+    counted (g.O.Orders.runs c.args.orders.now) (g.O.Orders.has_key c.args.orders.now) c.loop-reached.kept c.loop-reached.shown.items (Some stop.Bytes) c.loop-reached.nodes before.kept before.nodes before.some before.starts (λ none. absurd (some_none stop.Bytes none))
+
+pub returns-in_err-node-clause-counted : goal.returns-in_err-node-clause-counted
+returns-in_err-node-clause-counted g c =
+    let before = c.loop-reached.invariant in
+    let runs = g.O.Orders.runs c.args.orders.now in
+    subst (λ (s : Option Stopped). AreCounted runs c.loop-reached.shown.items s c.loop-reached.nodes) (sym (by_memory c.from_residual-in_err-node.result _ c.from_residual-in_err-node.ensures.1))
+    (counted runs (g.O.Orders.has_key c.args.orders.now) c.loop-reached.kept c.loop-reached.shown.items (Some stop.Memory) c.loop-reached.nodes before.kept before.nodes before.some before.starts (λ none. absurd (some_none stop.Memory none)))
 
 pub returns-then-is_full-clause-all : goal.returns-then-is_full-clause-all
 returns-then-is_full-clause-all g c none = absurd (some_none stop.Shown (sym (c.is_full.ensures.full c.if-is_full.true) ∙ none))
@@ -119,24 +145,24 @@ returns-then-is_full-clause-all g c none = absurd (some_none stop.Shown (sym (c.
 pub returns-clause-all : goal.returns-clause-all
 returns-clause-all g c none =
     let runs = g.O.Orders.runs c.args.orders.now in
-    let before = c.loop-at.invariant in
-    let over : length c.loop-at.kept.pending.items ≡ 0 = omega (arith, c.in_default.ensures.cases.0) in
-    all_shown runs (ways c.loop-at.kept.lineage) c.loop-at.shown.items before.some before.starts (all_followed runs c.loop-at.kept c.loop-at.shown.items over (before.followed none))
+    let before = c.loop-reached.invariant in
+    let over : length c.loop-reached.kept.pending.items ≡ 0 = omega (arith, c.in_default.ensures.cases.0) in
+    all_shown runs (ways c.loop-reached.kept.lineage) c.loop-reached.shown.items before.some before.starts (all_followed runs c.loop-reached.kept c.loop-reached.shown.items over (before.followed none))
 
 pub returns-clause-full : goal.returns-clause-full
-returns-clause-full g c at = absurd (c.loop-at.invariant.apart at)
+returns-clause-full g c at = absurd (c.loop-reached.invariant.apart at)
 
 pub returns-clause-counted : goal.returns-clause-counted
 returns-clause-counted g c =
     let runs = g.O.Orders.runs c.args.orders.now in
-    let before = c.loop-at.invariant in
-    let over : length c.loop-at.kept.pending.items ≡ 0 = omega (arith, c.in_default.ensures.cases.0) in
-    counted runs (g.O.Orders.has_key c.args.orders.now) c.loop-at.kept c.loop-at.shown.items c.loop-at.stopped c.loop-at.nodes before.kept before.nodes before.some before.starts
-    (λ none. all_followed runs c.loop-at.kept c.loop-at.shown.items over (before.followed none))
+    let before = c.loop-reached.invariant in
+    let over : length c.loop-reached.kept.pending.items ≡ 0 = omega (arith, c.in_default.ensures.cases.0) in
+    counted runs (g.O.Orders.has_key c.args.orders.now) c.loop-reached.kept c.loop-reached.shown.items c.loop-reached.stopped c.loop-reached.nodes before.kept before.nodes before.some before.starts
+    (λ none. all_followed runs c.loop-reached.kept c.loop-reached.shown.items over (before.followed none))
 
 pub find_endless-requires-clause-known : goal.find_endless-requires-clause-known
-find_endless-requires-clause-known g c k none = let here = c.loop-at.invariant.continued k none in here.within
+find_endless-requires-clause-known g c k none = let here = c.loop-reached.invariant.continued k none in here.within
 
 pub returns-clause-endless : goal.returns-clause-endless
 returns-clause-endless g c =
-    endless_of (g.O.Orders.runs c.args.orders.now) (g.O.Orders.has_key c.args.orders.now) c.loop-at.kept c.in_ok-endless.endless c.loop-at.invariant.kept c.loop-at.invariant.continued c.in_ok-endless.ensures
+    endless_of (g.O.Orders.runs c.args.orders.now) (g.O.Orders.has_key c.args.orders.now) c.loop-reached.kept c.in_ok-endless.endless c.loop-reached.invariant.kept c.loop-reached.invariant.continued c.in_ok-endless.ensures

@@ -6,8 +6,8 @@ use Rattle.explore.specs.Lineage.{ways}
 use Rattle.explore.specs.declared.stopped.Stopped.TheVariants as stop
 use Rattle.explore.proofs.search.search.Given as goal
 
-abbrev pub invariant-loop-at : goal.invariant-loop-at
-invariant-loop-at g l =
+abbrev pub invariant-loop-reached : goal.invariant-loop-reached
+invariant-loop-reached g l =
     let runs = g.O.Orders.runs l.orders in
     let reached = ways l.kept.lineage in
     record {
@@ -22,8 +22,8 @@ invariant-loop-at g l =
       few : length l.shown.items ≤ l.scope.bounds.shown;
       sound : All (IsOfRun runs) l.shown.items;
       distinct : AllPairs AreDistinct l.shown.items;
-      followed : l.stopped ≡ None → (k : ℕ) → k < length reached → Any (λ p. p.reached.number ≡ k) l.kept.pending.items ⊎ IsFollowed runs (IsShown l.shown.items) (Serves runs) reached (get_or reached k []);
+      followed : l.stopped ≡ None → (k : ℕ) → k < length reached → Any (λ p. p.number ≡ k) l.kept.pending.items ⊎ IsFollowed runs (IsShown l.shown.items) (Serves runs) reached (get_or reached k []);
     }
 
-abbrev pub decreases-loop-at : goal.decreases-loop-at
-decreases-loop-at g l = 2 * (l.scope.bounds.nodes - length (ways l.kept.lineage)) + length l.kept.pending.items
+abbrev pub decreases-loop-reached : goal.decreases-loop-reached
+decreases-loop-reached g l = 2 * (l.scope.bounds.nodes - length (ways l.kept.lineage)) + length l.kept.pending.items

@@ -33,7 +33,7 @@ returns-clause-grows g c =
 pub returns-clause-kept : goal.returns-clause-kept
 returns-clause-kept g c =
     let kept = c.in_ok-followed.ensures.kept in
-    record { lineage = kept.lineage; told = kept.told; whole = kept.whole; count = kept.count; visited = kept.visited; pending = kept.pending }
+    record { lineage = kept.lineage; told = kept.told; whole = kept.whole; count = kept.count; visited = kept.visited; pending = kept.pending; placed = kept.placed }
 
 pub returns-clause-full : goal.returns-clause-full
 returns-clause-full g c at = absurd (c.left_out-left.ensures.apart at)
@@ -63,7 +63,7 @@ returns-clause-continued g c k unmarked =
     let number = c.args.at.reached.number in
     let way = get_or (ways old.lineage) number [] in
     let grows = c.in_ok-followed.ensures.grows in
-    let new : KeptNodes g.row.O-Node.Denot g.row.O-Move.Denot = record { lineage = kept.lineage; texts = kept.texts; visited = kept.visited; links = c.settle.new.self; pending = kept.pending; key = kept.key } in
+    let new : KeptNodes g.row.O-Node.Denot g.row.O-Move.Denot = record { lineage = kept.lineage; texts = kept.texts; visited = kept.visited; links = c.settle.new.self; pending = kept.pending; nodes = kept.nodes; key = kept.key } in
     let edges : Extends kept.links.edges.items new.links.edges.items = subst (λ (l : List Edge). Extends kept.links.edges.items l) (sym c.settle.ensures.edges) (Extends-itself kept.links.edges.items) in
     let settled = λ (j : ℕ) (here : IsContinued runs kept j). IsContinued-more runs kept new j (Extends-itself (ways kept.lineage)) (Extends-itself (pieces kept.lineage.steps)) edges here in
     elim (c.settle.ensures.may_end k unmarked) [

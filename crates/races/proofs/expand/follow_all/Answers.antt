@@ -1,5 +1,5 @@
 -- The last entry is followed with the machine itself.
-use Rattle.std.proofs.Common.{◌≡◌, List, None, [], ◌∷◌, ◌++◌, sym, subst}
+use Rattle.std.proofs.Common.{◌≡◌, List, None, sym, subst}
 use Rattle.model.specs.declared.entry.Entry.{Entry}
 use Rattle.model.specs.Runs.{refusal}
 use Rattle.regions.specs.Machine.{MachineView, state_at}

@@ -1,6 +1,6 @@
 -- The slot is one of the table, which stays as long as it was.
 use Rattle.std.proofs.Common.{◌≡◌, ◌<◌, length}
-use Rattle.explore.proofs.visited.put.Given as goal
+use Rattle.sharing.proofs.chunks.put.Given as goal
 
 abbrev pub invariant-loop : goal.invariant-loop
 invariant-loop l = record {
