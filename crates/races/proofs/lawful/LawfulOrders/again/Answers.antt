@@ -8,6 +8,5 @@ use Rattle.races.proofs.lawful.LawfulOrders.again.Goals as goal
 
 pub returns : goal.returns
 returns c run other from whole =
-    let node = record { machine = c.in_ok-machine.machine } in
-    made_again c.args.self.now.networked c.args.self.now.limits c.args.from.now node other run c.args.moves.now
+    made_again c.args.self.now.networked c.args.self.now.limits c.args.from.now (record { machine = c.in_ok-machine.machine }) other run c.args.moves.now
     (subst (λ (p : MachineView). HasGoneAgain p c.args.moves.now c.in_ok-machine.machine.value) c.deref.ensures c.in_ok-machine.ensures) from whole
