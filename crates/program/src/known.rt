@@ -217,16 +217,22 @@ fn known_first<P: Progress>(
     let mut known = Vec::new(alloc);
     add_run(alloc, &mut known, &found.original, most)?;
     add_races(alloc, &mut known, found.races.as_slice(), most)?;
-    let others = random_orders(alloc, design, extent, progress);
+    let others = random_orders(alloc, design, extent, few_orders(found), progress);
     add_runs(alloc, &mut known, others.as_slice(), most)?;
     Ok(known)
 }
 
-/// A few random orders.
+/// How many random orders are tried: none where the first run has no two entries whose order may matter.
+fn few_orders(found: &Found) -> u32 {
+    if found.tried == 0 { 0 } else { FEW_ORDERS }
+}
+
+/// So many random orders.
 fn random_orders<P: Progress>(
     alloc: Global,
     design: &Design,
     extent: Extent,
+    count: u32,
     progress: &P,
 ) -> Vec<SeededRun>
     requires { CanSearch extent }
@@ -238,7 +244,7 @@ fn random_orders<P: Progress>(
     };
     let seeds = Seeds {
         first: extent.seed,
-        count: FEW_ORDERS,
+        count,
     };
     let bounds = SampleBounds {
         kept: FEW_ORDERS as usize,

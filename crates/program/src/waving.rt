@@ -39,9 +39,9 @@ pub fn dump_waves<'a, F: Files>(
     spare_source(request.file, Some(request.out), files)?;
     spare_source(request.journal, Some(request.out), files)?;
     let source = read_file(alloc, request.file, files)?;
-    let mut journal = Counted::new(open_file(request.journal, files)?);
+    let journal = open_file(request.journal, files)?;
     let design = read_design(alloc, source.as_slice())?;
-    let entries = entries_of(alloc, &mut journal)?;
+    let entries = entries_of(alloc, journal)?;
     let target = begin_at(request.out, files)?;
     let text = dump_of(
         alloc,
@@ -55,13 +55,11 @@ pub fn dump_waves<'a, F: Files>(
 }
 
 /// The entries of a journal that is left to read.
-fn entries_of<R: Read>(
-    alloc: Global,
-    journal: &mut Counted<R>,
-) -> Result<Vec<Entry>, Fault<'static>>
-    ensures { IfSome (R.remaining (held journal.old)) (λ bytes. IfOk result (λ entries. IsJournal bytes entries.items)) }
+fn entries_of<R: Read + Drop>(alloc: Global, journal: R) -> Result<Vec<Entry>, Fault<'static>>
+    ensures { IfSome (R.remaining journal) (λ bytes. IfOk result (λ entries. IsJournal bytes entries.items)) }
 {
-    match read_journal(alloc, journal) {
+    let mut journal = Counted::new(journal);
+    match read_journal(alloc, &mut journal) {
         Ok(entries) => Ok(entries),
         Err(fault) => Err(Fault::Replay(BytesFault::Read(fault))),
     }
