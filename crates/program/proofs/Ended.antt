@@ -297,19 +297,21 @@ wanting_by_status holding words old new files files' contents err err' (Ok (endi
 wanting_by_status holding words old new files files' contents err err' (Ok (ending.Wrong text)) h k t e = cc
 wanting_by_status holding words old new files files' contents err err' (Err f) h k t e = inr (k e)
 
-is_several : (found : Finding) → finding_status found ≡ 7 → found ≡ finding.Several
-is_several finding.One e = cc
-is_several finding.Unfinished e = cc
-is_several finding.Memory e = cc
-is_several finding.Several e = refl
+-- the only end with that status
+is_found_several : (ended : Result Ending Fault) → ended_status ended ≡ 7 → ended ≡ Ok (ending.Found finding.Several)
+is_found_several (Ok ending.Done) e = cc
+is_found_several (Ok (ending.Stopped s)) e = absurd (not_of_stop s 7 refl e)
+is_found_several (Ok (ending.Found finding.One)) e = cc
+is_found_several (Ok (ending.Found finding.Unfinished)) e = cc
+is_found_several (Ok (ending.Found finding.Memory)) e = cc
+is_found_several (Ok (ending.Found finding.Several)) e = refl
+is_found_several (Ok (ending.Wrong text)) e = cc
+is_found_several (Err f) e = absurd (not_of_fault f 7 refl e)
 
 pub several_by_status : (holding : Option (List ℕ → List ℕ)) (words : List Text) (old new : Option (List ℕ)) (files files' : Option (List Made)) (ended : Result Ending Fault)
     → IfOk ended (HasEnded holding words old new files files') → ended_status ended ≡ 7 → HasSearched holding words old new files files' finding.Several
-several_by_status holding words old new files files' (Ok ending.Done) h e = cc
-several_by_status holding words old new files files' (Ok (ending.Stopped s)) h e = absurd (not_of_stop s 7 refl e)
-several_by_status holding words old new files files' (Ok (ending.Found found)) h e = subst (HasSearched holding words old new files files') (is_several found e) h
-several_by_status holding words old new files files' (Ok (ending.Wrong text)) h e = cc
-several_by_status holding words old new files files' (Err f) h e = absurd (not_of_fault f 7 refl e)
+several_by_status holding words old new files files' ended h e =
+    subst (λ (r : Result Ending Fault). IfOk r (HasEnded holding words old new files files')) (is_found_several ended e) h
 
 -- statuses 2, 3 and 5
 abbrev pub IsSourceStatus : ℕ → Type 0
