@@ -48,7 +48,7 @@ const PLAIN: Row<'static> = Row {
     bounds: Bounds {
         nodes: 10_000,
         shown: 100,
-        bytes: 1_000_000,
+        bytes: 100_000_000,
     },
     texts: &["0\n", "1\n"],
     shown: 2,
@@ -158,7 +158,7 @@ const ROWS: &[Row<'static>] = &[
         bounds: Bounds {
             nodes: 10_000,
             shown: 1,
-            bytes: 1_000_000,
+            bytes: 100_000_000,
         },
         shown: 1,
         stopped: "texts",
@@ -169,7 +169,7 @@ const ROWS: &[Row<'static>] = &[
         bounds: Bounds {
             nodes: 1,
             shown: 100,
-            bytes: 1_000_000,
+            bytes: 100_000_000,
         },
         shown: 0,
         stopped: "nodes",
