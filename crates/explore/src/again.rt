@@ -31,7 +31,7 @@ pub(crate) struct Nodes<N> {
 pub(crate) fn most_newest(bounds: Bounds) -> Most {
     Most {
         nodes: NEWEST,
-        bytes: bounds.bytes / 4,
+        bytes: bounds.bytes / 16,
     }
 }
 
@@ -39,7 +39,7 @@ pub(crate) fn most_newest(bounds: Bounds) -> Most {
 fn most_checkpoints(bounds: Bounds) -> Most {
     Most {
         nodes: CHECKPOINTS,
-        bytes: bounds.bytes / 4,
+        bytes: bounds.bytes / 16,
     }
 }
 
