@@ -1,5 +1,6 @@
 -- The log of an active evaluation's turn is what a step asks for, and a turn that isn't short stops a machine.
-use Rattle.std.proofs.Common.{◌≡◌, ℕ, Bool, false, List, map, length, Option, Some, None, refl, sym, ◌∙◌, ap, subst}
+use Rattle.std.proofs.Common.{◌≡◌, ℕ, Bool, true, false, List, map, length, Option, Some, None, is_some, if◌then◌else◌, refl, sym, ◌∙◌, ap, subst}
+use Rattle.std.specs.Prelude.{IsSome}
 use Rattle.std.specs.Option.{IsSomeAnd}
 use Rattle.std.proofs.lemmas.List.{length-map}
 use Rattle.logic4.specs.Vector.{Vector}
@@ -16,12 +17,14 @@ use Rattle.design.specs.Compiled.{Compiled, design_of}
 use Rattle.design.specs.DesignInvariant.{remainder_of, controls_of, IsStateOf}
 use Rattle.turn.specs.TurnLogs.{LogView, IsLogOf}
 use Rattle.regions.specs.Queue.{Core, state_of}
-use Rattle.regions.specs.Reader.{IsTurnOn}
+use Rattle.turn.specs.declared.log.FillFault.{FillFault}
+use Rattle.turn.specs.declared.log.FillFault.TheVariants as unfilled
+use Rattle.regions.specs.Reader.{IsTurnOn, IsNoTurnOn}
 use Rattle.regions.specs.Evaluations.{IsEvaluation}
 use Rattle.regions.specs.StatePassing.{HasOwnStates}
 use Rattle.regions.specs.StepLogs.{IsLogFor, IsTurnGiven}
 use Rattle.regions.specs.declared.machine.TakeFault.TheVariants.{TooLong}
-use Rattle.regions.specs.Machine.{IsStop}
+use Rattle.regions.specs.Machine.{IsStop, IsTurnLogged, IsEvaluated, IsUnevaluated}
 use Rattle.regions.proofs.Evaluated.{turn_of-is, own_state}
 
 -- a turn that there is, with what holds of it
@@ -30,7 +33,7 @@ some_turn None P h = absurd h
 some_turn (Some turn) P h = (turn, refl, h)
 
 -- the log is the turn that an active evaluation has
-is_log_for : (code : Compiled) (core : Core) (values : List Vector) (event p : ℕ) (st : ProcState) (log : LogView) → IsStateOf code p st
+pub is_log_for : (code : Compiled) (core : Core) (values : List Vector) (event p : ℕ) (st : ProcState) (log : LogView) → IsStateOf code p st
     → length values ≡ length code.widths → IsEvaluation core event (p, st) → IsTurnOn code st values core.time log
     → IsLogFor code (state_of (remainder_of code) values core) p log
 is_log_for code core values event p st log own count e h =
@@ -100,3 +103,44 @@ stop_turn code core values event p st own e permitted h =
     let long : turn_of design s p ≡ None = turn_of-is code core values event p st e ∙ h p (own_state code core event p st own e) in
     let none : effect design s (entries.Turn event) ≡ None = rw (e.0, long) refl in
     (permitted, unless_none (refusal s (entries.Turn event)) (effect design s (entries.Turn event)) none)
+
+refused_at : (b : Bool) (o : Option Refusal) → b ≡ true → IsSome (refused_where b Finished o)
+refused_at true o is = tt
+refused_at false o is = cc
+
+-- nothing follows $finish
+pub refused_finished : (s : State) (number : ℕ) → s.finished ≡ true → IsSome (refusal s (entries.Turn number))
+refused_finished s number is = refused_at s.finished (turn_refusal (action_in s.active number)) is
+
+refused_by : (b : Bool) (o : Option Refusal) (r : Refusal) → o ≡ Some r → IsSome (refused_where b Finished o)
+refused_by true o r is = tt
+refused_by false None r is = cc
+refused_by false (Some x) r is = tt
+
+-- and an event that is no active evaluation has no turn
+pub refused_inactive : (s : State) (number : ℕ) → turn_refusal (action_in s.active number) ≡ Some NotActive → IsSome (refusal s (entries.Turn number))
+refused_inactive s number is = refused_by s.finished (turn_refusal (action_in s.active number)) NotActive is
+
+-- a turn isn't evaluated where it isn't short, or for want of memory
+pub unevaluated : (code : Compiled) (core : Core) (values : List Vector) (event p : ℕ) (st : ProcState) (f : FillFault) → HasOwnStates (IsStateOf code) core → IsEvaluation core event (p, st)
+    → refusal (state_of (remainder_of code) values core) (entries.Turn event) ≡ None → IsNoTurnOn code st values core.time f
+    → IsUnevaluated code (state_of (remainder_of code) values core) event f
+unevaluated code core values event p st unfilled.TooLong own e permitted h = stop_turn code core values event p st own e permitted h
+unevaluated code core values event p st unfilled.Memory own e permitted h = permitted
+
+no_refusal : (o : Option Refusal) → IsSome o → o ≡ None → ⊥
+no_refusal None some none = some
+no_refusal (Some r) some none = cc
+
+-- the log of a turn that was evaluated is what a step asks for
+pub given_log : (code : Compiled) (s : State) (number process : ℕ) (log : LogView) → IsTurnLogged code s number process log → IsTurnGiven code s (entries.Turn number) (Some log)
+given_log code s number process log h = λ n q is_entry running action.
+    let same : number ≡ n = same_number number n is_entry in
+    let action' : action_in s.active number ≡ Some (Evaluate q) = rw same action in
+    subst (λ (k : ℕ). IsLogFor code s k log) (same_process process q (sym h.action ∙ action')) h.is_log
+
+-- and none is asked for where the rules don't permit it
+pub given_by : (code : Compiled) (s : State) (number : ℕ) (log : LogView) (found : Option ℕ) → IsEvaluated code s number log found
+    → IsTurnGiven code s (entries.Turn number) (if is_some found then Some log else None)
+given_by code s number log None h = given_none code s number (λ permitted. no_refusal (refusal s (entries.Turn number)) h permitted)
+given_by code s number log (Some process) h = given_log code s number process log h

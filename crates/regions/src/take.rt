@@ -1,12 +1,11 @@
 //! How a machine takes an entry: its turn, if it is one, is evaluated, and then it is applied.
 ghost use Rattle.std.specs.Prelude.{◌≡◌, ◌+◌, ◌<◌, map, Some, None, if◌then◌else◌, string_bytes, IsOk, IfErr, OnOk, OnErr, Err, MatchResult, option_copied};
-ghost use Rattle.model.specs.declared.entry.Entry.TheVariants as entries;
 ghost use Rattle.design.specs.DesignInvariant.{remainder_of};
 ghost use Rattle.regions.specs.Queue.{state_of};
 ghost use Rattle.regions.specs.StepLogs.{IsTurnGiven, IsTaken};
 ghost use Rattle.regions.specs.MadeEvents.{made_events};
 ghost use Rattle.regions.specs.Evaluations.{made_event};
-ghost use Rattle.regions.specs.Machine.{most_entries, Stands, IsStop};
+ghost use Rattle.regions.specs.Machine.{most_entries, Stands, IsStop, IsEvaluated, IsUnevaluated};
 ghost use Rattle.regions.specs.Refused.{fault_of};
 
 use crate::machine::TakeFault;
@@ -17,32 +16,31 @@ use design::Design;
 use model::entry::Entry;
 use turn::{FillFault, TurnLog};
 
-// Fills a log with the turn that takes an event, which is looked for first at a place among the active evaluations, where the
-// rules permit it. Answers whether they do.
-fn log_event(
+/// Fills a log with the turn that takes an event, where the rules permit it, and answers its process. The event is looked for first
+/// at a place among the active evaluations.
+pub fn log_turn(
     log: &mut TurnLog,
     number: u64,
     near: usize,
     design: &Design,
     state: &State,
     store: &PlainStore,
-) -> Result<bool, TakeFault>
+) -> Result<Option<u32>, FillFault>
     requires stands { Stands design.now state.now store.now }
-    ensures { MatchResult result (λ has. IsTurnGiven design.now (state_of (remainder_of design.now) store.now state.now) (entries.Turn number) (if has then Some log.new else None)) (IsStop design.now (state_of (remainder_of design.now) store.now state.now) (entries.Turn number)) }
+    ensures { MatchResult result (IsEvaluated design.now (state_of (remainder_of design.now) store.now state.now) number log.new) (IsUnevaluated design.now (state_of (remainder_of design.now) store.now state.now) number) }
 {
     if state.is_finished() {
-        return Ok(false);
+        return Ok(None);
     }
     match state.evaluation_near(number, near) {
-        Some((_, place)) => {
+        Some((process, place)) => {
             let now = state.time();
             match turn_on(log, design, place, now, store) {
-                Ok(()) => Ok(true),
-                Err(FillFault::TooLong) => Err(TakeFault::TooLong),
-                Err(FillFault::Memory) => Err(TakeFault::Memory),
+                Ok(()) => Ok(Some(process)),
+                Err(fault) => Err(fault),
             }
         }
-        None => Ok(false),
+        None => Ok(None),
     }
 }
 
@@ -60,7 +58,11 @@ pub fn log_entry(
     ensures { MatchResult result (λ has. IsTurnGiven design.now (state_of (remainder_of design.now) store.now state.now) entry (if has then Some log.new else None)) (IsStop design.now (state_of (remainder_of design.now) store.now state.now) entry) }
 {
     match entry {
-        Entry::Turn(number) => log_event(log, number, near, design, state, store),
+        Entry::Turn(number) => match log_turn(log, number, near, design, state, store) {
+            Ok(found) => Ok(found.is_some()),
+            Err(FillFault::TooLong) => Err(TakeFault::TooLong),
+            Err(FillFault::Memory) => Err(TakeFault::Memory),
+        },
         _ => Ok(false),
     }
 }
