@@ -25,12 +25,13 @@ returns-in-Ok c =
     let values = c.args.store.now in
     let place = c.in-Some.place.now in
     let count : length values ≡ length code.widths = sym (length-map values length) ∙ ap length c.requires.stands.store in
+    let own = own_state code core c.args.number c.in-Some.process place c.requires.stands.states c.in-Some.ensures in
     record {
       running = sym c.is_finished.ensures ∙ c.if-is_finished.false;
       action = c.in-Some.ensures.0;
-      is_log = is_log_for code core values c.args.number c.in-Some.process place c.turn_on.new.log
-      (own_state code core c.args.number c.in-Some.process place c.requires.stands.states c.in-Some.ensures) count c.in-Some.ensures
+      is_log = is_log_for code core values c.args.number c.in-Some.process place c.turn_on.new.log own count c.in-Some.ensures
       (subst (λ (now : ℕ). IsTurnOn code place values now c.turn_on.new.log) c.time-now.ensures c.in-Ok.ensures);
+      declared = c.in-Ok.ensures.is_log.declared c.in-Some.process own;
     }
 
 pub returns-in-Err : goal.returns-in-Err
