@@ -27,7 +27,7 @@ use std::alloc::{AllocError, Global};
 /// How many random orders are tried before a search.
 const FEW_ORDERS: u32 = 8;
 
-/// As many entries as these have together, or more, where no further one is tried.
+/// The most entries of these together, where each takes as many as the first run; no further one is tried once they have as many.
 const FEW_ENTRIES: u64 = 50_000;
 
 /// Whether this text and this end are those of one that is known.
@@ -222,9 +222,14 @@ fn known_first<P: Progress>(
     Ok(known)
 }
 
-/// How many random orders are tried: none where the first run has no two entries whose order may matter.
+/// How many random orders are tried: none where the first run has no two entries whose order may matter, and else as many as the
+/// most entries allow where each takes as many as the first run.
 fn few_orders(found: &Found) -> u32 {
-    if found.tried == 0 { 0 } else { FEW_ORDERS }
+    if found.tried == 0 {
+        return 0;
+    }
+    let entries = (found.original.journal.len() as u64).max(1);
+    (FEW_ENTRIES / entries).min(u64::from(FEW_ORDERS)) as u32
 }
 
 /// So many random orders.
