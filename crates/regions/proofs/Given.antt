@@ -105,7 +105,7 @@ stop_turn code core values event p st own e permitted h =
     (permitted, unless_none (refusal s (entries.Turn event)) (effect design s (entries.Turn event)) none)
 
 refused_at : (b : Bool) (o : Option Refusal) → b ≡ true → IsSome (refused_where b Finished o)
-refused_at true o is = tt
+refused_at true o is = refl
 refused_at false o is = cc
 
 -- nothing follows $finish
@@ -113,9 +113,9 @@ pub refused_finished : (s : State) (number : ℕ) → s.finished ≡ true → Is
 refused_finished s number is = refused_at s.finished (turn_refusal (action_in s.active number)) is
 
 refused_by : (b : Bool) (o : Option Refusal) (r : Refusal) → o ≡ Some r → IsSome (refused_where b Finished o)
-refused_by true o r is = tt
+refused_by true o r is = refl
 refused_by false None r is = cc
-refused_by false (Some x) r is = tt
+refused_by false (Some x) r is = refl
 
 -- and an event that is no active evaluation has no turn
 pub refused_inactive : (s : State) (number : ℕ) → turn_refusal (action_in s.active number) ≡ Some NotActive → IsSome (refusal s (entries.Turn number))
@@ -129,7 +129,7 @@ unevaluated code core values event p st unfilled.TooLong own e permitted h = sto
 unevaluated code core values event p st unfilled.Memory own e permitted h = permitted
 
 no_refusal : (o : Option Refusal) → IsSome o → o ≡ None → ⊥
-no_refusal None some none = some
+no_refusal None some none = cc
 no_refusal (Some r) some none = cc
 
 -- the log of a turn that was evaluated is what a step asks for

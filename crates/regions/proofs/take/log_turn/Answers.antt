@@ -30,7 +30,7 @@ returns-in-Ok c =
       running = sym c.is_finished.ensures ∙ c.if-is_finished.false;
       action = c.in-Some.ensures.0;
       is_log = is_log_for code core values c.args.number c.in-Some.process place c.turn_on.new.log own count c.in-Some.ensures
-      (subst (λ (now : ℕ). IsTurnOn code place values now c.turn_on.new.log) c.time-now.ensures c.in-Ok.ensures);
+          (subst (λ (now : ℕ). IsTurnOn code place values now c.turn_on.new.log) c.time-now.ensures c.in-Ok.ensures);
       declared = c.in-Ok.ensures.is_log.declared c.in-Some.process own;
     }
 
