@@ -29,6 +29,7 @@ use Rattle.program.specs.Printed.{HasFound, HasLeft, HasSavedSome, HasShown, IsT
 use Rattle.program.specs.Program.{status_of}
 use Rattle.program.proofs.Knowing.{few_shown}
 use Rattle.program.proofs.Ended.{all_saved_on, appends_then, kept_on, some_saved_on}
+use Rattle.program.proofs.Explained.{appends_kept}
 
 -- what is claimed of a search that stopped for this, or didn't
 
@@ -209,13 +210,6 @@ search_begun holding file source code extent prefix known a b files files' held 
   is_first = is_first;
   left = inl (begins, kept);
 })
-
--- output that is as another was
-appends_kept : (a b c : Option (List ℕ)) (text : List ℕ) → Appends a b text → Keeps b c → Appends a c text
-appends_kept None b c text h k = tt
-appends_kept (Some x) None c text h k = absurd h
-appends_kept (Some x) (Some y) None text h k = absurd k
-appends_kept (Some x) (Some y) (Some z) text h k = k ∙ h
 
 -- a search that was told first and last, and whose journals may not all have been saved
 pub search_left : (holding : Option (List ℕ → List ℕ)) (file : List ℕ) (source : List ℕ) (code : Compiled) (extent : Extent) (prefix : Option (List ℕ)) (known : List (Shown Entry End)) (claim : Claim) (shown : List (Shown Entry End)) (endless : Option (List Entry)) (a b c : Option (List ℕ))
