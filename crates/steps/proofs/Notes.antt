@@ -1,5 +1,5 @@
 -- What is noted of an entry is what comes of its step, and so it is told behind a journal.
-use Rattle.std.proofs.Common.{◌≡◌, ℕ, ◌+◌, ◌==◌, Bool, true, false, List, [], ◌∷◌, ◌++◌, map, Option, Some, None, refl, sym, ◌∙◌, ap, subst, if◌then◌else◌}
+use Rattle.std.proofs.Common.{◌≡◌, ℕ, ◌==◌, Bool, true, false, List, [], ◌∷◌, ◌++◌, map, Option, Some, None, refl, sym, ◌∙◌, ap, subst, if◌then◌else◌}
 use Rattle.std.specs.Prelude.{min, option_and_then}
 use Rattle.logic4.specs.Vector.{Vector}
 use Rattle.model.specs.declared.entry.Entry.{Entry}
@@ -17,18 +17,18 @@ use Rattle.regions.specs.Queue.{update_event, evaluation_event}
 use Rattle.regions.specs.declared.queue.Update as queued
 use Rattle.regions.specs.declared.queue.Evaluation.{Evaluation}
 use Rattle.regions.specs.StepLogs.{IsTaken}
-use Rattle.regions.specs.Machine.{MachineView, state_at}
+use Rattle.regions.specs.Machine.{MachineView, state_at, IsTurnLogged}
 use Rattle.steps.specs.declared.cells.Cell.{Cell}
 use Rattle.steps.specs.declared.entry_account.Reading.{Reading}
 use Rattle.steps.specs.declared.entry_account.Deed.TheVariants as deeds
 use Rattle.steps.specs.Accounts.{Account, greatest_version, reading, changed_from, IsRegionsTold, IsDeedTold}
 use Rattle.steps.specs.Cells.{values_at, version_at, reading_in, HasChanged, AreWritten}
-use Rattle.steps.specs.ExplainerStanding.{Standing, IsSoundState, IsLogged, HasNoTurn, IsNoted, IsBehind, IsExplained, update_of}
+use Rattle.steps.specs.ExplainerStanding.{Standing, IsSoundState, IsNoted, IsBehind, IsExplained, update_of}
 use Rattle.steps.proofs.Writes.{count_append, changed_none}
 use Rattle.steps.proofs.Effects.{turn_effect_is, update_effect_is, store_turned, store_updated, sound_turned, sound_updated, IsQuietStep, quiet_inactive, quiet_nonblocking, quiet_monitor, quiet_advance}
 
 -- a turn
-pub turn_noted : (code : Compiled) (s : State) (n p : ℕ) (log : LogView) (old new : List Cell) (a : Account) → IsLogged code s n p log
+pub turn_noted : (code : Compiled) (s : State) (n p : ℕ) (log : LogView) (old new : List Cell) (a : Account) → IsTurnLogged code s n p log
     → a.deed ≡ deeds.Turn p → a.reads ≡ map (reading_in old) (registers log.reads) → a.assigned ≡ log.nbas → AreWritten old log.writes [] new a.changes
     → (e : Effect) → values_at old ≡ s.store → step (design_of code) s (entries.Turn n) ≡ Some e → IsNoted code s old (entries.Turn n) e new a
 turn_noted code s n p log old new a logged deed reads assigned writes e values is =
@@ -53,16 +53,12 @@ turn_noted code s n p log old new a logged deed reads assigned writes e values i
     } in
     subst (λ (f : Effect). IsNoted code s old (entries.Turn n) f new a) (turn_effect_is (design_of code) s n p t e logged.action l.is_turn is) own
 
-pub turn_sound : (code : Compiled) (s : State) (n p : ℕ) (log : LogView) → IsSoundState code s → IsLogged code s n p log
+pub turn_sound : (code : Compiled) (s : State) (n p : ℕ) (log : LogView) → IsSoundState code s → IsTurnLogged code s n p log
     → (e : Effect) → step (design_of code) s (entries.Turn n) ≡ Some e → IsSoundState code e.state
 turn_sound code s n p log sound logged e is =
     let l = logged.is_log in
     subst (λ (f : Effect). IsSoundState code f.state) (turn_effect_is (design_of code) s n p l.turn e logged.action l.is_turn is)
     (sound_turned code s n p l.turn log.nbas sound logged.action l.is_log.nbas l.fits.nbas)
-
--- an event without a turn has no step
-pub no_turn_noted : (code : Compiled) (s : State) (n : ℕ) (e : Effect) (P : Type 0) → HasNoTurn code s n → step (design_of code) s (entries.Turn n) ≡ Some e → P
-no_turn_noted code s n e P none is = let clash : None ≡ Some e = sym none ∙ is in cc
 
 -- an update
 pub update_noted : (code : Compiled) (s : State) (n r : ℕ) (v : Vector) (old new : List Cell) (a : Account) → action_in s.active n ≡ Some (Action.Update r v)

@@ -8,15 +8,14 @@ use Rattle.regions.specs.StepLogs.{IsTaken}
 use Rattle.regions.specs.Machine.{MachineView, state_at}
 use Rattle.steps.specs.declared.cells.Cell.{Cell}
 use Rattle.steps.specs.Accounts.{Account}
-use Rattle.steps.specs.Cells.{values_at}
-use Rattle.steps.specs.ExplainerStanding.{Standing, IsKept, IsSoundState, IsNoted, IsBehind, IsExplained}
+use Rattle.steps.specs.ExplainerStanding.{Standing, IsKept, IsSoundState, IsBehind, IsExplained}
 use Rattle.steps.proofs.Notes.{TellSame, NotedAt, explained}
 
 -- the parts of where an explainer stands
 abbrev pub stand : MachineView → List Cell → Account → Standing
 stand p cells a = record { position = p; cells = cells; account = a }
 
-module _ (code : Compiled) (p mid new : MachineView) (entry : Entry) (same : p.code ≡ code) (kept : mid.code ≡ p.code) (emptied : new ≡ record mid { lines = [] })
+module _ (p mid new : MachineView) (entry : Entry) (kept : mid.code ≡ p.code) (emptied : new ≡ record mid { lines = [] })
     (taken : IsTaken p.code (state_at p) p.lines entry (state_at mid) mid.lines) where
   state_same : state_at new ≡ state_at mid
   state_same = ap state_at emptied
@@ -24,17 +23,17 @@ module _ (code : Compiled) (p mid new : MachineView) (entry : Entry) (same : p.c
   code_same : new.code ≡ p.code
   code_same = ap (λ (q : MachineView). q.code) emptied ∙ kept
 
-  pub step_kept : (cells : List Cell) → length cells ≡ length code.widths → ((e : Effect) → step (design_of code) (state_at p) entry ≡ Some e → IsSoundState code e.state) → IsKept code new cells
+  pub step_kept : (cells : List Cell) → length cells ≡ length p.code.widths → ((e : Effect) → step (design_of p.code) (state_at p) entry ≡ Some e → IsSoundState p.code e.state) → IsKept new cells
   step_kept cells registers sound =
-      let next : step (design_of code) (state_at p) entry ≡ Some taken.effect = ap (λ (c : Compiled). step (design_of c) (state_at p) entry) (sym same) ∙ taken.is_step in
-      let after : IsSoundState code (state_at mid) = subst (λ (s : State). IsSoundState code s) taken.state_is (sound taken.effect next) in
-      record { code_is = code_same ∙ same; registers = registers; sound = subst (λ (s : State). IsSoundState code s) (sym state_same) after }
+      let after : IsSoundState p.code (state_at mid) = subst (λ (s : State). IsSoundState p.code s) taken.state_is (sound taken.effect taken.is_step) in
+      let there : IsSoundState p.code (state_at new) = subst (λ (s : State). IsSoundState p.code s) (sym state_same) after in
+      record {
+        registers = registers ∙ ap (λ (c : Compiled). length c.widths) (sym code_same);
+        sound = subst (λ (c : Compiled). IsSoundState c (state_at new)) (sym code_same) there;
+      }
 
-  pub step_told : (journal : List Entry) (cells cells' : List Cell) (first a b : Account)
-      → ((e : Effect) → values_at cells ≡ p.values → step (design_of code) (state_at p) entry ≡ Some e → IsNoted code (state_at p) cells entry e cells' a)
+  pub step_told : (journal : List Entry) (cells cells' : List Cell) (first a b : Account) → NotedAt (stand p cells first) entry cells' a
       → TellSame a b → b.lines ≡ mid.lines → b.time ≡ new.core.time → IsBehind journal (stand p cells first) → IsExplained journal entry (stand p cells first) (stand new cells' b)
   step_told journal cells cells' first a b noted tell lines time behind =
-      let at : NotedAt (stand p cells first) entry cells' a =
-      subst (λ (c : Compiled). (e : Effect) → values_at cells ≡ p.values → step (design_of c) (state_at p) entry ≡ Some e → IsNoted c (state_at p) cells entry e cells' a) (sym same) noted in
-      explained journal entry (stand p cells first) (stand new cells' b) mid a code_same state_same (ap (λ (q : MachineView). q.lines) emptied) taken at tell lines
+      explained journal entry (stand p cells first) (stand new cells' b) mid a code_same state_same (ap (λ (q : MachineView). q.lines) emptied) taken noted tell lines
       (time ∙ ap (λ (q : MachineView). q.core.time) emptied) behind

@@ -3,13 +3,12 @@ use Rattle.std.specs.Prelude.{◌≡◌, ℕ, List, [], ◌∷◌, ◌++◌, len
 use Rattle.logic4.specs.Vector.{Vector}
 use Rattle.model.specs.declared.entry.Entry.{Entry}
 use Rattle.model.specs.declared.entry.Entry.TheVariants as entries
-use Rattle.model.specs.States.{Action, Evaluate, Update, State}
-use Rattle.model.specs.Runs.{Effect, action_in, run, step}
+use Rattle.model.specs.States.{Action, Update, State}
+use Rattle.model.specs.Runs.{Effect, run}
 use Rattle.design.specs.Compiled.{Compiled, design_of}
 use Rattle.turn.specs.Evaluate.{written}
 use Rattle.turn.specs.TurnLogs.{LogView}
-use Rattle.turn.specs.Reads.{AreDeclared}
-use Rattle.regions.specs.StepLogs.{IsLogFor}
+use Rattle.regions.specs.StepLogs.{IsTurnGiven}
 use Rattle.regions.specs.Order.{IsOrdered}
 use Rattle.regions.specs.Machine.{MachineView, state_at, IsNotTaken}
 use Rattle.steps.specs.declared.cells.Cell.{Cell}
@@ -39,11 +38,10 @@ standing_of position cells told = record { position = position; cells = cells; a
 abbrev pub IsSoundState : Compiled → State → Type 0
 IsSoundState code s = IsOrdered code.widths (length s.processes) s
 
--- The machine is one of this design, with sound events, and there is a cell of each register.
-pub record IsKept (code : Compiled) (position : MachineView) (cells : List Cell) : Type 0 where
-  pub code_is : position.code ≡ code
-  pub registers : length cells ≡ length code.widths
-  pub sound : IsSoundState code (state_at position)
+-- The machine's events are sound, and there is a cell of each register of its design.
+pub record IsKept (position : MachineView) (cells : List Cell) : Type 0 where
+  pub registers : length cells ≡ length position.code.widths
+  pub sound : IsSoundState position.code (state_at position)
 
 -- An explainer stands behind a lawful journal: its machine has come to the state after it, it knows each value and each
 -- version, and it keeps no line.
@@ -73,20 +71,10 @@ abbrev pub update_of : Option Action → Option (ℕ × Vector)
 update_of (Some (Update r v)) = Some (r, v)
 update_of _ = None
 
--- an active evaluation of a process, with the log of its turn
-pub record IsLogged (code : Compiled) (s : State) (number p : ℕ) (log : LogView) : Type 0 where
-  pub action : action_in s.active number ≡ Some (Evaluate p)
-  pub is_log : IsLogFor code s p log
-  pub declared : AreDeclared (length code.widths) log.reads
-
--- the turn of an event has no step
-abbrev pub HasNoTurn : Compiled → State → ℕ → Type 0
-HasNoTurn code s number = step (design_of code) s (entries.Turn number) ≡ None
-
--- the process whose turn was logged, or none where the event has no turn
-abbrev pub IsProcessLogged : Compiled → State → ℕ → LogView → Option ℕ → Type 0
-IsProcessLogged code s number log (Some p) = IsLogged code s number p log
-IsProcessLogged code s number log None = HasNoTurn code s number
+-- the entry is the turn of this number, and the log is what its step asks for; or there is no number
+abbrev pub IsLogFilled : Compiled → State → Entry → LogView → Option ℕ → Type 0
+IsLogFilled code s entry log (Some number) = (entry ≡ entries.Turn number) × IsTurnGiven code s entry (Some log)
+IsLogFilled code s entry log None = Unit {0}
 
 -- what is noted of an entry before it is taken: who does it, its changes, and the registers after them
 pub record IsNoted (code : Compiled) (s : State) (old : List Cell) (entry : Entry) (effect : Effect) (new : List Cell) (a : Account) : Type 0 where

@@ -1,9 +1,10 @@
 //! A machine that tells of each entry that it takes.
 ghost use Rattle.std.specs.Prelude.{◌≡◌, ◌+◌, ◌<◌, List, [], IfOk, IfErr, OnOk, OnErr};
 ghost use Rattle.model.specs.declared.entry.Entry.{Entry};
-ghost use Rattle.regions.specs.Machine.{most_entries, state_at};
+ghost use Rattle.regions.specs.StepLogs.{IsTaken};
+ghost use Rattle.regions.specs.Machine.{most_entries, state_at, IsNotTaken};
 ghost use Rattle.steps.specs.Accounts.{account_of};
-ghost use Rattle.steps.specs.ExplainerStanding.{IsBehind, IsExplained, IsNotExplained};
+ghost use Rattle.steps.specs.ExplainerStanding.{IsBehind, IsExplained, IsLogFilled, IsNotExplained};
 
 use crate::cells::{Cell, first_cells};
 use crate::entry_account::EntryAccount;
@@ -11,7 +12,7 @@ use crate::fault::StepFault;
 use crate::noting::note;
 use design::Design;
 use model::entry::Entry;
-use regions::Machine;
+use regions::{Machine, TakeFault};
 use std::alloc::{AllocError, Global};
 use std::marker::Model;
 use turn::TurnLog;
@@ -20,7 +21,6 @@ use turn::TurnLog;
 /// turn, are kept from one entry to the next.
 #[derive(Drop)]
 pub struct Explainer<'d> {
-    design: &'d Design,
     machine: Machine<'d>,
     cells: Vec<Cell>,
     log: TurnLog,
@@ -34,12 +34,33 @@ impl<'d> Model for Explainer<'d> {
 
     ghost view = { λ e. standing_of e.machine e.cells.items e.told };
 
-    ghost invariant = { λ e. IsKept e.design.now e.machine e.cells.items };
+    ghost invariant = { λ e. IsKept e.machine e.cells.items };
 
     ghost use Rattle.std.specs.Coded.{codes};
     ghost use Rattle.design.specs.contracts.tree.Statement as statements;
 
     ghost coded = { Prim.hlevel (codes, statements.the_row.coded) };
+}
+
+// Takes an entry that was noted: a turn for which the log is filled isn't evaluated again.
+fn take_noted(
+    machine: &mut Machine<'_>,
+    entry: Entry,
+    number: Option<u64>,
+    log: &TurnLog,
+) -> Result<(), TakeFault>
+    requires { IsLogFilled machine.old.code (state_at machine.old) entry log.now number }
+    ensures taken { OnOk result (IsTaken machine.old.code (state_at machine.old) machine.old.lines entry (state_at machine.new) machine.new.lines) }
+    ensures entries { OnOk result (machine.new.core.entries ≡ machine.old.core.entries + 1) }
+    ensures few { OnOk result (machine.old.core.entries < most_entries) }
+    ensures code { machine.new.code ≡ machine.old.code }
+    ensures stop { IfErr result (IsNotTaken machine.old entry) }
+    ensures err { OnErr result (machine.new ≡ record machine.old { made = machine.new.made }) }
+{
+    match number {
+        Some(number) => machine.take_turn(number, log),
+        None => machine.take(entry),
+    }
 }
 
 impl<'d> Explainer<'d> {
@@ -52,7 +73,6 @@ impl<'d> Explainer<'d> {
         let machine = Machine::start(alloc, design)?;
         let cells = first_cells(alloc, design)?;
         Ok(Explainer {
-            design,
             machine,
             cells,
             log: TurnLog::new(alloc),
@@ -71,15 +91,14 @@ impl<'d> Explainer<'d> {
         ensures fault { IfErr result (IsNotExplained self.old.position entry) }
         ensures err { OnErr result (state_at self.new.position ≡ state_at self.old.position) }
     {
-        note(
-            self.design,
+        let number = note(
             &self.machine,
             entry,
             &mut self.log,
             &mut self.cells,
             &mut self.told,
         )?;
-        match self.machine.take(entry) {
+        match take_noted(&mut self.machine, entry, number, &self.log) {
             Ok(()) => {}
             Err(fault) => return Err(StepFault::NotTaken(fault)),
         }
@@ -106,6 +125,6 @@ impl<'d> Explainer<'d> {
     pub fn design(&self) -> &'d Design
         ensures { result.now ≡ self.entry.now.position.code }
     {
-        self.design
+        self.machine.design()
     }
 }

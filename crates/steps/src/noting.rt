@@ -9,15 +9,15 @@ ghost use Rattle.regions.specs.Machine.{state_at};
 ghost use Rattle.steps.specs.declared.entry_account.Deed.TheVariants as deeds;
 ghost use Rattle.steps.specs.Accounts.{account_of};
 ghost use Rattle.steps.specs.Cells.{values_at, reading_in, AreWritten, AreWritesIn};
-ghost use Rattle.steps.specs.ExplainerStanding.{update_of, IsCleared, IsNoted, IsProcessLogged, IsSoundState};
+ghost use Rattle.steps.specs.ExplainerStanding.{update_of, IsCleared, IsLogFilled, IsNoted, IsSoundState};
 
 use crate::cells::{Cell, change, change_all, reading};
 use crate::entry_account::{Deed, EntryAccount, Reading};
 use crate::fault::StepFault;
-use design::{Design, RegId};
+use design::RegId;
 use indexmap::IndexMap;
 use model::entry::Entry;
-use regions::{Machine, Update, turn_on};
+use regions::{Machine, Update};
 use std::alloc::AllocError;
 use std::collections::VecDeque;
 use turn::{FillFault, Seen, TurnLog};
@@ -69,58 +69,32 @@ fn tell_turn(
     change_all(cells, &mut told.changes, log.writes())
 }
 
-// Fills a log with the turn that takes an event, and answers its process. None where the event has no short turn.
-fn log_turn(
-    design: &Design,
-    machine: &Machine<'_>,
-    log: &mut TurnLog,
-    number: u64,
-) -> Result<Option<u32>, StepFault>
-    requires code { machine.now.code ≡ design.now }
-    ensures logged { IfOk result (IsProcessLogged design.now (state_at machine.now) number log.new) }
-    ensures fault { IfErr result (λ fault. fault ≡ StepFault.Memory) }
-{
-    if machine.is_finished() {
-        return Ok(None);
-    }
-    match machine.state().evaluation(number) {
-        Some((process, place)) => {
-            machine.stands();
-            let now = machine.time();
-            match turn_on(log, design, &place, now, machine.store()) {
-                Ok(()) => Ok(Some(process)),
-                Err(FillFault::TooLong) => Ok(None),
-                Err(FillFault::Memory) => Err(StepFault::Memory),
-            }
-        }
-        None => Ok(None),
-    }
-}
-
-// Notes a turn.
+// Evaluates a turn, notes it, and answers its number where the log is filled with it.
 fn note_turn(
-    design: &Design,
     machine: &Machine<'_>,
+    number: u64,
     log: &mut TurnLog,
     cells: &mut Vec<Cell>,
     told: &mut EntryAccount,
-    number: u64,
-) -> Result<(), StepFault>
-    requires code { machine.now.code ≡ design.now }
-    requires sound { IsSoundState design.now (state_at machine.now) }
-    requires cells { length cells.old.items ≡ length design.now.widths }
+) -> Result<Option<u64>, StepFault>
+    requires sound { IsSoundState machine.now.code (state_at machine.now) }
+    requires cells { length cells.old.items ≡ length machine.now.code.widths }
     requires cleared { IsCleared told.old }
-    ensures noted { OnOk result ((effect : Effect) → values_at cells.old.items ≡ machine.now.values → step (design_of design.now) (state_at machine.now) (entries.Turn number) ≡ Some effect → IsNoted design.now (state_at machine.now) cells.old.items (entries.Turn number) effect cells.new.items (account_of told.new)) }
-    ensures sound { OnOk result ((effect : Effect) → step (design_of design.now) (state_at machine.now) (entries.Turn number) ≡ Some effect → IsSoundState design.now effect.state) }
+    ensures noted { OnOk result ((effect : Effect) → values_at cells.old.items ≡ machine.now.values → step (design_of machine.now.code) (state_at machine.now) (entries.Turn number) ≡ Some effect → IsNoted machine.now.code (state_at machine.now) cells.old.items (entries.Turn number) effect cells.new.items (account_of told.new)) }
+    ensures sound { OnOk result ((effect : Effect) → step (design_of machine.now.code) (state_at machine.now) (entries.Turn number) ≡ Some effect → IsSoundState machine.now.code effect.state) }
+    ensures given { IfOk result (IsLogFilled machine.now.code (state_at machine.now) (entries.Turn number) log.new) }
     ensures registers { length cells.new.items ≡ length cells.old.items }
     ensures fault { IfErr result (λ fault. fault ≡ StepFault.Memory) }
 {
-    match log_turn(design, machine, log, number)? {
-        Some(process) => {
+    match machine.evaluate(log, number, 0) {
+        Ok(Some(process)) => {
             told.deed = Deed::Turn(process);
-            Ok(tell_turn(told, cells, log)?)
+            tell_turn(told, cells, log)?;
+            Ok(Some(number))
         }
-        None => Ok(()),
+        Ok(None) => Ok(None),
+        Err(FillFault::TooLong) => Ok(None),
+        Err(FillFault::Memory) => Err(StepFault::Memory),
     }
 }
 
@@ -172,28 +146,30 @@ fn clear(told: &mut EntryAccount)
     told.assigned.clear();
 }
 
-/// Notes an entry before the machine takes it: who does it, what it reads, assigns and changes. After an `Err` the registers may
-/// have changed.
+/// Notes an entry before the machine takes it: who does it, what it reads, assigns and changes. Where the entry is a turn, and the
+/// log is filled with it, answers its number. After an `Err` the registers may have changed.
 pub fn note(
-    design: &Design,
     machine: &Machine<'_>,
     entry: Entry,
     log: &mut TurnLog,
     cells: &mut Vec<Cell>,
     told: &mut EntryAccount,
-) -> Result<(), StepFault>
-    requires code { machine.now.code ≡ design.now }
-    requires sound { IsSoundState design.now (state_at machine.now) }
-    requires cells { length cells.old.items ≡ length design.now.widths }
-    ensures noted { OnOk result ((effect : Effect) → values_at cells.old.items ≡ machine.now.values → step (design_of design.now) (state_at machine.now) entry ≡ Some effect → IsNoted design.now (state_at machine.now) cells.old.items entry effect cells.new.items (account_of told.new)) }
-    ensures sound { OnOk result ((effect : Effect) → step (design_of design.now) (state_at machine.now) entry ≡ Some effect → IsSoundState design.now effect.state) }
+) -> Result<Option<u64>, StepFault>
+    requires sound { IsSoundState machine.now.code (state_at machine.now) }
+    requires cells { length cells.old.items ≡ length machine.now.code.widths }
+    ensures noted { OnOk result ((effect : Effect) → values_at cells.old.items ≡ machine.now.values → step (design_of machine.now.code) (state_at machine.now) entry ≡ Some effect → IsNoted machine.now.code (state_at machine.now) cells.old.items entry effect cells.new.items (account_of told.new)) }
+    ensures sound { OnOk result ((effect : Effect) → step (design_of machine.now.code) (state_at machine.now) entry ≡ Some effect → IsSoundState machine.now.code effect.state) }
+    ensures given { IfOk result (IsLogFilled machine.now.code (state_at machine.now) entry log.new) }
     ensures registers { length cells.new.items ≡ length cells.old.items }
     ensures fault { IfErr result (λ fault. fault ≡ StepFault.Memory) }
 {
     clear(told);
     match entry {
-        Entry::Turn(number) => note_turn(design, machine, log, cells, told, number),
-        Entry::Update(number) => note_update(machine, cells, told, number),
-        _ => Ok(()),
+        Entry::Turn(number) => note_turn(machine, number, log, cells, told),
+        Entry::Update(number) => {
+            note_update(machine, cells, told, number)?;
+            Ok(None)
+        }
+        _ => Ok(None),
     }
 }

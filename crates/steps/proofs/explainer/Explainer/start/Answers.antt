@@ -2,6 +2,8 @@
 use Rattle.std.proofs.Common.{length, sym, ◌∙◌, ap, subst, List}
 use Rattle.std.proofs.lemmas.List.{length-map}
 use Rattle.model.specs.States.{State}
+use Rattle.design.specs.Compiled.{Compiled}
+use Rattle.regions.specs.Machine.{state_at}
 use Rattle.steps.specs.declared.cells.Cell.{Cell}
 use Rattle.steps.specs.Cells.{first_cell}
 use Rattle.steps.specs.ExplainerStanding.{standing_of, IsSoundState}
@@ -13,10 +15,12 @@ use Rattle.steps.proofs.explainer.Explainer.start.Goals as goal
 pub invariant_of-result : goal.invariant_of-result
 invariant_of-result c =
     let code = c.args.design.now in
+    let m = c.in_ok-machine.machine in
+    let sound : IsSoundState code (state_at m) = subst (λ (s : State). IsSoundState code s) (sym c.in_ok-machine.ensures.state) (sound_start code) in
     record {
-      code_is = c.in_ok-machine.ensures.code;
-      registers = ap (λ (l : List Cell). length l) c.in_ok-cells.ensures ∙ length-map code.widths first_cell;
-      sound = subst (λ (s : State). IsSoundState code s) (sym c.in_ok-machine.ensures.state) (sound_start code);
+      registers =
+          ap (λ (l : List Cell). length l) c.in_ok-cells.ensures ∙ length-map code.widths first_cell ∙ ap (λ (k : Compiled). length k.widths) (sym c.in_ok-machine.ensures.code);
+      sound = subst (λ (k : Compiled). IsSoundState k (state_at m)) (sym c.in_ok-machine.ensures.code) sound;
     }
 
 pub returns-clause-behind : goal.returns-clause-behind
