@@ -5,7 +5,6 @@ ghost use Rattle.logic4.specs.Operators.{same_vector};
 ghost use Rattle.waves.specs.Changes.{differences, with_change};
 
 use crate::wave::Change;
-use design::Design;
 use logic4::bits::Bits;
 use regions::Machine;
 use std::alloc::AllocError;
@@ -54,17 +53,17 @@ fn push_changes(
 
 impl Recorded {
     /// Tells of each register whose value isn't the one that was told last. It looks at all registers.
-    pub(crate) fn tell(&mut self, design: &Design, machine: &Machine<'_>) -> Result<(), AllocError>
-        requires code { machine.now.code ≡ design.now }
-        requires values { length self.old.values.items ≡ length design.now.widths }
+    pub(crate) fn tell(&mut self, machine: &Machine<'_>) -> Result<(), AllocError>
+        requires { length self.old.values.items ≡ length machine.now.code.widths }
         ensures changes { OnOk result (self.new.changes.items ≡ self.old.changes.items ++ differences machine.now.core.time 0 self.old.values.items machine.now.values) }
         ensures values { OnOk result (self.new.values.items ≡ machine.now.values) }
     {
         machine.stands();
         let time = machine.time();
+        let registers = machine.design().registers();
         let news = machine.store().values();
         let olds = self.values.as_slice();
-        push_changes(&mut self.changes, time, design.registers(), olds, news)?;
+        push_changes(&mut self.changes, time, registers, olds, news)?;
         self.values.as_mut_slice().copy_from_slice(news);
         Ok(())
     }
