@@ -1,15 +1,16 @@
--- The log that was filled is the turn of its process, and processes of a machine are those of its state.
-use Rattle.std.proofs.Common.{◌≡◌, ◌<◌, ◌≤◌, ℕ, zero, suc, List, [], ◌∷◌, ◌++◌, map, ◌+◌, length, take, Option, Some, None, refl, sym, ap, subst, ◌∙◌, arith, get_or}
-use Rattle.std.specs.Prelude.{slice_index_or}
+-- The log that was filled is the turn of its process, and what the updates and evaluations of a machine are in its state.
+use Rattle.std.proofs.Common.{◌≡◌, ◌<◌, ◌≤◌, ℕ, zero, suc, Bool, true, false, List, [], ◌∷◌, ◌++◌, map, ◌+◌, length, take, Option, Some, None, refl, sym, ap, subst, ◌∙◌, arith, get_or}
+use Rattle.std.specs.Prelude.{not, eqb}
 use Rattle.std.specs.List.{All}
-use Rattle.std.specs.Option.{IsSomeAnd}
-use Rattle.std.proofs.lemmas.List.{length-map, map-append, take_more}
+use Rattle.std.specs.Option.{option_eq}
+use Rattle.std.proofs.lemmas.Bool.{eqb-true}
+use Rattle.std.proofs.lemmas.List.{map-append, take_more}
 use Rattle.std.proofs.lemmas.List.Elements.{All-head, All-tail}
 use Rattle.logic4.specs.Vector.{Vector}
 use Rattle.model.specs.Design.{Trigger}
 use Rattle.model.specs.Expressions.{Store}
-use Rattle.model.specs.Turns.{Remainder, Turn, short_turn}
-use Rattle.model.specs.States.{Event}
+use Rattle.model.specs.Turns.{Remainder, Turn}
+use Rattle.model.specs.States.{Event, State}
 use Rattle.model.specs.Runs.{turn_of}
 use Rattle.model.specs.Laws.{evaluations_in}
 use Rattle.orders.specs.Alike.{updates_in}
@@ -18,18 +19,16 @@ use Rattle.orders.proofs.EventLists.{updates-append}
 use Rattle.orders.specs.Apart.{WakesNone}
 use Rattle.design.specs.declared.code.ProcState.{ProcState}
 use Rattle.design.specs.Compiled.{Compiled, design_of}
-use Rattle.design.specs.DesignInvariant.{remainder_of, controls_of, IsStateOf}
+use Rattle.design.specs.DesignInvariant.{remainder_of, controls_of}
 use Rattle.turn.specs.TurnLogs.{LogView, IsLogOf}
 use Rattle.regions.specs.declared.queue.Continuation.{Continuation}
 use Rattle.regions.specs.declared.queue.Update.{Update}
 use Rattle.regions.specs.declared.queue.Evaluation.{Evaluation}
 use Rattle.regions.specs.Queue.{Core, state_of, standing, process_of, update_event, evaluation_event}
 use Rattle.regions.specs.ProcessWaking.{triggers_at}
-use Rattle.regions.specs.Reader.{IsTurnOn}
-use Rattle.regions.specs.StatePassing.{HasOwnStates}
-use Rattle.regions.proofs.Evaluated.{remainder_is}
+use Rattle.regions.specs.Machine.{IsTurnLogged, IsEvaluated}
 use Rattle.flat.specs.declared.turned.Turned.{Turned}
-use Rattle.flat.specs.Turned.{turn_in, event_of, IsContinuedAt}
+use Rattle.flat.specs.Turned.{turn_in, event_of, IsTurned}
 use Rattle.flat.specs.Tests.{waiting, AreUpdatesNext}
 use Rattle.flat.proofs.Sleeping.{nobody_waits, wakes_none_more}
 
@@ -37,32 +36,21 @@ use Rattle.flat.proofs.Sleeping.{nobody_waits, wakes_none_more}
 one_turn : (code : Compiled) (log : LogView) (turn : Turn) → IsLogOf (remainder_of code) (controls_of code) log turn → turn ≡ turn_in code log
 one_turn code log turn is = rw (is.uses, is.writes, is.nbas, is.lines, is.strobes, is.rest, is.wait, is.finish, is.count) refl
 
-some_turn : (code : Compiled) (log : LogView) (o : Option Turn) → IsSomeAnd o (IsLogOf (remainder_of code) (controls_of code) log) → o ≡ Some (turn_in code log)
-some_turn code log None h = absurd h
-some_turn code log (Some turn) h = ap (λ (t : Turn). Some t) (one_turn code log turn h)
+-- what the turn of an evaluation is
+pub turn_is : (code : Compiled) (s : State) (turned : Turned) → IsTurned code s turned → turn_of (design_of code) s turned.process ≡ Some (turn_in code turned.log)
+turn_is code s turned h =
+    h.is_log.is_turn ∙ ap (λ (t : Turn). Some t) (one_turn code turned.log h.is_log.turn h.is_log.is_log)
 
--- the turn of a process that goes on from this place
-pub log_is_turn : (code : Compiled) (core : Core) (values : List Vector) (p : ℕ) (place : ProcState) (log : LogView) → HasOwnStates (IsStateOf code) core → map length values ≡ code.widths → p < length core.processes
-    → ((d : ProcState × List Trigger) → (slice_index_or core.processes p d).0 ≡ place) → IsTurnOn code place values core.time log → turn_of (design_of code) (state_of (remainder_of code) values core) p ≡ Some (turn_in code log)
-log_is_turn code core values p place log own widths within at is =
-    let d : ProcState × List Trigger = (place, []) in
-    let own' : IsStateOf code p place = subst (IsStateOf code p) (at d) (own p d within) in
-    let count : length values ≡ length code.widths = sym (length-map values length) ∙ ap length widths in
-    let found : short_turn (design_of code) p (remainder_of code place) values core.time ≡ Some (turn_in code log) =
-    some_turn code log (short_turn (design_of code) p (remainder_of code place) values core.time) (is.is_log.turn p own' values count (is.agrees p own')) in
-    ap (λ (r : Remainder). short_turn (design_of code) p r values core.time) (remainder_is (remainder_of code) core.processes p place at) ∙ found
+some_same : (found : Option ℕ) (p : ℕ) (same : Bool) → option_eq eqb found (Some p) ≡ same → not same ≡ false → found ≡ Some p
+some_same None p false is off = cc
+some_same None p true is off = cc
+some_same (Some q) p false is off = cc
+some_same (Some q) p true is off = ap (λ (n : ℕ). Some n) (eqb-true q p is)
 
--- where a process of a machine goes on, by its number
-pub place_is : (controls : List (List Trigger)) (ps : List Continuation) (p : ℕ) (x : Continuation) → p < length ps → x ≡ get_or ps p x → (p < length (map (process_of controls) ps)) × ((d : ProcState × List Trigger) → (slice_index_or (map (process_of controls) ps) p d).0 ≡ x.state)
-place_is controls [] p x within is = absurd (omega (arith, within))
-place_is controls (q ∷ ps) zero x within is = (omega arith, λ d. ap (λ (y : Continuation). y.state) (sym is))
-place_is controls (q ∷ ps) (suc p) x within is =
-    let (within', at) = place_is controls ps p x (omega (arith, within)) is in
-    (omega (arith, within'), at)
-
-pub place_of : (core queue : Core) (ps : List Continuation) (p : ℕ) (x : Continuation) → map (process_of queue.controls) ps ≡ queue.processes → queue ≡ core → p < length ps → x ≡ get_or ps p x → IsContinuedAt core p x.state
-place_of core queue ps p x are same within is =
-    subst (λ (qs : List (ProcState × List Trigger)). (p < length qs) × ((d : ProcState × List Trigger) → (slice_index_or qs p d).0 ≡ x.state)) (are ∙ ap (λ (k : Core). k.processes) same) (place_is queue.controls ps p x within is)
+-- the log that was filled is the turn of an evaluation whose process was answered
+pub logged : (code : Compiled) (s : State) (number p : ℕ) (log : LogView) (found : Option ℕ) (differs : Bool) → IsEvaluated code s number log found → differs ≡ not (option_eq eqb found (Some p)) → differs ≡ false → IsTurnLogged code s number p log
+logged code s number p log found differs h is off =
+    subst (IsEvaluated code s number log) (some_same found p (option_eq eqb found (Some p)) refl (sym is ∙ off)) h
 
 -- where each process sleeps, all do
 pub all_sleep : (a : Store) (ws : List (ℕ × Vector)) (controls : List (List Trigger)) (rem : ProcState → Remainder) (ps : List Continuation) → All (λ p. WakesNone a ws (waiting (triggers_at controls p.waits) ∷ [])) ps
@@ -71,14 +59,6 @@ all_sleep a ws controls rem [] each = nobody_waits a ws
 all_sleep a ws controls rem (p ∷ ps) each =
     wakes_none_more a ws (standing rem (process_of controls p)) (map (standing rem) (map (process_of controls) ps)) (All-head (λ q. WakesNone a ws (waiting (triggers_at controls q.waits) ∷ [])) p ps each)
     (all_sleep a ws controls rem ps (All-tail (λ q. WakesNone a ws (waiting (triggers_at controls q.waits) ∷ [])) p ps each))
-
--- the turn that was evaluated on the values of a machine
-pub evaluated : (design code : Compiled) (core : Core) (values store : List Vector) (p : ℕ) (place : ProcState) (now : ℕ) (log : LogView) → code ≡ design → now ≡ core.time → store ≡ values → HasOwnStates (IsStateOf code) core → map length values ≡ code.widths → IsContinuedAt core p place
-    → IsTurnOn design place store now log → turn_of (design_of code) (state_of (remainder_of code) values core) p ≡ Some (turn_in code log)
-evaluated design code core values store p place now log same time still own widths (within, at) is =
-    let is' : IsTurnOn code place values core.time log =
-    subst (λ (k : Compiled). IsTurnOn k place values core.time log) (sym same) (subst (λ (vs : List Vector). IsTurnOn design place vs core.time log) still (subst (λ (t : ℕ). IsTurnOn design place store t log) time is)) in
-    log_is_turn code core values p place log own widths within at is'
 
 -- the writes of one update more
 pub writes_more : (us : List Update) (at : ℕ) (ws more : List (ℕ × Vector)) (u : Update) → at < length us → ws ≡ updates_in (map update_event (take at us)) → u ≡ get_or us at u → more ≡ ws ++ (u.register, u.value) ∷ [] → more ≡ updates_in (map update_event (take (at + 1) us))

@@ -19,6 +19,7 @@ use Rattle.turn.specs.TurnLogs.{assignment_of}
 use Rattle.flat.specs.declared.turned.Turned.{Turned}
 use Rattle.flat.specs.Turned.{turn_in, event_of, IsTurned, AreTurned, no_turn, turns_in}
 use Rattle.flat.specs.Tests.{IsQuietTurn, ArePair, AreQuiet}
+use Rattle.flat.proofs.Evaluated.{turn_is}
 
 -- where a process is active, its turn is one of these
 abbrev pub IsThere : List Turned → ℕ → Type 0
@@ -77,7 +78,7 @@ turn_there : (code : Compiled) (s : State) (turns : List Turned) (p : ℕ) → A
 turn_there code s turns p are active =
     let (k, within, at) = there turns p (subst (λ (es : List Event). 1 ≤ evaluations_in p es) are.active active) in
     let turned : (d : Turned) → turn_of (design_of code) s p ≡ Some (turn_in code (get_or turns k d).log) =
-    λ d. ap (turn_of (design_of code) s) (sym (at d)) ∙ All-get_or (IsTurned code s) turns k d within are.each in
+    λ d. ap (turn_of (design_of code) s) (sym (at d)) ∙ turn_is code s (get_or turns k d) (All-get_or (IsTurned code s) turns k d within are.each) in
     record {
       k = k;
       within = within;

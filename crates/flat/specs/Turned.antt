@@ -1,17 +1,16 @@
 -- The turns of the active evaluations of a state.
-use Rattle.std.specs.Prelude.{◌≡◌, ℕ, ◌<◌, false, List, [], map, length, Some, slice_index_or}
+use Rattle.std.specs.Prelude.{◌≡◌, ℕ, false, List, [], map}
 use Rattle.std.specs.List.{All}
 use Rattle.std.specs.Option.{option_map_or}
-use Rattle.model.specs.Design.{Design, Trigger}
+use Rattle.model.specs.Design.{Design}
 use Rattle.model.specs.Turns.{Turn, Ended}
 use Rattle.model.specs.States.{Event, State, Evaluate}
 use Rattle.model.specs.Runs.{turn_of}
-use Rattle.design.specs.declared.code.ProcState.{ProcState}
-use Rattle.design.specs.Compiled.{Compiled, design_of}
+use Rattle.design.specs.Compiled.{Compiled}
 use Rattle.design.specs.DesignInvariant.{remainder_of, controls_of}
 use Rattle.turn.specs.Reads.{registers}
 use Rattle.turn.specs.TurnLogs.{LogView, assignment_of, wait_of}
-use Rattle.regions.specs.Queue.{Core}
+use Rattle.regions.specs.Machine.{IsTurnLogged}
 use Rattle.flat.specs.declared.turned.Turned.{Turned}
 
 -- the turn that a log stands for
@@ -33,9 +32,9 @@ turn_in code log =
 abbrev pub event_of : Turned → Event
 event_of turned = (turned.number, Evaluate turned.process)
 
--- an evaluation with its turn: its process has this short turn in a state
+-- an evaluation with its turn: the rules permit it in a state, and the log is that turn
 abbrev pub IsTurned : Compiled → State → Turned → Type 0
-IsTurned code s turned = turn_of (design_of code) s turned.process ≡ Some (turn_in code turned.log)
+IsTurned code s turned = IsTurnLogged code s turned.number turned.process turned.log
 
 -- these are the active events of a state, each an evaluation with its turn
 pub record AreTurned (code : Compiled) (s : State) (turns : List Turned) : Type 0 where
@@ -49,8 +48,3 @@ no_turn = record { uses = []; writes = []; nbas = []; lines = []; strobes = []; 
 -- the short turn of each process in a state, and some turn where it has none
 abbrev pub turns_in : Design → State → ℕ → Turn
 turns_in design s p = option_map_or (λ turn. turn) (turn_of design s p) no_turn
-
--- where a process goes on among those of a queue, where there is one with this number
-abbrev pub IsContinuedAt : Core → ℕ → ProcState → Type 0
-IsContinuedAt core p place =
-    (p < length core.processes) × ((d : ProcState × List Trigger) → (slice_index_or core.processes p d).0 ≡ place)

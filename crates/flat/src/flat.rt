@@ -12,7 +12,7 @@ use crate::pairs::are_apart;
 use crate::plain::Plain;
 use crate::turned::{Logs, Turned, evaluate};
 use crate::waits::all_sleep;
-use design::{Control, Design};
+use design::Control;
 use regions::{Evaluation, Machine};
 use std::alloc::AllocError;
 use turn::Nba;
@@ -53,20 +53,20 @@ fn is_apart_from(
     is_apart(machine, controls, turns, turned)
 }
 
-// The turn of an active evaluation, where it is short, doesn't finish, and wakes nobody who waits.
+// The turn of an active evaluation, where it is short, doesn't finish, and wakes nobody who waits. The evaluation is looked for first
+// at a place among the active ones.
 fn quiet_turn(
-    design: &Design,
     machine: &Machine<'_>,
     controls: &[Control],
     logs: &mut Logs,
     evaluation: Evaluation,
+    near: usize,
 ) -> Result<Option<Turned>, AllocError>
-    requires code { machine.now.code ≡ design.now }
     requires controls { controls.now ≡ controls_of machine.now.code }
     ensures event { IfOk result (λ found. IfSome found (λ turned. event_of turned ≡ evaluation_event evaluation)) }
     ensures quiet { IfOk result (λ found. IfSome found (IsQuietTurn machine.now.code (state_at machine.now))) }
 {
-    let turned = match evaluate(logs.take(), design, machine, evaluation)? {
+    let turned = match evaluate(logs.take(), machine, evaluation, near)? {
         Some(turned) => turned,
         None => return Ok(None),
     };
@@ -87,24 +87,22 @@ fn quiet_turn(
     Ok(Some(turned))
 }
 
-// Adds the turn of an active evaluation to others, where it is quiet and keeps off them. Answers whether it is so.
+// Adds the turn of an active evaluation to those before it, where it is quiet and keeps off them. Answers whether it is so.
 fn add_turn(
-    design: &Design,
     machine: &Machine<'_>,
     logs: &mut Logs,
     plain: &mut Plain,
     turns: &mut Vec<Turned>,
     evaluation: Evaluation,
 ) -> Result<bool, AllocError>
-    requires code { machine.now.code ≡ design.now }
     requires quiet { AreQuiet machine.now.code (state_at machine.now) turns.old.items }
     requires plain { plain.old.holds ≡ true → ArePlain machine.now.core.time plain.old.processes.items plain.old.registers.items turns.old.items }
     ensures events { OnOk result (result ≡ Ok true → map event_of turns.new.items ≡ map event_of turns.old.items ++ evaluation_event evaluation ∷ []) }
     ensures quiet { OnOk result (AreQuiet machine.now.code (state_at machine.now) turns.new.items) }
     ensures plain { OnOk result (result ≡ Ok true → plain.new.holds ≡ true → ArePlain machine.now.core.time plain.new.processes.items plain.new.registers.items turns.new.items) }
 {
-    let controls = design.event_controls();
-    let turned = match quiet_turn(design, machine, controls, logs, evaluation)? {
+    let controls = machine.design().event_controls();
+    let turned = match quiet_turn(machine, controls, logs, evaluation, turns.len())? {
         Some(turned) => turned,
         None => return Ok(false),
     };
@@ -119,14 +117,10 @@ fn add_turn(
 /// The active evaluations of a machine with their turns, where its state is flat: nothing is finished, no update is active, each turn is
 /// short, doesn't finish and wakes nobody who waits, and any two are apart. A state that is flat may be refused where a turn changes a
 /// register for which a process waits more than once.
-pub fn flat_turns(
-    design: &Design,
-    machine: &Machine<'_>,
-    logs: &mut Logs,
-) -> Result<Option<Vec<Turned>>, AllocError>
-    requires code { machine.now.code ≡ design.now }
+pub fn flat_turns(machine: &Machine<'_>, logs: &mut Logs) -> Result<Option<Vec<Turned>>, AllocError>
     ensures flat { IfOk result (λ found. IfSome found (λ turns. IsFlatState machine.now.code (state_at machine.now))) }
     ensures turns { IfOk result (λ found. IfSome found (λ turns. AreTurned machine.now.code (state_at machine.now) turns.items)) }
+    ensures quiet { IfOk result (λ found. IfSome found (λ turns. AreQuiet machine.now.code (state_at machine.now) turns.items)) }
 {
     let (updates, evaluations) = machine.state().active();
     if machine.is_finished() {
@@ -136,17 +130,11 @@ pub fn flat_turns(
         return Ok(None);
     }
     let processes = machine.state().processes().len();
-    let mut plain = Plain::new(logs.alloc, processes, design.widths().len())?;
+    let registers = machine.design().widths().len();
+    let mut plain = Plain::new(logs.alloc, processes, registers)?;
     let mut turns = Vec::with_capacity(logs.alloc, evaluations.len())?;
     for at in 0..evaluations.len() {
-        if !add_turn(
-            design,
-            machine,
-            logs,
-            &mut plain,
-            &mut turns,
-            evaluations[at],
-        )? {
+        if !add_turn(machine, logs, &mut plain, &mut turns, evaluations[at])? {
             logs.keep_all(turns)?;
             return Ok(None);
         }

@@ -7,7 +7,7 @@ ghost use Rattle.regions.specs.Machine.{state_at};
 ghost use Rattle.regions.specs.Queue.{update_event};
 
 use crate::waits::all_sleep;
-use design::{Design, RegId};
+use design::RegId;
 use logic4::bits::Bits;
 use regions::{Machine, Update};
 use std::alloc::{AllocError, Global};
@@ -37,15 +37,14 @@ fn are_updates_next(machine: &Machine<'_>) -> bool
 
 /// Whether nothing is active or inactive, and the nonblocking updates, of which there are some, wake nobody where they are taken in
 /// order. The answer may be no where they change a register for which a process waits more than once.
-pub fn is_inert(alloc: Global, design: &Design, machine: &Machine<'_>) -> Result<bool, AllocError>
-    requires code { machine.now.code ≡ design.now }
+pub fn is_inert(alloc: Global, machine: &Machine<'_>) -> Result<bool, AllocError>
     ensures { IfOk result (λ inert. inert ≡ true → IsInert (state_at machine.now)) }
 {
     if !are_updates_next(machine) {
         return Ok(false);
     }
     machine.stands();
-    let controls = design.event_controls();
+    let controls = machine.design().event_controls();
     let writes = writes_of(alloc, machine.state().nonblocking())?;
     Ok(all_sleep(
         controls,

@@ -17,4 +17,4 @@ mod waits;
 
 pub use flat::{flat_turns, one_maker};
 pub use inert::is_inert;
-pub use turned::{Logs, Turned, evaluate};
+pub use turned::{Logs, Turned};

@@ -1,10 +1,10 @@
 //! The active evaluations of a machine, each with its turn on the values as they stand.
 ghost use Rattle.std.specs.Prelude.{◌≡◌, IfOk, IfSome};
 ghost use Rattle.regions.specs.Machine.{state_at};
-ghost use Rattle.flat.specs.Turned.{IsContinuedAt, IsTurned};
+ghost use Rattle.regions.specs.Queue.{evaluation_event};
+ghost use Rattle.flat.specs.Turned.{event_of, IsTurned};
 
-use design::{Design, ProcState};
-use regions::{Evaluation, Machine, turn_on};
+use regions::{Evaluation, Machine};
 use std::alloc::{AllocError, Global};
 use turn::{FillFault, TurnLog};
 
@@ -14,16 +14,6 @@ pub struct Turned {
     pub number: u64,
     pub process: u32,
     pub log: TurnLog,
-}
-
-// Where a process goes on, where there is one with this number.
-fn place_of(machine: &Machine<'_>, process: u32) -> Option<ProcState>
-    ensures { IfSome result (IsContinuedAt machine.now.core process) }
-{
-    match machine.state().processes().get(process as usize) {
-        Some(continuation) => Some(continuation.state),
-        None => None,
-    }
 }
 
 /// Logs of earlier turns, to be filled anew: most turns take no memory then.
@@ -65,31 +55,30 @@ impl Logs {
     }
 }
 
-/// The turn of an active evaluation, where it is short, filled into a log, whatever that held.
-pub fn evaluate(
+/// The turn of an active evaluation, where it is short, filled into a log, whatever that held. The evaluation is looked for first at a
+/// place among the active ones.
+pub(crate) fn evaluate(
     log: TurnLog,
-    design: &Design,
     machine: &Machine<'_>,
     evaluation: Evaluation,
+    near: usize,
 ) -> Result<Option<Turned>, AllocError>
-    requires code { machine.now.code ≡ design.now }
-    ensures number { IfOk result (λ found. IfSome found (λ turned. turned.number ≡ evaluation.number)) }
-    ensures process { IfOk result (λ found. IfSome found (λ turned. turned.process ≡ evaluation.process)) }
+    ensures event { IfOk result (λ found. IfSome found (λ turned. event_of turned ≡ evaluation_event evaluation)) }
     ensures turn { IfOk result (λ found. IfSome found (IsTurned machine.now.code (state_at machine.now))) }
 {
     let mut log = log;
-    let place = match place_of(machine, evaluation.process) {
-        Some(place) => place,
-        None => return Ok(None),
+    let found = match machine.evaluate(&mut log, evaluation.number, near) {
+        Ok(found) => found,
+        Err(FillFault::TooLong) => return Ok(None),
+        Err(FillFault::Memory) => return Err(AllocError),
     };
-    machine.stands();
-    match turn_on(&mut log, design, &place, machine.time(), machine.store()) {
-        Ok(()) => Ok(Some(Turned {
-            number: evaluation.number,
-            process: evaluation.process,
-            log,
-        })),
-        Err(FillFault::TooLong) => Ok(None),
-        Err(FillFault::Memory) => Err(AllocError),
+    // No other active evaluation has its number, so that this is of its process.
+    if found != Some(evaluation.process) {
+        return Ok(None);
     }
+    Ok(Some(Turned {
+        number: evaluation.number,
+        process: evaluation.process,
+        log,
+    }))
 }

@@ -9,4 +9,4 @@ returns c = λ on.
     let m = c.args.machine.now in
     silent_from m.code m.core c.state.result.now c.state-2.result.now m.values c.store.result.now c.nonblocking.result.now.items c.processes.result.now c.event_controls-controls.result.now c.deref.result.now c.in_ok-writes.writes.items
     (c.are_updates_next.ensures c.if-not-are_updates_next.false) c.nonblocking.ensures c.state.ensures c.in_ok-writes.ensures c.deref.ensures.value c.processes.ensures c.state-2.ensures
-    (c.event_controls-controls.ensures ∙ (ap controls_of (sym c.requires.code) ∙ sym c.stands.ensures.controls)) c.store.ensures (c.all_sleep.ensures on (remainder_of m.code))
+    (c.event_controls-controls.ensures ∙ (ap controls_of c.design.ensures ∙ sym c.stands.ensures.controls)) c.store.ensures (c.all_sleep.ensures on (remainder_of m.code))

@@ -1,8 +1,9 @@
--- The log is the turn of the process.
-use Rattle.flat.proofs.Evaluated.{evaluated}
+-- The log is the turn of the process that was answered.
+use Rattle.regions.specs.Machine.{state_at}
+use Rattle.flat.proofs.Evaluated.{logged}
 use Rattle.flat.proofs.turned.evaluate.Goals as goal
 
-pub returns-in-Ok-clause-turn : goal.returns-in-Ok-clause-turn
-returns-in-Ok-clause-turn c =
+pub returns-clause-turn : goal.returns-clause-turn
+returns-clause-turn c =
     let m = c.args.machine.now in
-    evaluated c.args.design.now m.code m.core m.values c.store.result.now c.args.evaluation.process c.in-Some.place c.time.result c.turn_on.new.log c.requires.code c.time.ensures c.store.ensures c.stands.ensures.states c.stands.ensures.store c.in-Some.ensures c.in-Ok.ensures
+    logged m.code (state_at m) c.args.evaluation.number c.args.evaluation.process c.evaluate.new.log c.in-Ok.found c.ne.result c.in-Ok.ensures c.ne.ensures c.if-ne.false
