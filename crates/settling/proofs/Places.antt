@@ -14,6 +14,7 @@ use Rattle.regions.specs.declared.queue.Continuation.{Continuation}
 use Rattle.regions.specs.Queue.{Core, state_of, standing, process_of}
 use Rattle.regions.specs.ProcessWaking.{triggers_at}
 use Rattle.settling.specs.Waiting.{OthersSleep}
+use Rattle.settling.specs.LogicStanding.{IsContinuedAt}
 
 pub element_at : {X : Type 0} (xs : List X) (k : ℕ) (x d : X) → slice_get xs k ≡ Some x → slice_index_or xs k d ≡ x
 element_at [] k x d is = cc
@@ -51,6 +52,19 @@ process_at code core values ps p x are within is = (
       (λ (qs : List (ProcState × List Trigger)). slice_index_or (map (standing (remainder_of code)) qs) p (record { remainder = []; triggers = [] }) ≡ record { remainder = remainder_of code x.state; triggers = triggers_at (controls_of code) x.waits })
       are (standing_at (remainder_of code) (controls_of code) ps p x (record { remainder = []; triggers = [] }) within is),
 )
+
+continued : (controls : List (List Trigger)) (ps : List Continuation) (p : ℕ) (x : Continuation) → p < length ps → x ≡ get_or ps p x
+    → (p < length (map (process_of controls) ps)) × ((d : ProcState × List Trigger) → (slice_index_or (map (process_of controls) ps) p d).0 ≡ x.state)
+continued controls [] p x within is = absurd (omega (arith, within))
+continued controls (q ∷ ps) zero x within is = (omega arith, λ d. ap (λ (y : Continuation). y.state) (sym is))
+continued controls (q ∷ ps) (suc p) x within is =
+    let (within', at) = continued controls ps p x (omega (arith, within)) is in
+    (omega (arith, within'), at)
+
+-- and it goes on there among those of the queue
+pub continued_at : (core : Core) (controls : List (List Trigger)) (ps : List Continuation) (p : ℕ) (x : Continuation) → map (process_of controls) ps ≡ core.processes → p < length ps → x ≡ get_or ps p x → IsContinuedAt core p x.state
+continued_at core controls ps p x are within is =
+    subst (λ (qs : List (ProcState × List Trigger)). (p < length qs) × ((d : ProcState × List Trigger) → (slice_index_or qs p d).0 ≡ x.state)) are (continued controls ps p x within is)
 
 -- a process that is no member waits for none of these registers
 pub stranger_sleeps : (code : Compiled) (core : Core) (values : List Vector) (ps : List Continuation) (members registers : List ℕ) (q r : ℕ) → map (process_of (controls_of code)) ps ≡ core.processes → OthersSleep (controls_of code) ps members registers → contains members q ≡ false → contains registers r ≡ true

@@ -1,6 +1,8 @@
 -- A process that stands as its logic says is a member.
-use Rattle.std.proofs.Common.{◌≡◌, ◌<◌, ◌⊎◌, inl, inr, ℕ, List, [], ◌++◌, length, Option, Some, None, ap, subst, ◌∙◌}
+use Rattle.std.proofs.Common.{◌≡◌, ◌<◌, ◌⊎◌, inl, inr, ℕ, List, [], ◌++◌, length, Option, Some, None, refl, sym, ap, subst, ◌∙◌}
 use Rattle.std.specs.Prelude.{slice_get, slice_index_or}
+use Rattle.std.specs.Option.{IsSomeAnd}
+use Rattle.std.proofs.lemmas.List.{length-map}
 use Rattle.logic4.specs.Vector.{Vector}
 use Rattle.model.specs.Design.{Trigger}
 use Rattle.model.specs.Expressions.{Store}
@@ -11,18 +13,22 @@ use Rattle.model.specs.States.{State}
 use Rattle.model.specs.Runs.{turn_of}
 use Rattle.orders.specs.Apart.{all_given}
 use Rattle.design.specs.Compiled.{Compiled, design_of}
-use Rattle.design.specs.DesignInvariant.{pending_part, remainder_of, controls_of}
+use Rattle.design.specs.declared.code.ProcState.{ProcState}
+use Rattle.design.specs.DesignInvariant.{pending_part, remainder_of, controls_of, IsStateOf}
 use Rattle.design.specs.CodePlaces.{remainder_at}
+use Rattle.turn.specs.TurnLogs.{LogView, IsLogOf}
 use Rattle.phases.specs.Phase.{Block, triggers, continuation_of, IsPending, HasSettled, IsConsistent}
 use Rattle.regions.specs.declared.queue.Continuation.{Continuation}
+use Rattle.regions.specs.Queue.{Core, state_of}
+use Rattle.regions.specs.Machine.{Stands}
 use Rattle.regions.specs.ProcessWaking.{triggers_at}
+use Rattle.regions.specs.Reader.{IsTurnOn}
+use Rattle.regions.proofs.Evaluated.{remainder_is}
 use Rattle.combinational.specs.declared.block.Logic.{Logic}
 use Rattle.combinational.specs.declared.network.Network.{Network}
 use Rattle.combinational.specs.Found.{AreFound, HasLogic, block_in}
-use Rattle.flat.specs.declared.turned.Turned.{Turned}
-use Rattle.flat.specs.Turned.{turn_in, IsTurned}
 use Rattle.settling.specs.Settling.{IsMember}
-use Rattle.settling.specs.LogicStanding.{StandsBehind, HasLeft, StandsAs}
+use Rattle.settling.specs.LogicStanding.{IsContinuedAt, StandsBehind, HasLeft, StandsAs}
 use Rattle.settling.proofs.Places.{element_at}
 
 -- a process that goes on so, and waits for these
@@ -67,10 +73,26 @@ member_stands code s network p logic x found at (exists, is) behind stand =
       stands = stands_by code s p logic (remainder_of code x.state) x.waits is (remainder_behind code x logic behind) has.control stand;
     }
 
--- the log of a turn leaves every value
-pub left_by : (code : Compiled) (s : State) (p : ℕ) (turned : Turned) (store : Store) (writes : List (ℕ × Vector)) → IsTurned code s turned → turned.process ≡ p → store ≡ s.store → writes ≡ turned.log.writes → all_given store writes ≡ store → HasLeft (design_of code) s p
-left_by code s p turned store writes is same still are leaves = (
-  turn_in code turned.log,
-  subst (λ (q : ℕ). turn_of (design_of code) s q ≡ Some (turn_in code turned.log)) same is,
-  subst (λ (ws : List (ℕ × Vector)). all_given s.store ws ≡ s.store) are (subst (λ (a : Store). all_given a writes ≡ a) still leaves),
-)
+-- a turn that there is leaves every value where the writes of its log do
+leaving_turn : (code : Compiled) (log : LogView) (a : Store) (o : Option turns.Turn) → IsSomeAnd o (IsLogOf (remainder_of code) (controls_of code) log) → all_given a log.writes ≡ a
+    → (turn : turns.Turn) × (o ≡ Some turn) × (all_given a turn.writes ≡ a)
+leaving_turn code log a None h leaves = absurd h
+leaving_turn code log a (Some turn) h leaves = (turn, refl, subst (λ (ws : List (ℕ × Vector)). all_given a ws ≡ a) h.writes leaves)
+
+-- the turn where a process goes on leaves every value
+left_from : (code : Compiled) (core : Core) (values : List Vector) (p : ℕ) (place : ProcState) (log : LogView) → Stands code core values → IsTurnOn code place values core.time log → IsContinuedAt core p place → all_given values log.writes ≡ values
+    → HasLeft (design_of code) (state_of (remainder_of code) values core) p
+left_from code core values p place log stands is (within, at) leaves =
+    let d : ProcState × List Trigger = (place, []) in
+    let own : IsStateOf code p place = subst (IsStateOf code p) (at d) (stands.states p d within) in
+    let count : length values ≡ length code.widths = sym (length-map values length) ∙ ap length stands.store in
+    let (turn, is_turn, left) = leaving_turn code log values (short_turn (design_of code) p (remainder_of code place) values core.time) (is.is_log.turn p own values count (is.agrees p own)) leaves in
+    (turn, ap (λ (r : Remainder). short_turn (design_of code) p r values core.time) (remainder_is (remainder_of code) core.processes p place at) ∙ is_turn, left)
+
+-- and so does what was evaluated on the values of a machine
+pub left_by : (code design : Compiled) (core : Core) (values store : List Vector) (p : ℕ) (place : ProcState) (now : ℕ) (log : LogView) (writes : List (ℕ × Vector)) → Stands code core values → design ≡ code → now ≡ core.time → store ≡ values → IsTurnOn design place store now log
+    → IsContinuedAt core p place → writes ≡ log.writes → all_given values writes ≡ values → HasLeft (design_of code) (state_of (remainder_of code) values core) p
+left_by code design core values store p place now log writes stands codes time still is at are leaves =
+    let is' : IsTurnOn code place values core.time log =
+    subst (λ (k : Compiled). IsTurnOn k place values core.time log) codes (subst (λ (vs : List Vector). IsTurnOn design place vs core.time log) still (subst (λ (t : ℕ). IsTurnOn design place store t log) time is)) in
+    left_from code core values p place log stands is' at (subst (λ (ws : List (ℕ × Vector)). all_given values ws ≡ values) are leaves)

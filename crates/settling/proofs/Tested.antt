@@ -18,16 +18,16 @@ use Rattle.settling.proofs.Listed.{updates_active, evaluations_active}
 use Rattle.settling.proofs.Places.{same_processes, stranger_sleeps}
 
 -- the processes of a queue, by the event controls of the design
-pub processes_told : (code design : Compiled) (core queue : Core) (values : List Vector) (ps : List Continuation) → Stands code core values → map (process_of queue.controls) ps ≡ queue.processes → queue ≡ core → map (process_of (controls_of code)) ps ≡ core.processes
-processes_told code design core queue values ps stands are same = same_processes core queue ps (controls_of code) are same stands.controls
+pub processes_told : (code : Compiled) (core queue : Core) (values : List Vector) (ps : List Continuation) → Stands code core values → map (process_of queue.controls) ps ≡ queue.processes → queue ≡ core → map (process_of (controls_of code)) ps ≡ core.processes
+processes_told code core queue values ps stands are same = same_processes core queue ps (controls_of code) are same stands.controls
 
-pub sleep_told : (code design : Compiled) (core queue : Core) (values : List Vector) (ps : List Continuation) (controls : List (List Trigger)) (members registers rs : List ℕ) → code ≡ design → Stands code core values → controls ≡ controls_of design
+pub sleep_told : (code design : Compiled) (core queue : Core) (values : List Vector) (ps : List Continuation) (controls : List (List Trigger)) (members registers rs : List ℕ) → design ≡ code → Stands code core values → controls ≡ controls_of design
     → map (process_of queue.controls) ps ≡ queue.processes → queue ≡ core → registers ≡ rs → OthersSleep controls ps members registers → (q r : ℕ) → contains members q ≡ false → contains rs r ≡ true
     → waits_for (continuation_of (state_of (remainder_of code) values core) q) r ≡ false
 sleep_told code design core queue values ps controls members registers rs codes stands controls_are are same registers_are sleep q r none there =
     let sleep' : OthersSleep (controls_of code) ps members rs =
-    subst (λ (cs : List (List Trigger)). OthersSleep cs ps members rs) (controls_are ∙ ap controls_of (sym codes)) (subst (OthersSleep controls ps members) registers_are sleep) in
-    stranger_sleeps code core values ps members rs q r (processes_told code design core queue values ps stands are same) sleep' none there
+    subst (λ (cs : List (List Trigger)). OthersSleep cs ps members rs) (controls_are ∙ ap controls_of codes) (subst (OthersSleep controls ps members) registers_are sleep) in
+    stranger_sleeps code core values ps members rs q r (processes_told code core queue values ps stands are same) sleep' none there
 
 pub inside_told : (core queue : Core) (us : List Update) (es : List Evaluation) (p : ℕ) → map update_event us ++ map evaluation_event es ≡ queue.active → queue ≡ core → evaluations_in p (map evaluation_event es) ≡ evaluations_in p core.active
 inside_told core queue us es p active same =

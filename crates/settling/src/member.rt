@@ -8,16 +8,15 @@ ghost use Rattle.combinational.specs.Found.{AreFound};
 ghost use Rattle.regions.specs.Machine.{state_at};
 ghost use Rattle.regions.specs.Queue.{evaluation_event};
 ghost use Rattle.settling.specs.Settling.{IsMember, AreMembers};
-ghost use Rattle.settling.specs.LogicStanding.{StandsBehind, HasLeft, StandsAs};
+ghost use Rattle.settling.specs.LogicStanding.{IsContinuedAt, StandsBehind, HasLeft, StandsAs};
 
 use crate::consistent::leaves_values;
 use combinational::{Logic, Network, is_among};
-use design::Design;
-use flat::evaluate;
-use regions::{Continuation, Evaluation, Machine};
+use design::ProcState;
+use regions::{Continuation, Evaluation, Machine, turn_on};
 use std::alloc::{AllocError, Global};
 use std::collections::VecDeque;
-use turn::TurnLog;
+use turn::{FillFault, TurnLog};
 
 /// The logic of a process, where it has some.
 pub(crate) fn logic_at(network: &Network, process: u32) -> Option<&Logic>
@@ -60,37 +59,43 @@ fn is_behind(continuation: &Continuation, logic: &Logic) -> bool
     continuation.state.place == logic.place && continuation.state.pending.is_none()
 }
 
-// Whether the turn of a process leaves every value as it is.
+// Whether the turn of a process that goes on here would leave every value as it is. It is asked for a process that has no active
+// evaluation, so that the machine doesn't evaluate it.
 fn is_consistent(
     alloc: Global,
-    design: &Design,
     machine: &Machine<'_>,
-    process: u32,
+    place: &ProcState,
 ) -> Result<bool, AllocError>
-    requires code { machine.now.code ≡ design.now }
-    ensures { IfOk result (λ consistent. consistent ≡ true → HasLeft (design_of machine.now.code) (state_at machine.now) process) }
+    ensures { IfOk result (λ consistent. consistent ≡ true → (p : ℕ) → IsContinuedAt machine.now.core p place.now → HasLeft (design_of machine.now.code) (state_at machine.now) p) }
 {
-    let evaluation = Evaluation { number: 0, process };
-    match evaluate(TurnLog::new(alloc), design, machine, evaluation)? {
-        Some(turned) => Ok(leaves_values(machine.store(), turned.log.writes())),
-        None => Ok(false),
+    machine.stands();
+    let mut log = TurnLog::new(alloc);
+    match turn_on(
+        &mut log,
+        machine.design(),
+        place,
+        machine.time(),
+        machine.store(),
+    ) {
+        Ok(()) => Ok(leaves_values(machine.store(), log.writes())),
+        Err(FillFault::TooLong) => Ok(false),
+        Err(FillFault::Memory) => Err(AllocError),
     }
 }
 
-// Whether a process of this logic is pending, or has settled, where it stands so.
+// Whether a process of this logic is pending, or has settled, where it goes on so.
 fn stands_as(
     alloc: Global,
-    design: &Design,
     machine: &Machine<'_>,
     logic: &Logic,
     process: u32,
-    waits: Option<usize>,
+    continuation: &Continuation,
 ) -> Result<bool, AllocError>
-    requires code { machine.now.code ≡ design.now }
-    ensures { IfOk result (λ stands. stands ≡ true → StandsAs (design_of machine.now.code) (state_at machine.now) process logic.now.control waits) }
+    requires goes_on { IsContinuedAt machine.now.core process continuation.now.state }
+    ensures { IfOk result (λ stands. stands ≡ true → StandsAs (design_of machine.now.code) (state_at machine.now) process logic.now.control continuation.now.waits) }
 {
     let times = times(machine.state().active().1, process);
-    match waits {
+    match continuation.waits {
         None => Ok(times == 1),
         Some(control) => {
             if control != logic.control {
@@ -99,7 +104,7 @@ fn stands_as(
             if times != 0 {
                 return Ok(false);
             }
-            is_consistent(alloc, design, machine, process)
+            is_consistent(alloc, machine, &continuation.state)
         }
     }
 }
@@ -107,12 +112,10 @@ fn stands_as(
 /// Whether a process is combinational, and pending or settled.
 pub(crate) fn is_member(
     alloc: Global,
-    design: &Design,
     machine: &Machine<'_>,
     network: &Network,
     process: u32,
 ) -> Result<bool, AllocError>
-    requires code { machine.now.code ≡ design.now }
     requires found { AreFound machine.now.code network.now }
     ensures { IfOk result (λ member. member ≡ true → IsMember machine.now.code (state_at machine.now) network.now process) }
 {
@@ -128,23 +131,21 @@ pub(crate) fn is_member(
         return Ok(false);
     }
     machine.stands();
-    stands_as(alloc, design, machine, logic, process, continuation.waits)
+    stands_as(alloc, machine, logic, process, &continuation)
 }
 
 /// Whether each of these processes is.
 pub(crate) fn are_members(
     alloc: Global,
-    design: &Design,
     machine: &Machine<'_>,
     network: &Network,
     members: &[u32],
 ) -> Result<bool, AllocError>
-    requires code { machine.now.code ≡ design.now }
     requires found { AreFound machine.now.code network.now }
     ensures { IfOk result (λ all. all ≡ true → AreMembers machine.now.code (state_at machine.now) network.now members.now) }
 {
     for member in members {
-        if !is_member(alloc, design, machine, network, *member)? {
+        if !is_member(alloc, machine, network, *member)? {
             return Ok(false);
         }
     }

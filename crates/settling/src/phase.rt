@@ -10,7 +10,7 @@ ghost use Rattle.settling.specs.Settling.{HaveOutputs, IsPhaseOf};
 use crate::awaited::{is_one, others_sleep};
 use crate::member::{are_inside, are_members, logic_at};
 use combinational::{Network, is_among, share};
-use design::{Control, Design, RegId};
+use design::{Control, RegId};
 use regions::{Continuation, Evaluation, Machine, Update};
 use std::alloc::{AllocError, Global};
 use std::collections::VecDeque;
@@ -132,19 +132,17 @@ fn is_over(machine: &Machine<'_>) -> bool
 // Whether the state of a machine is a phase of these processes, where these registers are updated.
 fn is_phase(
     alloc: Global,
-    design: &Design,
     machine: &Machine<'_>,
     network: &Network,
     members: &[u32],
     registers: &[RegId],
 ) -> Result<bool, AllocError>
-    requires code { machine.now.code ≡ design.now }
     requires found { AreFound machine.now.code network.now }
     requires registers { registers.now ≡ map (λ u. u.0) (updates_in (state_at machine.now).active) }
     ensures { IfOk result (λ is. is ≡ true → IsPhaseOf machine.now.code (state_at machine.now) network.now members.now) }
 {
     let state = machine.state();
-    let controls = design.event_controls();
+    let controls = machine.design().event_controls();
     let outputs = outputs(alloc, network, members)?;
     if is_over(machine) {
         return Ok(false);
@@ -162,18 +160,16 @@ fn is_phase(
     if !others_sleep(controls, state.processes(), members, &outputs) {
         return Ok(false);
     }
-    are_members(alloc, design, machine, network, members)
+    are_members(alloc, machine, network, members)
 }
 
 /// The processes that settle from the state of a machine, where it is a phase: all that is active are updates and turns of combinational
 /// processes, and nobody else waits for what these may change. None where that isn't told.
 pub fn phase_of(
     alloc: Global,
-    design: &Design,
     machine: &Machine<'_>,
     network: &Network,
 ) -> Result<Option<Vec<u32>>, AllocError>
-    requires code { machine.now.code ≡ design.now }
     requires found { AreFound machine.now.code network.now }
     ensures { IfOk result (λ found. IfSome found (λ members. IsPhaseOf machine.now.code (state_at machine.now) network.now members.items)) }
 {
@@ -182,13 +178,13 @@ pub fn phase_of(
     let registers = updated(alloc, updates)?;
     let members = reached(
         alloc,
-        design.event_controls(),
+        machine.design().event_controls(),
         state.processes(),
         network,
         evaluations,
         &registers,
     )?;
-    if !is_phase(alloc, design, machine, network, &members, &registers)? {
+    if !is_phase(alloc, machine, network, &members, &registers)? {
         return Ok(None);
     }
     Ok(Some(members))
