@@ -98,7 +98,7 @@ fn is_phase(
     if !have_logic(network, machine.state().active().1) {
         return Ok(false);
     }
-    let found = phase_of(alloc, networked.design(), machine, network)?;
+    let found = phase_of(alloc, machine, network)?;
     Ok(found.is_some())
 }
 

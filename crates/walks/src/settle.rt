@@ -71,7 +71,7 @@ fn take_behind(
     ensures code { machine.new.code ≡ machine.old.code }
     ensures behind { IfOk result (λ all. all ≡ true → HasGoneBehind machine.old machine.new moves.old.items moves.new.items) }
 {
-    if !is_inert(alloc, networked.design(), machine)? {
+    if !is_inert(alloc, machine)? {
         return take_phase(alloc, networked, machine, moves);
     }
     let updates = update_entries(alloc, machine.state().nonblocking())?;
@@ -159,7 +159,7 @@ pub(crate) fn flat_way<'d>(
     ensures leads { OnOk result (IsTrail trail.new machine.new) }
     ensures code { machine.new.code ≡ machine.old.code }
 {
-    let turns = match flat_turns(networked.design(), machine, logs)? {
+    let turns = match flat_turns(machine, logs)? {
         Some(turns) => turns,
         None => return Ok(false),
     };
