@@ -12,6 +12,7 @@ pub mod SoleWays
 pub mod FlatSteps
 pub mod OnlyEntries
 pub mod Walks
+pub mod LaterTurns
 pub mod Settled
 pub mod PhaseWays
 pub mod Passed

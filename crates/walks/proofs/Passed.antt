@@ -125,3 +125,10 @@ pub tried_phase : (trail : Trail) (m n : MachineView) (queue : Core) (all : Bool
     → HasTried trail m n all way
 tried_phase trail m n queue all none way entries marked code none_is stands same some passed way_is =
     tried_way trail m n all way entries marked code (λ on. sole_phase m m n none entries refl none_is stands (some_active m.core queue same some) (passed on)) way_is
+
+-- the turns of a flat state with what comes behind them were tried
+pub tried_turns : (trail : Trail) (m mid n : MachineView) (turns : List Turned) (all : Bool) (moves after way : List Entry) → IsMarked trail m → moves ≡ turns_of (map event_of turns) → HasTaken m (turns_of (map event_of turns)) mid → mid.code ≡ m.code → n.code ≡ mid.code
+    → (all ≡ true → HasGoneBehind mid n moves after) → way ≡ after → AreTurned m.code (state_at m) turns → IsFlat (design_of m.code) (state_at m) (turns_in (design_of m.code) (state_at m)) → turns ≢ [] → HasTried trail m n all way
+tried_turns trail m mid n turns all moves after way marked moves_are taken code code' behind way_is are flat some =
+    tried_way trail m n all way after marked (code' ∙ code)
+    (λ on. sole_gone m m mid n turns moves after refl moves_are (subst (λ (l : List Entry). HasTaken m l mid) (sym moves_are) taken) code (behind on) are flat some) way_is

@@ -22,12 +22,12 @@ no_turns [] none = refl
 no_turns (t ∷ turns) none = cc
 
 -- the turns alone
-pub sole_turns : (m copy new : MachineView) (turns : List Turned) (moves : List Entry) (maker : ℕ) → copy ≡ m → moves ≡ turns_of (map event_of turns) → HasTaken copy moves new → AreTurned m.code (state_at m) turns
+pub sole_turns : (m new : MachineView) (turns : List Turned) (moves : List Entry) (maker : ℕ) → moves ≡ turns_of (map event_of turns) → HasTaken m (turns_of (map event_of turns)) new → AreTurned m.code (state_at m) turns
     → IsFlat (design_of m.code) (state_at m) (turns_in (design_of m.code) (state_at m)) → HasOneMaker (state_at m) (turns_in (design_of m.code) (state_at m)) maker → turns ≢ [] → IsSoleWay m new moves
-sole_turns m copy new turns moves maker same moves_are taken are flat one some =
+sole_turns m new turns moves maker moves_are taken are flat one some =
     let design = design_of m.code in
     let s = state_at m in
-    let taken' : HasTaken m moves new = subst (λ (p : MachineView). HasTaken p moves new) same taken in
+    let taken' : HasTaken m moves new = subst (λ (l : List Entry). HasTaken m l new) (sym moves_are) taken in
     let way : turns_of s.active ≡ moves = ap turns_of are.active ∙ sym moves_are in
     let goes : run_from design (silent s) (turns_of s.active) ≡ Some taken'.effect = subst (λ (l : List Entry). run_from design (silent s) l ≡ Some taken'.effect) (sym way) taken'.goes in
     record {

@@ -1,16 +1,19 @@
 //! A walk on by the turns of a flat state, with what comes behind them where that has to be taken too.
-ghost use Rattle.std.specs.Prelude.{ℕ, ◌≡◌, ◌≢◌, true, [], map, IfOk, OnOk};
+ghost use Rattle.std.specs.Prelude.{ℕ, ◌≡◌, ◌≢◌, ◌+◌, ◌<◌, ◌≤◌, true, [], map, length, IfOk, OnOk};
+ghost use Rattle.model.specs.declared.entry.Entry.TheVariants.{Turn};
 ghost use Rattle.model.specs.States.{State};
-ghost use Rattle.regions.specs.Machine.{state_at};
+ghost use Rattle.regions.specs.Machine.{most_entries, state_at};
 ghost use Rattle.regions.specs.Queue.{update_event};
-ghost use Rattle.flat.specs.Turned.{event_of, AreTurned};
-ghost use Rattle.flat.specs.Tests.{IsFlatState, IsOneMaker};
+ghost use Rattle.regions.specs.StepLogs.{IsTaken};
+ghost use Rattle.flat.specs.Turned.{event_of, AreTurned, IsTurned};
+ghost use Rattle.flat.specs.Tests.{AreQuiet, IsFlatState, IsOneMaker};
 ghost use Rattle.walks.specs.PhasePassing.{HasGoneBehind};
 ghost use Rattle.walks.specs.Trails.{IsTrail};
-ghost use Rattle.walks.specs.Walking.{HasCounted, HasTaken, HasWalked, IsSoleWay, turns_of, updates_of};
+ghost use Rattle.walks.specs.Walking.{HasCounted, HasTaken, HasWalked, turns_of, updates_of};
 
 use crate::phase::take_phase;
 use crate::trail::Trail;
+use crate::walk::tell_long;
 use flat::{Logs, Turned, flat_turns, is_inert, one_maker};
 use model::end::Limits;
 use model::entry::Entry;
@@ -33,6 +36,36 @@ pub(crate) fn take_all(machine: &mut Machine<'_>, entries: &[Entry]) -> Result<b
         }
     }
     Ok(true)
+}
+
+// Takes a turn that was evaluated where a machine stands.
+fn take_evaluated(machine: &mut Machine<'_>, turned: &Turned) -> Result<(), AllocError>
+    requires turned { IsTurned machine.old.code (state_at machine.old) turned.now }
+    requires few { machine.old.core.entries < most_entries }
+    ensures taken { IfOk result (λ done. IsTaken machine.old.code (state_at machine.old) machine.old.lines (Turn turned.now.number) (state_at machine.new) machine.new.lines) }
+    ensures count { IfOk result (λ done. machine.new.core.entries ≡ machine.old.core.entries + 1) }
+    ensures code { machine.new.code ≡ machine.old.code }
+{
+    match machine.take_turn(turned.number, &turned.log) {
+        Ok(()) => Ok(()),
+        Err(fault) => {
+            tell_long(machine, Entry::Turn(turned.number), fault)?;
+            unreachable!()
+        }
+    }
+}
+
+// Takes the turns of a flat state by their logs. Where one was taken, the others are as they were evaluated.
+fn take_turns(machine: &mut Machine<'_>, turns: &[Turned]) -> Result<(), AllocError>
+    requires quiet { AreQuiet machine.old.code (state_at machine.old) turns.now }
+    requires few { machine.old.core.entries + length turns.now ≤ most_entries }
+    ensures taken { IfOk result (λ done. HasTaken machine.old (turns_of (map event_of turns.now)) machine.new) }
+    ensures code { machine.new.code ≡ machine.old.code }
+{
+    for turned in turns {
+        take_evaluated(machine, turned)?;
+    }
+    Ok(())
 }
 
 // The entries that take these evaluations.
@@ -90,34 +123,17 @@ fn has_one_maker(machine: &Machine<'_>, turns: &[Turned]) -> bool
     }
 }
 
-// Takes the turns of a flat state, and the updates behind them where more than one of the turns makes such, with what these cause.
-// Answers whether the entries taken stand for all: they don't where that may come in several ways.
-fn go_ahead(
-    alloc: Global,
-    networked: &Networked<'_>,
-    turns: &[Turned],
-    machine: &mut Machine<'_>,
-    moves: &mut Vec<Entry>,
-) -> Result<bool, AllocError>
-    requires code { machine.old.code ≡ networked.now }
-    requires flat { IsFlatState machine.old.code (state_at machine.old) }
-    requires turns { AreTurned machine.old.code (state_at machine.old) turns.now }
-    requires some { turns.now ≢ [] }
-    requires moves { moves.old.items ≡ turns_of (map event_of turns.now) }
-    ensures sole { IfOk result (λ all. all ≡ true → IsSoleWay machine.old machine.new moves.new.items) }
-    ensures code { machine.new.code ≡ machine.old.code }
+// Whether a journal has room for so many entries behind those that a machine took.
+fn has_room(limits: Limits, machine: &Machine<'_>, count: usize) -> bool
+    ensures { result ≡ true → machine.now.core.entries + count ≤ limits.max_entries }
 {
-    let one = has_one_maker(machine, turns);
-    if !take_all(machine, moves)? {
-        return Ok(false);
-    }
-    if one {
-        return Ok(true);
-    }
-    take_behind(alloc, machine, networked, moves)
+    let entries = machine.state().entries().saturating_add(count as u64);
+    entries <= u64::from(limits.max_entries)
 }
 
-// Goes on by these turns of a flat state and what comes behind them, where that comes in one way. Answers whether it did.
+// Goes on by these turns of a flat state, and by the updates behind them where more than one of the turns makes such, with what these
+// cause. Answers whether it did: it doesn't where that may come in several ways. The turns alone stand for all and can be taken, so
+// that no way back is needed there.
 fn turns_way<'d>(
     alloc: Global,
     networked: &Networked<'_>,
@@ -129,7 +145,9 @@ fn turns_way<'d>(
     requires code { machine.old.code ≡ networked.now }
     requires flat { IsFlatState machine.old.code (state_at machine.old) }
     requires turns { AreTurned machine.old.code (state_at machine.old) turns.now }
+    requires quiet { AreQuiet machine.old.code (state_at machine.old) turns.now }
     requires some { turns.now ≢ [] }
+    requires room { machine.old.core.entries + length turns.now ≤ limits.max_entries }
     requires leads { IsTrail trail.old machine.old }
     ensures walked { OnOk result ((s : State) → HasWalked limits s machine.old trail.old.moves.items → HasWalked limits s machine.new trail.new.moves.items) }
     ensures counted { OnOk result ((begun : ℕ) → HasCounted limits begun machine.old trail.old.moves.items → HasCounted limits begun machine.new trail.new.moves.items) }
@@ -137,8 +155,14 @@ fn turns_way<'d>(
     ensures code { machine.new.code ≡ machine.old.code }
 {
     let mut way = turn_entries(alloc, turns)?;
+    if has_one_maker(machine, turns) {
+        take_turns(machine, turns)?;
+        trail.moves.extend_from_slice(&way)?;
+        return Ok(true);
+    }
     trail.mark(alloc, machine)?;
-    let all = go_ahead(alloc, networked, turns, machine, &mut way)?;
+    take_turns(machine, turns)?;
+    let all = take_behind(alloc, machine, networked, &mut way)?;
     trail.end_way(limits, machine, all, &way)
 }
 
@@ -164,6 +188,9 @@ pub(crate) fn flat_way<'d>(
         None => return Ok(false),
     };
     if turns.is_empty() {
+        return Ok(false);
+    }
+    if !has_room(limits, machine, turns.len()) {
         return Ok(false);
     }
     let gone = turns_way(alloc, networked, limits, &turns, machine, trail)?;
