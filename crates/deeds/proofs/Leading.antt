@@ -4,22 +4,14 @@ use Rattle.std.specs.Prelude.{option_and_then, option_map, ◌||◌}
 use Rattle.std.specs.List.{list_any}
 use Rattle.std.specs.Map.{lookup}
 use Rattle.std.proofs.lemmas.List.{append_assoc, take_more}
-use Rattle.logic4.specs.Vector.{Vector}
 use Rattle.model.specs.declared.entry.Entry.{Entry}
 use Rattle.model.specs.Design.{Design}
 use Rattle.model.specs.States.{State, start}
 use Rattle.model.specs.Runs.{Effect, silent, step, run_from, run, after, joined}
 use Rattle.model.proofs.RunLaws.{run_from-append}
-use Rattle.design.specs.declared.code.ProcState.{ProcState}
 use Rattle.design.specs.Compiled.{Compiled, design_of}
-use Rattle.turn.specs.TurnLogs.{LogView}
-use Rattle.regions.specs.Queue.{Core}
-use Rattle.regions.specs.Reader.{IsTurnOn}
-use Rattle.regions.specs.Evaluations.{IsEvaluation}
-use Rattle.regions.specs.StepLogs.{IsTaken, IsLogFor}
-use Rattle.regions.specs.Machine.{MachineView, state_at, Stands}
-use Rattle.regions.proofs.Given.{given_turn}
-use Rattle.deeds.specs.DeedLogs.{IsTurnLogged}
+use Rattle.regions.specs.StepLogs.{IsTaken}
+use Rattle.regions.specs.Machine.{MachineView, state_at}
 use Rattle.deeds.specs.Witnesses.{IsLed}
 
 -- a run of one entry more
@@ -61,19 +53,6 @@ led_more old mid new es i entry d led same taken lt is = λ before start.
     let same_list : (before ++ take i es) ++ entry ∷ [] ≡ before ++ take (i + 1) es =
     append_assoc before (take i es) (entry ∷ []) ∙ ap (λ (l : List Entry). before ++ l) (sym one_more) in
     subst (λ (l : List Entry). after design l ≡ Some (state_at new)) same_list more
-
--- the log of an active evaluation's turn, in a run that isn't finished
-pub logged : (d : Compiled) (p : MachineView) (core : Core) (values : List Vector) (number : ℕ) (e : ℕ × ProcState) (now : ℕ) (log : LogView) → p.code ≡ d
-    → Stands p.code p.core p.values → p.core.finished ≡ false → core ≡ p.core → values ≡ p.values → now ≡ p.core.time → IsEvaluation core number e
-    → IsTurnOn d e.1 values now log → IsTurnLogged d (state_at p) number e.0 log
-logged d p core values number e now log same stands running same_core same_values same_time evaluates on =
-    let here : IsEvaluation p.core number e = subst (λ (k : Core). IsEvaluation k number e) same_core evaluates in
-    let by_code : IsTurnOn p.code e.1 values now log = subst (λ (c : Compiled). IsTurnOn c e.1 values now log) (sym same) on in
-    let by_values : IsTurnOn p.code e.1 p.values now log = subst (λ (vs : List Vector). IsTurnOn p.code e.1 vs now log) same_values by_code in
-    let by_time : IsTurnOn p.code e.1 p.values p.core.time log = subst (λ (t : ℕ). IsTurnOn p.code e.1 p.values t log) same_time by_values in
-    let given = given_turn p.code p.core p.values number e.0 e.1 log stands.states stands.store here by_time in
-    let is_log : IsLogFor p.code (state_at p) e.0 log = given number e.0 refl running here.0 in
-    (here.0, subst (λ (c : Compiled). IsLogFor c (state_at p) e.0 log) same is_log)
 
 looked_by : {X : Type 0} (t : ℕ → Bool) (b : Bool) (e : ℕ × X) (es : List (ℕ × X)) → t e.0 ≡ b → is_some (lookup t es) ≡ list_any t (map (λ f. f.0) es)
     → is_some (lookup t (e ∷ es)) ≡ list_any t (map (λ f. f.0) (e ∷ es))

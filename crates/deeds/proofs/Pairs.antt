@@ -1,5 +1,5 @@
 -- Two entries of a journal, as a machine sees them that is led to each.
-use Rattle.std.proofs.Common.{◌≡◌, ℕ, Bool, List, [], ◌∷◌, ◌++◌, Some, Result, Ok, Err, IfOk, IsTrue, sym, ◌∙◌, ap, subst}
+use Rattle.std.proofs.Common.{◌≡◌, ℕ, Bool, List, [], ◌∷◌, ◌++◌, Some, Result, Ok, Err, IfOk, IsTrue, refl, sym, ◌∙◌, ap, subst}
 use Rattle.std.specs.List.{All}
 use Rattle.model.specs.declared.entry.Entry.{Entry}
 use Rattle.model.specs.Design.{Design}
@@ -12,80 +12,89 @@ use Rattle.deeds.specs.declared.role.Site.{Site}
 use Rattle.deeds.specs.declared.role.Role.{Role}
 use Rattle.deeds.specs.declared.role.Does.TheVariants.{Finishes}
 use Rattle.deeds.specs.Roles.{IsEvent, IsRoleBehind, IsOneBehind, HasPair, HasBothOrders, swapped, cut_off, held_back}
-use Rattle.deeds.specs.Witnesses.{IsLed, IsPair, IsSwapped, IsCut, IsHeld, IsOneAt, HasRoleAt, SeesBoth, SeesSwapped, SeesCut, SeesHeld}
+use Rattle.deeds.specs.Witnesses.{IsAtStart, IsLed, IsPair, IsSwapped, IsCut, IsHeld, IsOneAt, HasRoleAt, SeesBoth, SeesSwapped, SeesCut, SeesHeld}
 
--- a machine that stands behind a journal is led on
-led_on : (d : Compiled) (before more : List Entry) (p q : MachineView) → p.code ≡ d → after (design_of d) before ≡ Some (state_at p) → IsLed p more q
-    → after (design_of d) (before ++ more) ≡ Some (state_at q)
-led_on d before more p q of_d here led =
-    subst (λ (k : Compiled). after (design_of k) (before ++ more) ≡ Some (state_at q)) of_d
-    (led before (subst (λ (k : Compiled). after (design_of k) before ≡ Some (state_at p)) (sym of_d) here))
+-- a machine of a design stands behind a journal
+abbrev IsBehind : Compiled → List Entry → MachineView → Type 0
+IsBehind d journal p = (p.code ≡ d) × (after (design_of d) journal ≡ Some (state_at p))
 
-role_behind : (design : Design) (journal : List Entry) (s : State) (entry : Entry) (site : Site) (time : ℕ) (role : Role) → after design journal ≡ Some s
-    → HasRoleAt design s entry site time role → IsRoleBehind design journal entry site time role
-role_behind design journal s entry site time role here has = record { state = s; is_after = here; at = has.0; has = has.1 }
+-- and is led on
+led_on : (d : Compiled) (before more : List Entry) (p q : MachineView) → IsBehind d before p → q.code ≡ p.code → IsLed p more q → IsBehind d (before ++ more) q
+led_on d before more p q here same led = (
+  same ∙ here.0,
+  subst (λ (k : Compiled). after (design_of k) (before ++ more) ≡ Some (state_at q)) here.0
+      (led before (subst (λ (k : Compiled). after (design_of k) before ≡ Some (state_at p)) (sym here.0) here.1)),
+)
 
-one_behind : (design : Design) (journal : List Entry) (s : State) (entry : Entry) (site : Site) (time : ℕ) (role : Role) → after design journal ≡ Some s
-    → IsOneAt s entry site time role → IsOneBehind design journal entry site time role
-one_behind design journal s entry site time role here is = record { state = s; is_after = here; at = is.0; is_one = is.1 }
+still_behind : (d : Compiled) (journal : List Entry) (p q : MachineView) → q ≡ p → IsBehind d journal p → IsBehind d journal q
+still_behind d journal p q kept here = subst (λ (x : MachineView). IsBehind d journal x) (sym kept) here
+
+role_behind : (d : Compiled) (journal : List Entry) (p : MachineView) (entry : Entry) (site : Site) (time : ℕ) (role : Role) → IsBehind d journal p
+    → HasRoleAt (design_of p.code) (state_at p) entry site time role → IsRoleBehind (design_of d) journal entry site time role
+role_behind d journal p entry site time role here has =
+    let there : HasRoleAt (design_of d) (state_at p) entry site time role =
+    subst (λ (k : Compiled). HasRoleAt (design_of k) (state_at p) entry site time role) here.0 has in
+    record { state = state_at p; is_after = here.1; at = there.0; has = there.1 }
+
+one_behind : (d : Compiled) (journal : List Entry) (p : MachineView) (entry : Entry) (site : Site) (time : ℕ) (role : Role) → IsBehind d journal p
+    → IsOneAt (state_at p) entry site time role → IsOneBehind (design_of d) journal entry site time role
+one_behind d journal p entry site time role here is = record { state = state_at p; is_after = here.1; at = is.0; is_one = is.1 }
 
 -- a machine is led from the start to the one entry, and from there to the other
-pub sees_both : (d : Compiled) (before stretch : List Entry) (one other : Entry) (c : Pair) (p q r s : MachineView) → p.code ≡ d → q.code ≡ p.code → r ≡ q
-    → after (design_of d) [] ≡ Some (state_at p) → IsLed p before q → HasRoleAt (design_of d) (state_at q) one c.site c.time c.first → IsLed r stretch s
-    → HasRoleAt (design_of d) (state_at s) other c.site c.time c.second → SeesBoth (design_of d) before stretch one other c
-sees_both d before stretch one other c p q r s of_d same kept start led first more second =
-    let to_q : after (design_of d) before ≡ Some (state_at q) = led_on d [] before p q of_d start led in
-    let on : IsLed q stretch s = subst (λ (x : MachineView). IsLed x stretch s) kept more in
+pub sees_both : (before stretch : List Entry) (one other : Entry) (c : Pair) (p q r s : MachineView) → IsAtStart p → q.code ≡ p.code → IsLed p before q
+    → HasRoleAt (design_of q.code) (state_at q) one c.site c.time c.first → r ≡ q → s.code ≡ r.code → IsLed r stretch s
+    → HasRoleAt (design_of s.code) (state_at s) other c.site c.time c.second → SeesBoth (design_of p.code) before stretch one other c
+sees_both before stretch one other c p q r s start to_one led first seen to_other more second =
+    let d : Compiled = p.code in
+    let at_q : IsBehind d before q = led_on d [] before p q (refl, start) to_one led in
+    let at_s : IsBehind d (before ++ stretch) s = led_on d before stretch r s (still_behind d before q r seen at_q) to_other more in
     record {
-      first = role_behind (design_of d) before (state_at q) one c.site c.time c.first to_q first;
-      second =
-          role_behind (design_of d) (before ++ stretch) (state_at s) other c.site c.time c.second (led_on d before stretch q s (same ∙ of_d) to_q on) second;
+      first = role_behind d before q one c.site c.time c.first at_q first;
+      second = role_behind d (before ++ stretch) s other c.site c.time c.second at_s second;
     }
 
 -- a machine is led from the start to the second role's entry, and over it to the first one's
-pub sees_swapped : (d : Compiled) (before needed : List Entry) (other one : Entry) (c : Pair) (p q r s : MachineView) → p.code ≡ d → q.code ≡ p.code → r.code ≡ q.code
-    → after (design_of d) [] ≡ Some (state_at p) → IsLed p before q → IsLed q needed r → IsOneAt (state_at r) other c.site c.time c.second → IsLed r (other ∷ []) s
-    → IsOneAt (state_at s) one c.site c.time c.first → SeesSwapped (design_of d) before needed other one c
-sees_swapped d before needed other one c p q r s of_d same kept start led more second over first =
-    let to_q : after (design_of d) before ≡ Some (state_at q) = led_on d [] before p q of_d start led in
-    let to_r : after (design_of d) (before ++ needed) ≡ Some (state_at r) = led_on d before needed q r (same ∙ of_d) to_q more in
-    let to_s : after (design_of d) ((before ++ needed) ++ other ∷ []) ≡ Some (state_at s) =
-    led_on d (before ++ needed) (other ∷ []) r s (kept ∙ same ∙ of_d) to_r over in
+pub sees_swapped : (before needed : List Entry) (other one : Entry) (c : Pair) (p q r s : MachineView) → IsAtStart p → q.code ≡ p.code → IsLed p before q
+    → r.code ≡ q.code → IsLed q needed r → IsOneAt (state_at r) other c.site c.time c.second → s.code ≡ r.code → IsLed r (other ∷ []) s
+    → IsOneAt (state_at s) one c.site c.time c.first → SeesSwapped (design_of p.code) before needed other one c
+sees_swapped before needed other one c p q r s start to_before led to_other more second to_one over first =
+    let d : Compiled = p.code in
+    let at_q : IsBehind d before q = led_on d [] before p q (refl, start) to_before led in
+    let at_r : IsBehind d (before ++ needed) r = led_on d before needed q r at_q to_other more in
+    let at_s : IsBehind d ((before ++ needed) ++ other ∷ []) s = led_on d (before ++ needed) (other ∷ []) r s at_r to_one over in
     record {
-      second = one_behind (design_of d) (before ++ needed) (state_at r) other c.site c.time c.second to_r second;
-      first = one_behind (design_of d) ((before ++ needed) ++ other ∷ []) (state_at s) one c.site c.time c.first to_s first;
+      second = one_behind d (before ++ needed) r other c.site c.time c.second at_r second;
+      first = one_behind d ((before ++ needed) ++ other ∷ []) s one c.site c.time c.first at_s first;
     }
 
 -- a machine is led from the start to the entry that finishes, and over it to where the first role's is left
-pub sees_cut : (d : Compiled) (before needed : List Entry) (other one : Entry) (c : Pair) (p q r s t : MachineView) → p.code ≡ d → q.code ≡ p.code → r.code ≡ q.code
-    → s ≡ r → after (design_of d) [] ≡ Some (state_at p) → IsLed p before q → IsLed q needed r
-    → HasRoleAt (design_of d) (state_at r) other c.site c.time c.second → IsLed s (other ∷ []) t → IsOneAt (state_at t) one c.site c.time c.first
-    → SeesCut (design_of d) before needed other one c
-sees_cut d before needed other one c p q r s t of_d same kept seen start led more second over first =
-    let to_q : after (design_of d) before ≡ Some (state_at q) = led_on d [] before p q of_d start led in
-    let to_r : after (design_of d) (before ++ needed) ≡ Some (state_at r) = led_on d before needed q r (same ∙ of_d) to_q more in
-    let on : IsLed r (other ∷ []) t = subst (λ (x : MachineView). IsLed x (other ∷ []) t) seen over in
-    let to_t : after (design_of d) ((before ++ needed) ++ other ∷ []) ≡ Some (state_at t) =
-    led_on d (before ++ needed) (other ∷ []) r t (kept ∙ same ∙ of_d) to_r on in
+pub sees_cut : (before needed : List Entry) (other one : Entry) (c : Pair) (p q r s t : MachineView) → IsAtStart p → q.code ≡ p.code → IsLed p before q
+    → r.code ≡ q.code → IsLed q needed r → HasRoleAt (design_of r.code) (state_at r) other c.site c.time c.second → s ≡ r → t.code ≡ s.code
+    → IsLed s (other ∷ []) t → IsOneAt (state_at t) one c.site c.time c.first → SeesCut (design_of p.code) before needed other one c
+sees_cut before needed other one c p q r s t start to_before led to_other more second seen to_one over first =
+    let d : Compiled = p.code in
+    let at_q : IsBehind d before q = led_on d [] before p q (refl, start) to_before led in
+    let at_r : IsBehind d (before ++ needed) r = led_on d before needed q r at_q to_other more in
+    let at_t : IsBehind d ((before ++ needed) ++ other ∷ []) t =
+    led_on d (before ++ needed) (other ∷ []) s t (still_behind d (before ++ needed) r s seen at_r) to_one over in
     record {
-      second = role_behind (design_of d) (before ++ needed) (state_at r) other c.site c.time c.second to_r second;
-      first = one_behind (design_of d) ((before ++ needed) ++ other ∷ []) (state_at t) one c.site c.time c.first to_t first;
+      second = role_behind d (before ++ needed) r other c.site c.time c.second at_r second;
+      first = one_behind d ((before ++ needed) ++ other ∷ []) t one c.site c.time c.first at_t first;
     }
 
 -- a machine is led from the start to where either entry may be next, and over a stretch to where the first one still may
-pub sees_held : (d : Compiled) (before stretch : List Entry) (one other : Entry) (c : Pair) (p q r s t : MachineView) → p.code ≡ d → q.code ≡ p.code → r ≡ q → s ≡ r
-    → after (design_of d) [] ≡ Some (state_at p) → IsLed p before q → HasRoleAt (design_of d) (state_at q) one c.site c.time c.first
-    → HasRoleAt (design_of d) (state_at r) other c.site c.time c.second → IsLed s stretch t → IsOneAt (state_at t) one c.site c.time c.first
-    → SeesHeld (design_of d) before stretch one other c
-sees_held d before stretch one other c p q r s t of_d same seen also start led first second more again =
-    let to_q : after (design_of d) before ≡ Some (state_at q) = led_on d [] before p q of_d start led in
-    let on : IsLed q stretch t = subst (λ (x : MachineView). IsLed x stretch t) (also ∙ seen) more in
+pub sees_held : (before stretch : List Entry) (one other : Entry) (c : Pair) (p q r s t : MachineView) → IsAtStart p → q.code ≡ p.code → IsLed p before q
+    → HasRoleAt (design_of q.code) (state_at q) one c.site c.time c.first → r ≡ q → HasRoleAt (design_of r.code) (state_at r) other c.site c.time c.second → s ≡ r
+    → t.code ≡ s.code → IsLed s stretch t → IsOneAt (state_at t) one c.site c.time c.first → SeesHeld (design_of p.code) before stretch one other c
+sees_held before stretch one other c p q r s t start to_one led first seen second also to_again more again =
+    let d : Compiled = p.code in
+    let at_q : IsBehind d before q = led_on d [] before p q (refl, start) to_one led in
+    let at_r : IsBehind d before r = still_behind d before q r seen at_q in
+    let at_t : IsBehind d (before ++ stretch) t = led_on d before stretch s t (still_behind d before r s also at_r) to_again more in
     record {
-      first = role_behind (design_of d) before (state_at q) one c.site c.time c.first to_q first;
-      second =
-          role_behind (design_of d) before (state_at q) other c.site c.time c.second to_q
-          (subst (λ (x : MachineView). HasRoleAt (design_of d) (state_at x) other c.site c.time c.second) seen second);
-      again = one_behind (design_of d) (before ++ stretch) (state_at t) one c.site c.time c.first (led_on d before stretch q t (same ∙ of_d) to_q on) again;
+      first = role_behind d before q one c.site c.time c.first at_q first;
+      second = role_behind d before r other c.site c.time c.second at_r second;
+      again = one_behind d (before ++ stretch) t one c.site c.time c.first at_t again;
     }
 
 -- what is seen of both in one journal is so

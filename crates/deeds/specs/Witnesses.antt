@@ -12,6 +12,10 @@ use Rattle.deeds.specs.declared.role.Role.{Role}
 use Rattle.deeds.specs.declared.pair.Pair.{Pair}
 use Rattle.deeds.specs.Roles.{IsEvent, HasRole, IsOfRole, IsOneBehind, IsRoleBehind}
 
+-- a machine stands at the start of its design's runs
+abbrev pub IsAtStart : MachineView → Type 0
+IsAtStart p = after (design_of p.code) [] ≡ Some (state_at p)
+
 -- behind whatever journal the machine stood, it stands behind that journal with these entries
 abbrev pub IsLed : MachineView → List Entry → MachineView → Type 0
 IsLed old entries new =

@@ -22,7 +22,7 @@ fn sees_both(
     ensures { IfOk result (λ sees. IsTrue sees → SeesBoth (design_of design.now) split.entry.before.now split.entry.stretch.now split.entry.one split.entry.other pair) }
 {
     let mut witness = Witness::start(alloc, design)?;
-    Ok(witness.sees(design, split, pair))
+    Ok(witness.sees(split, pair))
 }
 
 // Whether the two entries come the other way round in the second run.
@@ -36,7 +36,7 @@ fn sees_swapped(
     ensures { IfOk result (λ sees. IsTrue sees → SeesSwapped (design_of design.now) split.entry.before.now swapped.entry.needed.now swapped.entry.other split.entry.one pair) }
 {
     let mut witness = Witness::start(alloc, design)?;
-    Ok(witness.sees_swapped(design, split, swapped, pair))
+    Ok(witness.sees_swapped(split, swapped, pair))
 }
 
 // Whether the later entry does in the second run what the pair says, and leaves the earlier one behind it.
@@ -50,7 +50,7 @@ fn sees_cut(
     ensures { IfOk result (λ sees. IsTrue sees → SeesCut (design_of design.now) split.entry.before.now cut.entry.needed.now cut.entry.other split.entry.one pair) }
 {
     let mut witness = Witness::start(alloc, design)?;
-    Ok(witness.sees_cut(design, split, cut, pair))
+    Ok(witness.sees_cut(split, cut, pair))
 }
 
 // Whether the two entries do what the pair says where the first run ends, and the earlier one still comes in the second run.
@@ -58,7 +58,7 @@ fn sees_held(alloc: Global, design: &Design, held: Held<'_>, pair: Pair) -> Resu
     ensures { IfOk result (λ sees. IsTrue sees → SeesHeld (design_of design.now) held.entry.before.now held.entry.stretch.now held.entry.one held.entry.other pair) }
 {
     let mut witness = Witness::start(alloc, design)?;
-    Ok(witness.sees_held(design, held, pair))
+    Ok(witness.sees_held(held, pair))
 }
 
 /// Whether two entries of a run's journal do what a pair says of them, and come the other way round in that of a second run. In

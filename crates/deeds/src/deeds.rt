@@ -4,34 +4,13 @@ ghost use Rattle.std.specs.List.{list_any};
 ghost use Rattle.model.specs.Turns.{Turn};
 ghost use Rattle.turn.specs.TurnLogs.{wait_of};
 ghost use Rattle.turn.specs.Reads.{registers};
-ghost use Rattle.regions.specs.Machine.{state_at};
 ghost use Rattle.deeds.specs.Roles as roles;
-ghost use Rattle.deeds.specs.DeedLogs.{IsTurnLogged, IsLogged, IsUpdateOf};
+ghost use Rattle.deeds.specs.DeedLogs.{IsLogged, IsUpdateOf};
 
 use crate::role::{Does, Site};
-use design::{Control, Design, RegId};
-use regions::{Machine, State, turn_on};
+use design::{Control, RegId};
+use regions::State;
 use turn::{Suspend, TurnLog};
-
-/// Fills a log with the turn of an active evaluation, and answers its process. None where there is no such evaluation, its
-/// turn is too long, or memory is refused.
-pub fn fill(log: &mut TurnLog, design: &Design, machine: &Machine<'_>, number: u64) -> Option<u32>
-    requires code { machine.now.code ≡ design.now }
-    ensures { IfSome result (λ process. IsTurnLogged design.now (state_at machine.now) number process log.new) }
-{
-    if machine.is_finished() {
-        return None;
-    }
-    let (process, place) = match machine.state().evaluation(number) {
-        Some(evaluation) => evaluation,
-        None => return None,
-    };
-    machine.stands();
-    match turn_on(log, design, &place, machine.time(), machine.store()) {
-        Ok(()) => Some(process),
-        Err(_) => None,
-    }
-}
 
 // Whether a turn wrote a register.
 fn writes(log: &TurnLog, register: RegId) -> bool

@@ -1,12 +1,12 @@
 //! What the entries of a run do.
 //!
 //! 1. `role` has the words: a site, which is a register, where lines are printed, or where the run ends, and what an entry does there.
-//! 2. `deeds` makes the turn that an entry has where it stands, and tells what that does at a site.
+//! 2. `deeds` tells what a turn does at a site, by its log.
 //! 3. `pair` is two entries of a journal with what each is said to do. `split` finds them in it, and in that of a second run, where
 //!    they come the other way round; where one of them finishes the run, one journal may have it alone.
 //! 4. `witness` leads a machine to both and sees whether they do it, and `confirm` asks it of both journals.
 //!
-//! What the layer above uses: `fill`, `lead`, and the contract of `is_confirmed`, `is_cut_off` and `is_held_back`, whose `HasBothOrders` of
+//! What the layer above uses: `lead`, and the contract of `is_confirmed`, `is_cut_off` and `is_held_back`, whose `HasBothOrders` of
 //! `specs/Roles` speaks of the journals alone.
 #![tactic(auto)]
 
@@ -18,7 +18,6 @@ mod split;
 mod witness;
 
 pub use confirm::{is_confirmed, is_cut_off, is_held_back};
-pub use deeds::fill;
 pub use pair::Pair;
 pub use role::{Does, Role, Site};
 pub use witness::lead;
