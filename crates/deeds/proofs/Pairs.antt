@@ -3,7 +3,6 @@ use Rattle.std.proofs.Common.{◌≡◌, ℕ, Bool, List, [], ◌∷◌, ◌++�
 use Rattle.std.specs.List.{All}
 use Rattle.model.specs.declared.entry.Entry.{Entry}
 use Rattle.model.specs.Design.{Design}
-use Rattle.model.specs.States.{State}
 use Rattle.model.specs.Runs.{after}
 use Rattle.design.specs.Compiled.{Compiled, design_of}
 use Rattle.regions.specs.Machine.{MachineView, state_at}
