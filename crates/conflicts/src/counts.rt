@@ -16,9 +16,11 @@ impl Counts {
         }
     }
 
-    /// Begins anew.
-    pub(crate) fn clear(&mut self) {
-        self.counts.clear();
+    /// A number was counted no more.
+    pub(crate) fn forget(&mut self, number: usize) {
+        if number < self.counts.len() {
+            self.counts[number] = 0;
+        }
     }
 
     /// How often a number was counted.

@@ -117,16 +117,27 @@ impl Stretch {
         }
     }
 
+    // Counts no more what the entries did.
+    fn forget(&mut self) {
+        for step in self.steps.iter() {
+            self.turns_by.forget(step.actor.process() as usize);
+        }
+        for access in self.accesses.iter() {
+            self.accesses_to.forget(access.site_number());
+        }
+        for assign in self.assigns.iter() {
+            self.assigns_to.forget(assign.register as usize);
+        }
+    }
+
     /// Begins anew, at this place of the journal and this time.
     pub(crate) fn begin(&mut self, place: usize, time: u64) {
+        self.forget();
         self.begin = place;
         self.time = time;
         self.steps.clear();
         self.accesses.clear();
         self.assigns.clear();
-        self.turns_by.clear();
-        self.accesses_to.clear();
-        self.assigns_to.clear();
         self.finishing = None;
         self.cut = None;
     }
@@ -305,6 +316,14 @@ impl Stretch {
         }
     }
 
+    // Whether a step needs an earlier one itself, and not by another one that does.
+    fn comes_of(&self, later: usize, earlier: usize) -> bool {
+        match self.steps.get(later) {
+            Some(step) => step.cause == Some(earlier) || step.before == Some(earlier),
+            None => false,
+        }
+    }
+
     // Keeps the conflict of two steps, if the later one doesn't need the earlier one. Behind one that finishes the run there is none.
     fn add(
         &self,
@@ -313,7 +332,7 @@ impl Stretch {
         earlier: (usize, Does),
         later: (usize, Does),
     ) {
-        if self.finishing == Some(later.0) {
+        if self.finishing == Some(later.0) || self.comes_of(later.0, earlier.0) {
             return;
         }
         if let Some(pair) = self.pair(site, earlier, later) {

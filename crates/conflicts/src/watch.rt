@@ -1,7 +1,11 @@
 //! The first run, and what its entries do.
-ghost use Rattle.std.specs.Prelude.{◌≡◌, IfSome, None};
+ghost use Rattle.std.specs.Prelude.{◌≡◌, ◌<◌, List, length, IfSome, None};
+ghost use Rattle.model.specs.declared.entry.Entry.{Entry};
+ghost use Rattle.model.specs.declared.entry.Entry.TheVariants.{Turn};
+ghost use Rattle.model.specs.declared.end.Limits.{Limits};
 ghost use Rattle.model.specs.Runs.{refusal};
 ghost use Rattle.regions.specs.Machine.{state_at};
+ghost use Rattle.seeded.specs.Halting.{GoesOn};
 ghost use Rattle.seeded.specs.SeededRun.{HasComeTo, IsRun};
 ghost use Rattle.conflicts.specs.RunEndings.{HasTimeLimit, EndsAt};
 
@@ -10,7 +14,7 @@ use crate::run::Run;
 use crate::stretch::{Actor, Stretch};
 use crate::told::{Bound, Tries};
 use crate::transitions::{Transition, first_entry};
-use deeds::{Does, Role, Site, fill};
+use deeds::{Does, Role, Site};
 use design::Design;
 use model::end::{End, Limits, Why};
 use model::entry::Entry;
@@ -23,10 +27,9 @@ use turn::{Suspend, TurnLog};
 // The most events that are looked at which a run leaves behind as it finishes.
 const MOST_LEFT: usize = 1_024;
 
-/// Who made events, from a number on: the process of a turn, or that of the turn that made an update, and its place in the journal.
+/// Who made an event: the process of a turn, or that of the turn that made an update, and its place in the journal.
 #[derive(Clone, Copy)]
 struct Maker {
-    from: u64,
     process: u32,
     place: usize,
 }
@@ -34,11 +37,12 @@ struct Maker {
 /// What is noted of the entries of a run.
 #[derive(Drop)]
 pub(crate) struct Watch {
-    log: TurnLog,
+    /// Room for the turn of an event that the run leaves behind as it finishes.
+    left: TurnLog,
     stretch: Stretch,
-    /// The number of the next event that is made.
-    next_event: u64,
-    /// In the order of their numbers.
+    /// The number of the first event that an entry made.
+    first_made: u64,
+    /// Who made it and those that follow it, in the order of their numbers.
     makers: Vec<Maker>,
     pub(crate) transitions: Vec<Transition>,
     pub(crate) conflicts: Conflicts,
@@ -56,9 +60,9 @@ pub(crate) struct Noted {
 impl Watch {
     pub(crate) fn start(alloc: Global, design: &Design, bounds: Tries) -> Watch {
         Watch {
-            log: TurnLog::new(alloc),
+            left: TurnLog::new(alloc),
             stretch: Stretch::new(alloc),
-            next_event: u64::from(design.processes()),
+            first_made: u64::from(design.processes()),
             makers: Vec::new(alloc),
             transitions: Vec::new(alloc),
             conflicts: Conflicts::new(alloc, bounds),
@@ -67,40 +71,40 @@ impl Watch {
 
     // Who made an event.
     fn maker(&self, number: u64) -> Option<Maker> {
-        let behind = self.makers.partition_point(|maker| maker.from <= number);
-        self.makers.get(behind.checked_sub(1)?).copied()
+        let place = number.checked_sub(self.first_made)?;
+        self.makers.get(place as usize).copied()
     }
 
     // Notes what a turn read, and what it wrote.
-    fn note_values(&mut self, machine: &Machine<'_>) {
-        for (register, _) in self.log.reads() {
+    fn note_values(&mut self, machine: &Machine<'_>, log: &TurnLog) {
+        for (register, _) in log.reads() {
             self.stretch
                 .access(Site::Register(*register), Does::Reads, false);
         }
-        for net in self.log.nets() {
+        for net in log.nets() {
             let changes = net.changes > 0 || machine.value(net.register) != Some(net.first);
             self.stretch
                 .access(Site::Register(net.register), Does::Writes, changes);
         }
-        for nba in self.log.nbas() {
+        for nba in log.nbas() {
             self.stretch.assign(nba.reg, nba.value, nba.due);
         }
     }
 
     // Notes what a turn printed.
-    fn note_lines(&mut self) {
-        if !self.log.lines().is_empty() {
+    fn note_lines(&mut self, log: &TurnLog) {
+        if !log.lines().is_empty() {
             self.stretch.access(Site::Printing, Does::Prints, true);
         }
-        if !self.log.strobes().is_empty() {
+        if !log.strobes().is_empty() {
             self.stretch.access(Site::Strobing, Does::Strobes, true);
         }
     }
 
     // Notes the registers for which the process of a turn begins to wait.
-    fn note_wait(&mut self, design: &Design) {
-        if let Suspend::Event(control) = self.log.suspend() {
-            if let Some(control) = design.event_controls().get(control) {
+    fn note_wait(&mut self, machine: &Machine<'_>, log: &TurnLog) {
+        if let Suspend::Event(control) = log.suspend() {
+            if let Some(control) = machine.design().event_controls().get(control) {
                 for trigger in control.triggers() {
                     self.stretch
                         .access(Site::Register(trigger.1), Does::Waits, false);
@@ -109,42 +113,33 @@ impl Watch {
         }
     }
 
-    // How many events the turn makes apart from those of the processes that it wakes: its updates, and that of its own wait.
-    fn own_events(&self) -> u64 {
-        let updates = self.log.nbas().len() as u64;
-        match self.log.suspend() {
-            Suspend::Inactive | Suspend::Until(_) => updates.saturating_add(1),
-            Suspend::Ended | Suspend::Event(_) => updates,
-        }
-    }
-
-    // Notes a turn. None where it isn't made.
-    fn note_turn(&mut self, design: &Design, machine: &Machine<'_>, number: u64) -> Option<Noted>
-        requires { machine.now.code ≡ design.now }
-    {
-        let process = fill(&mut self.log, design, machine, number)?;
+    // Notes a turn of a process by its log.
+    fn note_turn(
+        &mut self,
+        machine: &Machine<'_>,
+        number: u64,
+        process: u32,
+        log: &TurnLog,
+    ) -> Noted {
         if !self.stretch.is_full() {
             let maker = self.maker(number).map(|maker| maker.place);
             self.stretch.step(Actor::Turn(process), maker);
-            self.note_values(machine);
-            self.note_lines();
-            self.note_wait(design);
+            self.note_values(machine, log);
+            self.note_lines(log);
+            self.note_wait(machine, log);
         }
-        let noted = Noted {
+        if log.is_finish() {
+            self.note_finish(machine, number);
+        }
+        Noted {
             wanted: Transition::Turn(process),
             process: Some(process),
-            own: self.own_events(),
-        };
-        if self.log.is_finish() {
-            self.note_finish(design, machine, number);
+            own: own_events(log),
         }
-        Some(noted)
     }
 
     // Notes that the turn of the last step finishes the run, and which events it leaves behind.
-    fn note_finish(&mut self, design: &Design, machine: &Machine<'_>, number: u64)
-        requires { machine.now.code ≡ design.now }
-    {
+    fn note_finish(&mut self, machine: &Machine<'_>, number: u64) {
         if self.stretch.is_full() {
             return;
         }
@@ -152,7 +147,7 @@ impl Watch {
         for place in 0..machine.choices().len().min(MOST_LEFT) {
             match machine.choices().get(place) {
                 Some(Entry::Turn(other)) => if other != number {
-                    self.note_left_turn(design, machine, other);
+                    self.note_left_turn(machine, other);
                 },
                 Some(Entry::Update(other)) => self.note_left_update(machine, other),
                 _ => {}
@@ -161,14 +156,12 @@ impl Watch {
     }
 
     // Notes an evaluation that is left behind.
-    fn note_left_turn(&mut self, design: &Design, machine: &Machine<'_>, number: u64)
-        requires { machine.now.code ≡ design.now }
-    {
-        let process = match fill(&mut self.log, design, machine, number) {
-            Some(process) => process,
-            None => return,
+    fn note_left_turn(&mut self, machine: &Machine<'_>, number: u64) {
+        let process = match machine.evaluate(&mut self.left, number, 0) {
+            Ok(Some(process)) => process,
+            _ => return,
         };
-        let does = if self.log.lines().is_empty() {
+        let does = if self.left.lines().is_empty() {
             Does::Runs
         } else {
             Does::Prints
@@ -218,44 +211,24 @@ impl Watch {
         })
     }
 
-    // Notes an entry before it is taken. At a change of the regions the conflicts of the entries before it are found.
-    fn note(&mut self, design: &Design, machine: &Machine<'_>, entry: Entry) -> Option<Noted>
-        requires { machine.now.code ≡ design.now }
-    {
-        match entry {
-            Entry::Turn(number) => self.note_turn(design, machine, number),
-            Entry::Update(number) => self.note_update(machine, number),
-            Entry::ActivateInactive
-            | Entry::ActivateNba
-            | Entry::ActivateMonitor
-            | Entry::Advance(_) => {
-                self.stretch.find_conflicts(&mut self.conflicts);
-                Some(Noted {
-                    wanted: Transition::Change(entry),
-                    process: None,
-                    own: 0,
-                })
-            }
+    // Notes a change of the regions, at which the conflicts of the entries before it are found.
+    fn note_change(&mut self, change: Entry) -> Noted {
+        self.stretch.find_conflicts(&mut self.conflicts);
+        Noted {
+            wanted: Transition::Change(change),
+            process: None,
+            own: 0,
         }
     }
 
-    // Notes the events that an entry made, whose place in the journal this is. The answer is whether they could be noted.
-    fn note_made(&mut self, process: u32, place: usize, made: u64) -> bool {
-        if made == 0 {
-            return true;
-        }
-        let from = self.next_event;
-        self.next_event = from.saturating_add(made);
-        let maker = Maker {
-            from,
-            process,
-            place,
-        };
-        self.makers.push(maker).is_ok()
+    // Notes who made so many events more. The answer is whether that could be noted.
+    fn note_made(&mut self, maker: Maker, made: u64) -> bool {
+        let count = (self.makers.len() as u64).saturating_add(made);
+        self.makers.resize(count as usize, maker).is_ok()
     }
 
     // Notes that an entry was taken: its transition, and the events that it made. The answer is whether it could be noted.
-    fn taken(&mut self, machine: &Machine<'_>, noted: Option<Noted>) -> bool {
+    fn note_taken(&mut self, machine: &Machine<'_>, noted: Option<Noted>) -> bool {
         let noted = match noted {
             Some(noted) => noted,
             None => return false,
@@ -265,12 +238,23 @@ impl Watch {
         match noted.process {
             Some(process) => {
                 let made = noted.own.saturating_add(machine.made().len() as u64);
-                is_kept & self.note_made(process, place, made)
+                is_kept & self.note_made(Maker { process, place }, made)
             }
             None => {
                 self.stretch.begin(place.saturating_add(1), machine.time());
                 is_kept
             }
+        }
+    }
+
+    // Notes that an entry was taken. Where it can't be noted, the run ends for want of memory.
+    fn taken(&mut self, machine: &Machine<'_>, noted: Option<Noted>) -> Option<End>
+        ensures { (limits : Limits) (journal : List Entry) → IfSome result (EndsAt limits journal machine.now) }
+    {
+        if self.note_taken(machine, noted) {
+            None
+        } else {
+            Some(End::Stopped(Why::Memory))
         }
     }
 
@@ -281,11 +265,74 @@ impl Watch {
     }
 }
 
+// How many events a turn makes apart from those of the processes that it wakes: its updates, and that of its own wait.
+fn own_events(log: &TurnLog) -> u64 {
+    let updates = log.nbas().len() as u64;
+    match log.suspend() {
+        Suspend::Inactive | Suspend::Until(_) => updates.saturating_add(1),
+        Suspend::Ended | Suspend::Event(_) => updates,
+    }
+}
+
+// Takes an entry of which this is noted, or else answers how the run ends here.
+fn watch_step(
+    run: &mut Run<'_>,
+    limits: Limits,
+    watch: &mut Watch,
+    entry: Entry,
+    noted: Option<Noted>,
+) -> Option<End>
+    requires come { HasComeTo limits run.old.journal.items run.old.machine }
+    requires few { length run.old.journal.items < limits.max_entries }
+    requires goes_on { GoesOn limits (state_at run.old.machine) }
+    requires permitted { refusal (state_at run.old.machine) entry ≡ None }
+    ensures come { HasComeTo limits run.new.journal.items run.new.machine }
+    ensures code { run.new.machine.code ≡ run.old.machine.code }
+    ensures ends { IfSome result (EndsAt limits run.new.journal.items run.new.machine) }
+{
+    if let Some(end) = run.step(limits, entry) {
+        return Some(end);
+    }
+    watch.taken(&run.machine, noted)
+}
+
+// Evaluates a turn into a log, notes it, and takes it by that log, or else answers how the run ends here. One that can't be evaluated
+// is taken without: that tells the end.
+fn watch_turn(
+    run: &mut Run<'_>,
+    limits: Limits,
+    watch: &mut Watch,
+    log: &mut TurnLog,
+    number: u64,
+) -> Option<End>
+    requires come { HasComeTo limits run.old.journal.items run.old.machine }
+    requires few { length run.old.journal.items < limits.max_entries }
+    requires goes_on { GoesOn limits (state_at run.old.machine) }
+    requires permitted { refusal (state_at run.old.machine) (Turn number) ≡ None }
+    ensures come { HasComeTo limits run.new.journal.items run.new.machine }
+    ensures code { run.new.machine.code ≡ run.old.machine.code }
+    ensures ends { IfSome result (EndsAt limits run.new.journal.items run.new.machine) }
+{
+    let process = match run.machine.evaluate(log, number, 0) {
+        Ok(Some(process)) => process,
+        _ => return watch_step(run, limits, watch, Entry::Turn(number), None),
+    };
+    let noted = watch.note_turn(&run.machine, number, process, log);
+    if let Some(end) = run.step_turn(limits, number, log) {
+        return Some(end);
+    }
+    watch.taken(&run.machine, Some(noted))
+}
+
 // Takes the first entry that may be next, or else answers how the run ends here.
-fn watch_entry(design: &Design, run: &mut Run<'_>, limits: Limits, watch: &mut Watch) -> Option<End>
+fn watch_entry(
+    run: &mut Run<'_>,
+    limits: Limits,
+    watch: &mut Watch,
+    log: &mut TurnLog,
+) -> Option<End>
     requires until { HasTimeLimit limits }
     requires come { HasComeTo limits run.old.journal.items run.old.machine }
-    requires code { run.old.machine.code ≡ design.now }
     ensures come { HasComeTo limits run.new.journal.items run.new.machine }
     ensures code { run.new.machine.code ≡ run.old.machine.code }
     ensures ends { IfSome result (EndsAt limits run.new.journal.items run.new.machine) }
@@ -297,16 +344,12 @@ fn watch_entry(design: &Design, run: &mut Run<'_>, limits: Limits, watch: &mut W
         Some(entry) => entry,
         None => return Some(End::Stopped(Why::Memory)),
     };
-    let noted = watch.note(design, &run.machine, entry);
-    if let Some(end) = run.step(limits, entry) {
-        return Some(end);
-    }
-    // Where an entry can't be noted, the run ends for want of memory.
-    if watch.taken(&run.machine, noted) {
-        None
-    } else {
-        Some(End::Stopped(Why::Memory))
-    }
+    let noted = match entry {
+        Entry::Turn(number) => return watch_turn(run, limits, watch, log, number),
+        Entry::Update(number) => watch.note_update(&run.machine, number),
+        change => Some(watch.note_change(change)),
+    };
+    watch_step(run, limits, watch, entry, noted)
 }
 
 /// Makes the first run, which takes the first entry that may be next at each choice, from its start.
@@ -323,8 +366,9 @@ pub(crate) fn watch_run<P: Progress>(
     requires code { run.old.machine.code ≡ design.now }
     ensures { IsRun design.now limits result }
 {
+    let mut log = TurnLog::new(alloc);
     for _ in 0..limits.max_entries {
-        if let Some(end) = watch_entry(design, run, limits, watch) {
+        if let Some(end) = watch_entry(run, limits, watch, &mut log) {
             return run.told(alloc, limits, end);
         }
         tell_entries(progress, run.journal.len() as u64, run.machine.time());
