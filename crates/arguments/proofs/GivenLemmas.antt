@@ -19,7 +19,7 @@ use Rattle.clap.specs.declared.builder.value_parser.ValueParser.{ValueParser}
 use Rattle.clap.specs.declared.parser.matches.ArgMatches.{ArgMatches}
 use Rattle.clap.specs.declared.parser.matches.Found.{Found}
 use Rattle.clap.specs.declared.parser.matches.MatchedArg.{MatchedArg}
-use Rattle.arguments.specs.Arguments.{Rule, Takes, Follow, HasRules, IsGiven}
+use Rattle.arguments.specs.Arguments.{Rule, TakesOneValue, Follow, HasRules, IsGivenArgument}
 
 -- what holds of each answer that is Ok
 pub if_ok : {T E : Type 0} (P Q : T → Type 0) (r : Result T E) → ((x : T) → P x → Q x) → IfOk r P → IfOk r Q
@@ -33,7 +33,7 @@ if_err P Q (Err e) f h = f e h
 
 -- building a command
 
-takes_same : (a b : Arg) (r : Rule) → SameRules a b → Takes a r → Takes b r
+takes_same : (a b : Arg) (r : Rule) → SameRules a b → TakesOneValue a r → TakesOneValue b r
 takes_same a b r s t = record {
   id = ap (λ x. x.now) s.id ∙ t.id;
   required = s.required ∙ t.required;
@@ -45,7 +45,7 @@ takes_same a b r s t = record {
   local = s.global ∙ t.local;
 }
 
-follow_push : (xs : List Arg) (rs : List Rule) (y : Arg) (r : Rule) → Follow xs rs → Takes y r
+follow_push : (xs : List Arg) (rs : List Rule) (y : Arg) (r : Rule) → Follow xs rs → TakesOneValue y r
     → Follow (xs ++ y ∷ []) (rs ++ r ∷ [])
 follow_push [] [] y r f t = (t, f)
 follow_push [] (s ∷ rs) y r f t = absurd f
@@ -63,7 +63,7 @@ none_yet c args groups local negates = record {
 }
 
 -- and with one more
-pub one_more : (c d : Command) (a : Arg) (rs : List Rule) (r : Rule) → HasRules c rs → Takes a r → AddsArg c a d
+pub one_more : (c d : Command) (a : Arg) (rs : List Rule) (r : Rule) → HasRules c rs → TakesOneValue a r → AddsArg c a d
     → HasRules d (rs ++ r ∷ [])
 one_more c d a rs r h t added = record {
   args = subst (λ xs. Follow xs (rs ++ r ∷ [])) (sym added.args)
@@ -89,13 +89,13 @@ some_arg [] (s ∷ rs) k r f e = absurd f
 some_arg (x ∷ xs) rs k r f e = x
 
 rule_at : (xs : List Arg) (rs : List Rule) (k : ℕ) (r : Rule) (d : Arg) → Follow xs rs → slice_get rs k ≡ Some r
-    → (k < length xs) × Takes (slice_index_or xs k d) r
+    → (k < length xs) × TakesOneValue (slice_index_or xs k d) r
 rule_at [] [] k r d f e = cc
 rule_at [] (s ∷ rs) k r d f e = absurd f
 rule_at (x ∷ xs) [] k r d f e = absurd f
 rule_at (x ∷ xs) (s ∷ rs) zero r d f e =
     let same : s ≡ r = ap (λ o. unwrap_or o s) e in
-    (omega arith, subst (Takes x) same f.0)
+    (omega arith, subst (TakesOneValue x) same f.0)
 rule_at (x ∷ xs) (s ∷ rs) (suc k) r d f e =
     let got = rule_at xs rs k r d f.1 e in
     (omega (arith, got.0), got.1)
@@ -183,7 +183,7 @@ entry_given : (c : Command) (f : Found) (id : List ℕ) (a : Arg) (q : ValuePars
     → a.value_parser ≡ Some q
     → ((j : ℕ) (x : Arg) → j < length (args_of c) → slice_index_or (args_of c) j x ≡ x → bytes_eq x.id.now id ≡ true → SameRules a x)
     → (x : MatchedArg) → matched_of f id ≡ Some x → (e : Entry) → e.1 ≡ x → e.0.now ≡ id → EntryPasses c e
-    → IsGiven f id q
+    → IsGivenArgument f id q
 entry_given c f id a q no_groups named parser keeps x found e same_x key_id pass =
     let no_group : e.1.is_group ≡ true → ⊥ = λ g. elim (pass.3 g) [
       | inl empty ↦ named (sym key_id ∙ empty)
@@ -209,7 +209,7 @@ entry_given c f id a q no_groups named parser keeps x found e same_x key_id pass
     read_so any = ap (λ (y : MatchedArg). y.reading) (sym same_x) ∙ (sym any.4.1 ∙ ap reading_of (parser_is any.0 any.1 any.2 any.3 any.4.0))
 
     values : (vs : List (Bor (List ℕ))) → x.vals.items ≡ vs → All (λ v. PassesArg c id v.now) x.vals.items → x.reading ≡ reading_of q
-        → IsGiven f id q
+        → IsGivenArgument f id q
     values [] is all reading = inl (rw (found, is) refl)
     values (v ∷ vs) is all reading =
         let here = All-get_or (λ w. PassesArg c id w.now) (v ∷ vs) 0 v (omega arith) (subst (All (λ w. PassesArg c id w.now)) is all) in
@@ -224,10 +224,10 @@ entry_given c f id a q no_groups named parser keeps x found e same_x key_id pass
 -- an argument of the rules with a parser has no value, or one that passed it
 pub given : (cmd : Command) (m : ArgMatches) (rs : List Rule) (k : ℕ) (r : Rule) (q : ValueParser) → IsParsedFrom cmd m → HasRules cmd rs
     → slice_get rs k ≡ Some r → r.parser ≡ Some q → only_at rs r.id k ≡ true → is_own r.id ≡ true
-    → IsGiven (found_of m) r.id q
+    → IsGivenArgument (found_of m) r.id q
 given cmd m rs k r q p h place parser only own = go (matched_of (found_of m) r.id) refl
   where
-    keeps : (d : Arg) → (k < length (args_of cmd)) × Takes (slice_index_or (args_of cmd) k d) r
+    keeps : (d : Arg) → (k < length (args_of cmd)) × TakesOneValue (slice_index_or (args_of cmd) k d) r
         → (j : ℕ) (x : Arg) → j < length (args_of p.built) → slice_index_or (args_of p.built) j x ≡ x
         → bytes_eq x.id.now r.id ≡ true → SameRules (slice_index_or (args_of cmd) k d) x
     keeps d got j x lt at eq =
@@ -237,7 +237,7 @@ given cmd m rs k r q p h place parser only own = go (matched_of (found_of m) r.i
         (own_not_auto (slice_index_or (args_of cmd) k d) r.id got.1.id own) j x lt at
         (subst (λ (w : List ℕ). bytes_eq x.id.now w ≡ true) (sym got.1.id) eq)
 
-    go : (o : Option MatchedArg) → matched_of (found_of m) r.id ≡ o → IsGiven (found_of m) r.id q
+    go : (o : Option MatchedArg) → matched_of (found_of m) r.id ≡ o → IsGivenArgument (found_of m) r.id q
     go None e = inl (rw e refl)
     go (Some x) e =
         let d = some_arg (args_of cmd) rs k r h.args place in

@@ -13,7 +13,7 @@ use Rattle.clap.specs.declared.error.kind.ErrorKind.TheVariants.{ArgumentConflic
 use Rattle.clap.specs.declared.parser.matches.ArgMatches.{ArgMatches}
 use Rattle.arguments.specs.declared.request.NoRequest.{NoRequest}
 use Rattle.arguments.specs.declared.request.NoRequest.TheVariants as no_request
-use Rattle.arguments.specs.Arguments.{IsGiven}
+use Rattle.arguments.specs.Arguments.{IsGivenArgument}
 use Rattle.arguments.specs.CommandWords.{number_given, AsksNoTask, Begins, FailsAs, IsNoRequest, IsNoRequestBy, MayFail, of_run, of_two_orders, of_replay, of_races, of_check, of_explain, of_waves, of_others, has_two_orders, other_faults, check_app, check_faults, explain_app, explain_faults, races_app, races_faults, replay_app, replay_faults, run_app, run_faults, run_rows, waves_app, waves_faults, whole_app}
 
 whole_is_free : is_simple_and_free whole_app ≡ true
@@ -143,7 +143,7 @@ unsigned_read E G t None reads only numeral fits = absurd (only t (Err reads.0) 
 
 -- the number that was read of an argument whose texts passed a parser
 pub unsigned_given : (E : Type 0) (G : List ℕ → Result ℕ E → Type 0) (f : Found) (id : Text) (low high : ℕ) (r : Option ℕ)
-    → IsGiven f id (vp.Unsigned low high) → ((t : Text) (x : Result ℕ E) → G t x → ParsesUnsigned 64 10 t x)
+    → IsGivenArgument f id (vp.Unsigned low high) → ((t : Text) (x : Result ℕ E) → G t x → ParsesUnsigned 64 10 t x)
     → (one_text f id ≡ None → r ≡ None) → ((t : Text) → one_text f id ≡ Some t → ReadsOne G t r) → r ≡ number_given id (rows_of f)
 unsigned_given E G f id low high r given only none value =
     number_read E G 64 (one_text f id) r none value only some ∙ ap (option_map (λ t. digits_value 10 (without_leading_plus t))) (one_text-rows f id)
@@ -155,7 +155,7 @@ unsigned_given E G f id low high r given only none value =
     ]
 
 pub signed_given : (E : Type 0) (G : List ℕ → Result ℕ E → Type 0) (f : Found) (id : Text) (low high : ℕ) (r : Option ℕ) → high < 2 ^ 32
-    → IsGiven f id (vp.Signed (pos low) (pos high)) → ((t : Text) (x : Result ℕ E) → G t x → ParsesUnsigned 32 10 t x)
+    → IsGivenArgument f id (vp.Signed (pos low) (pos high)) → ((t : Text) (x : Result ℕ E) → G t x → ParsesUnsigned 32 10 t x)
     → (one_text f id ≡ None → r ≡ None) → ((t : Text) → one_text f id ≡ Some t → ReadsOne G t r) → r ≡ number_given id (rows_of f)
 signed_given E G f id low high r small given only none value =
     number_read E G 32 (one_text f id) r none value only some ∙ ap (option_map (λ t. digits_value 10 (without_leading_plus t))) (one_text-rows f id)

@@ -11,8 +11,8 @@ use Rattle.clap.specs.declared.builder.value_parser.ValueParser.TheVariants.{Sig
 use Rattle.clap.specs.declared.parser.matches.Found.{Found}
 use Rattle.arguments.specs.declared.parameters.Parameter.{Parameter}
 use Rattle.arguments.specs.declared.parameters.Parameter.TheVariants as parameter
-use Rattle.arguments.specs.declared.task.Task.{Task}
-use Rattle.arguments.specs.declared.task.Task.TheVariants as task
+use Rattle.arguments.specs.declared.command_task.CommandTask.{CommandTask}
+use Rattle.arguments.specs.declared.command_task.CommandTask.TheVariants as task
 
 -- an argument: its id, whether it is required, and what its values have to pass
 pub record Rule : Type 0 where
@@ -25,7 +25,7 @@ abbrev pub rule : List ℕ → Bool → Option ValueParser → Rule
 rule id required parser = record { id = id; required = required; parser = parser }
 
 -- the argument takes one value by this rule, and excludes nothing
-pub record Takes (a : Arg) (r : Rule) : Type 0 where
+pub record TakesOneValue (a : Arg) (r : Rule) : Type 0 where
   pub id : a.id.now ≡ r.id
   pub required : a.required ≡ r.required
   pub parser : (q : ValueParser) → r.parser ≡ Some q → a.value_parser ≡ Some q
@@ -40,7 +40,7 @@ abbrev pub Follow : List Arg → List Rule → Type 0
 Follow [] [] = ⊤
 Follow [] (r ∷ rs) = ⊥
 Follow (a ∷ xs) [] = ⊥
-Follow (a ∷ xs) (r ∷ rs) = Takes a r × Follow xs rs
+Follow (a ∷ xs) (r ∷ rs) = TakesOneValue a r × Follow xs rs
 
 -- the command has these arguments alone
 pub record HasRules (c : Command) (rs : List Rule) : Type 0 where
@@ -66,7 +66,7 @@ abbrev pub seed_parser : ValueParser
 seed_parser = Unsigned 0 18446744073709551615
 
 -- what the command of a task takes
-abbrev pub parameters_of : Task → List Parameter
+abbrev pub parameters_of : CommandTask → List Parameter
 parameters_of task.Run =
     parameter.File
     ∷ parameter.Workers
@@ -110,21 +110,21 @@ rule_for parameter.JournalsTo = rule (codes "journals") false None
 rule_for parameter.Out = rule (codes "out") true None
 
 -- the rules of the command of a task
-abbrev pub rules_of : Task → List Rule
+abbrev pub rules_of : CommandTask → List Rule
 rules_of asked = map rule_for (parameters_of asked)
 
 -- the argument has no value, or its value passed the parser
-abbrev pub IsGiven : Found → List ℕ → ValueParser → Type 0
-IsGiven f id q = (one_text f id ≡ None)
+abbrev pub IsGivenArgument : Found → List ℕ → ValueParser → Type 0
+IsGivenArgument f id q = (one_text f id ≡ None)
     ⊎ ((text : List ℕ) × (any_case : Bool) × (one_text f id ≡ Some (read_as (reading_of q) text)) × Accepts any_case q text)
 
 -- what a parse of `run` gives
 pub record GivesRun (f : Found) : Type 0 where
   pub file : is_some (first_value f (codes "FILE")) ≡ true
-  pub workers : IsGiven f (codes "workers") workers_parser
-  pub until : IsGiven f (codes "until") until_parser
-  pub max_entries : IsGiven f (codes "max-entries") entries_parser
-  pub seed : IsGiven f (codes "seed") seed_parser
+  pub workers : IsGivenArgument f (codes "workers") workers_parser
+  pub until : IsGivenArgument f (codes "until") until_parser
+  pub max_entries : IsGivenArgument f (codes "max-entries") entries_parser
+  pub seed : IsGivenArgument f (codes "seed") seed_parser
 
 -- what a parse of `replay` gives
 pub record GivesReplay (f : Found) : Type 0 where
@@ -134,13 +134,13 @@ pub record GivesReplay (f : Found) : Type 0 where
 -- what a parse of `races` gives
 pub record GivesRaces (f : Found) : Type 0 where
   pub file : is_some (first_value f (codes "FILE")) ≡ true
-  pub until : IsGiven f (codes "until") until_parser
-  pub max_entries : IsGiven f (codes "max-entries") entries_parser
-  pub max_states : IsGiven f (codes "max-states") entries_parser
-  pub max_texts : IsGiven f (codes "max-texts") entries_parser
-  pub max_memory : IsGiven f (codes "max-memory") entries_parser
-  pub samples : IsGiven f (codes "samples") entries_parser
-  pub seed : IsGiven f (codes "seed") seed_parser
+  pub until : IsGivenArgument f (codes "until") until_parser
+  pub max_entries : IsGivenArgument f (codes "max-entries") entries_parser
+  pub max_states : IsGivenArgument f (codes "max-states") entries_parser
+  pub max_texts : IsGivenArgument f (codes "max-texts") entries_parser
+  pub max_memory : IsGivenArgument f (codes "max-memory") entries_parser
+  pub samples : IsGivenArgument f (codes "samples") entries_parser
+  pub seed : IsGivenArgument f (codes "seed") seed_parser
 
 -- what a parse of `check` gives
 pub record GivesCheck (f : Found) : Type 0 where
@@ -150,8 +150,8 @@ pub record GivesCheck (f : Found) : Type 0 where
 pub record GivesExplain (f : Found) : Type 0 where
   pub file : is_some (first_value f (codes "FILE")) ≡ true
   pub journal : is_some (first_value f (codes "JOURNAL")) ≡ true
-  pub from : IsGiven f (codes "from") entries_parser
-  pub to : IsGiven f (codes "to") entries_parser
+  pub from : IsGivenArgument f (codes "from") entries_parser
+  pub to : IsGivenArgument f (codes "to") entries_parser
 
 -- what a parse of `waves` gives
 pub record GivesWaves (f : Found) : Type 0 where
@@ -160,7 +160,7 @@ pub record GivesWaves (f : Found) : Type 0 where
   pub out : is_some (first_value f (codes "out")) ≡ true
 
 -- what a parse of the words of a task gives
-abbrev pub Gives : Task → Found → Type 0
+abbrev pub Gives : CommandTask → Found → Type 0
 Gives task.Run f = GivesRun f
 Gives task.Replay f = GivesReplay f
 Gives task.Races f = GivesRaces f

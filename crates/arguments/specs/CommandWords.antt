@@ -8,7 +8,7 @@ use Rattle.clap.specs.declared.error.kind.ErrorKind.{ErrorKind}
 use Rattle.clap.specs.declared.error.kind.ErrorKind.TheVariants.{ArgumentConflict, DisplayHelp, DisplayVersion, MissingSubcommand, OutOfMemory}
 use Rattle.clap.specs.declared.builder.action.ArgAction.TheVariants.{Set}
 use Rattle.clap.specs.declared.builder.value_parser.ValueParser.{ValueParser}
-use Rattle.arguments.specs.declared.options.Options.{Options}
+use Rattle.arguments.specs.declared.run_options.RunOptions.{RunOptions}
 use Rattle.arguments.specs.declared.request.NoRequest.{NoRequest}
 use Rattle.arguments.specs.declared.request.NoRequest.TheVariants as no_request
 use Rattle.arguments.specs.declared.request.Request.{Request}
@@ -21,9 +21,9 @@ use Rattle.arguments.specs.declared.request.ExplainRequest.{ExplainRequest}
 use Rattle.arguments.specs.declared.request.WavesRequest.{WavesRequest}
 use Rattle.arguments.specs.declared.parameters.Parameter.{Parameter}
 use Rattle.arguments.specs.declared.parameters.Parameter.TheVariants as parameter
-use Rattle.arguments.specs.declared.task.Task.{Task}
-use Rattle.arguments.specs.declared.task.Task.TheVariants as task
-use Rattle.arguments.specs.declared.extent.Extent.{Extent}
+use Rattle.arguments.specs.declared.command_task.CommandTask.{CommandTask}
+use Rattle.arguments.specs.declared.command_task.CommandTask.TheVariants as task
+use Rattle.arguments.specs.declared.search_options.SearchOptions.{SearchOptions}
 use Rattle.arguments.specs.Options.{CanRun, CanSearch}
 use Rattle.arguments.specs.Arguments.{workers_parser, until_parser, entries_parser, seed_parser}
 
@@ -139,7 +139,7 @@ waves_app =
     (need (codes "out"))
 
 -- the command of a task
-abbrev pub app_by : Task → App
+abbrev pub app_by : CommandTask → App
 app_by task.Run = run_app
 app_by task.Replay = replay_app
 app_by task.Races = races_app
@@ -148,12 +148,12 @@ app_by task.Explain = explain_app
 app_by task.Waves = waves_app
 
 -- a program with the commands of these tasks more
-abbrev pub with_tasks : App → List Task → App
+abbrev pub with_tasks : App → List CommandTask → App
 with_tasks app [] = app
 with_tasks app (asked ∷ more) = with_tasks (with_subcommand app (app_by asked).top) more
 
 -- all tasks
-abbrev pub every_task : List Task
+abbrev pub every_task : List CommandTask
 every_task = task.Run ∷ task.Replay ∷ task.Races ∷ task.Check ∷ task.Explain ∷ task.Waves ∷ []
 
 -- the program, which has a version
@@ -200,7 +200,7 @@ unfoldable pub waves_rows : List Text → List Row
 waves_rows = matches_of waves_app
 
 -- what clap finds in the words of a task
-abbrev pub rows_by : Task → List Text → List Row
+abbrev pub rows_by : CommandTask → List Text → List Row
 rows_by asked = matches_of (app_by asked)
 
 -- the number that was given under a name, in decimal digits, with a plus before them or none
@@ -208,7 +208,7 @@ abbrev pub number_given : Text → List Row → Option ℕ
 number_given name rows = option_map (λ text. digits_value 10 (without_leading_plus text)) (one_of name rows)
 
 -- the options of a run: 2 workers, no limit of time and 1,000,000 entries where the words give no other number
-abbrev pub options_of : List Row → Options
+abbrev pub options_of : List Row → RunOptions
 options_of rows = record {
   workers = unwrap_or (number_given (codes "workers") rows) 2;
   until = number_given (codes "until") rows;
@@ -217,8 +217,8 @@ options_of rows = record {
 
 -- how far orders are searched: no limit of time, 1,000,000 entries, 1,000,000 states, 8 texts and 4,096 megabytes where the words
 -- give no other number; whether random orders are tried in place of the search, and from which seed
-abbrev pub extent_of : List Row → Extent
-extent_of rows = record {
+abbrev pub search_options_of : List Row → SearchOptions
+search_options_of rows = record {
   until = number_given (codes "until") rows;
   max_entries = unwrap_or (number_given (codes "max-entries") rows) 1000000;
   max_states = unwrap_or (number_given (codes "max-states") rows) 1000000;
@@ -233,7 +233,7 @@ abbrev pub has_two_orders : List Row → Bool
 has_two_orders rows = is_some (first_of (codes "seed") rows) && is_some (first_of (codes "workers") rows)
 
 -- the words of a run give both a seed and a number of workers, which is answered by this kind of error
-abbrev pub AsksTwoOrders : Task → List Row → ErrorKind → Type 0
+abbrev pub AsksTwoOrders : CommandTask → List Row → ErrorKind → Type 0
 AsksTwoOrders asked rows kind =
     (asked ≡ task.Run) × (has_two_orders rows ≡ true) × ((kind ≡ OutOfMemory) ⊎ (kind ≡ ArgumentConflict))
 
@@ -242,7 +242,7 @@ abbrev pub Begins : List Text → Text → Type 0
 Begins words name = slice_get words 1 ≡ Some name
 
 -- the word that asks for a task
-abbrev pub word_of : Task → Text
+abbrev pub word_of : CommandTask → Text
 word_of task.Run = codes "run"
 word_of task.Replay = codes "replay"
 word_of task.Races = codes "races"
@@ -252,7 +252,7 @@ word_of task.Waves = codes "waves"
 
 -- the word after the program's name asks for no task
 abbrev pub AsksNoTask : List Text → Type 0
-AsksNoTask words = ((asked : Task) → Begins words (word_of asked) → ⊥) × (Begins words (codes "--version") → ⊥)
+AsksNoTask words = ((asked : CommandTask) → Begins words (word_of asked) → ⊥) × (Begins words (codes "--version") → ⊥)
 
 -- this run is asked for: of FILE, with these options, which are in range, by this seed or else on workers, and for its journal
 -- in OUT where that is given
@@ -271,9 +271,9 @@ pub record IsReplayOf (rows : List Row) (replay : ReplayRequest) : Type 0 where
 
 -- this search for races is asked for: of FILE, so far, and for journals at paths that begin with PREFIX where that is given
 pub record IsRacesOf (rows : List Row) (races : RacesRequest) : Type 0 where
-  pub in_range : CanSearch races.extent
+  pub in_range : CanSearch races.search_options
   pub file : first_of (codes "FILE") rows ≡ Some races.file.now
-  pub extent : races.extent ≡ extent_of rows
+  pub search_options : races.search_options ≡ search_options_of rows
   pub journals : first_of (codes "journals") rows ≡ option_map (λ path. path.now) races.journals
 
 -- this check is asked for: of FILE
@@ -295,7 +295,7 @@ pub record IsWavesOf (rows : List Row) (waves : WavesRequest) : Type 0 where
   pub out : first_of (codes "out") rows ≡ Some waves.out.now
 
 -- this is asked for by what clap finds in the words of a task
-abbrev pub IsAskedBy : Task → List Row → Request → Type 0
+abbrev pub IsAskedBy : CommandTask → List Row → Request → Type 0
 IsAskedBy asked rows (request.Run run) = (asked ≡ task.Run) × IsRunOf rows run
 IsAskedBy asked rows (request.Replay replay) = (asked ≡ task.Replay) × IsReplayOf rows replay
 IsAskedBy asked rows (request.Races races) = (asked ≡ task.Races) × IsRacesOf rows races
@@ -369,7 +369,7 @@ unfoldable pub waves_faults : List Text → Kinds
 waves_faults = fault_of waves_app
 
 -- those of a task
-abbrev pub faults_by : Task → List Text → Kinds
+abbrev pub faults_by : CommandTask → List Text → Kinds
 faults_by asked = fault_of (app_by asked)
 
 -- and those of a whole command line that asks for no task

@@ -6,8 +6,8 @@ ghost use Rattle.clap.specs.declared.error.kind.ErrorKind.TheVariants.{ArgumentC
 ghost use Rattle.arguments.specs.Arguments.{Gives, HasRules, rules_of};
 ghost use Rattle.arguments.specs.CommandWords.{app_by, bare_app, faults_by, other_faults, rows_by, texts_of, whole_app, word_of};
 
+use crate::command_task::CommandTask;
 use crate::parameters::{argument, parameters};
-use crate::task::Task;
 use crate::version::VERSION;
 use clap::error::ErrorKind;
 use clap::{ArgMatches, Command, Error};
@@ -18,7 +18,7 @@ const TWO_ORDERS: &str = "the argument '--seed <S>' cannot be used with '--worke
 /// What is found in the words of a task, from the one on that asks for it.
 pub fn task_matches<'a>(
     alloc: Global,
-    task: Task,
+    task: CommandTask,
     words: &'a [String],
 ) -> Result<ArgMatches<'a>, Error>
     ensures given { IfOk result (λ m. Gives task (found_of m)) }
@@ -39,7 +39,7 @@ pub fn whole_matches<'a>(alloc: Global, words: &'a [String]) -> Result<ArgMatche
 pub fn conflict(alloc: Global) -> Result<Error, AllocError>
     ensures { IfOk result (λ e. kind_of e ≡ ArgumentConflict) }
 {
-    command(alloc, Task::Run)?.error(ErrorKind::ArgumentConflict, TWO_ORDERS)
+    command(alloc, CommandTask::Run)?.error(ErrorKind::ArgumentConflict, TWO_ORDERS)
 }
 
 pub fn missing(alloc: Global) -> Result<Error, AllocError>
@@ -52,7 +52,7 @@ pub fn missing(alloc: Global) -> Result<Error, AllocError>
 fn program<'a>(alloc: Global) -> Result<Command<'a>, AllocError>
     ensures { IfOk result (λ c. app_of c ≡ whole_app) }
 {
-    let tasks = Task::every();
+    let tasks = CommandTask::every();
     let mut whole = bare_program(alloc);
     for task in tasks {
         let next = command(alloc, *task)?;
@@ -73,7 +73,7 @@ fn bare_program<'a>(alloc: Global) -> Command<'a>
 }
 
 /// The command of a task, with its words and options.
-fn command<'a>(alloc: Global, task: Task) -> Result<Command<'a>, AllocError>
+fn command<'a>(alloc: Global, task: CommandTask) -> Result<Command<'a>, AllocError>
     ensures rules { IfOk result (λ c. HasRules c (rules_of task)) }
     ensures app { IfOk result (λ c. app_of c ≡ app_by task) }
 {
@@ -86,7 +86,7 @@ fn command<'a>(alloc: Global, task: Task) -> Result<Command<'a>, AllocError>
 }
 
 /// The command of a task, with no words and options yet.
-fn bare_command<'a>(alloc: Global, task: Task) -> Result<Command<'a>, AllocError>
+fn bare_command<'a>(alloc: Global, task: CommandTask) -> Result<Command<'a>, AllocError>
     ensures rules { IfOk result (λ c. HasRules c []) }
     ensures app { IfOk result (λ c. app_of c ≡ new_app (word_of task)) }
 {

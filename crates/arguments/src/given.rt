@@ -3,15 +3,15 @@
 ghost use Rattle.std.specs.Prelude.{◌≡◌, ◌≤◌, ◌^◌, ◌∷◌, IfSome, codes, is_some, unwrap_or, false};
 ghost use Rattle.clap.specs.Words.{first_of, found_of, rows_of};
 ghost use Rattle.model.specs.Runs.{last_time};
-ghost use Rattle.arguments.specs.Arguments.{IsGiven, GivesRun, GivesReplay, GivesRaces, GivesCheck, GivesExplain, GivesWaves, workers_parser, until_parser, entries_parser, seed_parser};
+ghost use Rattle.arguments.specs.Arguments.{IsGivenArgument, GivesRun, GivesReplay, GivesRaces, GivesCheck, GivesExplain, GivesWaves, workers_parser, until_parser, entries_parser, seed_parser};
 ghost use Rattle.arguments.specs.Options.{CanRun, CanSearch};
-ghost use Rattle.arguments.specs.CommandWords.{IsCheckOf, IsExplainOf, IsRacesOf, IsReplayOf, IsRunOf, IsWavesOf, extent_of, has_two_orders, number_given, options_of};
+ghost use Rattle.arguments.specs.CommandWords.{IsCheckOf, IsExplainOf, IsRacesOf, IsReplayOf, IsRunOf, IsWavesOf, search_options_of, has_two_orders, number_given, options_of};
 
-use crate::extent::Extent;
-use crate::options::Options;
 use crate::request::{
     CheckRequest, ExplainRequest, RacesRequest, ReplayRequest, RunRequest, WavesRequest,
 };
+use crate::run_options::RunOptions;
+use crate::search_options::SearchOptions;
 use clap::ArgMatches;
 
 const DEFAULT_WORKERS: u32 = 2;
@@ -54,7 +54,7 @@ pub fn races_request<'a>(matches: &ArgMatches<'a>) -> RacesRequest<'a>
 {
     RacesRequest {
         file: matches.get_str("FILE").unwrap(),
-        extent: extent(matches),
+        search_options: search_options(matches),
         journals: matches.get_str("journals"),
     }
 }
@@ -110,24 +110,24 @@ fn gives(matches: &ArgMatches<'_>, name: &str) -> bool
     }
 }
 
-fn options(matches: &ArgMatches<'_>) -> Options
+fn options(matches: &ArgMatches<'_>) -> RunOptions
     requires { GivesRun (found_of matches.now) }
     ensures fit { CanRun result }
     ensures given { result ≡ options_of (rows_of (found_of matches.now)) }
 {
-    Options {
+    RunOptions {
         workers: given_workers(matches),
         until: given_until(matches),
         max_entries: given_count(matches, "max-entries", DEFAULT_MAX_ENTRIES),
     }
 }
 
-fn extent(matches: &ArgMatches<'_>) -> Extent
+fn search_options(matches: &ArgMatches<'_>) -> SearchOptions
     requires { GivesRaces (found_of matches.now) }
-    ensures given { result ≡ extent_of (rows_of (found_of matches.now)) }
+    ensures given { result ≡ search_options_of (rows_of (found_of matches.now)) }
     ensures fit { CanSearch result }
 {
-    Extent {
+    SearchOptions {
         until: given_until(matches),
         max_entries: given_count(matches, "max-entries", DEFAULT_MAX_ENTRIES),
         max_states: given_count(matches, "max-states", DEFAULT_MAX_STATES),
@@ -139,7 +139,7 @@ fn extent(matches: &ArgMatches<'_>) -> Extent
 }
 
 fn given_workers(matches: &ArgMatches<'_>) -> u32
-    requires { IsGiven (found_of matches.now) (codes "workers") workers_parser }
+    requires { IsGivenArgument (found_of matches.now) (codes "workers") workers_parser }
     ensures least { 1 ≤ result }
     ensures most { result ≤ 16 }
     ensures given { result ≡ unwrap_or (number_given (codes "workers") (rows_of (found_of matches.now))) 2 }
@@ -148,7 +148,7 @@ fn given_workers(matches: &ArgMatches<'_>) -> u32
 }
 
 fn given_until(matches: &ArgMatches<'_>) -> Option<u64>
-    requires { IsGiven (found_of matches.now) (codes "until") until_parser }
+    requires { IsGivenArgument (found_of matches.now) (codes "until") until_parser }
     ensures last { IfSome result (λ t. t ≤ last_time) }
     ensures given { result ≡ number_given (codes "until") (rows_of (found_of matches.now)) }
 {
@@ -156,7 +156,7 @@ fn given_until(matches: &ArgMatches<'_>) -> Option<u64>
 }
 
 fn given_seed(matches: &ArgMatches<'_>) -> Option<u64>
-    requires { IsGiven (found_of matches.now) (codes "seed") seed_parser }
+    requires { IsGivenArgument (found_of matches.now) (codes "seed") seed_parser }
     ensures { result ≡ number_given (codes "seed") (rows_of (found_of matches.now)) }
 {
     matches.get_one::<u64>("seed")
@@ -164,7 +164,7 @@ fn given_seed(matches: &ArgMatches<'_>) -> Option<u64>
 
 /// The number that is given under this name, from 1 on, or this one.
 fn given_count(matches: &ArgMatches<'_>, name: &str, default: u32) -> u32
-    requires given { IsGiven (found_of matches.now) name.now entries_parser }
+    requires given { IsGivenArgument (found_of matches.now) name.now entries_parser }
     requires some { 1 ≤ default }
     ensures least { 1 ≤ result }
     ensures given { result ≡ unwrap_or (number_given name.now (rows_of (found_of matches.now))) default }
@@ -173,7 +173,7 @@ fn given_count(matches: &ArgMatches<'_>, name: &str, default: u32) -> u32
 }
 
 fn given_number(matches: &ArgMatches<'_>, name: &str) -> Option<u32>
-    requires { IsGiven (found_of matches.now) name.now entries_parser }
+    requires { IsGivenArgument (found_of matches.now) name.now entries_parser }
     ensures least { IfSome result (λ n. 1 ≤ n) }
     ensures given { result ≡ number_given name.now (rows_of (found_of matches.now)) }
 {

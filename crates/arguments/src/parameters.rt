@@ -2,10 +2,10 @@
 
 ghost use Rattle.std.specs.Prelude.{◌≡◌, None, Some, true, false, codes};
 ghost use Rattle.clap.specs.Words.{rule_of};
-ghost use Rattle.arguments.specs.Arguments.{Takes, parameters_of, rule, rule_for, workers_parser, until_parser, entries_parser, seed_parser};
+ghost use Rattle.arguments.specs.Arguments.{TakesOneValue, parameters_of, rule, rule_for, workers_parser, until_parser, entries_parser, seed_parser};
 ghost use Rattle.arguments.specs.CommandWords.{argument_of, choice, place};
 
-use crate::task::Task;
+use crate::command_task::CommandTask;
 use clap::{Arg, ArgAction, value_parser};
 use std::alloc::Global;
 
@@ -40,11 +40,11 @@ pub enum Parameter {
 }
 
 /// What the command of a task takes, in the order in which help shows it.
-pub fn parameters(task: Task) -> &'static [Parameter]
+pub fn parameters(task: CommandTask) -> &'static [Parameter]
     ensures { result.now ≡ parameters_of task }
 {
     match task {
-        Task::Run => &[
+        CommandTask::Run => &[
             Parameter::File,
             Parameter::Workers,
             Parameter::Until,
@@ -52,8 +52,8 @@ pub fn parameters(task: Task) -> &'static [Parameter]
             Parameter::JournalTo,
             Parameter::Seed,
         ],
-        Task::Replay => &[Parameter::File, Parameter::Journal],
-        Task::Races => &[
+        CommandTask::Replay => &[Parameter::File, Parameter::Journal],
+        CommandTask::Races => &[
             Parameter::File,
             Parameter::Until,
             Parameter::MaxEntries,
@@ -64,14 +64,14 @@ pub fn parameters(task: Task) -> &'static [Parameter]
             Parameter::Samples,
             Parameter::Seed,
         ],
-        Task::Check => &[Parameter::File],
-        Task::Explain => &[
+        CommandTask::Check => &[Parameter::File],
+        CommandTask::Explain => &[
             Parameter::File,
             Parameter::Journal,
             Parameter::From,
             Parameter::To,
         ],
-        Task::Waves => &[Parameter::File, Parameter::Journal, Parameter::Out],
+        CommandTask::Waves => &[Parameter::File, Parameter::Journal, Parameter::Out],
     }
 }
 
@@ -87,7 +87,7 @@ const OUT: &str = "Where to write the value change dump";
 
 /// The word or option as `clap` knows it.
 pub fn argument<'a>(alloc: Global, parameter: Parameter) -> Arg<'a>
-    ensures takes { Takes result (rule_for parameter) }
+    ensures takes { TakesOneValue result (rule_for parameter) }
     ensures rule { rule_of result ≡ argument_of parameter }
 {
     match parameter {
@@ -111,7 +111,7 @@ pub fn argument<'a>(alloc: Global, parameter: Parameter) -> Arg<'a>
 
 /// A word that has to be given.
 fn positional<'a>(alloc: Global, name: &'a str, help: &'a str) -> Arg<'a>
-    ensures takes { Takes result (rule name.entry.now true None) }
+    ensures takes { TakesOneValue result (rule name.entry.now true None) }
     ensures rule { rule_of result ≡ place name.entry.now }
 {
     Arg::new(alloc, name)
@@ -122,7 +122,7 @@ fn positional<'a>(alloc: Global, name: &'a str, help: &'a str) -> Arg<'a>
 
 /// An option for one value.
 fn option<'a>(alloc: Global, name: &'a str, value: &'a str, help: &'a str) -> Arg<'a>
-    ensures takes { Takes result (rule name.entry.now false None) }
+    ensures takes { TakesOneValue result (rule name.entry.now false None) }
     ensures rule { rule_of result ≡ choice name.entry.now None }
 {
     Arg::new(alloc, name)
@@ -134,21 +134,21 @@ fn option<'a>(alloc: Global, name: &'a str, value: &'a str, help: &'a str) -> Ar
 
 /// An option for a number from 1 on.
 fn count<'a>(alloc: Global, name: &'a str, help: &'a str) -> Arg<'a>
-    ensures takes { Takes result (rule name.entry.now false (Some entries_parser)) }
+    ensures takes { TakesOneValue result (rule name.entry.now false (Some entries_parser)) }
     ensures rule { rule_of result ≡ choice name.entry.now (Some entries_parser) }
 {
     option(alloc, name, "N", help).value_parser(value_parser!(u32).range(1..))
 }
 
 fn memory<'a>(alloc: Global) -> Arg<'a>
-    ensures takes { Takes result (rule (codes "max-memory") false (Some entries_parser)) }
+    ensures takes { TakesOneValue result (rule (codes "max-memory") false (Some entries_parser)) }
     ensures rule { rule_of result ≡ choice (codes "max-memory") (Some entries_parser) }
 {
     option(alloc, "max-memory", "MB", MAX_MEMORY).value_parser(value_parser!(u32).range(1..))
 }
 
 fn workers<'a>(alloc: Global) -> Arg<'a>
-    ensures takes { Takes result (rule (codes "workers") false (Some workers_parser)) }
+    ensures takes { TakesOneValue result (rule (codes "workers") false (Some workers_parser)) }
     ensures rule { rule_of result ≡ choice (codes "workers") (Some workers_parser) }
 {
     let help = "Worker threads, 1 to 16 [default: 2]";
@@ -156,7 +156,7 @@ fn workers<'a>(alloc: Global) -> Arg<'a>
 }
 
 fn until<'a>(alloc: Global) -> Arg<'a>
-    ensures takes { Takes result (rule (codes "until") false (Some until_parser)) }
+    ensures takes { TakesOneValue result (rule (codes "until") false (Some until_parser)) }
     ensures rule { rule_of result ≡ choice (codes "until") (Some until_parser) }
 {
     let help = "Last time that the run may reach, 0 to 281474976710656 [default: no limit]";
@@ -164,7 +164,7 @@ fn until<'a>(alloc: Global) -> Arg<'a>
 }
 
 fn seed<'a>(alloc: Global) -> Arg<'a>
-    ensures takes { Takes result (rule (codes "seed") false (Some seed_parser)) }
+    ensures takes { TakesOneValue result (rule (codes "seed") false (Some seed_parser)) }
     ensures rule { rule_of result ≡ choice (codes "seed") (Some seed_parser) }
 {
     let help = "Takes random choices from S, 0 to 18446744073709551615, on one thread";

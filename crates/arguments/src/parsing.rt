@@ -9,16 +9,16 @@ ghost use Rattle.clap.specs.Words.{found_of, kind_of, rows_of};
 ghost use Rattle.clap.specs.declared.error.kind.ErrorKind.TheVariants.{ArgumentConflict, MissingSubcommand, OutOfMemory};
 ghost use Rattle.arguments.specs.Arguments.{Gives, GivesRun};
 ghost use Rattle.arguments.specs.CommandWords.{Asks, AsksNoTask, AsksTwoOrders, Begins, FailsAs, IsAskedBy, IsNoRequest, IsNoRequestBy, texts_of, word_of};
-ghost use Rattle.arguments.specs.declared.task.Task.{Task};
-ghost use Rattle.arguments.specs.declared.task.Task.TheVariants.{Run};
+ghost use Rattle.arguments.specs.declared.command_task.CommandTask.{CommandTask};
+ghost use Rattle.arguments.specs.declared.command_task.CommandTask.TheVariants.{Run};
 
+use crate::command_task::CommandTask;
 use crate::commands::{conflict, missing, task_matches, whole_matches};
 use crate::given::{
     check_request, explain_request, gives_two_orders, races_request, replay_request, run_request,
     waves_request,
 };
 use crate::request::{NoRequest, Request};
-use crate::task::Task;
 use clap::error::ErrorKind;
 use clap::{ArgMatches, Error};
 use std::alloc::Global;
@@ -62,11 +62,11 @@ fn parse<'a>(alloc: Global, words: &'a [String]) -> Result<Request<'a>, Error>
 }
 
 /// The task that the word after the program's name asks for.
-fn asked_task(words: &[String]) -> Option<Task>
+fn asked_task(words: &[String]) -> Option<CommandTask>
     ensures some { IfSome result (λ task. Begins (texts_of words.now) (word_of task)) }
-    ensures none { result ≡ None → (asked : Task) → Begins (texts_of words.now) (word_of asked) → ⊥ }
+    ensures none { result ≡ None → (asked : CommandTask) → Begins (texts_of words.now) (word_of asked) → ⊥ }
 {
-    let tasks = Task::every();
+    let tasks = CommandTask::every();
     for task in tasks {
         if begins(words, task.word()) {
             return Some(*task);
@@ -75,7 +75,11 @@ fn asked_task(words: &[String]) -> Option<Task>
     None
 }
 
-fn parse_task<'a>(alloc: Global, task: Task, words: &'a [String]) -> Result<Request<'a>, Error>
+fn parse_task<'a>(
+    alloc: Global,
+    task: CommandTask,
+    words: &'a [String],
+) -> Result<Request<'a>, Error>
     requires { Begins (texts_of words.now) (word_of task) }
     ensures asked { IfOk result (Asks (texts_of words.now)) }
     ensures failed { IfErr result (λ e. FailsAs (texts_of words.now) (kind_of e)) }
@@ -90,7 +94,7 @@ fn parse_task<'a>(alloc: Global, task: Task, words: &'a [String]) -> Result<Requ
 /// What the words of a task ask for, by what was found in them.
 fn asked_request<'a>(
     alloc: Global,
-    task: Task,
+    task: CommandTask,
     matches: &ArgMatches<'a>,
 ) -> Result<Request<'a>, Error>
     requires { Gives task (found_of matches.now) }
@@ -98,12 +102,12 @@ fn asked_request<'a>(
     ensures failed { IfErr result (λ e. AsksTwoOrders task (rows_of (found_of matches.now)) (kind_of e)) }
 {
     match task {
-        Task::Run => asked_run(alloc, matches),
-        Task::Replay => Ok(Request::Replay(replay_request(matches))),
-        Task::Races => Ok(Request::Races(races_request(matches))),
-        Task::Check => Ok(Request::Check(check_request(matches))),
-        Task::Explain => Ok(Request::Explain(explain_request(matches))),
-        Task::Waves => Ok(Request::Waves(waves_request(matches))),
+        CommandTask::Run => asked_run(alloc, matches),
+        CommandTask::Replay => Ok(Request::Replay(replay_request(matches))),
+        CommandTask::Races => Ok(Request::Races(races_request(matches))),
+        CommandTask::Check => Ok(Request::Check(check_request(matches))),
+        CommandTask::Explain => Ok(Request::Explain(explain_request(matches))),
+        CommandTask::Waves => Ok(Request::Waves(waves_request(matches))),
     }
 }
 

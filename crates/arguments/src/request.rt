@@ -2,8 +2,8 @@
 
 ghost use Rattle.arguments.specs.Options.{CanRun, CanSearch};
 
-use crate::extent::Extent;
-use crate::options::Options;
+use crate::run_options::RunOptions;
+use crate::search_options::SearchOptions;
 
 /// What the program was asked to do.
 #[derive(Drop)]
@@ -21,7 +21,7 @@ pub enum Request<'a> {
 #[derive(Drop)]
 pub struct RunRequest<'a> {
     pub file: &'a str,
-    pub options: Options,
+    pub options: RunOptions,
     pub seed: Option<u64>,
     pub journal: Option<&'a str>,
     ghost fit: { CanRun options },
@@ -38,9 +38,9 @@ pub struct ReplayRequest<'a> {
 #[derive(Drop)]
 pub struct RacesRequest<'a> {
     pub file: &'a str,
-    pub extent: Extent,
+    pub search_options: SearchOptions,
     pub journals: Option<&'a str>,
-    ghost fit: { CanSearch extent },
+    ghost fit: { CanSearch search_options },
 }
 
 /// `check FILE`.

@@ -9,7 +9,7 @@ const BATCH: u32 = 64;
 
 /// As wide as a ticket of the gate: an event, a process and its remainder, a time, and tries.
 #[derive(Drop)]
-struct Ticket {
+struct WideTicket {
     event: u64,
     time: u64,
     process: u32,
@@ -18,10 +18,10 @@ struct Ticket {
 }
 
 /// Puts tickets, and answers how many of them the deque took.
-fn put(owner: &mut Owner<Ticket>, count: u32) -> u64 {
+fn put(owner: &mut Owner<WideTicket>, count: u32) -> u64 {
     let mut done = 0u64;
     for event in 0..count {
-        let ticket = Ticket {
+        let ticket = WideTicket {
             event: u64::from(event),
             time: 0,
             process: 0,
@@ -36,7 +36,7 @@ fn put(owner: &mut Owner<Ticket>, count: u32) -> u64 {
 }
 
 /// Takes tickets, and answers how many there were.
-fn take(owner: &mut Owner<Ticket>, count: u32) -> u64 {
+fn take(owner: &mut Owner<WideTicket>, count: u32) -> u64 {
     let mut done = 0u64;
     for _ in 0..count {
         if owner.take().is_some() {
@@ -47,7 +47,7 @@ fn take(owner: &mut Owner<Ticket>, count: u32) -> u64 {
 }
 
 /// Steals tickets, and answers how many there were.
-fn steal(thief: &mut Thief<Ticket>, count: u32) -> u64 {
+fn steal(thief: &mut Thief<WideTicket>, count: u32) -> u64 {
     let mut done = 0u64;
     for _ in 0..count {
         if let Stolen::One(_) = thief.steal() {
@@ -58,7 +58,12 @@ fn steal(thief: &mut Thief<Ticket>, count: u32) -> u64 {
 }
 
 /// Puts and takes so many tickets at a time, so many times.
-fn put_and_take(rt: &HostRuntime, owner: &mut Owner<Ticket>, batch: u32, batches: u32) -> Measure {
+fn put_and_take(
+    rt: &HostRuntime,
+    owner: &mut Owner<WideTicket>,
+    batch: u32,
+    batches: u32,
+) -> Measure {
     let mut done = 0u64;
     let clock = Stopwatch::start(rt);
     for _ in 0..batches {
@@ -71,8 +76,8 @@ fn put_and_take(rt: &HostRuntime, owner: &mut Owner<Ticket>, batch: u32, batches
 /// Puts tickets, and measures their steals.
 fn put_and_steal(
     rt: &HostRuntime,
-    owner: &mut Owner<Ticket>,
-    thief: &mut Thief<Ticket>,
+    owner: &mut Owner<WideTicket>,
+    thief: &mut Thief<WideTicket>,
     count: u32,
 ) -> Measure {
     put(owner, count);
@@ -82,8 +87,8 @@ fn put_and_steal(
 }
 
 /// Worker 0's end of its deque, and worker 1's thief of it.
-fn ends(rt: &HostRuntime) -> io::Result<(Owner<Ticket>, Thief<Ticket>)> {
-    let (mut owners, mut thieves) = Pool::new::<Ticket>(rt.alloc(), 2)?;
+fn ends(rt: &HostRuntime) -> io::Result<(Owner<WideTicket>, Thief<WideTicket>)> {
+    let (mut owners, mut thieves) = Pool::new::<WideTicket>(rt.alloc(), 2)?;
     owners.truncate(1);
     let row = thieves.pop();
     if let (Some(owner), Some(mut row)) = (owners.pop(), row) {
@@ -106,8 +111,8 @@ struct Tickets {
 fn least(
     rt: &HostRuntime,
     how: How,
-    owner: &mut Owner<Ticket>,
-    thief: &mut Thief<Ticket>,
+    owner: &mut Owner<WideTicket>,
+    thief: &mut Thief<WideTicket>,
 ) -> Tickets {
     let count = how.size(65_536, BATCH);
     let mut alone = Measure::SLOWEST;

@@ -3,7 +3,7 @@ use Rattle.std.proofs.Common.{◌≡◌, ℕ, suc, ◌+◌, ◌<◌, ◌≤◌, 
 use Rattle.std.specs.Prelude.{slice_get}
 use Rattle.std.proofs.lemmas.List.{length-map}
 use Rattle.std.proofs.lemmas.List.Elements.{All-get_or}
-use Rattle.model.specs.Design.{Design, Process, Statement, Await, Statements, End, Then, Trigger, all_of, size, statements_of, process_at, first_place}
+use Rattle.model.specs.Design.{Design, Process, Statement, Await, Statements, End, Then, Trigger, all_of, size, all_statements, process_at, first_place}
 use Rattle.model.specs.Turns.{OnChange, contains, parts, short_turn}
 use Rattle.model.specs.declared.tree.Change.TheVariants.{Any}
 use Rattle.design.specs.DesignTrees.{process_of}
@@ -58,7 +58,7 @@ length-append (x ∷ xs) ys = omega (arith, length-append xs ys)
 
 short_body : (code : Compiled) (p : ℕ) (ts : List Trigger) (body : Statements) → IsCompiled code → IsAwaiting code p ts body → length code.nodes ≤ 65534 → size body + 2 ≤ 65536
 short_body code p ts body compiled is few =
-    let all : List Statement = statements_of (design_of code).processes in
+    let all : List Statement = all_statements (design_of code).processes in
     let (others, at) = body_at (design_of code).processes p (record { repeats = true; body = Then (Await ts body) End }) is refl in
     let long : length (drop (first_place (design_of code) p) all) ≡ suc (length ((all_of body ++ []) ++ others)) = ap length at in
     let inner : length ((all_of body ++ []) ++ others) ≡ length (all_of body ++ []) + length others = length-append (all_of body ++ []) others in

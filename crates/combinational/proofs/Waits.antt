@@ -8,7 +8,7 @@ use Rattle.model.proofs.PlaceLaws.{Stands, statement_there}
 use Rattle.design.specs.declared.code.Node.TheVariants as node
 use Rattle.design.specs.declared.code.ProcState.{ProcState}
 use Rattle.design.specs.Compiled.{Compiled, design_of}
-use Rattle.design.specs.DesignInvariant.{controls_of, remainder_of, pending_part, IsStateOf}
+use Rattle.design.specs.DesignInvariant.{controls_of, remainder_of_state, pending_part, IsStateOf}
 use Rattle.design.specs.CodePlaces.{remainder_at}
 use Rattle.design.specs.Meaning.{IsCompiled, IsFine}
 use Rattle.phases.proofs.Blocks.{body_at, no_more}
@@ -41,7 +41,7 @@ fine_wait code p place control next triggers body is left (at, (other, (rest, (o
     (rw same_triggers at control_is, next_is ∙ rw (same_place, same_rest, same_body) (no_more (parts (fp + 1) body)))
 
 pub first_waits : (code : Compiled) (p control next : ℕ) (state : ProcState) (triggers : List Trigger) (body : Statements) → IsCompiled code → p < length code.processes → IsStateOf code p state
-    → remainder_of code state ≡ whole (design_of code) p → slice_get code.nodes state.place ≡ Some (node.Await control next) → IsAwaiting code p triggers body
+    → remainder_of_state code state ≡ whole (design_of code) p → slice_get code.nodes state.place ≡ Some (node.Await control next) → IsAwaiting code p triggers body
     → (slice_get (controls_of code) control ≡ Some triggers) × (remainder_at (design_of code) next ≡ parts (first_place (design_of code) p + 1) body)
 first_waits code p control next state triggers body compiled lt stands begins node_is is =
     let whole_is : whole (design_of code) p ≡ At (first_place (design_of code) p) ∷ [] = ap (λ (x : Process). parts (first_place (design_of code) p) x.body) is in

@@ -43,6 +43,6 @@ AllRanked ranks logics =
     (p q : ℕ) (one other : Logic) → p ≢ q → slice_get logics p ≡ Some (Some one) → slice_get logics q ≡ Some (Some other) → AreRanked ranks p q one other
 
 -- The combinational processes of a design: for each process its logic, if some was found, and its rank.
-pub record AreFound (code : Compiled) (found : Network) : Type 0 where
+pub record IsNetworkOf (code : Compiled) (found : Network) : Type 0 where
   pub each : AreLogics code found.logics.items
   pub apart : AllRanked found.ranks.items found.logics.items

@@ -1,7 +1,7 @@
 //! All combinational processes of a design, and an order among them.
 ghost use Rattle.std.specs.Prelude.{◌≡◌, ◌≢◌, ℕ, ◌<◌, true, false, [], length, Some, None, slice_get, IfOk, IfSome};
 ghost use Rattle.model.specs.Turns.{contains};
-ghost use Rattle.combinational.specs.Found.{rank_in, AreRanked, AreLogics, AllRanked, AreFound};
+ghost use Rattle.combinational.specs.Found.{rank_in, AreRanked, AreLogics, AllRanked, IsNetworkOf};
 ghost use Rattle.combinational.specs.declared.block.Logic.{Logic as Found};
 
 use crate::block::{Logic, is_among, logic_of};
@@ -177,7 +177,7 @@ fn no_network(alloc: Global) -> Network
 /// The combinational processes of a design. Logic that has an output with another in common, or that is part of a cycle, is left out:
 /// of these one process after another, until what is left is apart.
 pub fn network_of(alloc: Global, design: &Design) -> Result<Network, AllocError>
-    ensures { IfOk result (AreFound design.now) }
+    ensures { IfOk result (IsNetworkOf design.now) }
 {
     let logics = logics_of(alloc, design)?;
     let ranks = ranks_of(alloc, &logics)?;

@@ -21,16 +21,16 @@ use Rattle.runstate.specs.Ledger.{entries_of}
 use Rattle.runstate.specs.GateState.{GateState}
 use Rattle.runstate.specs.Guarded.{Guarded}
 use Rattle.commitgate.specs.GateInvariant.{GateInvariant}
-use Rattle.regcells.specs.Meetings.{fresh_of, Rises, AreReadsIn}
+use Rattle.regcells.specs.Meetings.{fresh_of, HaveGrown, AreReadsIn}
 use Rattle.commitgate.specs.Seats.{SeatView}
 use Rattle.commitgate.specs.Tickets.{TicketView, IsCurrent, again}
 use Rattle.runstate.specs.Histories.{hist, IsRead, IsCurrentIn, IsFirstMovedIn}
 use Rattle.runstate.proofs.Items.{entries_ended}
 use Rattle.runstate.specs.Evaluated.{turn_at}
-use Rattle.commitgate.specs.GateAnswers.{IsRecorded, MayCommit, AreCurrent, StopsAt, Full, Long, LongStopsAt, FullLong, CurrentLong, stopped}
+use Rattle.commitgate.specs.GateAnswers.{IsRecorded, MayCommit, AreCurrent, StopsRun, Full, Long, LongStopsAt, FullLong, CurrentLong, stopped}
 use Rattle.commitgate.specs.GateAnswers as answers
 use Rattle.commitgate.specs.Replies.{Barred, Answered, LongAnswered}
-use Rattle.commitgate.specs.SeatAnswers.{AreCurrentTo, CommitCauses, LongCauses, ReadCauses, IsStopped, IsStale, BarredTo, AnsweredTo, LongAnsweredTo}
+use Rattle.commitgate.specs.SeatAnswers.{AreCurrentTo, CommitCauses, LongCauses, ReadCauses, IsSeenStopped, IsSeenStale, BarredTo, AnsweredTo, LongAnsweredTo}
 use Rattle.commitgate.proofs.Agreeing.{agrees}
 use Rattle.commitgate.proofs.AtLock.{long_at_lock}
 use Rattle.commitgate.proofs.Tellings.{tell_refused}
@@ -53,7 +53,7 @@ barred_answered code limits worker old ticket reads new (NoMemory back) h = absu
 pub full_stopped : (code : Compiled) (limits : Limits) (worker : ℕ) (old : GateState) (ticket : TicketView) (why : Why) (new : GateState)
     → answers.IsFullStopped code limits worker old ticket why new → answers.IsStopped code limits worker old ticket why new
 full_stopped code limits worker old ticket why new (inl h) = inl h
-full_stopped code limits worker old ticket why new (inr h) = inr (h.0, h.1, subst (StopsAt code limits old ticket) (sym h.3) (Full h.2), h.4)
+full_stopped code limits worker old ticket why new (inr h) = inr (h.0, h.1, subst (StopsRun code limits old ticket) (sym h.3) (Full h.2), h.4)
 
 full_long_stopped : (code : Compiled) (limits : Limits) (worker : ℕ) (old : GateState) (ticket : TicketView) (reads : List (ℕ × Seen)) (why : Why) (new : GateState)
     → answers.IsFullStopped code limits worker old ticket why new → answers.IsLongStopped code limits worker old ticket reads why new
@@ -73,7 +73,7 @@ stored_for : (P Q : Why → Type 0) (new old : Option Why) (why : Why) → (P wh
 stored_for P Q new old why f (inl h) = inl h
 stored_for P Q new old why f (inr h) = inr (h.0, f h.1)
 
-pub stopped_for : (n : Named) (P Q : Why → Type 0) (old : SeatView) (why : Why) (new : SeatView) → (P why → Q why) → IsStopped n P old why new → IsStopped n Q old why new
+pub stopped_for : (n : Named) (P Q : Why → Type 0) (old : SeatView) (why : Why) (new : SeatView) → (P why → Q why) → IsSeenStopped n P old why new → IsSeenStopped n Q old why new
 stopped_for n P Q old why new f s = record {
   ledger = s.ledger;
   follows = s.follows;
@@ -84,7 +84,7 @@ stopped_for n P Q old why new f s = record {
 }
 
 -- a stop for a full journal is one of the causes of a call with a turn that is too long
-pub stopped_long : (n : Named) (p : ℕ) (old : SeatView) (why : Why) (new : SeatView) → IsStopped n CommitCauses old why new → IsStopped n (LongCauses p) old why new
+pub stopped_long : (n : Named) (p : ℕ) (old : SeatView) (why : Why) (new : SeatView) → IsSeenStopped n CommitCauses old why new → IsSeenStopped n (LongCauses p) old why new
 stopped_long n p old why new s = stopped_for n CommitCauses (LongCauses p) old why new (λ h. inl h) s
 
 -- The same of what the seat is told.
@@ -106,9 +106,9 @@ barred_long_told n old ticket reads new (NoMemory back) h = absurd h
 
 -- a register that was read has changed
 pub tell_stale : (n : Named) (old : SeatView) (held : GateState) → Guarded n.code n.limits held → GateInvariant n held → IsPrefix old.seen held.ledger
-    → (ticket back : TicketView) (reads : List (ℕ × Seen)) (r : ℕ) (new : SeatView) → new ≡ record old { seen = held.ledger; fresh = new.fresh } → Rises old.fresh new.fresh → held.end ≡ None
+    → (ticket back : TicketView) (reads : List (ℕ × Seen)) (r : ℕ) (new : SeatView) → new ≡ record old { seen = held.ledger; fresh = new.fresh } → HaveGrown old.fresh new.fresh → held.end ≡ None
     → back ≡ again ticket → IsFirstMovedIn (design_of n.code) held.journal reads r → fresh_of new.fresh r ≡ hist (design_of n.code) held.journal r
-    → IsStale n old ticket reads r back new
+    → IsSeenStale n old ticket reads r back new
 tell_stale n old held g k later ticket back reads r new is rises running returned moved met =
     let journal : held.journal ≡ entries_of new.seen = k.journal_is ∙ ap entries_of (sym (ap (λ (v : SeatView). v.seen) is)) in
     record {
@@ -149,7 +149,7 @@ current_told n worker why held held' reads new kept is seen current k d at =
 pub long_stopped : (code : Compiled) (limits : Limits) (worker : ℕ) (old : GateState) (ticket : TicketView) (why : Why) (new : GateState) → why ≡ TooLong ticket.process → MayCommit limits old ticket
     → turn_at code old ticket.process ticket.state ≡ None → new ≡ stopped worker why old → answers.IsStopped code limits worker old ticket why new
 long_stopped code limits worker old ticket why new is may none same =
-    inr (may.running, may.current, subst (StopsAt code limits old ticket) (sym is) (Long may.room none), same)
+    inr (may.running, may.current, subst (StopsRun code limits old ticket) (sym is) (Long may.room none), same)
 
 -- and so it is for one that was evaluated outside, where what was read is current
 pub read_stopped : (code : Compiled) (limits : Limits) (worker : ℕ) (old : GateState) (ticket : TicketView) (reads : List (ℕ × Seen)) (why : Why) (new : GateState) → why ≡ TooLong ticket.process

@@ -10,7 +10,7 @@ use Rattle.commitgate.specs.Named.{Named}
 use Rattle.runstate.specs.Ledger.{Ledger}
 use Rattle.runstate.specs.RunState.{gate_state_of}
 use Rattle.runstate.specs.Marked.{keeper}
-use Rattle.commitgate.specs.StateInvariant.{Stands}
+use Rattle.commitgate.specs.StateInvariant.{GateStands}
 use Rattle.commitgate.specs.Blanks.{IsBlank}
 use Rattle.commitgate.proofs.Standings.{guarded_same, kept_start}
 
@@ -20,7 +20,7 @@ MarkPass = Seat (List ℕ) (Doing (List ℕ) MarkView)
 -- The lock keeps what it is to keep, once the seats are made.
 pub stands_first : (n : Named) (room : ℕ) (committed : List ℕ) (seats : List regs.Fresh) (p : RunState) (whole : MarkPass) → IsBlank n room committed seats p
     → whole.table_id ≡ n.mark → cell_view whole ≡ keeper (cell_view whole).made []
-    → Stands n p.design.now p.limits p.holder whole.table_id (cell_view whole) (gate_state_of (record p { whole = whole }))
+    → GateStands n p.design.now p.limits p.holder whole.table_id (cell_view whole) (gate_state_of (record p { whole = whole }))
 stands_first n room committed seats p whole b mark keeps =
     let seen : (cell_view {V = MarkView} whole).seen ≡ [] = ap (λ (v : MarkView). v.seen) keeps in
     record {

@@ -17,12 +17,12 @@ use Rattle.runstate.specs.Ledger.{Ledger, entries_of, end_from, end_in}
 use Rattle.runstate.specs.GateState.{GateState, state_in}
 use Rattle.runstate.specs.Guarded.{Guarded}
 use Rattle.commitgate.specs.GateInvariant.{GateInvariant}
-use Rattle.regcells.specs.Meetings.{Rises}
+use Rattle.regcells.specs.Meetings.{HaveGrown}
 use Rattle.commitgate.specs.Seats.{SeatView}
 use Rattle.commitgate.specs.GateJournals.{Stays}
 use Rattle.commitgate.specs.GateAnswers.{HasNoUpdate, IsRegionChange, MustWait, stopped}
 use Rattle.commitgate.specs.DueRegions.{IsDueChange, IsPassed, why_past}
-use Rattle.commitgate.specs.SeatAnswers.{MemoryCauses, RestCauses, IsQuietTo, IsBusy, IsRefused, IsStopped, HasMetEntry}
+use Rattle.commitgate.specs.SeatAnswers.{MemoryCauses, RestCauses, IsQuietTo, IsBusy, IsRefused, IsSeenStopped, HasMetEntry}
 use Rattle.logic4.specs.Vector.{Vector}
 use Rattle.model.specs.declared.end.Limits.{Limits}
 use Rattle.runstate.proofs.Beginnings.{prefix_trans}
@@ -47,7 +47,7 @@ tell_quiet n old held g k later new is running quiet = record {
 
 -- the call stored the end
 pub tell_stop : (n : Named) (causes : Why → Type 0) (old mid new : SeatView) (why : Why) (held same held' : GateState) → Guarded n.code n.limits held' → GateInvariant n held' → IsPrefix old.seen held.ledger
-    → same ≡ held → mid ≡ record old { seen = held.ledger } → held' ≡ stopped mid.worker why same → new ≡ record mid { seen = held'.ledger; stored = Some why } → causes why → IsStopped n causes old why new
+    → same ≡ held → mid ≡ record old { seen = held.ledger } → held' ≡ stopped mid.worker why same → new ≡ record mid { seen = held'.ledger; stored = Some why } → causes why → IsSeenStopped n causes old why new
 tell_stop n causes old mid new why held same held' g' k' later same_is mid_is state new_is cause =
     let ledger : held'.ledger ≡ held.ledger ++ (mid.worker, Ended why) ∷ [] = ap (λ (h : GateState). h.ledger) state ∙ ap (λ (h : GateState). h.ledger ++ (mid.worker, Ended why) ∷ []) same_is in
     let seen : new.seen ≡ held'.ledger = ap (λ (v : SeatView). v.seen) new_is in
@@ -55,7 +55,7 @@ tell_stop n causes old mid new why held same held' g' k' later same_is mid_is st
     (record {
       worker = ap (λ (v : SeatView). v.worker) new_is ∙ ap (λ (v : SeatView). v.worker) mid_is;
       later = prefix_trans old.seen held.ledger new.seen later ((mid.worker, Ended why) ∷ [], sym (seen ∙ ledger));
-      rises = subst (λ f. Rises old.fresh f) (sym (ap (λ (v : SeatView). v.fresh) new_is ∙ ap (λ (v : SeatView). v.fresh) mid_is)) (rises_self old.fresh);
+      rises = subst (λ f. HaveGrown old.fresh f) (sym (ap (λ (v : SeatView). v.fresh) new_is ∙ ap (λ (v : SeatView). v.fresh) mid_is)) (rises_self old.fresh);
     })
     (ap (λ (v : SeatView). v.positions) new_is ∙ ap (λ (v : SeatView). v.positions) mid_is)
     seen

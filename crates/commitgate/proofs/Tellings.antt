@@ -26,21 +26,21 @@ use Rattle.runstate.specs.declared.ledger.Item.TheVariants.{Ended}
 use Rattle.commitgate.specs.Named.{Named}
 use Rattle.runstate.specs.Ledger.{Ledger, entries_of, end_in, items_of}
 use Rattle.runstate.specs.GateState.{GateState, state_in}
-use Rattle.runstate.specs.Guarded.{MayEnd, Guarded}
+use Rattle.runstate.specs.Guarded.{MayStoreEnd, Guarded}
 use Rattle.commitgate.specs.GateInvariant.{GateInvariant}
-use Rattle.regcells.specs.Meetings.{Rises}
+use Rattle.regcells.specs.Meetings.{HaveGrown}
 use Rattle.commitgate.specs.Seats.{SeatView, Follows}
-use Rattle.commitgate.specs.Tickets.{TicketView, IsCurrent, process_in, ticket_for}
-use Rattle.commitgate.specs.GateJournals.{HasNoUpdate, EndHolds, IsLedger, IsActiveTicket, made_active, AreTicketsOf}
+use Rattle.commitgate.specs.Tickets.{TicketView, IsCurrent, process_of_action, ticket_for}
+use Rattle.commitgate.specs.GateJournals.{HasNoActiveUpdate, EndHolds, IsLedger, IsActiveTicket, made_active, AreTicketsOf}
 use Rattle.commitgate.specs.GateAnswers.{IsGranted, stopped}
 use Rattle.commitgate.specs.declared.reply.Reply.{Reply}
 use Rattle.commitgate.specs.declared.reply.Reply.TheVariants as replies
 use Rattle.commitgate.specs.declared.reply.Reply.TheVariants.{Accepted, Stale, Gone, NoMemory}
-use Rattle.commitgate.specs.SeatAnswers.{AnsweredTo, HasMetEntry, IsAppended, IsRefused, IsStopped, IsGone}
+use Rattle.commitgate.specs.SeatAnswers.{AnsweredTo, HasMetEntry, IsAppended, IsRefused, IsSeenStopped, IsSeenGone}
 use Rattle.runstate.proofs.Beginnings.{prefix_trans}
 use Rattle.commitgate.proofs.Guards.{guarded_stop, lawful_of}
 use Rattle.commitgate.proofs.Standings.{kept_stop, process_below}
-use Rattle.commitgate.specs.GateJournals.{has_event}
+use Rattle.regions.specs.MadeEvents.{has_event}
 use Rattle.commitgate.proofs.Staying.{end_stays}
 use Rattle.commitgate.proofs.Meetings.{rises_self, rises_both}
 
@@ -64,7 +64,7 @@ is_ledger n held g k = record {
   workers = k.workers;
 }
   where
-    holds : (end : Option Why) → end ≡ end_in held.ledger → MayEnd (design_of n.code) n.limits (length held.journal) (state_in n.code held) end → EndHolds n held.ledger (end_in held.ledger)
+    holds : (end : Option Why) → end ≡ end_in held.ledger → MayStoreEnd (design_of n.code) n.limits (length held.journal) (state_in n.code held) end → EndHolds n held.ledger (end_in held.ledger)
     holds None is h = subst (EndHolds n held.ledger) is (some_after (after (design_of n.code) (entries_of held.ledger)) (state_in n.code held) (λ s. s.finished ≡ false) (after_ledger n held g k) h)
     holds (Some why) is h =
         subst (EndHolds n held.ledger) is
@@ -73,18 +73,18 @@ is_ledger n held g k = record {
 
 module _ (n : Named) (old : SeatView) (held : GateState) (g : Guarded n.code n.limits held) (k : GateInvariant n held) (later : IsPrefix old.seen held.ledger) where
   -- a seat that has seen the ledger, and perhaps more of the registers
-  abbrev pub greeted : List (List Vector) → SeatView
-  greeted fresh = record old { seen = held.ledger; fresh = fresh }
+  abbrev pub synchronized : List (List Vector) → SeatView
+  synchronized fresh = record old { seen = held.ledger; fresh = fresh }
 
-  pub tell_refused : (new : SeatView) (fresh : List (List Vector)) → new ≡ greeted fresh → Rises old.fresh fresh → held.end ≡ None → IsRefused n old new
+  pub tell_refused : (new : SeatView) (fresh : List (List Vector)) → new ≡ synchronized fresh → HaveGrown old.fresh fresh → held.end ≡ None → IsRefused n old new
   tell_refused new fresh is rises running = subst (IsRefused n old) (sym is) (record {
     ledger = is_ledger n held g k;
     running = sym k.end_is ∙ running;
     looks_on = record { follows = record { worker = refl; later = later; rises = rises }; positions = refl; stored = refl };
   })
 
-  pub tell_stopped : (causes : Why → Type 0) (why : Why) (new : SeatView) → new ≡ greeted old.fresh → held.end ≡ Some why → IsStopped n causes old why new
-  tell_stopped causes why new is ended = subst (IsStopped n causes old why) (sym is) (record {
+  pub tell_stopped : (causes : Why → Type 0) (why : Why) (new : SeatView) → new ≡ synchronized old.fresh → held.end ≡ Some why → IsSeenStopped n causes old why new
+  tell_stopped causes why new is ended = subst (IsSeenStopped n causes old why) (sym is) (record {
     ledger = is_ledger n held g k;
     follows = record { worker = refl; later = later; rises = rises_self old.fresh };
     positions = refl;
@@ -94,11 +94,11 @@ module _ (n : Named) (old : SeatView) (held : GateState) (g : Guarded n.code n.l
   })
 
   pub tell_stops : (causes : Why → Type 0) (why : Why) (new : SeatView) → new ≡ record old { seen = (stopped old.worker why held).ledger; stored = Some why } → held.end ≡ None
-      → EndsIn (design_of n.code) n.limits (length held.journal) (state_in n.code held) (Stopped why) → old.worker < n.workers → causes why → IsStopped n causes old why new
+      → EndsIn (design_of n.code) n.limits (length held.journal) (state_in n.code held) (Stopped why) → old.worker < n.workers → causes why → IsSeenStopped n causes old why new
   tell_stops causes why new is running ends low cause =
       let g' = guarded_stop n.code n.limits old.worker held why g ends in
       let k' = kept_stop n held old.worker why k low running in
-      subst (IsStopped n causes old why) (sym is) (record {
+      subst (IsSeenStopped n causes old why) (sym is) (record {
         ledger = is_ledger n (stopped old.worker why held) g' k';
         follows = record { worker = refl; later = prefix_trans old.seen held.ledger (held.ledger ++ (old.worker, Ended why) ∷ []) later ((old.worker, Ended why) ∷ [], refl); rises = rises_self old.fresh };
         positions = refl;
@@ -114,7 +114,7 @@ remainder_at rem [] p d h = absurd (omega arith)
 remainder_at rem (x ∷ xs) zero d h = refl
 remainder_at rem (x ∷ xs) (suc p) d h = remainder_at rem xs p d (omega arith)
 
-evaluates : (a : Action) → is_evaluation a ≡ true → a ≡ Evaluate (process_in a)
+evaluates : (a : Action) → is_evaluation a ≡ true → a ≡ Evaluate (process_of_action a)
 evaluates (Evaluate p) h = refl
 evaluates (Update r v) h = cc
 
@@ -126,13 +126,13 @@ AllEvaluate (e ∷ es) = (is_evaluation e.1 ≡ true) × AllEvaluate es
 -- a new ticket for each of these evaluations
 pub tickets_of : (code : Compiled) (values : List Vector) (core : Core) (es : List Event) → AllEvaluate es
     → ((j : ℕ) (t : TicketView) → slice_get (map (ticket_for core) es) j ≡ Some t → t.process < length core.processes)
-    → AreTicketsOf code (state_of (standing.remainder_of code) values core) es (map (ticket_for core) es)
+    → AreTicketsOf code (state_of (standing.remainder_of_state code) values core) es (map (ticket_for core) es)
 tickets_of code values core [] all within = tt
 tickets_of code values core (e ∷ es) all within = (
   record {
     event = refl;
     process = evaluates e.1 all.0;
-    remainder = remainder_at (standing.remainder_of code) core.processes (process_in e.1) (record { place = 0; pending = None }, []) (within 0 (ticket_for core e) refl);
+    remainder = remainder_at (standing.remainder_of_state code) core.processes (process_of_action e.1) (record { place = 0; pending = None }, []) (within 0 (ticket_for core e) refl);
     time = refl;
     tries = refl;
   },
@@ -157,7 +157,7 @@ active_current code held ticket own mine low h = record {
     λ d.
         let there : IsStateOf code ticket.process (slice_index_or held.core.processes ticket.process d).0 = own ticket.process d low in
         (states_are_equal code ticket.process ticket.process (slice_index_or held.core.processes ticket.process d).0 ticket.state there mine).1
-        (refl, remainder_at (standing.remainder_of code) held.core.processes ticket.process d low ∙ h.remainder),
+        (refl, remainder_at (standing.remainder_of_state code) held.core.processes ticket.process d low ∙ h.remainder),
   );
   time = h.time;
 }
@@ -167,7 +167,7 @@ current_active code held ticket low h =
     let d : ProcState × List Trigger = (ticket.state, []) in
     record {
       evaluation = h.evaluation.0;
-      remainder = sym (remainder_at (standing.remainder_of code) held.core.processes ticket.process d low) ∙ ap (standing.remainder_of code) (h.evaluation.1 d);
+      remainder = sym (remainder_at (standing.remainder_of_state code) held.core.processes ticket.process d low) ∙ ap (standing.remainder_of_state code) (h.evaluation.1 d);
       time = h.time;
     }
 
@@ -179,7 +179,7 @@ module _ (n : Named) (old : SeatView) (held : GateState) (g : Guarded n.code n.l
   abbrev pub tell_appended : (held' : GateState) (g' : Guarded n.code n.limits held') (k' : GateInvariant n held') (entry : Entry) (position : ℕ) (named : Entry) (tickets : List TicketView) (new : SeatView)
       → IsGranted n.code old.worker held entry position named tickets held'
       → new.worker ≡ old.worker → new.seen ≡ held'.ledger → new.positions ≡ old.positions ++ position ∷ []
-      → new.stored ≡ (if (state_in n.code held').finished then Some Finish else old.stored) → Rises old.fresh new.fresh
+      → new.stored ≡ (if (state_in n.code held').finished then Some Finish else old.stored) → HaveGrown old.fresh new.fresh
       → HasMetEntry n (state_in n.code held) entry new.seen new.fresh
       → IsAppended n old entry position named tickets new
   tell_appended held' g' k' entry position named tickets new h worker seen positions stored rises met = record {
@@ -211,7 +211,7 @@ module _ (n : Named) (old : SeatView) (held : GateState) (g : Guarded n.code n.l
 
 -- the run is stopped for this reason, in what the seat has then seen
 pub tell_ended : (n : Named) (causes : Why → Type 0) (old new : SeatView) (why : Why) (held' : GateState) → Guarded n.code n.limits held' → GateInvariant n held' → Follows old new → new.positions ≡ old.positions
-    → new.seen ≡ held'.ledger → held'.end ≡ Some why → (new.stored ≡ old.stored) ⊎ ((new.stored ≡ Some why) × causes why) → IsStopped n causes old why new
+    → new.seen ≡ held'.ledger → held'.end ≡ Some why → (new.stored ≡ old.stored) ⊎ ((new.stored ≡ Some why) × causes why) → IsSeenStopped n causes old why new
 tell_ended n causes old new why held' g' k' follows positions seen ended stored =
     let end : end_in new.seen ≡ Some why = ap end_in seen ∙ sym k'.end_is ∙ ended in
     record {
@@ -235,7 +235,7 @@ pub tell_gone : (n : Named) (old : SeatView) (held : GateState) (ticket : Ticket
     → new ≡ record old { seen = held.ledger } → held.end ≡ None → IsStateOf n.code ticket.process ticket.state
     → (IsTrue current ↔ IsCurrent held.core ticket) → current ≡ false
     → ((p : ℕ) → action_in held.core.active ticket.event ≡ Some (Evaluate p) → p < length held.core.processes)
-    → IsGone n old ticket new
+    → IsSeenGone n old ticket new
 tell_gone n old held ticket current new g k later is running own test isnt below = record {
   refused = tell_refused n old held g k later new old.fresh is (rises_self old.fresh) running;
   gone = (
@@ -247,7 +247,7 @@ tell_gone n old held ticket current new g k later is running own test isnt below
 }
 
 -- What a call told a seat that had first seen the whole ledger, and perhaps more of the registers, it told the seat as it was before.
-module _ (n : Named) (old : SeatView) (ledger : Ledger) (later : IsPrefix old.seen ledger) (fresh : List (List Vector)) (rises : Rises old.fresh fresh) where
+module _ (n : Named) (old : SeatView) (ledger : Ledger) (later : IsPrefix old.seen ledger) (fresh : List (List Vector)) (rises : HaveGrown old.fresh fresh) where
   abbrev pub met_first : SeatView
   met_first = record old { seen = ledger; fresh = fresh }
 
@@ -265,7 +265,7 @@ module _ (n : Named) (old : SeatView) (ledger : Ledger) (later : IsPrefix old.se
     looks_on = record { follows = follows_first new r.looks_on.follows; positions = r.looks_on.positions; stored = r.looks_on.stored };
   }
 
-  pub stopped_first : (causes : Why → Type 0) (why : Why) (new : SeatView) → IsStopped n causes met_first why new → IsStopped n causes old why new
+  pub stopped_first : (causes : Why → Type 0) (why : Why) (new : SeatView) → IsSeenStopped n causes met_first why new → IsSeenStopped n causes old why new
   stopped_first causes why new s = record {
     ledger = s.ledger;
     follows = follows_first new s.follows;
@@ -311,5 +311,5 @@ any_of [] h = refl
 any_of (x ∷ xs) h = cc
 
 -- no update is active
-pub no_updates : (s : State) → update_numbers s.active ≡ [] → HasNoUpdate s
+pub no_updates : (s : State) → update_numbers s.active ≡ [] → HasNoActiveUpdate s
 no_updates s h = any_of (filter (λ e. not (is_evaluation e.1)) s.active) h

@@ -22,7 +22,7 @@ first_fresh n = record { cells = n.cells; seen = first_values n.code }
 pub record IsBlank (n : Named) (room : ℕ) (committed : List ℕ) (seats : List regs.Fresh) (run_state : RunState) : Type 0 where
   pub code_is : run_state.design.now ≡ n.code
   pub limits_is : run_state.limits ≡ n.limits
-  pub widths_are : regs.widths_of n.cells ≡ n.code.widths
+  pub widths_are : regs.register_widths n.cells ≡ n.code.widths
   pub seats_are : seats ≡ replicate n.workers (first_fresh n)
   pub holder_is : run_state.holder ≡ first_fresh n
   pub mark_is : run_state.whole.table_id ≡ n.mark

@@ -3,5 +3,5 @@ use Rattle.std.specs.Prelude.{[], None}
 use Rattle.commitgate.specs.Seats.{SeatView}
 
 -- a seat that belongs to no gate
-abbrev pub nobody : SeatView
-nobody = record { worker = 0; seen = []; positions = []; stored = None; fresh = [] }
+abbrev pub nameless_seat : SeatView
+nameless_seat = record { worker = 0; seen = []; positions = []; stored = None; fresh = [] }

@@ -26,7 +26,7 @@ use Rattle.regcells.specs.Meetings.{fresh_of}
 use Rattle.commitgate.specs.Seats.{SeatView, Follows, LooksOn}
 use Rattle.commitgate.specs.Tickets.{TicketView, AreRising, again}
 use Rattle.runstate.specs.Histories.{hist, IsCurrentIn, IsFirstMovedIn}
-use Rattle.commitgate.specs.GateJournals.{IsLedger, After, Stays, IsActiveTicket, made_active, AreTicketsOf, HasUpdate, HasNoUpdate}
+use Rattle.commitgate.specs.GateJournals.{IsLedger, After, Stays, IsActiveTicket, made_active, AreTicketsOf, HasUpdate, HasNoActiveUpdate}
 use Rattle.commitgate.specs.GateAnswers.{IsRegionChange}
 
 -- the seat has seen the whole history of a register by a ledger
@@ -81,7 +81,7 @@ pub record IsRefused (n : Named) (old new : SeatView) : Type 0 where
 
 -- The run is stopped for this reason, which is the end in what the seat has seen and holds of it, and the journal stays
 -- as it is. It was stored before or elsewhere, or else by this call, for one of its own causes.
-pub record IsStopped (n : Named) (causes : Why → Type 0) (old : SeatView) (why : Why) (new : SeatView) : Type 0 where
+pub record IsSeenStopped (n : Named) (causes : Why → Type 0) (old : SeatView) (why : Why) (new : SeatView) : Type 0 where
   pub ledger : IsLedger n new.seen
   pub follows : Follows old new
   pub positions : new.positions ≡ old.positions
@@ -111,20 +111,20 @@ abbrev pub RestCauses : Why → Type 0
 RestCauses why = (why ≡ Entries) ⊎ ((why ≡ Until) ⊎ (why ≡ Time))
 
 -- the turn of the ticket's event stands in the journal, and the ticket was of an active evaluation
-pub record IsAccepted (n : Named) (old : SeatView) (ticket : TicketView) (position : ℕ) (named : Entry) (tickets : List TicketView) (new : SeatView) : Type 0 where
+pub record IsSeenAccepted (n : Named) (old : SeatView) (ticket : TicketView) (position : ℕ) (named : Entry) (tickets : List TicketView) (new : SeatView) : Type 0 where
   pub appended : IsAppended n old (Turn ticket.event) position named tickets new
   pub was : IsActiveTicket n.code appended.from ticket
 
 -- A register that was read has changed since in what the seat has seen, those recorded before it haven't, and of this
 -- register the seat has seen the whole history.
-pub record IsStale (n : Named) (old : SeatView) (ticket : TicketView) (reads : List (ℕ × Seen)) (r : ℕ) (back : TicketView) (new : SeatView) : Type 0 where
+pub record IsSeenStale (n : Named) (old : SeatView) (ticket : TicketView) (reads : List (ℕ × Seen)) (r : ℕ) (back : TicketView) (new : SeatView) : Type 0 where
   pub refused : IsRefused n old new
   pub back_is : back ≡ again ticket
   pub moved : IsFirstMovedIn (design_of n.code) (entries_of new.seen) reads r
   pub met : HasMet n new.seen new.fresh r
 
 -- after what the seat has seen no active evaluation has the ticket's event, process, remainder and time
-pub record IsGone (n : Named) (old : SeatView) (ticket : TicketView) (new : SeatView) : Type 0 where
+pub record IsSeenGone (n : Named) (old : SeatView) (ticket : TicketView) (new : SeatView) : Type 0 where
   pub refused : IsRefused n old new
   pub gone : After n new.seen (λ s. IsActiveTicket n.code s ticket → ⊥)
 
@@ -132,32 +132,32 @@ pub record IsGone (n : Named) (old : SeatView) (ticket : TicketView) (new : Seat
 abbrev pub BarredTo : {A : Type 0} → Named → SeatView → TicketView → SeatView → Reply A → Type 0
 BarredTo n old ticket new (Accepted grant) = ⊥
 BarredTo n old ticket new (Stale r back) = ⊥
-BarredTo n old ticket new Gone = IsGone n old ticket new
-BarredTo n old ticket new (Stopped why) = IsStopped n CommitCauses old why new
+BarredTo n old ticket new Gone = IsSeenGone n old ticket new
+BarredTo n old ticket new (Stopped why) = IsSeenStopped n CommitCauses old why new
 BarredTo n old ticket new (NoMemory back) = ⊥
 
 -- The answers to a ticket with what was read in its turn, by their cases.
 abbrev pub AnsweredTo : {A : Type 0} → Named → (Why → Type 0) → SeatView → TicketView → List (ℕ × Seen) → SeatView → Reply A → Type 0
-AnsweredTo n causes old ticket reads new (Accepted grant) = IsAccepted n old ticket grant.position grant.entry grant.tickets.items new
-AnsweredTo n causes old ticket reads new (Stale r back) = IsStale n old ticket reads r back new
-AnsweredTo n causes old ticket reads new Gone = IsGone n old ticket new
-AnsweredTo n causes old ticket reads new (Stopped why) = IsStopped n causes old why new
+AnsweredTo n causes old ticket reads new (Accepted grant) = IsSeenAccepted n old ticket grant.position grant.entry grant.tickets.items new
+AnsweredTo n causes old ticket reads new (Stale r back) = IsSeenStale n old ticket reads r back new
+AnsweredTo n causes old ticket reads new Gone = IsSeenGone n old ticket new
+AnsweredTo n causes old ticket reads new (Stopped why) = IsSeenStopped n causes old why new
 AnsweredTo n causes old ticket reads new (NoMemory back) = IsRefused n old new × (back ≡ ticket)
 
 -- The answers to a ticket whose turn is too long: none is accepted.
 abbrev pub LongAnsweredTo : {A : Type 0} → Named → SeatView → TicketView → List (ℕ × Seen) → SeatView → Reply A → Type 0
 LongAnsweredTo n old ticket reads new (Accepted grant) = ⊥
-LongAnsweredTo n old ticket reads new (Stale r back) = IsStale n old ticket reads r back new
-LongAnsweredTo n old ticket reads new Gone = IsGone n old ticket new
-LongAnsweredTo n old ticket reads new (Stopped why) = IsStopped n (ReadCauses n ticket.process reads new) old why new
+LongAnsweredTo n old ticket reads new (Stale r back) = IsSeenStale n old ticket reads r back new
+LongAnsweredTo n old ticket reads new Gone = IsSeenGone n old ticket new
+LongAnsweredTo n old ticket reads new (Stopped why) = IsSeenStopped n (ReadCauses n ticket.process reads new) old why new
 LongAnsweredTo n old ticket reads new (NoMemory back) = ⊥
 
 -- The answers to a ticket whose turn is evaluated under the lock: none is stale.
 abbrev pub HeldAnsweredTo : {A : Type 0} → Named → SeatView → TicketView → SeatView → Reply A → Type 0
-HeldAnsweredTo n old ticket new (Accepted grant) = IsAccepted n old ticket grant.position grant.entry grant.tickets.items new
+HeldAnsweredTo n old ticket new (Accepted grant) = IsSeenAccepted n old ticket grant.position grant.entry grant.tickets.items new
 HeldAnsweredTo n old ticket new (Stale r back) = ⊥
-HeldAnsweredTo n old ticket new Gone = IsGone n old ticket new
-HeldAnsweredTo n old ticket new (Stopped why) = IsStopped n (LongCauses ticket.process) old why new
+HeldAnsweredTo n old ticket new Gone = IsSeenGone n old ticket new
+HeldAnsweredTo n old ticket new (Stopped why) = IsSeenStopped n (LongCauses ticket.process) old why new
 HeldAnsweredTo n old ticket new (NoMemory back) = IsRefused n old new × (back ≡ ticket)
 
 -- an active update stands in the journal
@@ -168,8 +168,8 @@ pub record IsUpdatedTo (n : Named) (old : SeatView) (position : ℕ) (named : En
 -- The answers to a call for an update.
 abbrev pub UpdateAnsweredTo : {A : Type 0} → Named → SeatView → SeatView → UpdateReply A → Type 0
 UpdateAnsweredTo n old new (updates.Accepted grant) = IsUpdatedTo n old grant.position grant.entry grant.tickets.items new
-UpdateAnsweredTo n old new updates.Nothing = IsRefused n old new × After n new.seen HasNoUpdate
-UpdateAnsweredTo n old new (updates.Stopped why) = IsStopped n CommitCauses old why new
+UpdateAnsweredTo n old new updates.Nothing = IsRefused n old new × After n new.seen HasNoActiveUpdate
+UpdateAnsweredTo n old new (updates.Stopped why) = IsSeenStopped n CommitCauses old why new
 UpdateAnsweredTo n old new updates.NoMemory = IsRefused n old new
 
 -- a change of the regions stands in the journal
@@ -194,7 +194,7 @@ abbrev pub RestAnsweredTo : {A : Type 0} → Named → SeatView → SeatView →
 RestAnsweredTo n old new (rests.Changed grant) = IsChangedTo n old grant.position grant.entry grant.tickets.items new
 RestAnsweredTo n old new rests.Busy = IsRefused n old new × IsBusy n old new
 RestAnsweredTo n old new rests.Quiet = IsQuietTo n old new
-RestAnsweredTo n old new (rests.Stopped why) = IsStopped n RestCauses old why new
+RestAnsweredTo n old new (rests.Stopped why) = IsSeenStopped n RestCauses old why new
 RestAnsweredTo n old new rests.NoMemory = IsRefused n old new
 
 -- for what a call for want of memory stops a run: the run wasn't stopped in what the seat had seen, and after the journal that it has
@@ -205,4 +205,4 @@ MemoryCauses n old new why = (why ≡ Memory) × (end_in old.seen ≡ None) × A
 -- After a call that stops a run for want of memory it is quiet, and then the seat stored nothing, or it is stopped, and the journal
 -- stays as it is. The end was stored before, or else by this call for want of memory, where an event is left.
 abbrev pub StoppedTo : Named → SeatView → SeatView → Type 0
-StoppedTo n old new = IsQuietTo n old new ⊎ ((why : Why) × IsStopped n (MemoryCauses n old new) old why new)
+StoppedTo n old new = IsQuietTo n old new ⊎ ((why : Why) × IsSeenStopped n (MemoryCauses n old new) old why new)

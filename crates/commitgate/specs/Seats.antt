@@ -5,7 +5,7 @@ use Rattle.logic4.specs.Vector.{Vector, unknown}
 use Rattle.model.specs.declared.end.Why.{Why}
 use Rattle.design.specs.Compiled.{Compiled}
 use Rattle.runstate.specs.Ledger.{Ledger}
-use Rattle.regcells.specs.Meetings.{Rises}
+use Rattle.regcells.specs.Meetings.{HaveGrown}
 
 -- What contracts see of a seat: its worker; the beginning of the gate's ledger that it has seen; the positions in the
 -- journal of the entries that it appended, rising; the end that it stored, if it stored one; and of each register the
@@ -26,18 +26,18 @@ abbrev pub new_seat : Compiled → ℕ → SeatView
 new_seat code worker = record { worker = worker; seen = []; positions = []; stored = None; fresh = first_values code }
 
 -- a seat that read registers: it may only have seen more of them
-pub record ReadsOn (old new : SeatView) : Type 0 where
+pub record SeatReadsOn (old new : SeatView) : Type 0 where
   pub worker : new.worker ≡ old.worker
   pub seen : new.seen ≡ old.seen
   pub positions : new.positions ≡ old.positions
   pub stored : new.stored ≡ old.stored
-  pub rises : Rises old.fresh new.fresh
+  pub rises : HaveGrown old.fresh new.fresh
 
 -- a call leaves a seat its worker's, and what it has seen is all that it had seen, with further items and values
 pub record Follows (old new : SeatView) : Type 0 where
   pub worker : new.worker ≡ old.worker
   pub later : IsPrefix old.seen new.seen
-  pub rises : Rises old.fresh new.fresh
+  pub rises : HaveGrown old.fresh new.fresh
 
 -- a call that neither appended nor stored anything in the seat's name
 pub record LooksOn (old new : SeatView) : Type 0 where

@@ -4,7 +4,7 @@ ghost use Rattle.turn.specs.Reads.{GaveAll};
 ghost use Rattle.turn.specs.TurnAnswers.{IsTurnLog, IsNoTurn};
 ghost use Rattle.turn.specs.declared.log.FillFault.TheVariants as fault_of;
 ghost use Rattle.runstate.specs.Histories.{IsRead};
-ghost use Rattle.commitgate.specs.Seats.{ReadsOn};
+ghost use Rattle.commitgate.specs.Seats.{SeatReadsOn};
 
 use crate::gate::Gate;
 use crate::naming::Naming;
@@ -38,9 +38,9 @@ impl ReadWatch for Unwatched {
 }
 
 impl Seating for Brand {
-    ghost use Rattle.commitgate.specs.Nobody.{nobody};
+    ghost use Rattle.commitgate.specs.Nobody.{nameless_seat};
 
-    ghost seat = { nobody };
+    ghost seat = { nameless_seat };
 }
 
 /// What a turn is evaluated with: a gate, its design, and who is told of the reads.
@@ -63,13 +63,13 @@ struct WatchedReader<'g, K: Naming, S: Seating, W: ReadWatch, R: Wait> {
 
 impl<'g, K: Naming, S: Seating, W: ReadWatch, R: Wait> Model for WatchedReader<'g, K, S, W, R> {
     ghost use Rattle.std.specs.Prelude.{ℕ};
-    ghost use Rattle.commitgate.specs.Seats.{SeatView, ReadsOn};
+    ghost use Rattle.commitgate.specs.Seats.{SeatView, SeatReadsOn};
 
     ghost Value = { ℕ × SeatView };
 
     ghost view = { λ r. r.reader };
 
-    ghost invariant = { λ r. ReadsOn S.seat r.reader.1 };
+    ghost invariant = { λ r. SeatReadsOn S.seat r.reader.1 };
 }
 
 impl<'g, K: Naming, S: Seating, W: ReadWatch, R: Wait> WatchedReader<'g, K, S, W, R> {
@@ -89,7 +89,7 @@ impl<'g, K: Naming, S: Seating, W: ReadWatch, R: Wait> WatchedReader<'g, K, S, W
     fn into_seat(self) -> &'g mut Seat<K>
         ensures name { result.ghost_name ≡ self.entry.0 }
         ensures now { result.now ≡ self.entry.1 }
-        ensures reads_on { ReadsOn S.seat self.entry.1 }
+        ensures reads_on { SeatReadsOn S.seat self.entry.1 }
     {
         let WatchedReader {
             reader,
@@ -129,7 +129,7 @@ pub fn evaluate<K: Naming, S: Seating, W: ReadWatch, R: Wait>(
 ) -> Result<(), FillFault>
     requires seat { seat.old ≡ S.seat }
     requires design { phase.now.design.now ≡ K.named.code }
-    ensures reads_on { ReadsOn S.seat seat.new }
+    ensures reads_on { SeatReadsOn S.seat seat.new }
     ensures turn { MatchResult result (λ _. IsTurnLog K.named.code ticket.now.state ticket.now.time log.new) (IsNoTurn K.named.code ticket.now.state ticket.now.time log.new.reads) }
     ensures gave { MatchResult result (λ _. GaveAll (IsRead K.named.code seat.new.fresh) log.new.reads) (λ fault. fault ≡ fault_of.TooLong → GaveAll (IsRead K.named.code seat.new.fresh) log.new.reads) }
 {

@@ -2,7 +2,7 @@
 ghost use Rattle.std.specs.Prelude.{◌≡◌, ℕ, ◌+◌, ◌<◌, length};
 ghost use Rattle.turn.specs.declared.memory.Seen as seens;
 ghost use Rattle.regcells.specs.Meetings.{fresh_of};
-ghost use Rattle.commitgate.specs.Seats.{ReadsOn};
+ghost use Rattle.commitgate.specs.Seats.{SeatReadsOn};
 ghost use Rattle.runstate.specs.Histories.{IsRead};
 
 use crate::naming::Naming;
@@ -74,7 +74,7 @@ impl<'g, K: Naming, R: Wait> RegReader for SeatReader<'g, K, R> {
         ensures keeps { (r : ℕ) (s : seens.Seen) → IsRead K.named.code self.old.1.fresh r s → IsRead K.named.code self.new.1.fresh r s }
         ensures version { length (fresh_of self.new.1.fresh register) ≡ result.version + 1 }
         ensures lasting { self.new.0 ≡ self.old.0 }
-        ensures reads_on { ReadsOn self.old.1 self.new.1 }
+        ensures reads_on { SeatReadsOn self.old.1 self.new.1 }
     {
         self.seat.read(self.rt, self.cells, register)
     }

@@ -5,7 +5,7 @@ ghost use Rattle.crossbeam_utils.specs.Seq.{cell_view};
 ghost use Rattle.runstate.specs.Ledger.{entries_of, positions_of, stored_of};
 ghost use Rattle.runstate.specs.Marked.{seated};
 ghost use Rattle.regcells.specs.Meetings.{fresh_of};
-ghost use Rattle.commitgate.specs.Seats.{ReadsOn, LooksOn};
+ghost use Rattle.commitgate.specs.Seats.{SeatReadsOn, LooksOn};
 ghost use Rattle.runstate.specs.Histories.{StandsInHistory};
 
 use crate::naming::Naming;
@@ -108,7 +108,7 @@ impl<K: Naming> Seat<K> {
         ensures entry { StandsInHistory (fresh_of self.new.fresh register) result }
         ensures version { length (fresh_of self.new.fresh register) ≡ result.version + 1 }
         ensures others { self.new.fresh ≡ slice_set self.old.fresh register (fresh_of self.new.fresh register) }
-        ensures reads_on { ReadsOn self.old self.new }
+        ensures reads_on { SeatReadsOn self.old self.new }
     {
         cells.read(rt, &mut self.regs, register)
     }

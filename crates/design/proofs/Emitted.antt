@@ -6,7 +6,7 @@ use Rattle.model.specs.Design.{Statement, Empty, Assign, AssignAfter, AssignLate
 use Rattle.design.specs.declared.code.Node.{Node}
 use Rattle.design.specs.declared.code.Node.TheVariants as node
 use Rattle.design.specs.Generate.{own_code, assigned_code}
-use Rattle.design.specs.Emit.{Emitted, with_node, with_control, with_valued, with_line, with_print, with_statement, with_all, first_of}
+use Rattle.design.specs.Emit.{Emitted, with_node, with_control, with_valued, with_line_code, with_print, with_statement, with_all, first_of}
 use Rattle.design.proofs.Growing.{Grows, grows_same, grows_both, grows_node, grows_control, grows_valued, grows_line, line_nodes}
 
 -- the node of a statement that has others inside it
@@ -25,9 +25,9 @@ abbrev pub while_node : List ℕ → Emitted → Expression ℕ → Statements �
 while_node widths e c body next =
     with_valued e (own_code widths c) (λ s. node.Branch s (first_of (length e.nodes + 1) body (length e.nodes)) next)
 
-pub grows_print : (task : Task) (widths : List ℕ) (e : Emitted) (ps : List Piece) (es : Expressions ℕ) (next : ℕ) → Grows e (with_print task e (with_line widths e ps es) next)
+pub grows_print : (task : Task) (widths : List ℕ) (e : Emitted) (ps : List Piece) (es : Expressions ℕ) (next : ℕ) → Grows e (with_print task e (with_line_code widths e ps es) next)
 grows_print task widths e ps es next =
-    let e1 = with_line widths e ps es in
+    let e1 = with_line_code widths e ps es in
     grows_both e e1 (with_print task e e1 next) (grows_line widths e ps es)
     (grows_node e1 (node.Print task (record { from = length e.shown; to = length e1.shown }) next))
 
@@ -94,7 +94,7 @@ mutual
   length_statement widths next e (While c body) =
       length_all widths (length e.nodes) (while_node widths e c body next) body ∙ ap (λ k. k + size body) (length-append e.nodes _)
   length_statement widths next e (Print task ps es) =
-      let e1 = with_line widths e ps es in
+      let e1 = with_line_code widths e ps es in
       length_leaf e1.nodes (node.Print task (record { from = length e.shown; to = length e1.shown }) next) ∙ ap (λ l. length l + 1 + 0) (line_nodes widths e ps es)
   length_statement widths next e Finish = length_leaf e.nodes _
 

@@ -2,7 +2,7 @@
 use Rattle.std.proofs.Common.{◌≡◌, ℕ, zero, suc, ◌+◌, ◌<◌, ◌≤◌, ◌⊎◌, ⊎_elim, inl, inr, Bool, true, false, List, [], ◌∷◌, ◌++◌, length, Some, refl, sym, ap, ◌∙◌, subst, arith, length-append, zero-add}
 use Rattle.std.proofs.lemmas.Option.{get_or_from_slice_get}
 use Rattle.std.specs.Prelude.{slice_get, slice_index_or}
-use Rattle.model.specs.Design.{Design, Process, End, size, statements_of, first_place, process_at, all_of}
+use Rattle.model.specs.Design.{Design, Process, End, size, all_statements, first_place, process_at, all_of}
 use Rattle.model.specs.Turns.{whole}
 use Rattle.design.specs.declared.code.Node.{Node}
 use Rattle.design.specs.Sound.{AreSoundStatements}
@@ -23,10 +23,10 @@ grows_bodies widths end e (p ∷ ps) =
     let e1 = with_all widths end e p.body in
     grows_both e e1 (with_bodies widths (end + 1) e1 ps) (grows_all widths end e p.body) (grows_bodies widths (end + 1) e1 ps)
 
-pub length_bodies : (widths : List ℕ) (end : ℕ) (e : Emitted) (ps : List Process) → length (with_bodies widths end e ps).nodes ≡ length e.nodes + length (statements_of ps)
+pub length_bodies : (widths : List ℕ) (end : ℕ) (e : Emitted) (ps : List Process) → length (with_bodies widths end e ps).nodes ≡ length e.nodes + length (all_statements ps)
 length_bodies widths end e [] = omega arith
 length_bodies widths end e (p ∷ ps) =
-    length_bodies widths (end + 1) (with_all widths end e p.body) ps ∙ omega (arith, length_all widths end e p.body, length-append (all_of p.body) (statements_of ps))
+    length_bodies widths (end + 1) (with_all widths end e p.body) ps ∙ omega (arith, length_all widths end e p.body, length-append (all_of p.body) (all_statements ps))
 
 -- each process's statements are sound
 abbrev pub AreSoundProcesses : List ℕ → List Process → Type 0
@@ -40,7 +40,7 @@ first_or_after (suc a) zero h = absurd (omega arith)
 first_or_after (suc a) (suc q) h = ⊎_elim (λ x. inl (ap suc x)) (λ x. inr (omega (arith, x))) (first_or_after a q (omega arith))
 
 -- the nodes of one process
-done_process : (code : Compiled) (before : List Process) (p : Process) (ps : List Process) (end : ℕ) (e : Emitted) → (design_of code).processes ≡ before ++ p ∷ ps → end ≡ end_place (design_of code) (length before) → length e.nodes ≡ length (statements_of before) → AreSoundStatements code.widths p.body → Grows (with_all code.widths end e p.body) (code_of code) → Done code (length before) (first_place (design_of code) (length before + 1))
+done_process : (code : Compiled) (before : List Process) (p : Process) (ps : List Process) (end : ℕ) (e : Emitted) → (design_of code).processes ≡ before ++ p ∷ ps → end ≡ end_place (design_of code) (length before) → length e.nodes ≡ length (all_statements before) → AreSoundStatements code.widths p.body → Grows (with_all code.widths end e p.body) (code_of code) → Done code (length before) (first_place (design_of code) (length before + 1))
 done_process code before p ps end e is ends here sound grown =
     let k = length before in
     let design = design_of code in
@@ -52,7 +52,7 @@ done_process code before p ps end e is ends here sound grown =
     subst (λ n. Done code k n) (length_all code.widths end e p.body ∙ sym second) done
 
 -- the nodes of all processes
-pub done_bodies : (code : Compiled) (ps before : List Process) (end : ℕ) (e : Emitted) → (design_of code).processes ≡ before ++ ps → end ≡ end_place (design_of code) (length before) → length e.nodes ≡ length (statements_of before) → AreSoundProcesses code.widths ps → Grows (with_bodies code.widths end e ps) (code_of code) → (q : ℕ) → length before ≤ q → q < length before + length ps → Done code q (first_place (design_of code) (q + 1))
+pub done_bodies : (code : Compiled) (ps before : List Process) (end : ℕ) (e : Emitted) → (design_of code).processes ≡ before ++ ps → end ≡ end_place (design_of code) (length before) → length e.nodes ≡ length (all_statements before) → AreSoundProcesses code.widths ps → Grows (with_bodies code.widths end e ps) (code_of code) → (q : ℕ) → length before ≤ q → q < length before + length ps → Done code q (first_place (design_of code) (q + 1))
 done_bodies code [] before end e is ends here sound grown q lo lt = absurd (omega arith)
 done_bodies code (p ∷ ps) before end e is ends here (sound, others) grown q lo lt =
     let design = design_of code in
@@ -62,7 +62,7 @@ done_bodies code (p ∷ ps) before end e is ends here (sound, others) grown q lo
     ⊎_elim
     (λ x. subst (λ k. Done code k (first_place design (k + 1))) (sym x) (done_process code before p ps end e is ends here sound there))
     (λ x. done_bodies code ps (before ++ p ∷ []) (end + 1) e1 (is ∙ sym (one_more before p ps)) (omega (arith, ends, long))
-    (length_all code.widths end e p.body ∙ omega (arith, here, ap length (statements_both before (p ∷ [])), length-append (statements_of before) (all_of p.body ++ []), length-append (all_of p.body) []))
+    (length_all code.widths end e p.body ∙ omega (arith, here, ap length (statements_both before (p ∷ [])), length-append (all_statements before) (all_of p.body ++ []), length-append (all_of p.body) []))
     others grown q (omega (arith, long)) (omega (arith, long)))
     (first_or_after (length before) q lo)
 
@@ -76,7 +76,7 @@ suc_add : (n k : ℕ) → suc n + k ≡ suc (n + k)
 suc_add n k = omega arith
 
 -- where processes begin
-pub starts_there : (design : Design) (ps before : List Process) (n end : ℕ) → design.processes ≡ before ++ ps → n ≡ length (statements_of before) → end ≡ end_place design (length before) → (k place : ℕ) → slice_get (starts_of n end ps) k ≡ Some place → Leads design (length before + k) place (whole design (length before + k))
+pub starts_there : (design : Design) (ps before : List Process) (n end : ℕ) → design.processes ≡ before ++ ps → n ≡ length (all_statements before) → end ≡ end_place design (length before) → (k place : ℕ) → slice_get (starts_of n end ps) k ≡ Some place → Leads design (length before + k) place (whole design (length before + k))
 starts_there design [] before n end is here ends k place e = cc
 starts_there design (p ∷ ps) before n end is here ends zero place e =
     let at : first_of n p.body end ≡ place = some_same (first_of n p.body end) place e in
@@ -89,7 +89,7 @@ starts_there design (p ∷ ps) before n end is here ends (suc k) place e =
     let sum : length (before ++ p ∷ []) + k ≡ length before + suc k = omega (arith, long) in
     subst (λ m. Leads design m place (whole design m)) sum
     (starts_there design ps (before ++ p ∷ []) (n + size p.body) (end + 1) (is ∙ sym (one_more before p ps))
-    (omega (arith, here, ap length (statements_both before (p ∷ [])), length-append (statements_of before) (all_of p.body ++ []), length-append (all_of p.body) [])) (omega (arith, ends, long)) k place e)
+    (omega (arith, here, ap length (statements_both before (p ∷ [])), length-append (all_statements before) (all_of p.body ++ []), length-append (all_of p.body) [])) (omega (arith, ends, long)) k place e)
 
 pub length_starts : (n end : ℕ) (ps : List Process) → length (starts_of n end ps) ≡ length ps
 length_starts n end [] = refl

@@ -6,12 +6,12 @@ use Rattle.model.specs.Syntax.{Expressions, Nothing, Also}
 use Rattle.model.specs.Design.{Trigger, Piece, Byte, Argument}
 use Rattle.design.specs.declared.code.Node.{Node}
 use Rattle.design.specs.declared.code.Op.{Op}
-use Rattle.design.specs.declared.code.Shown.{Shown}
-use Rattle.design.specs.declared.code.Shown.TheVariants as shown
+use Rattle.design.specs.declared.code.LinePiece.{LinePiece}
+use Rattle.design.specs.declared.code.LinePiece.TheVariants as shown
 use Rattle.design.specs.declared.code.Span.{Span}
-use Rattle.design.specs.ExpressionSteps.{piece}
+use Rattle.design.specs.ExpressionSteps.{span_of}
 use Rattle.design.specs.Generate.{own_code}
-use Rattle.design.specs.Emit.{Emitted, with_node, with_ops, with_shown, with_control, with_valued, with_line, conversion_from, span_behind}
+use Rattle.design.specs.Emit.{Emitted, with_node, with_ops, with_shown, with_control, with_valued, with_line_code, conversion_from, span_behind}
 use Rattle.design.proofs.Places.{drop-length-append, sits_there}
 
 -- a list begins with another
@@ -40,7 +40,7 @@ both_true : {A : Type 0} → (a b : Bool) (x y : List A) → a ≡ true → b �
 both_true a b x y e f = rw (e, f) refl
 
 -- a part that was there is still the same part
-pub piece_there : {A : Type 0} → (xs ys zs : List A) → Begins (xs ++ ys) zs → piece zs (record { from = length xs; to = length (xs ++ ys) }) ≡ ys
+pub piece_there : {A : Type 0} → (xs ys zs : List A) → Begins (xs ++ ys) zs → span_of zs (record { from = length xs; to = length (xs ++ ys) }) ≡ ys
 piece_there xs ys zs (more, e) =
     let first : length xs ≤ length (xs ++ ys) = omega (arith, length-append xs ys) in
     let second : length (xs ++ ys) ≤ length zs = omega (arith, length-append (xs ++ ys) more, ap length e) in
@@ -77,7 +77,7 @@ grows_node e n = record { nodes = (n ∷ [], refl); ops = begins_same e.ops; sho
 pub grows_ops : (e : Emitted) (code : List Op) → Grows e (with_ops e code)
 grows_ops e code = record { nodes = begins_same e.nodes; ops = (code, refl); shown = begins_same e.shown; controls = begins_same e.controls }
 
-pub grows_shown : (e : Emitted) (s : Shown) → Grows e (with_shown e s)
+pub grows_shown : (e : Emitted) (s : LinePiece) → Grows e (with_shown e s)
 grows_shown e s = record { nodes = begins_same e.nodes; ops = begins_same e.ops; shown = (s ∷ [], refl); controls = begins_same e.controls }
 
 pub grows_control : (e : Emitted) (triggers : List Trigger) → Grows e (with_control e triggers)
@@ -86,20 +86,20 @@ grows_control e triggers = record { nodes = begins_same e.nodes; ops = begins_sa
 pub grows_valued : (e : Emitted) (code : List Op) (made : Span → Node) → Grows e (with_valued e code made)
 grows_valued e code made = grows_both e (with_ops e code) (with_valued e code made) (grows_ops e code) (grows_node (with_ops e code) (made (span_behind e.ops code)))
 
-pub grows_line : (widths : List ℕ) (e : Emitted) (ps : List Piece) (es : Expressions ℕ) → Grows e (with_line widths e ps es)
+pub grows_line : (widths : List ℕ) (e : Emitted) (ps : List Piece) (es : Expressions ℕ) → Grows e (with_line_code widths e ps es)
 grows_line widths e [] es = grows_same e
 grows_line widths e (Byte b ∷ ps) es =
     let e1 = with_shown e (shown.Byte b) in
-    grows_both e e1 (with_line widths e1 ps es) (grows_shown e (shown.Byte b)) (grows_line widths e1 ps es)
+    grows_both e e1 (with_line_code widths e1 ps es) (grows_shown e (shown.Byte b)) (grows_line widths e1 ps es)
 grows_line widths e (Argument c ∷ ps) Nothing = grows_same e
 grows_line widths e (Argument c ∷ ps) (Also x es) =
     let e1 = with_ops e (own_code widths x) in
     let s = shown.Value (conversion_from c) (span_behind e.ops (own_code widths x)) in
     let e2 = with_shown e1 s in
-    grows_both e e1 (with_line widths e2 ps es) (grows_ops e (own_code widths x))
-    (grows_both e1 e2 (with_line widths e2 ps es) (grows_shown e1 s) (grows_line widths e2 ps es))
+    grows_both e e1 (with_line_code widths e2 ps es) (grows_ops e (own_code widths x))
+    (grows_both e1 e2 (with_line_code widths e2 ps es) (grows_shown e1 s) (grows_line widths e2 ps es))
 
-pub line_nodes : (widths : List ℕ) (e : Emitted) (ps : List Piece) (es : Expressions ℕ) → (with_line widths e ps es).nodes ≡ e.nodes
+pub line_nodes : (widths : List ℕ) (e : Emitted) (ps : List Piece) (es : Expressions ℕ) → (with_line_code widths e ps es).nodes ≡ e.nodes
 line_nodes widths e [] es = refl
 line_nodes widths e (Byte b ∷ ps) es = line_nodes widths (with_shown e (shown.Byte b)) ps es
 line_nodes widths e (Argument c ∷ ps) Nothing = refl

@@ -5,7 +5,7 @@ use Rattle.std.specs.Prelude.{slice_get}
 use Rattle.std.specs.List.{All}
 use Rattle.model.specs.Design as model
 use Rattle.model.specs.Turns.{whole}
-use Rattle.model.specs.Design.{size, statements_of, first_place, all_of}
+use Rattle.model.specs.Design.{size, all_statements, first_place, all_of}
 use Rattle.design.specs.declared.tree.Process.{Process}
 use Rattle.design.specs.declared.extents.Extent.{Extent}
 use Rattle.design.specs.DesignTrees.{process_of}
@@ -27,10 +27,10 @@ sound_each widths [] h = tt
 sound_each widths (p ∷ ps) h = (h 0 p (omega arith), sound_each widths ps (λ k d lt. h (suc k) d (omega arith)))
 
 -- the table has as many entries as there are statements
-pub length_all_extents : (place : ℕ) (ps : List model.Process) → length (all_extents place ps) ≡ length (statements_of ps)
+pub length_all_extents : (place : ℕ) (ps : List model.Process) → length (all_extents place ps) ≡ length (all_statements ps)
 length_all_extents place [] = refl
 length_all_extents place (p ∷ ps) =
-    omega (arith, length-append (extents place p.body) (all_extents (place + size p.body) ps), length-append (all_of p.body) (statements_of ps), length_extents place p.body, length_all_extents (place + size p.body) ps)
+    omega (arith, length-append (extents place p.body) (all_extents (place + size p.body) ps), length-append (all_of p.body) (all_statements ps), length_extents place p.body, length_all_extents (place + size p.body) ps)
 
 -- and has each statement's extent
 pub table_measured : (table : List Extent) (ps : List model.Process) → table ≡ all_extents 0 ps → IsMeasured table 0 ps
@@ -98,7 +98,7 @@ made code sound named all starts =
     (ap (λ x. x.nodes) all ∙ ap (λ l. e.nodes ++ end_nodes ps l) (sym starts)) (ap (λ x. x.ops) all) (ap (λ x. x.shown) all) (ap (λ x. x.controls) all) starts
 
 -- the place behind all statements is as far as the table reaches
-pub behind_all : (table : List Extent) (ps : List model.Process) (count : ℕ) → table ≡ all_extents 0 ps → count ≡ length table → count ≡ length (statements_of ps)
+pub behind_all : (table : List Extent) (ps : List model.Process) (count : ℕ) → table ≡ all_extents 0 ps → count ≡ length table → count ≡ length (all_statements ps)
 behind_all table ps count tabled counted = counted ∙ ap length tabled ∙ length_all_extents 0 ps
 
 -- where processes begin, where nothing stands before them

@@ -10,12 +10,12 @@ use Rattle.model.specs.Turns.{Remainder, At, parts}
 use Rattle.design.specs.declared.code.Node.TheVariants as node
 use Rattle.design.specs.declared.code.Span.{Span}
 use Rattle.design.specs.Sound.{AreSoundExpressions, IsSoundStatement, AreSoundStatements, how_many}
-use Rattle.design.specs.ExpressionSteps.{piece}
+use Rattle.design.specs.ExpressionSteps.{span_of}
 use Rattle.design.specs.CodePlaces.{remainder_at}
 use Rattle.design.specs.Compiled.{Compiled, design_of}
 use Rattle.design.specs.Meaning.{IsFine, IsLine}
 use Rattle.design.specs.Generate.{own_code, assigned_code}
-use Rattle.design.specs.Emit.{Emitted, with_ops, with_control, with_line, with_print, with_statement, with_all, first_of}
+use Rattle.design.specs.Emit.{Emitted, with_ops, with_control, with_line_code, with_print, with_statement, with_all, first_of}
 use Rattle.design.proofs.Generated.{own_computes, assigned_computes}
 use Rattle.design.proofs.Growing.{Begins, Grows, grows_both, piece_there, element_there, line_nodes}
 use Rattle.design.proofs.Emitted.{delay_node, await_node, if_node, while_node, grows_all, length_node, length_statement, length_all}
@@ -30,18 +30,18 @@ done_print : (task : Task) (code : Compiled) (p next : ℕ) (e : Emitted) (forma
     → statement_at (design_of code) (length e.nodes) ≡ Print task format arguments
     → remainder_at (design_of code) (length e.nodes) ≡ At (length e.nodes) ∷ rest
     → Leads (design_of code) p next rest
-    → Grows (with_print task e (with_line code.widths e format arguments) next) (code_of code)
+    → Grows (with_print task e (with_line_code code.widths e format arguments) next) (code_of code)
     → Done code p (length e.nodes)
-    → Done code p (length (with_print task e (with_line code.widths e format arguments) next).nodes)
+    → Done code p (length (with_print task e (with_line_code code.widths e format arguments) next).nodes)
 done_print task code p next e format arguments rest count sound at left to grown done =
     let n = length e.nodes in
-    let e1 = with_line code.widths e format arguments in
+    let e1 = with_line_code code.widths e format arguments in
     let same : length e1.nodes ≡ n = ap length (line_nodes code.widths e format arguments) in
     let span : Span = record { from = length e.shown; to = length e1.shown } in
     let made = line_there code e format arguments count sound grown.ops in
     let line = made.0 in
-    let is : piece code.shown span ≡ line =
-    ap (λ k. piece code.shown (record { from = length e.shown; to = k })) (ap length made.1.0)
+    let is : span_of code.shown span ≡ line =
+    ap (λ k. span_of code.shown (record { from = length e.shown; to = k })) (ap length made.1.0)
     ∙ piece_there e.shown line code.shown (subst (λ l. Begins l code.shown) made.1.0 grown.shown) in
     let fine : IsFine code p (node.Print task span next) (remainder_at (design_of code) n) =
     (n, (format, (arguments, (next_left code p n next rest left to, at, subst (λ l. IsLine code.widths code.ops l format arguments) (sym is) made.1.1, to.own)))) in

@@ -4,12 +4,12 @@ use Rattle.std.specs.Prelude.{slice_index_or}
 use Rattle.std.proofs.lemmas.Bool.{cases_lt}
 use Rattle.std.proofs.lemmas.List.{get_or_past}
 use Rattle.logic4.specs.Vector.{Vector}
-use Rattle.model.specs.Design.{Design, Process, Statement, Empty, Assign, AssignAfter, AssignLater, Delay, Await, If, While, Print, Finish, Statements, End, Then, inside, all_of, size, statements_of, statement_at}
+use Rattle.model.specs.Design.{Design, Process, Statement, Empty, Assign, AssignAfter, AssignLater, Delay, Await, If, While, Print, Finish, Statements, End, Then, inside, all_of, size, all_statements, statement_at}
 use Rattle.model.specs.Turns.{Remainder, At, Set, parts}
 use Rattle.design.specs.declared.code.ProcState.{ProcState}
 use Rattle.design.specs.CodePlaces.{remainders, remainders_inside, all_remainders, remainder_at, statement_count, end_place, IsPlaceOf}
 use Rattle.design.specs.Compiled.{Compiled, design_of}
-use Rattle.design.specs.DesignInvariant.{pending_part, remainder_of, IsStateOf}
+use Rattle.design.specs.DesignInvariant.{pending_part, remainder_of_state, IsStateOf}
 use Rattle.design.specs.Equal.{StatesAreEqual}
 use Rattle.design.proofs.Placed.{length_remainders, length_remainders_inside}
 use Rattle.design.proofs.Whole.{length_all_remainders, left_at_end}
@@ -54,10 +54,10 @@ numbered_at n [] k m h lt e = absurd (omega arith)
 numbered_at n (r ∷ rs) zero m h lt e = let same : n ≡ m = omega arith in (h.0.0, h.0.1 ∙ ap (λ i. At i ∷ h.0.0) same)
 numbered_at n (r ∷ rs) (suc k) m h lt e = numbered_at (n + 1) rs k m h.1 (omega arith) (omega arith)
 
-fewer : (n : ℕ) (ps : List Process) → length (statements_of (take n ps)) ≤ length (statements_of ps)
+fewer : (n : ℕ) (ps : List Process) → length (all_statements (take n ps)) ≤ length (all_statements ps)
 fewer zero ps = omega arith
 fewer (suc n) [] = omega arith
-fewer (suc n) (p ∷ ps) = omega (arith, length-append (all_of p.body) (statements_of (take n ps)), length-append (all_of p.body) (statements_of ps), fewer n ps)
+fewer (suc n) (p ∷ ps) = omega (arith, length-append (all_of p.body) (all_statements (take n ps)), length-append (all_of p.body) (all_statements ps), fewer n ps)
 
 -- a remainder names its place, or is that of the end
 names : (design : Design) (p k : ℕ) → IsPlaceOf design p k → ((rest : Remainder) × (remainder_at design k ≡ At k ∷ rest)) ⊎ ((remainder_at design k ≡ []) × (k ≡ end_place design p))
@@ -83,7 +83,7 @@ place_named design p k place rest own is =
 
 -- no statement stands behind all of them
 pub past_is_empty : (design : Design) (k : ℕ) → statement_count design ≤ k → statement_at design k ≡ Empty
-past_is_empty design k past = get_or_past (statements_of design.processes) k Empty past
+past_is_empty design k past = get_or_past (all_statements design.processes) k Empty past
 
 -- nor where nothing is left
 pub end_is_empty : (design : Design) (p k : ℕ) → IsPlaceOf design p k → remainder_at design k ≡ [] → statement_at design k ≡ Empty
@@ -95,23 +95,23 @@ end_is_empty design p k own none =
 
 -- the statements of a process are among those of these processes
 abbrev IsAmong : List Process → ℕ → ℕ → Type 0
-IsAmong ps k p = (p < length ps) × (length (statements_of (take p ps)) ≤ k) × (k < length (statements_of (take (p + 1) ps)))
+IsAmong ps k p = (p < length ps) × (length (all_statements (take p ps)) ≤ k) × (k < length (all_statements (take (p + 1) ps)))
 
-length_first : (q : Process) (ps : List Process) (p : ℕ) → length (statements_of (take (p + 1) (q ∷ ps))) ≡ size q.body + length (statements_of (take p ps))
-length_first q ps p = ap (λ n. length (statements_of (take n (q ∷ ps)))) (add-one p) ∙ length-append (all_of q.body) (statements_of (take p ps))
+length_first : (q : Process) (ps : List Process) (p : ℕ) → length (all_statements (take (p + 1) (q ∷ ps))) ≡ size q.body + length (all_statements (take p ps))
+length_first q ps p = ap (λ n. length (all_statements (take n (q ∷ ps)))) (add-one p) ∙ length-append (all_of q.body) (all_statements (take p ps))
 
 among_more : (q : Process) (ps : List Process) (k p : ℕ) → size q.body ≤ k → IsAmong ps (k - size q.body) p → IsAmong (q ∷ ps) k (p + 1)
 among_more q ps k p behind (among, from, to) =
     (omega (arith, among), omega (arith, from, behind, length_first q ps p), omega (arith, to, behind, length_first q ps (p + 1)))
 
 -- the process of a statement
-process_of : (ps : List Process) (k : ℕ) → k < length (statements_of ps) → (p : ℕ) × IsAmong ps k p
+process_of : (ps : List Process) (k : ℕ) → k < length (all_statements ps) → (p : ℕ) × IsAmong ps k p
 process_of [] k within = absurd (omega (arith, within))
 process_of (q ∷ ps) k within =
     ⊎_elim
     (λ here. (0, (omega arith, omega arith, omega (arith, here, length_first q ps 0))))
     (λ behind.
-    let rest = process_of ps (k - size q.body) (omega (arith, within, behind, length-append (all_of q.body) (statements_of ps))) in
+    let rest = process_of ps (k - size q.body) (omega (arith, within, behind, length-append (all_of q.body) (all_statements ps))) in
     (rest.0 + 1, among_more q ps k rest.0 behind rest.1))
     (cases_lt k (size q.body))
 
@@ -160,18 +160,18 @@ same_left (Some v) (Some w) design p j k hj hk e =
     let parts : (v.0 ≡ w.0) × (v.1 ≡ w.1) × (remainder_at design j ≡ remainder_at design k) = set_same v.0 w.0 v.1 w.1 _ _ e in
     (same_place design p j k hj hk parts.2, ap (λ r. Some (r, v.1)) parts.0 ∙ ap (λ x. Some (w.0, x)) parts.1)
 
-more_places : (n m : ℕ) (ps : List Process) → n ≤ m → length (statements_of (take n ps)) ≤ length (statements_of (take m ps))
+more_places : (n m : ℕ) (ps : List Process) → n ≤ m → length (all_statements (take n ps)) ≤ length (all_statements (take m ps))
 more_places zero m ps le = omega arith
 more_places (suc n) zero ps le = absurd (omega arith)
 more_places (suc n) (suc m) [] le = omega arith
 more_places (suc n) (suc m) (p ∷ ps) le =
-    let rest : length (statements_of (take n ps)) ≤ length (statements_of (take m ps)) = more_places n m ps (omega arith) in
-    omega (arith, length-append (all_of p.body) (statements_of (take n ps)), length-append (all_of p.body) (statements_of (take m ps)), rest)
+    let rest : length (all_statements (take n ps)) ≤ length (all_statements (take m ps)) = more_places n m ps (omega arith) in
+    omega (arith, length-append (all_of p.body) (all_statements (take n ps)), length-append (all_of p.body) (all_statements (take m ps)), rest)
 
 -- the places of a process come before those of a later one
 not_later : (design : Design) (p q k : ℕ) → p < q → IsPlaceOf design p k → IsPlaceOf design q k → ⊥
 not_later design p q k lt a b =
-    let own : length (statements_of (take (p + 1) design.processes)) ≤ length (statements_of (take q design.processes)) = more_places (p + 1) q design.processes (omega arith) in
+    let own : length (all_statements (take (p + 1) design.processes)) ≤ length (all_statements (take q design.processes)) = more_places (p + 1) q design.processes (omega arith) in
     ⊎_elim
     (λ x. ⊎_elim (λ y. omega (arith, x.1, y.0, own)) (λ y. omega (arith, x.1, y, fewer (p + 1) design.processes)) b)
     (λ x. ⊎_elim (λ y. omega (arith, x, y.1, fewer (q + 1) design.processes)) (λ y. omega (arith, x, y)) b)
@@ -187,13 +187,13 @@ same_unless (suc p) (suc q) a b = ap suc (same_unless p q (λ h. a (omega (arith
 same_process : (design : Design) (p q k : ℕ) → IsPlaceOf design p k → IsPlaceOf design q k → p ≡ q
 same_process design p q k a b = same_unless p q (λ lt. not_later design p q k lt a b) (λ lt. not_later design q p k lt b a)
 
-same_state : (code : Compiled) (p : ℕ) (s t : ProcState) → IsStateOf code p s → IsStateOf code p t → remainder_of code s ≡ remainder_of code t → s ≡ t
+same_state : (code : Compiled) (p : ℕ) (s t : ProcState) → IsStateOf code p s → IsStateOf code p t → remainder_of_state code s ≡ remainder_of_state code t → s ≡ t
 same_state code p s t a b e =
     let same = same_left s.pending t.pending (design_of code) p s.place t.place a.place b.place e in
     state_same s t same.0 same.1
 
 pub states_are_equal : StatesAreEqual
 states_are_equal code p q s t a b = (
-  λ e. (same_process (design_of code) p q s.place a.place (subst (λ (x : ProcState). IsPlaceOf (design_of code) q x.place) (sym e) b.place), ap (remainder_of code) e),
+  λ e. (same_process (design_of code) p q s.place a.place (subst (λ (x : ProcState). IsPlaceOf (design_of code) q x.place) (sym e) b.place), ap (remainder_of_state code) e),
   λ h. same_state code p s t a (subst (λ k. IsStateOf code k t) (sym h.0) b) h.1,
 )

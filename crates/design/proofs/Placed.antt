@@ -1,6 +1,6 @@
 -- Statements and what is left at their places.
 use Rattle.std.proofs.Common.{◌≡◌, ℕ, ◌+◌, ◌≤◌, inl, List, [], ◌∷◌, ◌++◌, length, refl, ap, arith, length-append}
-use Rattle.model.specs.Design.{Design, Statement, Empty, Assign, AssignAfter, AssignLater, Delay, Await, If, While, Print, Finish, Statements, End, Then, inside, all_of, size, statements_of, statement_at, first_place}
+use Rattle.model.specs.Design.{Design, Statement, Empty, Assign, AssignAfter, AssignLater, Delay, Await, If, While, Print, Finish, Statements, End, Then, inside, all_of, size, all_statements, statement_at, first_place}
 use Rattle.model.specs.Turns.{Remainder, At, parts}
 use Rattle.design.specs.CodePlaces.{remainders, remainders_inside, all_remainders, remainder_at, IsPlaceOf}
 use Rattle.design.specs.Emit.{first_of}
@@ -47,7 +47,7 @@ mutual
 
 -- what the design has at places
 abbrev StatementsAt : Design → ℕ → List Statement → Type 0
-StatementsAt design place ss = Sits (statements_of design.processes) place ss
+StatementsAt design place ss = Sits (all_statements design.processes) place ss
 
 abbrev LeftAt : Design → ℕ → List Remainder → Type 0
 LeftAt design place rs = Sits (all_remainders 0 design.processes) place rs
@@ -56,7 +56,7 @@ mutual
   pub placed_all : (design : Design) (place : ℕ) (ss : Statements) (rest : Remainder) → StatementsAt design place (all_of ss) → LeftAt design place (remainders place ss rest) → Placed design place ss rest
   placed_all design place End rest h j = tt
   placed_all design place (Then s ss) rest h j =
-      let all = statements_of design.processes in
+      let all = all_statements design.processes in
       let lefts = all_remainders 0 design.processes in
       let n = place + 1 + length (inside s) in
       let behind = parts n ss ++ rest in
@@ -77,7 +77,7 @@ mutual
   placed_inside design place (Delay d body) rest h j = placed_all design (place + 1) body rest h j
   placed_inside design place (Await triggers body) rest h j = placed_all design (place + 1) body rest h j
   placed_inside design place (If c body otherwise) rest h j =
-      let all = statements_of design.processes in
+      let all = all_statements design.processes in
       let lefts = all_remainders 0 design.processes in
       let first = remainders (place + 1) body rest in
       let second = remainders (place + 1 + size body) otherwise rest in (

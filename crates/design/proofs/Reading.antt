@@ -13,7 +13,7 @@ use Rattle.design.specs.declared.code.Op.TheVariants.{Unary, Binary, Join, Resiz
 use Rattle.design.specs.Sound.{IsSoundExpression, AreSoundExpressions, IsSoundStatement, AreSoundStatements}
 use Rattle.design.specs.ExpressionSteps.{IsOpOf}
 use Rattle.design.specs.Generate.{direct_step, step_or, join_code, expression_code, parts_code, own_code, assigned_code}
-use Rattle.design.specs.Emit.{Emitted, with_ops, with_shown, with_line, with_statement, with_all, with_bodies, first_of}
+use Rattle.design.specs.Emit.{Emitted, with_ops, with_shown, with_line_code, with_statement, with_all, with_bodies, first_of}
 use Rattle.design.proofs.Emitted.{delay_node, await_node, if_node, while_node}
 use Rattle.design.proofs.Ends.{AreSoundProcesses}
 
@@ -78,7 +78,7 @@ assigned_ops widths r e h = fitted (nat_le (own_size widths e) (slice_index widt
   fitted true = expression_ops widths _ e h
   fitted false = both_ops widths _ _ (expression_ops widths _ e h) (one_op widths _ tt)
 
-line_ops : (widths : List ℕ) (e : Emitted) (ps : List Piece) (es : Expressions ℕ) → AreSoundExpressions widths es → AreOps widths e.ops → AreOps widths (with_line widths e ps es).ops
+line_ops : (widths : List ℕ) (e : Emitted) (ps : List Piece) (es : Expressions ℕ) → AreSoundExpressions widths es → AreOps widths e.ops → AreOps widths (with_line_code widths e ps es).ops
 line_ops widths e [] es h all = all
 line_ops widths e (Byte b ∷ ps) es h all = line_ops widths (with_shown e _) ps es h all
 line_ops widths e (Argument c ∷ ps) tree.Nothing h all = all

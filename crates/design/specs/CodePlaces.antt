@@ -1,6 +1,6 @@
 -- What a process has left to run at each place, and which places are a process's own.
 use Rattle.std.specs.Prelude.{◌≡◌, ◌⊎◌, ℕ, ◌+◌, ◌<◌, ◌≤◌, List, [], ◌∷◌, ◌++◌, length, slice_index_or}
-use Rattle.model.specs.Design.{Design, Process, Statement, Delay, Await, If, While, Statements, End, Then, inside, size, statements_of, first_place}
+use Rattle.model.specs.Design.{Design, Process, Statement, Delay, Await, If, While, Statements, End, Then, inside, size, all_statements, first_place}
 use Rattle.model.specs.Turns.{Remainder, At, parts}
 
 -- What is left to run at the place of each of these statements and of those inside them, in the order of the text,
@@ -30,7 +30,7 @@ remainder_at design place = slice_index_or (all_remainders 0 design.processes) p
 
 -- the number of all statements
 abbrev pub statement_count : Design → ℕ
-statement_count design = length (statements_of design.processes)
+statement_count design = length (all_statements design.processes)
 
 -- the place of the end of a process: behind all statements
 abbrev pub end_place : Design → ℕ → ℕ

@@ -6,7 +6,7 @@ use Rattle.model.specs.Design.{Trigger}
 use Rattle.design.specs.declared.tree.Process.{Process}
 use Rattle.design.specs.declared.code.Node.{Node}
 use Rattle.design.specs.declared.code.Op.{Op}
-use Rattle.design.specs.declared.code.Shown.{Shown}
+use Rattle.design.specs.declared.code.LinePiece.{LinePiece}
 use Rattle.design.specs.DesignTrees.{tree_design}
 
 -- the names and the widths of the registers by number, the processes, the node at each place, the steps of expressions, the pieces
@@ -17,7 +17,7 @@ pub record Compiled : Type 0 where
   pub processes : List Process
   pub nodes : List Node
   pub ops : List Op
-  pub shown : List Shown
+  pub shown : List LinePiece
   pub controls : List (List Trigger)
   pub starts : List ℕ
 

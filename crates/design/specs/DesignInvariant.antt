@@ -14,8 +14,8 @@ pending_part None = []
 pending_part (Some w) = Set w.0 w.1 ∷ []
 
 -- the remainder that a process state stands for
-abbrev pub remainder_of : Compiled → ProcState → Remainder
-remainder_of code state = pending_part state.pending ++ remainder_at (design_of code) state.place
+abbrev pub remainder_of_state : Compiled → ProcState → Remainder
+remainder_of_state code state = pending_part state.pending ++ remainder_at (design_of code) state.place
 
 -- the triggers of each event control, by its number
 abbrev pub controls_of : Compiled → List (List Trigger)

@@ -9,8 +9,8 @@ use Rattle.design.specs.declared.tree.Conversion.{Conversion}
 use Rattle.design.specs.declared.tree.Conversion.TheVariants as conversions
 use Rattle.design.specs.declared.code.Op.{Op}
 use Rattle.design.specs.declared.code.Span.{Span}
-use Rattle.design.specs.declared.code.Shown.{Shown}
-use Rattle.design.specs.declared.code.Shown.TheVariants as shown
+use Rattle.design.specs.declared.code.LinePiece.{LinePiece}
+use Rattle.design.specs.declared.code.LinePiece.TheVariants as shown
 use Rattle.design.specs.declared.code.Node.{Node}
 use Rattle.design.specs.declared.code.Node.TheVariants as node
 use Rattle.design.specs.Generate.{own_code, assigned_code}
@@ -19,7 +19,7 @@ use Rattle.design.specs.Generate.{own_code, assigned_code}
 pub record Emitted : Type 0 where
   pub nodes : List Node
   pub ops : List Op
-  pub shown : List Shown
+  pub shown : List LinePiece
   pub controls : List (List Trigger)
 
 -- one node more
@@ -31,7 +31,7 @@ abbrev pub with_ops : Emitted → List Op → Emitted
 with_ops e code = record e { ops = e.ops ++ code }
 
 -- one piece of a line more
-abbrev pub with_shown : Emitted → Shown → Emitted
+abbrev pub with_shown : Emitted → LinePiece → Emitted
 with_shown e s = record e { shown = e.shown ++ s ∷ [] }
 
 -- one event control more
@@ -59,12 +59,12 @@ conversion_from display.Hex = conversions.Hex
 conversion_from display.Decimal = conversions.Decimal
 
 -- the code with the pieces of a line, and the steps of its arguments
-abbrev pub with_line : List ℕ → Emitted → List Piece → Expressions ℕ → Emitted
-with_line widths e [] es = e
-with_line widths e (Byte b ∷ ps) es = with_line widths (with_shown e (shown.Byte b)) ps es
-with_line widths e (Argument c ∷ ps) Nothing = e
-with_line widths e (Argument c ∷ ps) (Also x es) =
-    with_line widths
+abbrev pub with_line_code : List ℕ → Emitted → List Piece → Expressions ℕ → Emitted
+with_line_code widths e [] es = e
+with_line_code widths e (Byte b ∷ ps) es = with_line_code widths (with_shown e (shown.Byte b)) ps es
+with_line_code widths e (Argument c ∷ ps) Nothing = e
+with_line_code widths e (Argument c ∷ ps) (Also x es) =
+    with_line_code widths
     (with_shown (with_ops e (own_code widths x)) (shown.Value (conversion_from c) (span_behind e.ops (own_code widths x)))) ps es
 
 -- the code with a node that has a value
@@ -95,7 +95,7 @@ abbrev mutual
   with_statement widths next e (tree.While c body) =
       with_all widths (length e.nodes)
       (with_valued e (own_code widths c) (λ s. node.Branch s (first_of (length e.nodes + 1) body (length e.nodes)) next)) body
-  with_statement widths next e (tree.Print task format arguments) = with_print task e (with_line widths e format arguments) next
+  with_statement widths next e (tree.Print task format arguments) = with_print task e (with_line_code widths e format arguments) next
   with_statement widths next e tree.Finish = with_node e (node.Finish next)
 
   -- the code with the nodes of statements, where the last of them leads to the place behind them

@@ -62,5 +62,5 @@ pub record Computes (ops : List Op) (value : Store → Vector) (reads : List ℕ
   pub uses : all_reads ops ≡ reads
 
 -- a part of a list, or nothing where it isn't there
-abbrev pub piece : {A : Type 0} → List A → Span → List A
-piece xs span = if nat_le span.from span.to && nat_le span.to (length xs) then slice_range xs span.from span.to else []
+abbrev pub span_of : {A : Type 0} → List A → Span → List A
+span_of xs span = if nat_le span.from span.to && nat_le span.to (length xs) then slice_range xs span.from span.to else []

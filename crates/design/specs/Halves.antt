@@ -3,19 +3,19 @@ use Rattle.std.specs.Prelude.{◌≡◌, ℕ, ◌+◌, ◌*◌, ◌/◌, ◌%◌
 use Rattle.std.proofs.Common.{arith, ◌∙◌}
 use Rattle.logic4.specs.Vector.{Vector}
 use Rattle.logic4.specs.VectorWords.{AreWords, of_words, first_word, second_word, length-of_words, first_word-of_words, second_word-of_words}
-use Rattle.design.specs.declared.halved.Halved.TheInside.{Inside}
+use Rattle.design.specs.declared.packed_bits.PackedBits.TheInside.{Inside}
 
 -- the word that has these halves
-abbrev pub joined : ℕ → ℕ → ℕ
-joined low high = high * 2 ^ 64 + low
+abbrev pub joined_halves : ℕ → ℕ → ℕ
+joined_halves low high = high * 2 ^ 64 + low
 
 -- the vector in them
 abbrev pub vector_in : Inside → Vector
-vector_in s = of_words s.width (joined s.a_low s.a_high) (joined s.b_low s.b_high)
+vector_in s = of_words s.width (joined_halves s.a_low s.a_high) (joined_halves s.b_low s.b_high)
 
 -- they hold a vector, and the low ones are halves
 pub record HoldsVector (s : Inside) : Type 0 where
-  pub words : AreWords s.width (joined s.a_low s.a_high) (joined s.b_low s.b_high)
+  pub words : AreWords s.width (joined_halves s.a_low s.a_high) (joined_halves s.b_low s.b_high)
   pub a_low : s.a_low < 2 ^ 64
   pub b_low : s.b_low < 2 ^ 64
 
@@ -30,20 +30,20 @@ halves_of v = record {
 }
 
 -- the low half of a joined word
-low_of : (low high n : ℕ) → low < 2 ^ 64 → n ≡ joined low high → n % 2 ^ 64 ≡ low
+low_of : (low high n : ℕ) → low < 2 ^ 64 → n ≡ joined_halves low high → n % 2 ^ 64 ≡ low
 low_of low high n h e = omega arith
 
 -- the high half of a joined word
-high_of : (low high n : ℕ) → low < 2 ^ 64 → n ≡ joined low high → n / 2 ^ 64 ≡ high
+high_of : (low high n : ℕ) → low < 2 ^ 64 → n ≡ joined_halves low high → n / 2 ^ 64 ≡ high
 high_of low high n h e = omega arith
 
 -- a vector in halves has these halves
 pub halves_of-vector_in : (s : Inside) → HoldsVector s → halves_of (vector_in s) ≡ s
 halves_of-vector_in s h =
-    let first = first_word-of_words s.width (joined s.a_low s.a_high) (joined s.b_low s.b_high) h.words.first in
-    let second = second_word-of_words s.width (joined s.a_low s.a_high) (joined s.b_low s.b_high) h.words.second in
+    let first = first_word-of_words s.width (joined_halves s.a_low s.a_high) (joined_halves s.b_low s.b_high) h.words.first in
+    let second = second_word-of_words s.width (joined_halves s.a_low s.a_high) (joined_halves s.b_low s.b_high) h.words.second in
     λ i. record {
-      width = length-of_words s.width (joined s.a_low s.a_high) (joined s.b_low s.b_high) i;
+      width = length-of_words s.width (joined_halves s.a_low s.a_high) (joined_halves s.b_low s.b_high) i;
       a_low = low_of s.a_low s.a_high _ h.a_low first i;
       a_high = high_of s.a_low s.a_high _ h.a_low first i;
       b_low = low_of s.b_low s.b_high _ h.b_low second i;

@@ -7,13 +7,13 @@ use Rattle.model.specs.Design.{Design, Statements, Piece, Byte, Argument, statem
 use Rattle.model.specs.Expressions.{own_value, assigned_value}
 use Rattle.model.specs.Turns.{Remainder, At, parts, whole}
 use Rattle.design.specs.declared.code.Op.{Op}
-use Rattle.design.specs.declared.code.Shown.{Shown}
-use Rattle.design.specs.declared.code.Shown.TheVariants as shown
+use Rattle.design.specs.declared.code.LinePiece.{LinePiece}
+use Rattle.design.specs.declared.code.LinePiece.TheVariants as shown
 use Rattle.design.specs.declared.code.Node.{Node}
 use Rattle.design.specs.declared.code.Node.TheVariants as node
 use Rattle.design.specs.DesignTrees.{conversion_of}
 use Rattle.design.specs.Sound.{IsSound}
-use Rattle.design.specs.ExpressionSteps.{IsOpOf, Computes, piece}
+use Rattle.design.specs.ExpressionSteps.{IsOpOf, Computes, span_of}
 use Rattle.design.specs.CodePlaces.{remainder_at, IsPlaceOf, statement_count}
 use Rattle.design.specs.Compiled.{Compiled, design_of}
 
@@ -30,11 +30,11 @@ IsTest design place c rest first second =
     × (second ≡ rest)))
 
 -- these pieces of lines are those of a format, each conversion with the steps of its argument (17.1.1)
-abbrev pub IsLine : List ℕ → List Op → List Shown → List Piece → Expressions ℕ → Type 0
+abbrev pub IsLine : List ℕ → List Op → List LinePiece → List Piece → Expressions ℕ → Type 0
 IsLine widths ops [] [] Nothing = Unit {0}
 IsLine widths ops (shown.Byte b ∷ ss) (Byte c ∷ ps) es = (b ≡ c) × IsLine widths ops ss ps es
 IsLine widths ops (shown.Value conversion span ∷ ss) (Argument c ∷ ps) (Also e es) =
-    (conversion_of conversion ≡ c) × Computes (piece ops span) (λ values. own_value widths values e) (registers_of e) × IsLine widths ops ss ps es
+    (conversion_of conversion ≡ c) × Computes (span_of ops span) (λ values. own_value widths values e) (registers_of e) × IsLine widths ops ss ps es
 IsLine widths ops ss ps es = ⊥
 
 -- A node of the process with number p does what the first part of this remainder does, and leads to places of the
@@ -51,21 +51,21 @@ IsFine code p (node.Assign q span next) left =
     (place : ℕ) × ((e : Expression ℕ) × (
     (left ≡ At place ∷ remainder_at (design_of code) next)
     × (statement_at (design_of code) place ≡ tree.Assign q e)
-    × Computes (piece code.ops span) (λ values. assigned_value code.widths values q e) (registers_of e)
+    × Computes (span_of code.ops span) (λ values. assigned_value code.widths values q e) (registers_of e)
     × (q < length code.widths)
     × IsPlaceOf (design_of code) p next))
 IsFine code p (node.AssignAfter q delay span next) left =
     (place : ℕ) × ((e : Expression ℕ) × (
     (left ≡ At place ∷ remainder_at (design_of code) next)
     × (statement_at (design_of code) place ≡ tree.AssignAfter q delay e)
-    × Computes (piece code.ops span) (λ values. assigned_value code.widths values q e) (registers_of e)
+    × Computes (span_of code.ops span) (λ values. assigned_value code.widths values q e) (registers_of e)
     × (q < length code.widths)
     × IsPlaceOf (design_of code) p next))
 IsFine code p (node.AssignLater q delay span next) left =
     (place : ℕ) × ((e : Expression ℕ) × (
     (left ≡ At place ∷ remainder_at (design_of code) next)
     × (statement_at (design_of code) place ≡ tree.AssignLater q delay e)
-    × Computes (piece code.ops span) (λ values. assigned_value code.widths values q e) (registers_of e)
+    × Computes (span_of code.ops span) (λ values. assigned_value code.widths values q e) (registers_of e)
     × (q < length code.widths)
     × IsPlaceOf (design_of code) p next))
 IsFine code p (node.Delay delay next) left =
@@ -84,7 +84,7 @@ IsFine code p (node.Await control next) left =
 IsFine code p (node.Branch span taken missed) left =
     (place : ℕ) × ((c : Expression ℕ) × ((rest : Remainder) × (
     (left ≡ At place ∷ rest)
-    × Computes (piece code.ops span) (λ values. own_value code.widths values c) (registers_of c)
+    × Computes (span_of code.ops span) (λ values. own_value code.widths values c) (registers_of c)
     × IsTest (design_of code) place c rest (remainder_at (design_of code) taken) (remainder_at (design_of code) missed)
     × IsPlaceOf (design_of code) p taken
     × IsPlaceOf (design_of code) p missed)))
@@ -92,7 +92,7 @@ IsFine code p (node.Print task span next) left =
     (place : ℕ) × ((format : List Piece) × ((arguments : Expressions ℕ) × (
     (left ≡ At place ∷ remainder_at (design_of code) next)
     × (statement_at (design_of code) place ≡ tree.Print task format arguments)
-    × IsLine code.widths code.ops (piece code.shown span) format arguments
+    × IsLine code.widths code.ops (span_of code.shown span) format arguments
     × IsPlaceOf (design_of code) p next)))
 IsFine code p (node.Finish next) left =
     (place : ℕ) × ((left ≡ At place ∷ remainder_at (design_of code) next)

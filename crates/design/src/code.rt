@@ -5,7 +5,7 @@ ghost use Rattle.logic4.specs.Vector.{greatest_width, AreWithin};
 
 use crate::ascii::Ascii;
 use crate::control::{Control, RegId};
-use crate::halved::Halved;
+use crate::packed_bits::PackedBits;
 use crate::tree::Conversion;
 use logic4::bits::Bits;
 use model::tree::{BinaryOperator, Task, UnaryOperator};
@@ -118,7 +118,7 @@ pub struct Span {
 
 /// A piece of a line (17.1.1): a byte as it is, or the value of an expression.
 #[derive(Clone, Copy)]
-pub enum Shown {
+pub enum LinePiece {
     Byte(Ascii),
     Value { conversion: Conversion, value: Span },
 }
@@ -189,7 +189,7 @@ pub enum Node {
 #[derive(Clone, Copy, PartialEq, Eq, Debug)]
 pub struct ProcState {
     pub place: usize,
-    pub pending: Option<(RegId, Halved)>,
+    pub pending: Option<(RegId, PackedBits)>,
 }
 
 impl ProcState {
@@ -201,7 +201,7 @@ impl ProcState {
     }
 }
 
-fn same_pending(left: Option<(RegId, Halved)>, right: Option<(RegId, Halved)>) -> bool
+fn same_pending(left: Option<(RegId, PackedBits)>, right: Option<(RegId, PackedBits)>) -> bool
     ensures { IsTrue result ↔ (left ≡ right) }
 {
     match (left, right) {

@@ -7,9 +7,9 @@ ghost use Rattle.logic4.specs.Vector.{AreWithin, greatest_width};
 ghost use Rattle.design.specs.Sound.{IsSound};
 ghost use Rattle.design.specs.Compiled.{design_of};
 ghost use Rattle.design.specs.Meaning.{IsCompiled};
-ghost use Rattle.design.specs.DesignInvariant.{remainder_of, controls_of, IsStateOf};
+ghost use Rattle.design.specs.DesignInvariant.{remainder_of_state, controls_of, IsStateOf};
 
-use crate::code::{Node, Op, ProcState, Shown};
+use crate::code::{LinePiece, Node, Op, ProcState};
 use crate::control::{Control, RegId};
 use crate::emitter::Emitter;
 use crate::processes::emit_processes;
@@ -26,7 +26,7 @@ pub struct Design {
     processes: Vec<Process>,
     nodes: Vec<Node>,
     ops: Vec<Op>,
-    shown: Vec<Shown>,
+    shown: Vec<LinePiece>,
     controls: Vec<Control>,
     starts: Vec<usize>,
 }
@@ -86,7 +86,7 @@ impl Design {
     pub fn first(&self, process: u32) -> ProcState
         requires { process < length self.now.processes }
         ensures state { IsStateOf self.now process result }
-        ensures whole { remainder_of self.now result ≡ whole (design_of self.now) process }
+        ensures whole { remainder_of_state self.now result ≡ whole (design_of self.now) process }
     {
         ProcState {
             place: self.starts[process as usize],
@@ -136,7 +136,7 @@ impl Design {
     }
 
     /// The pieces of all lines.
-    pub fn shown(&self) -> &[Shown]
+    pub fn shown(&self) -> &[LinePiece]
         ensures { result.now ≡ self.entry.now.shown }
     {
         self.shown.as_slice()

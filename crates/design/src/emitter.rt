@@ -10,7 +10,7 @@ ghost use Rattle.design.specs.Extents.{AreMeasured, AreMeasuredInside, extent_of
 ghost use Rattle.design.specs.Emit.{with_node, with_control, with_valued, with_statement, with_all, first_of, next_of};
 ghost use Rattle.design.specs.Emitter.{emitted_of, assign_node};
 
-use crate::code::{Node, Op, Shown, Span};
+use crate::code::{LinePiece, Node, Op, Span};
 use crate::control::{Control, RegId, Trigger};
 use crate::extents::Extent;
 use crate::room::room_of;
@@ -22,7 +22,7 @@ use std::alloc::{AllocError, Global};
 pub struct Emitter {
     pub nodes: Vec<Node>,
     pub ops: Vec<Op>,
-    pub shown: Vec<Shown>,
+    pub shown: Vec<LinePiece>,
     pub controls: Vec<Control>,
 }
 
@@ -45,29 +45,29 @@ fn next_of(table: &[Extent], place: usize, statements: &[Statement], after: usiz
 
 // How the value of an assignment comes into its register: at once (9.2.1), after a wait (9.7.7), or by an update event (9.2.2).
 #[derive(Clone, Copy)]
-pub(crate) enum Manner {
+pub(crate) enum AssignmentKind {
     AtOnce,
     After(u32),
     Later(u32),
 }
 
 // The node of an assignment.
-fn assign_node(manner: Manner, register: RegId, value: Span, next: usize) -> Node
-    ensures { result ≡ assign_node manner register value next }
+fn assign_node(assignment_kind: AssignmentKind, register: RegId, value: Span, next: usize) -> Node
+    ensures { result ≡ assign_node assignment_kind register value next }
 {
-    match manner {
-        Manner::AtOnce => Node::Assign {
+    match assignment_kind {
+        AssignmentKind::AtOnce => Node::Assign {
             register,
             value,
             next,
         },
-        Manner::After(delay) => Node::AssignAfter {
+        AssignmentKind::After(delay) => Node::AssignAfter {
             register,
             delay,
             value,
             next,
         },
-        Manner::Later(delay) => Node::AssignLater {
+        AssignmentKind::Later(delay) => Node::AssignLater {
             register,
             delay,
             value,
@@ -196,18 +196,18 @@ impl Emitter {
         &mut self,
         widths: &[u32],
         register: RegId,
-        manner: Manner,
+        assignment_kind: AssignmentKind,
         value: &Expression,
         next: usize,
     ) -> Result<(), AllocError>
         requires declared { register < length widths.now }
         requires sound { IsSoundExpression widths.now (expression_of value.now) }
         requires widths { AreWidths widths.now }
-        ensures node { OnOk result (emitted_of self.new ≡ with_valued (emitted_of self.old) (assigned_code widths.now register (expression_of value.now)) (λ s. assign_node manner register s next)) }
+        ensures node { OnOk result (emitted_of self.new ≡ with_valued (emitted_of self.old) (assigned_code widths.now register (expression_of value.now)) (λ s. assign_node assignment_kind register s next)) }
         ensures length { OnOk result (length self.new.nodes.items ≡ length self.old.nodes.items + 1) }
     {
         let value = self.assigned(widths, register, value)?;
-        self.put(assign_node(manner, register, value, next))
+        self.put(assign_node(assignment_kind, register, value, next))
     }
 
     // A statement and those inside it, which lead to the next place.
@@ -229,13 +229,25 @@ impl Emitter {
         match statement {
             Statement::Empty => self.put(Node::Skip { next }),
             Statement::Assign(register, value) => {
-                self.assign(widths, *register, Manner::AtOnce, value, next)
+                self.assign(widths, *register, AssignmentKind::AtOnce, value, next)
             }
             Statement::AssignAfter(register, delay, value) => {
-                self.assign(widths, *register, Manner::After(*delay), value, next)
+                self.assign(
+                    widths,
+                    *register,
+                    AssignmentKind::After(*delay),
+                    value,
+                    next,
+                )
             }
             Statement::AssignLater(register, delay, value) => {
-                self.assign(widths, *register, Manner::Later(*delay), value, next)
+                self.assign(
+                    widths,
+                    *register,
+                    AssignmentKind::Later(*delay),
+                    value,
+                    next,
+                )
             }
             Statement::Delay(delay, body) => {
                 self.delay(*delay, body, next)?;

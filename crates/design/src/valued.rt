@@ -5,10 +5,10 @@ ghost use Rattle.model.specs.Elaboration.{argument_count};
 ghost use Rattle.design.specs.Sound.{AreWidths, IsSoundExpression, AreSoundExpressions, how_many};
 ghost use Rattle.design.specs.DesignTrees.{expression_of, expressions_of, piece_of};
 ghost use Rattle.design.specs.Generate.{own_code, assigned_code};
-ghost use Rattle.design.specs.Emit.{with_ops, with_shown, with_line, span_behind};
+ghost use Rattle.design.specs.Emit.{with_ops, with_shown, with_line_code, span_behind};
 ghost use Rattle.design.specs.Emitter.{emitted_of};
 
-use crate::code::{Shown, Span};
+use crate::code::{LinePiece, Span};
 use crate::control::RegId;
 use crate::emitter::Emitter;
 use crate::expressions::{emit_assigned, emit_own};
@@ -50,7 +50,7 @@ impl Emitter {
         Ok(Span { from, to })
     }
 
-    fn show(&mut self, shown: Shown) -> Result<(), AllocError>
+    fn show(&mut self, shown: LinePiece) -> Result<(), AllocError>
         ensures shown { OnOk result (emitted_of self.new ≡ with_shown (emitted_of self.old) shown) }
         ensures nodes { OnOk result (length self.new.nodes.items ≡ length self.old.nodes.items) }
     {
@@ -70,17 +70,17 @@ impl Emitter {
         requires sound { AreSoundExpressions widths.now (expressions_of arguments.now) }
         requires widths { AreWidths widths.now }
         ensures used { IfOk result (λ n. n ≡ next + argument_count (piece_of piece ∷ [])) }
-        ensures line { IfOk result (λ n. (ps : List model.Piece) → with_line widths.now (emitted_of self.new) ps (expressions_of (drop n arguments.now)) ≡ with_line widths.now (emitted_of self.old) (piece_of piece ∷ ps) (expressions_of (drop next arguments.now))) }
+        ensures line { IfOk result (λ n. (ps : List model.Piece) → with_line_code widths.now (emitted_of self.new) ps (expressions_of (drop n arguments.now)) ≡ with_line_code widths.now (emitted_of self.old) (piece_of piece ∷ ps) (expressions_of (drop next arguments.now))) }
         ensures nodes { IfOk result (λ s. length self.new.nodes.items ≡ length self.old.nodes.items) }
     {
         match piece {
             Piece::Byte(byte) => {
-                self.show(Shown::Byte(byte))?;
+                self.show(LinePiece::Byte(byte))?;
                 Ok(next)
             }
             Piece::Argument(conversion) => {
                 let value = self.own(widths, &arguments[next])?;
-                self.show(Shown::Value { conversion, value })?;
+                self.show(LinePiece::Value { conversion, value })?;
                 Ok(next + 1)
             }
         }
@@ -96,7 +96,7 @@ impl Emitter {
         requires count { argument_count (map piece_of format.now) ≡ how_many (expressions_of arguments.now) }
         requires sound { AreSoundExpressions widths.now (expressions_of arguments.now) }
         requires widths { AreWidths widths.now }
-        ensures line { IfOk result (λ s. emitted_of self.new ≡ with_line widths.now (emitted_of self.old) (map piece_of format.now) (expressions_of arguments.now)) }
+        ensures line { IfOk result (λ s. emitted_of self.new ≡ with_line_code widths.now (emitted_of self.old) (map piece_of format.now) (expressions_of arguments.now)) }
         ensures span { IfOk result (λ s. s ≡ record { from = length self.old.shown.items; to = length self.new.shown.items }) }
         ensures nodes { IfOk result (λ s. length self.new.nodes.items ≡ length self.old.nodes.items) }
     {

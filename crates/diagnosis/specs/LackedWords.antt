@@ -11,17 +11,17 @@ abbrev pub Table : Type 0
 Table = List (List ℕ × Advice)
 
 -- The words that the language lacks.
-unfoldable pub words : Table
-words =
+unfoldable pub lacked_words : Table
+lacked_words =
     (codes "case", advice.Choice) ∷ (codes "casex", advice.Choice) ∷ (codes "casez", advice.Choice) ∷ (codes "endcase", advice.Choice) ∷ (codes "default", advice.Choice) ∷
     (codes "for", advice.Loop) ∷ (codes "repeat", advice.Loop) ∷ (codes "forever", advice.Loop) ∷
     (codes "input", advice.OneModule) ∷ (codes "output", advice.OneModule) ∷ (codes "inout", advice.OneModule) ∷ (codes "parameter", advice.OneModule) ∷ (codes "localparam", advice.OneModule) ∷
     (codes "defparam", advice.OneModule) ∷ (codes "generate", advice.OneModule) ∷ (codes "endgenerate", advice.OneModule) ∷ (codes "genvar", advice.OneModule) ∷ (codes "macromodule", advice.OneModule) ∷
     (codes "primitive", advice.OneModule) ∷ (codes "endprimitive", advice.OneModule) ∷ (codes "specify", advice.OneModule) ∷ (codes "endspecify", advice.OneModule) ∷
-    (codes "wire", advice.Net) ∷ (codes "wand", advice.Net) ∷ (codes "wor", advice.Net) ∷ (codes "tri", advice.Net) ∷ (codes "tri0", advice.Net) ∷
-    (codes "tri1", advice.Net) ∷ (codes "triand", advice.Net) ∷ (codes "trior", advice.Net) ∷ (codes "trireg", advice.Net) ∷ (codes "uwire", advice.Net) ∷
-    (codes "supply0", advice.Net) ∷ (codes "supply1", advice.Net) ∷ (codes "assign", advice.Net) ∷ (codes "deassign", advice.Net) ∷ (codes "force", advice.Net) ∷
-    (codes "release", advice.Net) ∷
+    (codes "wire", advice.TurnChange) ∷ (codes "wand", advice.TurnChange) ∷ (codes "wor", advice.TurnChange) ∷ (codes "tri", advice.TurnChange) ∷ (codes "tri0", advice.TurnChange) ∷
+    (codes "tri1", advice.TurnChange) ∷ (codes "triand", advice.TurnChange) ∷ (codes "trior", advice.TurnChange) ∷ (codes "trireg", advice.TurnChange) ∷ (codes "uwire", advice.TurnChange) ∷
+    (codes "supply0", advice.TurnChange) ∷ (codes "supply1", advice.TurnChange) ∷ (codes "assign", advice.TurnChange) ∷ (codes "deassign", advice.TurnChange) ∷ (codes "force", advice.TurnChange) ∷
+    (codes "release", advice.TurnChange) ∷
     (codes "and", advice.Gate) ∷ (codes "nand", advice.Gate) ∷ (codes "nor", advice.Gate) ∷ (codes "xor", advice.Gate) ∷ (codes "xnor", advice.Gate) ∷
     (codes "not", advice.Gate) ∷ (codes "buf", advice.Gate) ∷
     (codes "integer", advice.Register) ∷ (codes "real", advice.Register) ∷ (codes "realtime", advice.Register) ∷ (codes "time", advice.Register) ∷
@@ -37,17 +37,17 @@ advice_in [] w = None
 advice_in (row ∷ rows) w = if bytes_eq w row.0 then Some row.1 else advice_in rows w
 
 -- The first byte of a text, 0 where it has none.
-abbrev pub first : List ℕ → ℕ
-first [] = 0
-first (b ∷ bs) = b
+abbrev pub first_byte : List ℕ → ℕ
+first_byte [] = 0
+first_byte (b ∷ bs) = b
 
 -- A system name that the language lacks: a `$`, and what is none of its three names.
 abbrev pub is_system_word : List ℕ → Bool
-is_system_word w = first w == 36 && not (bytes_eq w (codes "$display") || bytes_eq w (codes "$strobe") || bytes_eq w (codes "$finish"))
+is_system_word w = first_byte w == 36 && not (bytes_eq w (codes "$display") || bytes_eq w (codes "$strobe") || bytes_eq w (codes "$finish"))
 
 -- What is written instead of a directive, which a backquote begins, or of a system name; none for every other text.
 abbrev pub advice_by_mark : List ℕ → Option Advice
-advice_by_mark w = if first w == 96 then Some advice.Directive else (if is_system_word w then Some advice.SystemName else None)
+advice_by_mark w = if first_byte w == 96 then Some advice.Directive else (if is_system_word w then Some advice.SystemName else None)
 
 -- The first of two advices, where there is one, else the second.
 abbrev pub first_advice : Option Advice → Option Advice → Option Advice
@@ -56,7 +56,7 @@ first_advice None other = other
 
 -- What is written instead of a word of the table, of another system name that the language lacks, or of a directive; none for every other text.
 unfoldable pub advice_of : List ℕ → Option Advice
-advice_of w = first_advice (advice_in words w) (advice_by_mark w)
+advice_of w = first_advice (advice_in lacked_words w) (advice_by_mark w)
 
 -- A large letter, or _.
 abbrev pub is_large : ℕ → Bool
@@ -71,15 +71,15 @@ has_large based (b ∷ bs) = if based && is_large b then true else has_large (ba
 -- number, a string, a sign, a word or a `:` in square brackets, the word `module`, and no string where a format lacks.
 abbrev pub suits : Advice → List ℕ → Bool
 suits advice.Block text = true
-suits advice.Size text = begins_number (first text)
-suits advice.Digits text = begins_number (first text) && has_large false text
-suits advice.Conversion text = first text == 34
-suits advice.Format text = not (first text == 34)
-suits advice.Triggers text = first text == 42
-suits advice.Operator text = first text == 42 || first text == 47 || first text == 37
-suits advice.Index text = is_letter (first text) || first text == 58
-suits advice.BlockName text = first text == 58
-suits advice.Value text = first text == 61
-suits advice.Memory text = first text == 91
-suits advice.OneModule text = first text == 46 || (first text == 40 || bytes_eq text (codes "module"))
+suits advice.Size text = begins_number (first_byte text)
+suits advice.Digits text = begins_number (first_byte text) && has_large false text
+suits advice.Conversion text = first_byte text == 34
+suits advice.Format text = not (first_byte text == 34)
+suits advice.Triggers text = first_byte text == 42
+suits advice.Operator text = first_byte text == 42 || first_byte text == 47 || first_byte text == 37
+suits advice.Index text = is_letter (first_byte text) || first_byte text == 58
+suits advice.BlockName text = first_byte text == 58
+suits advice.Value text = first_byte text == 61
+suits advice.Memory text = first_byte text == 91
+suits advice.OneModule text = first_byte text == 46 || (first_byte text == 40 || bytes_eq text (codes "module"))
 suits _ text = false

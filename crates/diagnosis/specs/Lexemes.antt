@@ -19,14 +19,14 @@ begins_number b = is_digit b || b == 39
 
 -- n and the length of a string behind its first `"`: up to the next one that isn't escaped, that included, or to the end of
 -- its line.
-abbrev pub string_len : ℕ → Bool → List ℕ → ℕ
-string_len n after [] = n
-string_len n after (b ∷ bs) = if b == 10 then n else (if not after && b == 34 then suc n else string_len (suc n) (not after && b == 92) bs)
+abbrev pub lexeme_string_len : ℕ → Bool → List ℕ → ℕ
+lexeme_string_len n after [] = n
+lexeme_string_len n after (b ∷ bs) = if b == 10 then n else (if not after && b == 34 then suc n else lexeme_string_len (suc n) (not after && b == 92) bs)
 
 -- The length of a lexeme that is no word, number or string: a comment that isn't finished goes to the end.
-abbrev pub sign_len : ℕ → List ℕ → ℕ
-sign_len b [] = 1
-sign_len b (c ∷ cs) = if b == 47 && c == 42 then suc (suc (length cs)) else 1
+abbrev pub lexeme_sign_len : ℕ → List ℕ → ℕ
+lexeme_sign_len b [] = 1
+lexeme_sign_len b (c ∷ cs) = if b == 47 && c == 42 then suc (suc (length cs)) else 1
 
 -- The length of the lexeme at the front; a backquote begins a directive, which goes to the end of its line.
 unfoldable pub lexeme_len : List ℕ → ℕ
@@ -34,9 +34,9 @@ lexeme_len [] = 0
 lexeme_len (b ∷ bs) =
     if begins_word b then suc (span in_word bs)
     else (if begins_number b then suc (span in_number bs)
-    else (if b == 34 then suc (string_len 0 false bs)
+    else (if b == 34 then suc (lexeme_string_len 0 false bs)
     else (if b == 96 then suc (span in_line bs)
-    else sign_len b bs)))
+    else lexeme_sign_len b bs)))
 
 -- The lexemes of a text that begins at a byte: the spaces and comments in front are passed, then one is taken, up to the end.
 pub data AreLexemes : List ℕ → ℕ → List PlainLexeme → Type 0 where

@@ -23,7 +23,7 @@ enum Brackets {
 
 /// How far the head of the last module has come.
 #[derive(Clone, Copy)]
-enum Module {
+enum ModuleHead {
     None,
     /// Up to `module`.
     Word,
@@ -34,7 +34,7 @@ enum Module {
 
 /// Whether a `reg` is being declared.
 #[derive(Clone, Copy)]
-enum Declaration {
+enum DeclarationHead {
     None,
     Register,
     /// Behind a name's `=`.
@@ -43,7 +43,7 @@ enum Declaration {
 
 /// How far the head of a `$display` or a `$strobe` has come.
 #[derive(Clone, Copy)]
-enum Call {
+enum PrintHead {
     None,
     Name,
     /// Up to its parenthesis.
@@ -52,25 +52,25 @@ enum Call {
 
 /// What stands before a lexeme.
 #[derive(Clone, Copy)]
-pub(crate) struct Before<'a> {
+pub(crate) struct LexemeContext<'a> {
     last: &'a [u8],
     /// Whether the last word is one of Verilog behind which a range can stand.
     declares: bool,
     body: Body,
     brackets: Brackets,
-    module: Module,
-    declaration: Declaration,
-    call: Call,
+    module: ModuleHead,
+    declaration: DeclarationHead,
+    call: PrintHead,
 }
 
-pub(crate) const NOTHING: Before<'static> = Before {
+pub(crate) const NOTHING: LexemeContext<'static> = LexemeContext {
     last: b"",
     declares: false,
     body: Body::None,
     brackets: Brackets::None,
-    module: Module::None,
-    declaration: Declaration::None,
-    call: Call::None,
+    module: ModuleHead::None,
+    declaration: DeclarationHead::None,
+    call: PrintHead::None,
 };
 
 fn condition_after(open: usize, text: &[u8]) -> Body {
@@ -94,37 +94,37 @@ fn body_after(body: Body, text: &[u8]) -> Body {
     }
 }
 
-fn module_after(module: Module, text: &[u8]) -> Module {
+fn module_after(module: ModuleHead, text: &[u8]) -> ModuleHead {
     if is_same(text, b"module") {
-        return Module::Word;
+        return ModuleHead::Word;
     }
     match module {
-        Module::None => Module::None,
-        Module::Word => Module::Name,
-        _ => Module::Body,
+        ModuleHead::None => ModuleHead::None,
+        ModuleHead::Word => ModuleHead::Name,
+        _ => ModuleHead::Body,
     }
 }
 
-fn declaration_after(declaration: Declaration, text: &[u8]) -> Declaration {
+fn declaration_after(declaration: DeclarationHead, text: &[u8]) -> DeclarationHead {
     match text {
-        b"reg" => Declaration::Register,
-        b";" | b"initial" | b"always" => Declaration::None,
+        b"reg" => DeclarationHead::Register,
+        b";" | b"initial" | b"always" => DeclarationHead::None,
         _ => match declaration {
-            Declaration::Register if is_same(text, b"=") => Declaration::Value,
-            Declaration::Value if is_same(text, b",") => Declaration::Register,
+            DeclarationHead::Register if is_same(text, b"=") => DeclarationHead::Value,
+            DeclarationHead::Value if is_same(text, b",") => DeclarationHead::Register,
             _ => declaration,
         },
     }
 }
 
-fn call_after(call: Call, text: &[u8]) -> Call {
+fn call_after(call: PrintHead, text: &[u8]) -> PrintHead {
     match text {
-        b"$display" | b"$strobe" => Call::Name,
+        b"$display" | b"$strobe" => PrintHead::Name,
         b"(" => match call {
-            Call::Name => Call::Open,
-            _ => Call::None,
+            PrintHead::Name => PrintHead::Open,
+            _ => PrintHead::None,
         },
-        _ => Call::None,
+        _ => PrintHead::None,
     }
 }
 
@@ -134,7 +134,7 @@ fn has_range(text: &[u8], note: Option<Note>) -> bool {
         None => is_same(text, b"reg"),
         Some(note) => match note.advice {
             Advice::OneModule => true,
-            Advice::Net => true,
+            Advice::TurnChange => true,
             Advice::Register => true,
             Advice::Subroutine => true,
             Advice::Unsigned => true,
@@ -143,10 +143,10 @@ fn has_range(text: &[u8], note: Option<Note>) -> bool {
     }
 }
 
-impl<'a> Before<'a> {
+impl<'a> LexemeContext<'a> {
     /// What stands before the next lexeme, by this one and the note on it.
-    pub(crate) fn after(self, text: &'a [u8], note: Option<Note>) -> Before<'a> {
-        Before {
+    pub(crate) fn after(self, text: &'a [u8], note: Option<Note>) -> LexemeContext<'a> {
+        LexemeContext {
             last: text,
             declares: has_range(text, note),
             body: body_after(self.body, text),
@@ -169,7 +169,7 @@ impl<'a> Before<'a> {
     /// Whether a `reg` is being declared, and no value is given to it.
     pub(crate) fn in_declaration(self) -> bool {
         match self.declaration {
-            Declaration::Register => true,
+            DeclarationHead::Register => true,
             _ => false,
         }
     }
@@ -185,7 +185,7 @@ impl<'a> Before<'a> {
     /// Whether a format has to come.
     pub(crate) fn takes_format(self) -> bool {
         match self.call {
-            Call::Open => true,
+            PrintHead::Open => true,
             _ => false,
         }
     }
@@ -198,7 +198,7 @@ impl<'a> Before<'a> {
     /// Whether a parenthesis begins the ports of a module here.
     pub(crate) fn takes_ports(self) -> bool {
         match self.module {
-            Module::Name => true,
+            ModuleHead::Name => true,
             _ => false,
         }
     }
@@ -216,7 +216,7 @@ impl<'a> Before<'a> {
     /// Whether a module has begun.
     pub(crate) fn has_module(self) -> bool {
         match self.module {
-            Module::None => false,
+            ModuleHead::None => false,
             _ => true,
         }
     }

@@ -34,7 +34,7 @@ pub fn begins_number(b: u8) -> bool
 /// The length of a string behind its first `"`: up to the next one that isn't escaped, that included, or to the end of its line.
 fn string_len(text: &[u8]) -> usize
     ensures within { result ≤ length text.now }
-    ensures value { result ≡ spec.string_len 0 false text.now }
+    ensures value { result ≡ spec.lexeme_string_len 0 false text.now }
 {
     let mut left = text;
     let mut n = 0;

@@ -8,7 +8,7 @@ ghost use Rattle.diagnosis.specs.LackedWords.{advice_of, suits};
 ghost use Rattle.diagnosis.specs.declared.words.Advice.TheVariants.{Format};
 ghost use Rattle.diagnosis.specs.Notes.{IsNoteOf, HasNotes};
 
-use crate::before::{Before, NOTHING};
+use crate::before::{LexemeContext, NOTHING};
 use crate::lexemes::{Lexeme, begins_number, lexemes};
 use crate::words::{Advice, advice_of, is_same};
 use std::alloc::{AllocError, Global};
@@ -75,14 +75,14 @@ fn is_large(b: u8) -> bool
     (b >= b'A' && b <= b'Z') || b == b'_'
 }
 
-fn is_second_module(before: Before<'_>, text: &[u8]) -> bool
+fn is_second_module(before: LexemeContext<'_>, text: &[u8]) -> bool
     ensures { result ≡ true → bytes_eq text.now (codes "module") ≡ true }
 {
     before.has_module() && is_same(text, b"module")
 }
 
 /// Whether a string has to come, and doesn't.
-fn lacks_format(before: Before<'_>, text: &[u8]) -> bool
+fn lacks_format(before: LexemeContext<'_>, text: &[u8]) -> bool
     ensures { result ≡ true → suits Format text.now ≡ true }
 {
     match text {
@@ -92,7 +92,7 @@ fn lacks_format(before: Before<'_>, text: &[u8]) -> bool
 }
 
 /// The advice on a lexeme of one byte, or on a comment that isn't finished, which has none.
-fn advice_on_sign(before: Before<'_>, text: &[u8]) -> Option<Advice>
+fn advice_on_sign(before: LexemeContext<'_>, text: &[u8]) -> Option<Advice>
     ensures { IfSome result (λ advice. suits advice text.now ≡ true) }
 {
     match text {
@@ -111,7 +111,7 @@ fn advice_on_sign(before: Before<'_>, text: &[u8]) -> Option<Advice>
 }
 
 /// The advice on a lexeme that is no word of the table, by what stands before it.
-fn advice_behind(before: Before<'_>, text: &[u8]) -> Option<Advice>
+fn advice_behind(before: LexemeContext<'_>, text: &[u8]) -> Option<Advice>
     ensures { IfSome result (λ advice. suits advice text.now ≡ true) }
 {
     if before.lacks_block(text) {
@@ -142,7 +142,7 @@ fn note_on(lexeme: &Lexeme<'_>, advice: Advice) -> Note
     }
 }
 
-fn note_of(before: Before<'_>, lexeme: &Lexeme<'_>) -> Option<Note>
+fn note_of(before: LexemeContext<'_>, lexeme: &Lexeme<'_>) -> Option<Note>
     ensures { MatchOption result (advice_of (plain_lexeme lexeme.now).text ≡ None) (IsNoteOf (plain_lexeme lexeme.now)) }
 {
     match advice_of(lexeme.text) {

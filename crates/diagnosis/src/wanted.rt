@@ -39,18 +39,18 @@ pub enum Wanted<'a> {
 
 /// Which part of a module a token stands in.
 #[derive(Clone, Copy)]
-enum Part {
+enum ModulePart {
     Header,
     Declaration,
     Statement,
 }
 
-impl Part {
+impl ModulePart {
     /// The part in which the token behind one of this kind stands.
-    fn after(self, kind: Kind) -> Part {
+    fn after(self, kind: Kind) -> ModulePart {
         match kind {
-            Kind::Reg => Part::Declaration,
-            Kind::Semicolon => Part::Statement,
+            Kind::Reg => ModulePart::Declaration,
+            Kind::Semicolon => ModulePart::Statement,
             _ => self,
         }
     }
@@ -121,16 +121,16 @@ fn is_past(behind: &[Spot<'_>], width: u64) -> bool {
     }
 }
 
-fn is_wanted(wanted: Wanted<'_>, part: Part, spot: &Spot<'_>, behind: &[Spot<'_>]) -> bool
+fn is_wanted(wanted: Wanted<'_>, part: ModulePart, spot: &Spot<'_>, behind: &[Spot<'_>]) -> bool
     ensures { result ≡ true → wants wanted.entry (plain_spot spot.now) ≡ true }
 {
     match (wanted, part) {
-        (Wanted::Use(name), Part::Statement) => is_named(spot, name),
-        (Wanted::Select(name, width), Part::Statement) => {
+        (Wanted::Use(name), ModulePart::Statement) => is_named(spot, name),
+        (Wanted::Select(name, width), ModulePart::Statement) => {
             is_named(spot, name) && is_past(behind, width)
         }
-        (Wanted::Declaration(name), Part::Declaration) => is_named(spot, name),
-        (Wanted::Register, Part::Declaration) => is_name(spot.token.kind),
+        (Wanted::Declaration(name), ModulePart::Declaration) => is_named(spot, name),
+        (Wanted::Register, ModulePart::Declaration) => is_name(spot.token.kind),
         (Wanted::Process, _) => is_process(spot.token.kind),
         (Wanted::Call, _) => is_call(spot.token.kind) && is_misfit(behind),
         (Wanted::LongDelay, _) => spot.token.value() > LONGEST_DELAY,
@@ -141,12 +141,12 @@ fn is_wanted(wanted: Wanted<'_>, part: Part, spot: &Spot<'_>, behind: &[Spot<'_>
 /// One more than the greatest index of a register: 0 where it has no range.
 fn indexes_of(spots: &[Spot<'_>], name: &str) -> u64 {
     let mut left = spots;
-    let mut part = Part::Header;
+    let mut part = ModulePart::Header;
     let mut width = 0;
     while let [spot, rest @ ..] = left {
         match (part, spot.token.kind) {
             (_, Kind::Reg) => width = width_at(rest),
-            (Part::Declaration, _) if is_named(spot, name) => return width,
+            (ModulePart::Declaration, _) if is_named(spot, name) => return width,
             _ => {}
         }
         part = part.after(spot.token.kind);
@@ -171,7 +171,7 @@ fn find(spots: &[Spot<'_>], wanted: Wanted<'_>, passed: usize) -> Option<usize>
     ensures { IfSome result (λ byte. IsSpotAt (wants wanted.entry) (map plain_spot spots.now) byte) }
 {
     let mut left = spots;
-    let mut part = Part::Header;
+    let mut part = ModulePart::Header;
     let mut to_pass = passed;
     while let [spot, rest @ ..] = left {
         if is_wanted(wanted, part, spot, rest) {

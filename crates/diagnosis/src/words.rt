@@ -16,7 +16,7 @@ pub enum Advice {
     /// For ports, parameters and instances (12).
     OneModule,
     /// For nets and continuous assignments (4.2, 6.1).
-    Net,
+    TurnChange,
     /// For gates (7).
     Gate,
     /// For other variables than `reg` (4.8).
@@ -67,7 +67,8 @@ impl fmt::Display for Advice {
             Advice::Choice => "no `case`: write `if` and `else`, each with `begin` and `end`",
             Advice::Loop => "this loop is not in the language: write `while`",
             Advice::OneModule => "no ports, parameters or instances: write one module of `reg`s",
-            Advice::Net => "no nets: write a `reg`, and `always begin y = a & b; @(a or b); end`",
+            Advice::TurnChange =>
+                "no nets: write a `reg`, and `always begin y = a & b; @(a or b); end`",
             Advice::Gate =>
                 "no gates: write a `reg`, and `always begin y = ~(a & b); @(a or b); end`",
             Advice::Register =>
@@ -126,22 +127,22 @@ const WORDS: &[(&[u8], Advice)] = &[
     (b"endprimitive", Advice::OneModule),
     (b"specify", Advice::OneModule),
     (b"endspecify", Advice::OneModule),
-    (b"wire", Advice::Net),
-    (b"wand", Advice::Net),
-    (b"wor", Advice::Net),
-    (b"tri", Advice::Net),
-    (b"tri0", Advice::Net),
-    (b"tri1", Advice::Net),
-    (b"triand", Advice::Net),
-    (b"trior", Advice::Net),
-    (b"trireg", Advice::Net),
-    (b"uwire", Advice::Net),
-    (b"supply0", Advice::Net),
-    (b"supply1", Advice::Net),
-    (b"assign", Advice::Net),
-    (b"deassign", Advice::Net),
-    (b"force", Advice::Net),
-    (b"release", Advice::Net),
+    (b"wire", Advice::TurnChange),
+    (b"wand", Advice::TurnChange),
+    (b"wor", Advice::TurnChange),
+    (b"tri", Advice::TurnChange),
+    (b"tri0", Advice::TurnChange),
+    (b"tri1", Advice::TurnChange),
+    (b"triand", Advice::TurnChange),
+    (b"trior", Advice::TurnChange),
+    (b"trireg", Advice::TurnChange),
+    (b"uwire", Advice::TurnChange),
+    (b"supply0", Advice::TurnChange),
+    (b"supply1", Advice::TurnChange),
+    (b"assign", Advice::TurnChange),
+    (b"deassign", Advice::TurnChange),
+    (b"force", Advice::TurnChange),
+    (b"release", Advice::TurnChange),
     (b"and", Advice::Gate),
     (b"nand", Advice::Gate),
     (b"nor", Advice::Gate),
@@ -172,7 +173,7 @@ const WORDS: &[(&[u8], Advice)] = &[
 
 /// The advice on a word of the table.
 fn advice_in_table(text: &[u8]) -> Option<Advice>
-    ensures { result ≡ spec.advice_in spec.words text.now }
+    ensures { result ≡ spec.advice_in spec.lacked_words text.now }
 {
     let mut left = WORDS;
     while let [(word, advice), rest @ ..] = left {

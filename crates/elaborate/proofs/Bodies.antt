@@ -20,6 +20,6 @@ pub followed_by_end : (a : Statements) → followed_by a End ≡ a
 followed_by_end End = refl
 followed_by_end (Then s a) = ap (Then s) (followed_by_end a)
 
-pub resolved_are : (ds : List Declared) (es : List (Expression Text)) → all_resolved ds (source.expressions es) ≡ tree.expressions (map (resolved ds) es)
+pub resolved_are : (ds : List Declared) (es : List (Expression Text)) → all_resolved ds (source.source_expressions es) ≡ tree.expressions (map (resolved ds) es)
 resolved_are ds [] = refl
 resolved_are ds (e ∷ es) = ap (Also (resolved ds e)) (resolved_are ds es)

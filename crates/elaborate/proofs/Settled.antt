@@ -8,22 +8,22 @@ use Rattle.model.specs.Elaboration as model
 use Rattle.model.specs.Elaboration.{Fault, Declared, is_declared, is_range, is_index, range_of, parts_size, most_registers, most_processes, greatest_delay, count_of, is_format_for, pieces_of, fault_where, undeclared, declaration_faults, expression_faults, all_expression_faults, delay_faults, statement_faults, all_statement_faults, names_in, all_names_in, faults, declared}
 use Rattle.elaborate.specs.declared.fault.ElabFault.{ElabFault}
 use Rattle.elaborate.specs.declared.fault.ElabFault.TheVariants as fault
-use Rattle.elaborate.specs.ModuleFaults.{first, IsFirstFault}
-use Rattle.elaborate.specs.FirstFindings.{or_else, found_where, unknown, unknown_among, used, all_used, used_in, all_used_in, used_by, found_name, found_names, found_concat, found, all_found, found_delay, found_format, found_in, all_found_in, found_by, found_among, found_module, IsFirstOf}
+use Rattle.elaborate.specs.ModuleFaults.{first_of_faults, IsFirstFault}
+use Rattle.elaborate.specs.FirstFindings.{or_fault, found_where, undeclared_fault, unknown_among, used, all_used, used_in, all_used_in, used_by, found_name, found_names, found_concat, found, all_found, found_delay, found_format, found_in, all_found_in, found_by, found_among, found_module, IsFirstOf}
 
 -- What is found first settles the faults: where nothing is found there is none, and a fault that is found is the first.
 abbrev pub Settles : Option Fault → List Fault → Type 0
 Settles None fs = fs ≡ []
-Settles (Some f) fs = first fs ≡ Some f
+Settles (Some f) fs = first_of_faults fs ≡ Some f
 
-first_append : (fs gs : List Fault) (f : Fault) → first fs ≡ Some f → first (fs ++ gs) ≡ Some f
+first_append : (fs gs : List Fault) (f : Fault) → first_of_faults fs ≡ Some f → first_of_faults (fs ++ gs) ≡ Some f
 first_append [] gs f h = absurd cc
 first_append (x ∷ fs) gs f h = h
 
 -- one walk behind another
-pub behind : (o p : Option Fault) (fs gs : List Fault) → Settles o fs → Settles p gs → Settles (or_else o p) (fs ++ gs)
+pub behind : (o p : Option Fault) (fs gs : List Fault) → Settles o fs → Settles p gs → Settles (or_fault o p) (fs ++ gs)
 behind None None fs gs x y = ap (λ xs. xs ++ gs) x ∙ y
-behind None (Some f) fs gs x y = ap (λ xs. first (xs ++ gs)) x ∙ y
+behind None (Some f) fs gs x y = ap (λ xs. first_of_faults (xs ++ gs)) x ∙ y
 behind (Some f) p fs gs x y = first_append fs gs f x
 
 -- a fault where a condition holds
@@ -42,21 +42,21 @@ declarations_settle before (d ∷ ds) =
     let o2 = found_where (not (is_range d.1)) (model.BadRange d.0) in
     let o3 = found_where (nat_le most_registers (length before)) model.TooManyRegisters in
     let one : Settles (found_name before d) (twice ++ (range ++ many)) =
-    behind o1 (or_else o2 o3) twice (range ++ many) (at (is_declared before d.0) (model.DeclaredTwice d.0))
+    behind o1 (or_fault o2 o3) twice (range ++ many) (at (is_declared before d.0) (model.DeclaredTwice d.0))
     (behind o2 o3 range many (at (not (is_range d.1)) (model.BadRange d.0)) (at (nat_le most_registers (length before)) model.TooManyRegisters)) in
     let rest = declaration_faults (before ++ d ∷ []) ds in
     let whole = behind (found_name before d) (found_names (before ++ d ∷ []) ds) (twice ++ (range ++ many)) rest one (declarations_settle (before ++ d ∷ []) ds) in
     subst (λ fs. Settles (found_names before (d ∷ ds)) fs) (append_assoc twice (range ++ many) rest ∙ ap (λ fs. twice ++ fs) (append_assoc range many rest)) whole
 
 -- the names of an expression
-pub name_settles : (ds : List Declared) (name : Text) → Settles (unknown ds name) (flat_map (undeclared ds) (name ∷ []))
-name_settles ds name = subst (λ fs. Settles (unknown ds name) fs) (sym (append-nil (undeclared ds name))) (at (not (is_declared ds name)) (model.Undeclared name))
+pub name_settles : (ds : List Declared) (name : Text) → Settles (undeclared_fault ds name) (flat_map (undeclared ds) (name ∷ []))
+name_settles ds name = subst (λ fs. Settles (undeclared_fault ds name) fs) (sym (append-nil (undeclared ds name))) (at (not (is_declared ds name)) (model.Undeclared name))
 
 -- names, and then others
 names_behind : (ds : List Declared) (o p : Option Fault) (xs ys : List Text) → Settles o (flat_map (undeclared ds) xs) → Settles p (flat_map (undeclared ds) ys)
-    → Settles (or_else o p) (flat_map (undeclared ds) (xs ++ ys))
+    → Settles (or_fault o p) (flat_map (undeclared ds) (xs ++ ys))
 names_behind ds o p xs ys x y =
-    subst (λ fs. Settles (or_else o p) fs) (sym (flat_map-append (undeclared ds) xs ys)) (behind o p (flat_map (undeclared ds) xs) (flat_map (undeclared ds) ys) x y)
+    subst (λ fs. Settles (or_fault o p) fs) (sym (flat_map-append (undeclared ds) xs ys)) (behind o p (flat_map (undeclared ds) xs) (flat_map (undeclared ds) ys) x y)
 
 mutual
   pub used_settles : (ds : List Declared) (e : Expression Text) → Settles (used ds e) (flat_map (undeclared ds) (registers_of e))
@@ -67,7 +67,7 @@ mutual
   used_settles ds (Unary op e) = used_settles ds e
   used_settles ds (Binary op e f) = names_behind ds (used ds e) (used ds f) (registers_of e) (registers_of f) (used_settles ds e) (used_settles ds f)
   used_settles ds (Conditional c e f) =
-      names_behind ds (used ds c) (or_else (used ds e) (used ds f)) (registers_of c) (registers_of e ++ registers_of f) (used_settles ds c)
+      names_behind ds (used ds c) (or_fault (used ds e) (used ds f)) (registers_of c) (registers_of e ++ registers_of f) (used_settles ds c)
       (names_behind ds (used ds e) (used ds f) (registers_of e) (registers_of f) (used_settles ds e) (used_settles ds f))
 
   pub all_used_settle : (ds : List Declared) (es : Expressions Text) → Settles (all_used ds es) (flat_map (undeclared ds) (all_registers_of es))
@@ -76,30 +76,30 @@ mutual
 
 pub names_settle : (ds : List Declared) (names : List Text) → Settles (unknown_among ds names) (flat_map (undeclared ds) names)
 names_settle ds [] = refl
-names_settle ds (name ∷ names) = behind (unknown ds name) (unknown_among ds names) (undeclared ds name) (flat_map (undeclared ds) names) (at (not (is_declared ds name)) (model.Undeclared name)) (names_settle ds names)
+names_settle ds (name ∷ names) = behind (undeclared_fault ds name) (unknown_among ds names) (undeclared ds name) (flat_map (undeclared ds) names) (at (not (is_declared ds name)) (model.Undeclared name)) (names_settle ds names)
 
 mutual
-  pub used_in_settles : (ds : List Declared) (s : source.Statement) → Settles (used_in ds s) (flat_map (undeclared ds) (names_in s))
+  pub used_in_settles : (ds : List Declared) (s : source.SourceStatement) → Settles (used_in ds s) (flat_map (undeclared ds) (names_in s))
   used_in_settles ds source.Empty = refl
   used_in_settles ds (source.Block body) = all_used_in_settle ds body
-  used_in_settles ds (source.Assign name delay e) = names_behind ds (unknown ds name) (used ds e) (name ∷ []) (registers_of e) (name_settles ds name) (used_settles ds e)
-  used_in_settles ds (source.AssignLater name delay e) = names_behind ds (unknown ds name) (used ds e) (name ∷ []) (registers_of e) (name_settles ds name) (used_settles ds e)
+  used_in_settles ds (source.Assign name delay e) = names_behind ds (undeclared_fault ds name) (used ds e) (name ∷ []) (registers_of e) (name_settles ds name) (used_settles ds e)
+  used_in_settles ds (source.AssignLater name delay e) = names_behind ds (undeclared_fault ds name) (used ds e) (name ∷ []) (registers_of e) (name_settles ds name) (used_settles ds e)
   used_in_settles ds (source.Delay delay s) = used_in_settles ds s
   used_in_settles ds (source.Await triggers s) =
       names_behind ds (unknown_among ds (map (λ t. t.1) triggers)) (used_in ds s) (map (λ t. t.1) triggers) (names_in s) (names_settle ds (map (λ t. t.1) triggers)) (used_in_settles ds s)
   used_in_settles ds (source.If c body) = names_behind ds (used ds c) (all_used_in ds body) (registers_of c) (all_names_in body) (used_settles ds c) (all_used_in_settle ds body)
   used_in_settles ds (source.IfElse c body otherwise) =
-      names_behind ds (used ds c) (or_else (all_used_in ds body) (all_used_in ds otherwise)) (registers_of c) (all_names_in body ++ all_names_in otherwise) (used_settles ds c)
+      names_behind ds (used ds c) (or_fault (all_used_in ds body) (all_used_in ds otherwise)) (registers_of c) (all_names_in body ++ all_names_in otherwise) (used_settles ds c)
       (names_behind ds (all_used_in ds body) (all_used_in ds otherwise) (all_names_in body) (all_names_in otherwise) (all_used_in_settle ds body) (all_used_in_settle ds otherwise))
   used_in_settles ds (source.While c body) = names_behind ds (used ds c) (all_used_in ds body) (registers_of c) (all_names_in body) (used_settles ds c) (all_used_in_settle ds body)
   used_in_settles ds (source.Print task format arguments) = all_used_settle ds arguments
   used_in_settles ds source.Finish = refl
 
-  pub all_used_in_settle : (ds : List Declared) (ss : source.Statements) → Settles (all_used_in ds ss) (flat_map (undeclared ds) (all_names_in ss))
+  pub all_used_in_settle : (ds : List Declared) (ss : source.SourceStatements) → Settles (all_used_in ds ss) (flat_map (undeclared ds) (all_names_in ss))
   all_used_in_settle ds source.End = refl
   all_used_in_settle ds (source.Then s ss) = names_behind ds (used_in ds s) (all_used_in ds ss) (names_in s) (all_names_in ss) (used_in_settles ds s) (all_used_in_settle ds ss)
 
-pub used_by_settle : (ds : List Declared) (ps : List source.Process) → Settles (used_by ds ps) (flat_map (undeclared ds) (flat_map (λ p. names_in p.body) ps))
+pub used_by_settle : (ds : List Declared) (ps : List source.SourceProcess) → Settles (used_by ds ps) (flat_map (undeclared ds) (flat_map (λ p. names_in p.body) ps))
 used_by_settle ds [] = refl
 used_by_settle ds (p ∷ ps) = names_behind ds (used_in ds p.body) (used_by ds ps) (names_in p.body) (flat_map (λ p. names_in p.body) ps) (used_in_settles ds p.body) (used_by_settle ds ps)
 
@@ -114,7 +114,7 @@ mutual
   found_settles ds (Unary op e) = found_settles ds e
   found_settles ds (Binary op e f) = behind (found ds e) (found ds f) (expression_faults ds e) (expression_faults ds f) (found_settles ds e) (found_settles ds f)
   found_settles ds (Conditional c e f) =
-      behind (found ds c) (or_else (found ds e) (found ds f)) (expression_faults ds c) (expression_faults ds e ++ expression_faults ds f) (found_settles ds c)
+      behind (found ds c) (or_fault (found ds e) (found ds f)) (expression_faults ds c) (expression_faults ds e ++ expression_faults ds f) (found_settles ds c)
       (behind (found ds e) (found ds f) (expression_faults ds e) (expression_faults ds f) (found_settles ds e) (found_settles ds f))
 
   pub all_found_settle : (ds : List Declared) (es : Expressions Text) → Settles (all_found ds es) (all_expression_faults ds es)
@@ -126,7 +126,7 @@ delay_settles None = refl
 delay_settles (Some delay) = at (nat_lt greatest_delay delay) model.LongDelay
 
 mutual
-  pub found_in_settles : (ds : List Declared) (s : source.Statement) → Settles (found_in ds s) (statement_faults ds s)
+  pub found_in_settles : (ds : List Declared) (s : source.SourceStatement) → Settles (found_in ds s) (statement_faults ds s)
   found_in_settles ds source.Empty = refl
   found_in_settles ds (source.Block body) = all_found_in_settle ds body
   found_in_settles ds (source.Assign name delay e) =
@@ -139,7 +139,7 @@ mutual
   found_in_settles ds (source.If c body) =
       behind (found ds c) (all_found_in ds body) (expression_faults ds c) (all_statement_faults ds body) (found_settles ds c) (all_found_in_settle ds body)
   found_in_settles ds (source.IfElse c body otherwise) =
-      behind (found ds c) (or_else (all_found_in ds body) (all_found_in ds otherwise)) (expression_faults ds c) (all_statement_faults ds body ++ all_statement_faults ds otherwise)
+      behind (found ds c) (or_fault (all_found_in ds body) (all_found_in ds otherwise)) (expression_faults ds c) (all_statement_faults ds body ++ all_statement_faults ds otherwise)
       (found_settles ds c)
       (behind (all_found_in ds body) (all_found_in ds otherwise) (all_statement_faults ds body) (all_statement_faults ds otherwise)
       (all_found_in_settle ds body) (all_found_in_settle ds otherwise))
@@ -150,26 +150,26 @@ mutual
       (all_expression_faults ds arguments) (at (not (is_format_for (pieces_of format) (count_of arguments))) model.BadFormat) (all_found_settle ds arguments)
   found_in_settles ds source.Finish = refl
 
-  pub all_found_in_settle : (ds : List Declared) (ss : source.Statements) → Settles (all_found_in ds ss) (all_statement_faults ds ss)
+  pub all_found_in_settle : (ds : List Declared) (ss : source.SourceStatements) → Settles (all_found_in ds ss) (all_statement_faults ds ss)
   all_found_in_settle ds source.End = refl
   all_found_in_settle ds (source.Then s ss) =
       behind (found_in ds s) (all_found_in ds ss) (statement_faults ds s) (all_statement_faults ds ss) (found_in_settles ds s) (all_found_in_settle ds ss)
 
-pub found_by_settle : (ds : List Declared) (ps : List source.Process) → Settles (found_by ds ps) (flat_map (λ p. statement_faults ds p.body) ps)
+pub found_by_settle : (ds : List Declared) (ps : List source.SourceProcess) → Settles (found_by ds ps) (flat_map (λ p. statement_faults ds p.body) ps)
 found_by_settle ds [] = refl
 found_by_settle ds (p ∷ ps) =
     behind (found_in ds p.body) (found_by ds ps) (statement_faults ds p.body) (flat_map (λ p. statement_faults ds p.body) ps)
     (found_in_settles ds p.body) (found_by_settle ds ps)
 
 -- the processes
-pub among_settles : (ds : List Declared) (ps : List source.Process) → Settles (found_among ds ps)
+pub among_settles : (ds : List Declared) (ps : List source.SourceProcess) → Settles (found_among ds ps)
     (fault_where (nat_lt most_processes (length ps)) model.TooManyProcesses ++
     (flat_map (undeclared ds) (flat_map (λ p. names_in p.body) ps) ++ flat_map (λ p. statement_faults ds p.body) ps))
 among_settles ds ps =
     let names = flat_map (undeclared ds) (flat_map (λ p. names_in p.body) ps) in
     let rest = flat_map (λ p. statement_faults ds p.body) ps in
     let few = nat_lt most_processes (length ps) in
-    behind (found_where few model.TooManyProcesses) (or_else (used_by ds ps) (found_by ds ps)) (fault_where few model.TooManyProcesses) (names ++ rest)
+    behind (found_where few model.TooManyProcesses) (or_fault (used_by ds ps) (found_by ds ps)) (fault_where few model.TooManyProcesses) (names ++ rest)
     (at few model.TooManyProcesses) (behind (used_by ds ps) (found_by ds ps) names rest (used_by_settle ds ps) (found_by_settle ds ps))
 
 -- the module

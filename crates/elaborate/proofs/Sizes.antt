@@ -2,13 +2,13 @@
 use Rattle.std.proofs.Common.{◌≡◌, ℕ, ◌+◌, nat_lt, List, [], ◌∷◌, map, length, refl, arith}
 use Rattle.std.proofs.lemmas.Bool.Decides.{nat_tests}
 use Rattle.logic4.specs.Vector.{greatest_width}
-use Rattle.model.specs.declared.tree.Expression as program
-use Rattle.model.specs.SourceTrees.{expression_of, expressions}
+use Rattle.model.specs.declared.tree.SourceExpression as program
+use Rattle.model.specs.SourceTrees.{source_expression_of, source_expressions}
 use Rattle.model.specs.Elaboration.{count_of}
 use Rattle.elaborate.specs.FirstFindings.{capped}
 
 -- there are as many arguments as there are
-pub count_is : (es : List program.Expression) → count_of (expressions (map expression_of es)) ≡ length es
+pub count_is : (es : List program.SourceExpression) → count_of (source_expressions (map source_expression_of es)) ≡ length es
 count_is [] = refl
 count_is (e ∷ es) = omega (arith, count_is es)
 

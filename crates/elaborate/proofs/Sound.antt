@@ -10,15 +10,15 @@ use Rattle.model.specs.Syntax.{Text, Expression, Register, Select, Literal, Conc
 use Rattle.logic4.specs.Vector.{greatest_width, AreWithin}
 use Rattle.model.specs.Design.{Statements, End, Then, Piece}
 use Rattle.model.specs.Elaboration as model
-use Rattle.model.specs.Elaboration.{Fault, Declared, has_name, is_declared, number_of, is_range, is_index, range_of, width_of, widths_of, parts_size, most_registers, most_processes, greatest_delay, count_of, is_format_for, pieces_of, argument_count, resolved, all_resolved, followed_by, statements_of, block_of, process_of, design_of, declared, assignment, trigger_of}
+use Rattle.model.specs.Elaboration.{Fault, Declared, has_name, is_declared, number_of, is_range, is_index, range_of, width_of, widths_of, parts_size, most_registers, most_processes, greatest_delay, count_of, is_format_for, pieces_of, argument_count, resolved, all_resolved, followed_by, statements_of, block_of, elaborated_process, design_of_module, declared, assignment, trigger_of}
 use Rattle.design.specs.Sound.{HasSome, how_many, IsSoundExpression, AreSoundExpressions, IsSoundStatement, AreSoundStatements, IsSound}
-use Rattle.elaborate.specs.FirstFindings.{or_else, found_where, unknown, unknown_among, used, all_used, used_in, all_used_in, used_by, found_name, found_names, found_concat, found, all_found, found_delay, found_format, found_in, all_found_in, found_by, found_few, found_among}
-use Rattle.elaborate.specs.Small.{IsSmall, AreSmall, IsShort, IsSmallStatement, AreSmallStatements, AreSmallProcesses}
+use Rattle.elaborate.specs.FirstFindings.{or_fault, found_where, undeclared_fault, unknown_among, used, all_used, used_in, all_used_in, used_by, found_name, found_names, found_concat, found, all_found, found_delay, found_format, found_in, all_found_in, found_by, found_few, found_among}
+use Rattle.elaborate.specs.Small.{IsSmall, AreSmall, IsShortDelay, IsSmallStatement, AreSmallStatements, AreSmallProcesses}
 use Rattle.elaborate.specs.Formed.{HasParts, IsFormed, AreFormed, IsFormedStatement, AreFormedStatements, AreFormedProcesses}
 use Rattle.elaborate.proofs.Lookups.{allowed}
 
 -- nothing found by two walks is nothing found by each
-split : (a b : Option Fault) → or_else a b ≡ None → (a ≡ None) × (b ≡ None)
+split : (a b : Option Fault) → or_fault a b ≡ None → (a ≡ None) × (b ≡ None)
 split None b h = (refl, h)
 split (Some f) b h = absurd cc
 
@@ -40,7 +40,7 @@ number_below (d ∷ ds) name h = by (has_name name d) refl (number_below ds name
     by true q rest = rw q (omega arith)
     by false q rest = let k : is_declared ds name ≡ true = rw q at h in rw q (omega (arith, rest k))
 
-known_below : (ds : List Declared) (name : Text) → unknown ds name ≡ None → number_of ds name < length (widths_of ds)
+known_below : (ds : List Declared) (name : Text) → undeclared_fault ds name ≡ None → number_of ds name < length (widths_of ds)
 known_below ds name h = rw length-map (number_below ds name (holds (is_declared ds name) (model.Undeclared name) h))
 
 few_digits : (n : ℕ) → nat_lt greatest_width n ≡ false → n ≤ greatest_width
@@ -65,8 +65,8 @@ mutual
   sound ds (Binary op e g) w u f =
       let a = split (used ds e) (used ds g) u in let b = split (found ds e) (found ds g) f in (sound ds e w.0 a.0 b.0, sound ds g w.1 a.1 b.1)
   sound ds (Conditional c e g) w u f =
-      let a = split (used ds c) (or_else (used ds e) (used ds g)) u in let a2 = split (used ds e) (used ds g) a.1 in
-      let b = split (found ds c) (or_else (found ds e) (found ds g)) f in let b2 = split (found ds e) (found ds g) b.1 in
+      let a = split (used ds c) (or_fault (used ds e) (used ds g)) u in let a2 = split (used ds e) (used ds g) a.1 in
+      let b = split (found ds c) (or_fault (found ds e) (found ds g)) f in let b2 = split (found ds e) (found ds g) b.1 in
       (sound ds c w.0 a.0 b.0, sound ds e w.1.0 a2.0 b2.0, sound ds g w.1.1 a2.1 b2.1)
 
   pub all_sound : (ds : List Declared) (es : Expressions Text) → AreFormed es → all_used ds es ≡ None → all_found ds es ≡ None → AreSoundExpressions (widths_of ds) (all_resolved ds es)
@@ -98,7 +98,7 @@ triggers_below : (ds : List Declared) (ts : List (Change × Text)) → unknown_a
     → All (λ t. t.1 < length (widths_of ds)) (map (trigger_of ds) ts)
 triggers_below ds [] u = All-nil (λ t. t.1 < length (widths_of ds))
 triggers_below ds (t ∷ ts) u =
-    let a = split (unknown ds t.1) (unknown_among ds (map (λ t. t.1) ts)) u in
+    let a = split (undeclared_fault ds t.1) (unknown_among ds (map (λ t. t.1) ts)) u in
     All-cons (λ t. t.1 < length (widths_of ds)) (trigger_of ds t) (map (trigger_of ds) ts) (known_below ds t.1 a.0) (triggers_below ds ts a.1)
 
 counted : (ds : List Declared) (es : Expressions Text) → how_many (all_resolved ds es) ≡ count_of es
@@ -113,14 +113,14 @@ same_count (Some pieces) n h = equal_true (argument_count pieces) n h
     equal_true a b h = grind (arith, nat_tests)
 
 mutual
-  pub sound_in : (ds : List Declared) (s : source.Statement) → IsFormedStatement s → used_in ds s ≡ None → found_in ds s ≡ None → AreSoundStatements (widths_of ds) (statements_of ds s)
+  pub sound_in : (ds : List Declared) (s : source.SourceStatement) → IsFormedStatement s → used_in ds s ≡ None → found_in ds s ≡ None → AreSoundStatements (widths_of ds) (statements_of ds s)
   sound_in ds source.Empty w u f = (tt, tt)
   sound_in ds (source.Block body) w u f = all_sound_in ds body w u f
   sound_in ds (source.Assign name delay e) w u f =
-      let a = split (unknown ds name) (used ds e) u in let b = split (found_delay delay) (found ds e) f in
+      let a = split (undeclared_fault ds name) (used ds e) u in let b = split (found_delay delay) (found ds e) f in
       (sound_assignment (widths_of ds) (number_of ds name) delay (resolved ds e) (known_below ds name a.0) b.0 (sound ds e w a.1 b.1), tt)
   sound_in ds (source.AssignLater name delay e) w u f =
-      let a = split (unknown ds name) (used ds e) u in let b = split (found_delay delay) (found ds e) f in
+      let a = split (undeclared_fault ds name) (used ds e) u in let b = split (found_delay delay) (found ds e) f in
       ((known_below ds name a.0, short_or_none delay b.0, sound ds e w a.1 b.1), tt)
   sound_in ds (source.Delay delay s) w u f =
       let b = split (found_delay (Some delay)) (found_in ds s) f in ((short delay b.0, sound_in ds s w u b.1), tt)
@@ -131,8 +131,8 @@ mutual
       let a = split (used ds c) (all_used_in ds body) u in let b = split (found ds c) (all_found_in ds body) f in
       ((sound ds c w.0 a.0 b.0, all_sound_in ds body w.1 a.1 b.1, tt), tt)
   sound_in ds (source.IfElse c body otherwise) w u f =
-      let a = split (used ds c) (or_else (all_used_in ds body) (all_used_in ds otherwise)) u in let a2 = split (all_used_in ds body) (all_used_in ds otherwise) a.1 in
-      let b = split (found ds c) (or_else (all_found_in ds body) (all_found_in ds otherwise)) f in let b2 = split (all_found_in ds body) (all_found_in ds otherwise) b.1 in
+      let a = split (used ds c) (or_fault (all_used_in ds body) (all_used_in ds otherwise)) u in let a2 = split (all_used_in ds body) (all_used_in ds otherwise) a.1 in
+      let b = split (found ds c) (or_fault (all_found_in ds body) (all_found_in ds otherwise)) f in let b2 = split (all_found_in ds body) (all_found_in ds otherwise) b.1 in
       ((sound ds c w.0 a.0 b.0, all_sound_in ds body w.1.0 a2.0 b2.0, all_sound_in ds otherwise w.1.1 a2.1 b2.1), tt)
   sound_in ds (source.While c body) w u f =
       let a = split (used ds c) (all_used_in ds body) u in let b = split (found ds c) (all_found_in ds body) f in
@@ -147,18 +147,18 @@ mutual
       )
   sound_in ds source.Finish w u f = (tt, tt)
 
-  pub all_sound_in : (ds : List Declared) (ss : source.Statements) → AreFormedStatements ss → all_used_in ds ss ≡ None → all_found_in ds ss ≡ None → AreSoundStatements (widths_of ds) (block_of ds ss)
+  pub all_sound_in : (ds : List Declared) (ss : source.SourceStatements) → AreFormedStatements ss → all_used_in ds ss ≡ None → all_found_in ds ss ≡ None → AreSoundStatements (widths_of ds) (block_of ds ss)
   all_sound_in ds source.End w u f = tt
   all_sound_in ds (source.Then s ss) w u f =
       let a = split (used_in ds s) (all_used_in ds ss) u in let b = split (found_in ds s) (all_found_in ds ss) f in
       sound_behind (widths_of ds) (statements_of ds s) (block_of ds ss) (sound_in ds s w.0 a.0 b.0) (all_sound_in ds ss w.1 a.1 b.1)
 
-sound_by : (ds : List Declared) (ps : List source.Process) → AreFormedProcesses ps → used_by ds ps ≡ None → found_by ds ps ≡ None
-    → All (λ p. AreSoundStatements (widths_of ds) p.body) (map (process_of ds) ps)
+sound_by : (ds : List Declared) (ps : List source.SourceProcess) → AreFormedProcesses ps → used_by ds ps ≡ None → found_by ds ps ≡ None
+    → All (λ p. AreSoundStatements (widths_of ds) p.body) (map (elaborated_process ds) ps)
 sound_by ds [] w u f = All-nil (λ p. AreSoundStatements (widths_of ds) p.body)
 sound_by ds (p ∷ ps) w u f =
     let a = split (used_in ds p.body) (used_by ds ps) u in let b = split (found_in ds p.body) (found_by ds ps) f in
-    All-cons (λ p. AreSoundStatements (widths_of ds) p.body) (process_of ds p) (map (process_of ds) ps) (sound_in ds p.body w.0 a.0 b.0) (sound_by ds ps w.1 a.1 b.1)
+    All-cons (λ p. AreSoundStatements (widths_of ds) p.body) (elaborated_process ds p) (map (elaborated_process ds) ps) (sound_in ds p.body w.0 a.0 b.0) (sound_by ds ps w.1 a.1 b.1)
 
 -- each range is allowed
 range_allowed : (before ds : List Declared) → found_names before ds ≡ None → (name : Text) → is_range (range_of ds name) ≡ true
@@ -209,10 +209,10 @@ few_all : (n : ℕ) → nat_lt 256 n ≡ false → n ≤ 256
 few_all n h = grind (arith, nat_tests)
 
 -- the design of a module in which nothing is found is sound
-pub sound_design : (m : Module) → AreFormedProcesses m.processes → found_names [] (declared m) ≡ None → found_among (declared m) m.processes ≡ None → IsSound (design_of m)
+pub sound_design : (m : Module) → AreFormedProcesses m.processes → found_names [] (declared m) ≡ None → found_among (declared m) m.processes ≡ None → IsSound (design_of_module m)
 sound_design m w n f =
     let ds = declared m in let ps = m.processes in
-    let a = split (found_few (length ps)) (or_else (used_by ds ps) (found_by ds ps)) f in let b = split (used_by ds ps) (found_by ds ps) a.1 in
+    let a = split (found_few (length ps)) (or_fault (used_by ds ps) (found_by ds ps)) f in let b = split (used_by ds ps) (found_by ds ps) a.1 in
     let zero_before : length {A = Declared} [] ≤ 1024 = omega arith in
     let few = few_registers [] ds n zero_before in
     let count = few_all (length ps) (fails (nat_lt 256 (length ps)) model.TooManyProcesses a.0) in
@@ -242,19 +242,19 @@ module _ (ds : List Declared) (ranged : (name : Text) → is_range (range_of ds 
     small (Unary op e) f = small e f
     small (Binary op e g) f = let b = split (found ds e) (found ds g) f in (small e b.0, small g b.1)
     small (Conditional c e g) f =
-        let b = split (found ds c) (or_else (found ds e) (found ds g)) f in let b2 = split (found ds e) (found ds g) b.1 in
+        let b = split (found ds c) (or_fault (found ds e) (found ds g)) f in let b2 = split (found ds e) (found ds g) b.1 in
         (small c b.0, small e b2.0, small g b2.1)
 
     pub all_small : (es : Expressions Text) → all_found ds es ≡ None → AreSmall es
     all_small Nothing f = tt
     all_small (Also e es) f = let b = split (found ds e) (all_found ds es) f in (small e b.0, all_small es b.1)
 
-  short_delay : (delay : Option ℕ) → found_delay delay ≡ None → IsShort delay
+  short_delay : (delay : Option ℕ) → found_delay delay ≡ None → IsShortDelay delay
   short_delay None f = tt
   short_delay (Some delay) f = short delay f
 
   mutual
-    pub small_in : (s : source.Statement) → found_in ds s ≡ None → IsSmallStatement s
+    pub small_in : (s : source.SourceStatement) → found_in ds s ≡ None → IsSmallStatement s
     small_in source.Empty f = tt
     small_in (source.Block body) f = all_small_in body f
     small_in (source.Assign name delay e) f = let b = split (found_delay delay) (found ds e) f in (short_delay delay b.0, small e b.1)
@@ -263,17 +263,17 @@ module _ (ds : List Declared) (ranged : (name : Text) → is_range (range_of ds 
     small_in (source.Await triggers s) f = small_in s f
     small_in (source.If c body) f = let b = split (found ds c) (all_found_in ds body) f in (small c b.0, all_small_in body b.1)
     small_in (source.IfElse c body otherwise) f =
-        let b = split (found ds c) (or_else (all_found_in ds body) (all_found_in ds otherwise)) f in let b2 = split (all_found_in ds body) (all_found_in ds otherwise) b.1 in
+        let b = split (found ds c) (or_fault (all_found_in ds body) (all_found_in ds otherwise)) f in let b2 = split (all_found_in ds body) (all_found_in ds otherwise) b.1 in
         (small c b.0, all_small_in body b2.0, all_small_in otherwise b2.1)
     small_in (source.While c body) f = let b = split (found ds c) (all_found_in ds body) f in (small c b.0, all_small_in body b.1)
     small_in (source.Print task format arguments) f = all_small arguments (split (found_format format (count_of arguments)) (all_found ds arguments) f).1
     small_in source.Finish f = tt
 
-    pub all_small_in : (ss : source.Statements) → all_found_in ds ss ≡ None → AreSmallStatements ss
+    pub all_small_in : (ss : source.SourceStatements) → all_found_in ds ss ≡ None → AreSmallStatements ss
     all_small_in source.End f = tt
     all_small_in (source.Then s ss) f = let b = split (found_in ds s) (all_found_in ds ss) f in (small_in s b.0, all_small_in ss b.1)
 
-  pub small_by : (ps : List source.Process) → found_by ds ps ≡ None → AreSmallProcesses ps
+  pub small_by : (ps : List source.SourceProcess) → found_by ds ps ≡ None → AreSmallProcesses ps
   small_by [] f = tt
   small_by (p ∷ ps) f = let b = split (found_in ds p.body) (found_by ds ps) f in (small_in p.body b.0, small_by ps b.1)
 
@@ -281,5 +281,5 @@ module _ (ds : List Declared) (ranged : (name : Text) → is_range (range_of ds 
 pub small_module : (m : Module) → found_names [] (declared m) ≡ None → found_among (declared m) m.processes ≡ None → AreSmallProcesses m.processes
 small_module m n f =
     let ds = declared m in let ps = m.processes in
-    let a = split (found_few (length ps)) (or_else (used_by ds ps) (found_by ds ps)) f in let b = split (used_by ds ps) (found_by ds ps) a.1 in
+    let a = split (found_few (length ps)) (or_fault (used_by ds ps) (found_by ds ps)) f in let b = split (used_by ds ps) (found_by ds ps) a.1 in
     small_by ds (range_allowed [] ds n) ps b.1

@@ -6,16 +6,16 @@ use Rattle.std.proofs.lemmas.List.{drop_all}
 use Rattle.model.specs.Design.{Statements}
 use Rattle.model.specs.Elaboration as model
 use Rattle.model.specs.Elaboration.{Declared, Fault, all_resolved, block_of, followed_by, resolved}
-use Rattle.model.specs.declared.tree.Statement as statement
-use Rattle.model.specs.declared.tree.Expression as expression
+use Rattle.model.specs.declared.tree.SourceStatement as statement
+use Rattle.model.specs.declared.tree.SourceExpression as expression
 use Rattle.model.specs.declared.tree.Declaration as declaration
 use Rattle.model.specs.SourceTrees as source
-use Rattle.model.specs.SourceTrees.{statement_of, statements, expression_of, declaration_of}
+use Rattle.model.specs.SourceTrees.{source_statement_of, source_statements, source_expression_of, declaration_of}
 use Rattle.design.specs.declared.tree.Expression as made
 use Rattle.design.specs.DesignTrees as tree
 use Rattle.elaborate.specs.declared.fault.ElabFault.{ElabFault}
 use Rattle.elaborate.specs.Registers.{all_declared, of_range}
-use Rattle.elaborate.specs.FirstFindings.{or_else, found_names, IsFirstOf}
+use Rattle.elaborate.specs.FirstFindings.{or_fault, found_names, IsFirstOf}
 use Rattle.elaborate.specs.Small.{AreSmallStatements}
 use Rattle.elaborate.proofs.Found.{found_names_append}
 use Rattle.elaborate.proofs.Bodies.{followed_by_assoc, followed_by_end, resolved_are}
@@ -26,28 +26,28 @@ next_of xs i x h e = rw add-one (drop-cons xs i x h ∙ ap (λ y. y ∷ drop (su
 
 module _ (ds : List Declared) (whole into : Statements) where
   -- one statement of those that are left, and the others
-  pub one_left : (s : statement.Statement) (next : Statements) (left rest : List statement.Statement) → left ≡ s ∷ rest
-      → next ≡ followed_by into (model.statements_of ds (statement_of s))
-      → followed_by into (block_of ds (statements (map statement_of left))) ≡ whole
-      → followed_by next (block_of ds (statements (map statement_of rest))) ≡ whole
+  pub one_left : (s : statement.SourceStatement) (next : Statements) (left rest : List statement.SourceStatement) → left ≡ s ∷ rest
+      → next ≡ followed_by into (model.statements_of ds (source_statement_of s))
+      → followed_by into (block_of ds (source_statements (map source_statement_of left))) ≡ whole
+      → followed_by next (block_of ds (source_statements (map source_statement_of rest))) ≡ whole
   one_left s next left rest e n inv =
-      ap (λ a. followed_by a (block_of ds (statements (map statement_of rest)))) n
-      ∙ followed_by_assoc into (model.statements_of ds (statement_of s)) (block_of ds (statements (map statement_of rest)))
-      ∙ ap (λ xs. followed_by into (block_of ds (statements (map statement_of xs)))) (sym e)
+      ap (λ a. followed_by a (block_of ds (source_statements (map source_statement_of rest)))) n
+      ∙ followed_by_assoc into (model.statements_of ds (source_statement_of s)) (block_of ds (source_statements (map source_statement_of rest)))
+      ∙ ap (λ xs. followed_by into (block_of ds (source_statements (map source_statement_of xs)))) (sym e)
       ∙ inv
 
-  pub none_left : (left : List statement.Statement) → left ≡ [] → followed_by into (block_of ds (statements (map statement_of left))) ≡ whole → into ≡ whole
+  pub none_left : (left : List statement.SourceStatement) → left ≡ [] → followed_by into (block_of ds (source_statements (map source_statement_of left))) ≡ whole → into ≡ whole
   none_left left e inv =
-      sym (followed_by_end into) ∙ ap (λ xs. followed_by into (block_of ds (statements (map statement_of xs)))) (sym e) ∙ inv
+      sym (followed_by_end into) ∙ ap (λ xs. followed_by into (block_of ds (source_statements (map source_statement_of xs)))) (sym e) ∙ inv
 
-module _ (ds : List Declared) (body : List statement.Statement) (i : ℕ) (whole into : Statements) where
-  pub one_statement : (s : statement.Statement) (next : Statements) → i < length body → s ≡ get_or body i s
-      → next ≡ followed_by into (model.statements_of ds (statement_of s))
-      → followed_by into (block_of ds (statements (map statement_of (drop i body)))) ≡ whole
-      → followed_by next (block_of ds (statements (map statement_of (drop (i + 1) body)))) ≡ whole
+module _ (ds : List Declared) (body : List statement.SourceStatement) (i : ℕ) (whole into : Statements) where
+  pub one_statement : (s : statement.SourceStatement) (next : Statements) → i < length body → s ≡ get_or body i s
+      → next ≡ followed_by into (model.statements_of ds (source_statement_of s))
+      → followed_by into (block_of ds (source_statements (map source_statement_of (drop i body)))) ≡ whole
+      → followed_by next (block_of ds (source_statements (map source_statement_of (drop (i + 1) body)))) ≡ whole
   one_statement s next h e n inv = one_left ds whole into s next (drop i body) (drop (i + 1) body) (next_of body i s h e) n inv
 
-  pub last_statement : length body ≤ i → followed_by into (block_of ds (statements (map statement_of (drop i body)))) ≡ whole → into ≡ whole
+  pub last_statement : length body ≤ i → followed_by into (block_of ds (source_statements (map source_statement_of (drop i body)))) ≡ whole → into ≡ whole
   last_statement h inv = none_left ds whole into (drop i body) (drop_all i body h) inv
 
 -- an iterator of no length has nothing left
@@ -59,20 +59,20 @@ no_items it e = nothing (into_iter_items it) (omega (arith, e, it.rest.ok.0))
     nothing (x ∷ xs) h = absurd (omega (arith, h))
 
 -- what holds of statements from a place on holds of the first and of the others
-pub others_small : (body : List statement.Statement) (i : ℕ) (s : statement.Statement) → i < length body → s ≡ get_or body i s
-    → AreSmallStatements (statements (map statement_of (drop i body))) → AreSmallStatements (statements (map statement_of (drop (i + 1) body)))
-others_small body i s h e small = (subst (λ xs. AreSmallStatements (statements (map statement_of xs))) (next_of body i s h e) small).1
+pub others_small : (body : List statement.SourceStatement) (i : ℕ) (s : statement.SourceStatement) → i < length body → s ≡ get_or body i s
+    → AreSmallStatements (source_statements (map source_statement_of (drop i body))) → AreSmallStatements (source_statements (map source_statement_of (drop (i + 1) body)))
+others_small body i s h e small = (subst (λ xs. AreSmallStatements (source_statements (map source_statement_of xs))) (next_of body i s h e) small).1
 
 -- the parts of an expression
-pub all_parts : (ds : List Declared) (es : List made.Expression) (parts : List expression.Expression) (i : ℕ) → length parts ≤ i
-    → map tree.expression_of es ++ map (resolved ds) (map expression_of (drop i parts)) ≡ map (resolved ds) (map expression_of parts)
-    → tree.expressions (map tree.expression_of es) ≡ all_resolved ds (source.expressions (map expression_of parts))
+pub all_parts : (ds : List Declared) (es : List made.Expression) (parts : List expression.SourceExpression) (i : ℕ) → length parts ≤ i
+    → map tree.expression_of es ++ map (resolved ds) (map source_expression_of (drop i parts)) ≡ map (resolved ds) (map source_expression_of parts)
+    → tree.expressions (map tree.expression_of es) ≡ all_resolved ds (source.source_expressions (map source_expression_of parts))
 all_parts ds es parts i h inv =
-    ap tree.expressions (sym (append-nil (map tree.expression_of es)) ∙ ap (λ xs. map tree.expression_of es ++ map (resolved ds) (map expression_of xs)) (sym (drop_all i parts h)) ∙ inv)
-    ∙ sym (resolved_are ds (map expression_of parts))
+    ap tree.expressions (sym (append-nil (map tree.expression_of es)) ∙ ap (λ xs. map tree.expression_of es ++ map (resolved ds) (map source_expression_of xs)) (sym (drop_all i parts h)) ∙ inv)
+    ∙ sym (resolved_are ds (map source_expression_of parts))
 
 -- what is told of the first part is told of both
-pub first_part : (f : ElabFault) (a b : Option Fault) → IsFirstOf f a → IsFirstOf f (or_else a b)
+pub first_part : (f : ElabFault) (a b : Option Fault) → IsFirstOf f a → IsFirstOf f (or_fault a b)
 first_part f (Some x) b is = is
 first_part f None None is = is
 first_part f None (Some x) is = rw is tt
@@ -95,7 +95,7 @@ module _ (names : List Declared) (ds : List declaration.Declaration) (d : declar
       → found_names names (of_range d.range (map string_bytes d.names.items)) ≡ None
       → found_names names (all_declared (map declaration_of (drop i ds))) ≡ found_names next (all_declared (map declaration_of (drop (i + 1) ds)))
   found_behind next n none =
-      ap (found_names names) split_declared ∙ found_names_append names mine behind ∙ ap (λ o. or_else o (found_names (names ++ mine) behind)) none
+      ap (found_names names) split_declared ∙ found_names_append names mine behind ∙ ap (λ o. or_fault o (found_names (names ++ mine) behind)) none
       ∙ ap (λ xs. found_names xs behind) (sym n)
 
   pub fault_in : (f : ElabFault) → IsFirstOf f (found_names names (of_range d.range (map string_bytes d.names.items))) → IsFirstOf f (found_names names (all_declared (map declaration_of (drop i ds))))

@@ -2,11 +2,11 @@
 use Rattle.std.proofs.Common.{◌≡◌, List, [], map, Option, Some, None, sym, ap, subst, ◌∙◌}
 use Rattle.model.specs.Syntax.{Module}
 use Rattle.model.specs.Design.{Design, Process}
-use Rattle.model.specs.Elaboration.{Declared, Fault, declared, design_of, process_of, widths_of, faults}
+use Rattle.model.specs.Elaboration.{Declared, Fault, declared, design_of_module, elaborated_process, widths_of, faults}
 use Rattle.elaborate.specs.declared.fault.ElabFault.{ElabFault}
 use Rattle.elaborate.specs.ModuleFaults.{IsFirstFault}
 use Rattle.elaborate.specs.Formed.{AreFormedProcesses}
-use Rattle.elaborate.specs.FirstFindings.{or_else, found_names, found_among, found_module, IsFirstOf}
+use Rattle.elaborate.specs.FirstFindings.{or_fault, found_names, found_among, found_module, IsFirstOf}
 use Rattle.design.specs.Sound.{IsSound}
 use Rattle.elaborate.specs.Small.{AreSmallProcesses}
 use Rattle.elaborate.proofs.Settled.{Settles, module_settles, first_fault}
@@ -19,7 +19,7 @@ module _ (m : Module) where
   of_names f is = first_part f (found_names [] (declared m)) (found_among (declared m) m.processes) is
 
   pub of_processes : (f : ElabFault) → found_names [] (declared m) ≡ None → IsFirstOf f (found_among (declared m) m.processes) → IsFirstOf f (found_module m)
-  of_processes f none is = subst (λ o. IsFirstOf f (or_else o (found_among (declared m) m.processes))) (sym none) is
+  of_processes f none is = subst (λ o. IsFirstOf f (or_fault o (found_among (declared m) m.processes))) (sym none) is
 
   pub told_first : (f : ElabFault) → IsFirstOf f (found_module m) → IsFirstFault f (faults m)
   told_first f is = first_fault f (found_module m) (faults m) (module_settles m) is
@@ -29,7 +29,7 @@ module _ (m : Module) where
     clean = subst (λ ds. found_among ds m.processes ≡ None) same among
 
     pub faultless : faults m ≡ []
-    faultless = settled_none (found_module m) (ap (λ o. or_else o (found_among (declared m) m.processes)) none ∙ clean) (module_settles m)
+    faultless = settled_none (found_module m) (ap (λ o. or_fault o (found_among (declared m) m.processes)) none ∙ clean) (module_settles m)
       where
         settled_none : (o : Option Fault) → o ≡ None → Settles o (faults m) → faults m ≡ []
         settled_none None e x = x
@@ -38,12 +38,12 @@ module _ (m : Module) where
     pub small_processes : AreSmallProcesses m.processes
     small_processes = small_module m none clean
 
-    pub sound_module : AreFormedProcesses m.processes → IsSound (design_of m)
+    pub sound_module : AreFormedProcesses m.processes → IsSound (design_of_module m)
     sound_module formed = sound_design m formed none clean
 
   -- the design of the definitions, from what the program holds
-  pub same_design : (names : List Declared) → names ≡ declared m → (processes : List Process) → processes ≡ map (process_of names) m.processes
-      → ◌≡◌ {A = Design} (record { widths = widths_of names; processes = processes }) (design_of m)
+  pub same_design : (names : List Declared) → names ≡ declared m → (processes : List Process) → processes ≡ map (elaborated_process names) m.processes
+      → ◌≡◌ {A = Design} (record { widths = widths_of names; processes = processes }) (design_of_module m)
   same_design names same processes e =
-      let p : processes ≡ map (process_of (declared m)) m.processes = e ∙ ap (λ ds. map (process_of ds) m.processes) same in
+      let p : processes ≡ map (elaborated_process (declared m)) m.processes = e ∙ ap (λ ds. map (elaborated_process ds) m.processes) same in
       λ j. record { widths = widths_of (same j); processes = p j }

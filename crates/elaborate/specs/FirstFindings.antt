@@ -28,9 +28,9 @@ first_finding (Ok u) = None
 first_finding (Err f) = Some (plain f)
 
 -- the one, or else the other
-abbrev pub or_else : Option Fault → Option Fault → Option Fault
-or_else None other = other
-or_else (Some f) other = Some f
+abbrev pub or_fault : Option Fault → Option Fault → Option Fault
+or_fault None other = other
+or_fault (Some f) other = Some f
 
 -- something found where a condition holds
 abbrev pub found_where : Bool → Fault → Option Fault
@@ -38,36 +38,36 @@ found_where true f = Some f
 found_where false f = None
 
 -- a name that isn't declared
-abbrev pub unknown : List Declared → Text → Option Fault
-unknown ds name = found_where (not (is_declared ds name)) (model.Undeclared name)
+abbrev pub undeclared_fault : List Declared → Text → Option Fault
+undeclared_fault ds name = found_where (not (is_declared ds name)) (model.Undeclared name)
 
 -- the first name of an expression that isn't declared
 abbrev mutual
   pub used : List Declared → Expression Text → Option Fault
-  used ds (Register name) = unknown ds name
-  used ds (Select name i) = unknown ds name
+  used ds (Register name) = undeclared_fault ds name
+  used ds (Select name i) = undeclared_fault ds name
   used ds (Literal v) = None
   used ds (Concat parts) = all_used ds parts
   used ds (Unary op e) = used ds e
-  used ds (Binary op e f) = or_else (used ds e) (used ds f)
-  used ds (Conditional c e f) = or_else (used ds c) (or_else (used ds e) (used ds f))
+  used ds (Binary op e f) = or_fault (used ds e) (used ds f)
+  used ds (Conditional c e f) = or_fault (used ds c) (or_fault (used ds e) (used ds f))
 
   pub all_used : List Declared → Expressions Text → Option Fault
   all_used ds Nothing = None
-  all_used ds (Also e es) = or_else (used ds e) (all_used ds es)
+  all_used ds (Also e es) = or_fault (used ds e) (all_used ds es)
 
 -- what is told is what was found; want of memory may be told at any time
-abbrev pub IsFaultOf : ElabFault → Fault → Type 0
-IsFaultOf (told.Undeclared name) f = f ≡ model.Undeclared (string_bytes name)
-IsFaultOf (told.DeclaredTwice name) f = f ≡ model.DeclaredTwice (string_bytes name)
-IsFaultOf (told.BadRange name) f = f ≡ model.BadRange (string_bytes name)
-IsFaultOf told.TooManyRegisters f = f ≡ model.TooManyRegisters
-IsFaultOf told.TooManyProcesses f = f ≡ model.TooManyProcesses
-IsFaultOf told.BadFormat f = f ≡ model.BadFormat
-IsFaultOf told.WideConcat f = f ≡ model.WideConcat
-IsFaultOf (told.BadIndex name) f = f ≡ model.BadIndex (string_bytes name)
-IsFaultOf told.LongDelay f = f ≡ model.LongDelay
-IsFaultOf told.Memory f = Unit {0}
+abbrev pub IsModuleFaultOf : ElabFault → Fault → Type 0
+IsModuleFaultOf (told.Undeclared name) f = f ≡ model.Undeclared (string_bytes name)
+IsModuleFaultOf (told.DeclaredTwice name) f = f ≡ model.DeclaredTwice (string_bytes name)
+IsModuleFaultOf (told.BadRange name) f = f ≡ model.BadRange (string_bytes name)
+IsModuleFaultOf told.TooManyRegisters f = f ≡ model.TooManyRegisters
+IsModuleFaultOf told.TooManyProcesses f = f ≡ model.TooManyProcesses
+IsModuleFaultOf told.BadFormat f = f ≡ model.BadFormat
+IsModuleFaultOf told.WideConcat f = f ≡ model.WideConcat
+IsModuleFaultOf (told.BadIndex name) f = f ≡ model.BadIndex (string_bytes name)
+IsModuleFaultOf told.LongDelay f = f ≡ model.LongDelay
+IsModuleFaultOf told.Memory f = Unit {0}
 
 -- the fault that is told of a finding with no name in it, for which no memory is taken
 abbrev pub told_of : Option Fault → Option ElabFault
@@ -85,43 +85,43 @@ told_of (Some model.LongDelay) = Some told.LongDelay
 -- the first of some names that isn't declared
 abbrev pub unknown_among : List Declared → List Text → Option Fault
 unknown_among ds [] = None
-unknown_among ds (name ∷ names) = or_else (unknown ds name) (unknown_among ds names)
+unknown_among ds (name ∷ names) = or_fault (undeclared_fault ds name) (unknown_among ds names)
 
 -- the first name of statements that isn't declared
 abbrev mutual
-  pub used_in : List Declared → source.Statement → Option Fault
+  pub used_in : List Declared → source.SourceStatement → Option Fault
   used_in ds source.Empty = None
   used_in ds (source.Block body) = all_used_in ds body
-  used_in ds (source.Assign name delay e) = or_else (unknown ds name) (used ds e)
-  used_in ds (source.AssignLater name delay e) = or_else (unknown ds name) (used ds e)
+  used_in ds (source.Assign name delay e) = or_fault (undeclared_fault ds name) (used ds e)
+  used_in ds (source.AssignLater name delay e) = or_fault (undeclared_fault ds name) (used ds e)
   used_in ds (source.Delay delay s) = used_in ds s
-  used_in ds (source.Await triggers s) = or_else (unknown_among ds (map (λ t. t.1) triggers)) (used_in ds s)
-  used_in ds (source.If c body) = or_else (used ds c) (all_used_in ds body)
-  used_in ds (source.IfElse c body otherwise) = or_else (used ds c) (or_else (all_used_in ds body) (all_used_in ds otherwise))
-  used_in ds (source.While c body) = or_else (used ds c) (all_used_in ds body)
+  used_in ds (source.Await triggers s) = or_fault (unknown_among ds (map (λ t. t.1) triggers)) (used_in ds s)
+  used_in ds (source.If c body) = or_fault (used ds c) (all_used_in ds body)
+  used_in ds (source.IfElse c body otherwise) = or_fault (used ds c) (or_fault (all_used_in ds body) (all_used_in ds otherwise))
+  used_in ds (source.While c body) = or_fault (used ds c) (all_used_in ds body)
   used_in ds (source.Print task format arguments) = all_used ds arguments
   used_in ds source.Finish = None
 
-  pub all_used_in : List Declared → source.Statements → Option Fault
+  pub all_used_in : List Declared → source.SourceStatements → Option Fault
   all_used_in ds source.End = None
-  all_used_in ds (source.Then s ss) = or_else (used_in ds s) (all_used_in ds ss)
+  all_used_in ds (source.Then s ss) = or_fault (used_in ds s) (all_used_in ds ss)
 
 -- the first name of processes that isn't declared
-abbrev pub used_by : List Declared → List source.Process → Option Fault
+abbrev pub used_by : List Declared → List source.SourceProcess → Option Fault
 used_by ds [] = None
-used_by ds (p ∷ ps) = or_else (used_in ds p.body) (used_by ds ps)
+used_by ds (p ∷ ps) = or_fault (used_in ds p.body) (used_by ds ps)
 
 -- what is wrong with one declared name, behind others
 abbrev pub found_name : List Declared → Declared → Option Fault
 found_name before d =
-    or_else (found_where (is_declared before d.0) (model.DeclaredTwice d.0))
-    (or_else (found_where (not (is_range d.1)) (model.BadRange d.0))
+    or_fault (found_where (is_declared before d.0) (model.DeclaredTwice d.0))
+    (or_fault (found_where (not (is_range d.1)) (model.BadRange d.0))
     (found_where (nat_le most_registers (length before)) model.TooManyRegisters))
 
 -- what is wrong first with declared names, behind others
 abbrev pub found_names : List Declared → List Declared → Option Fault
 found_names before [] = None
-found_names before (d ∷ ds) = or_else (found_name before d) (found_names (before ++ d ∷ []) ds)
+found_names before (d ∷ ds) = or_fault (found_name before d) (found_names (before ++ d ∷ []) ds)
 
 -- a size, or one more than the greatest width where it is greater
 abbrev pub capped : ℕ → ℕ
@@ -137,14 +137,14 @@ abbrev mutual
   found ds (Register name) = None
   found ds (Select name i) = found_where (not (is_index (range_of ds name) i)) (model.BadIndex name)
   found ds (Literal v) = None
-  found ds (Concat parts) = or_else (found_concat ds parts) (all_found ds parts)
+  found ds (Concat parts) = or_fault (found_concat ds parts) (all_found ds parts)
   found ds (Unary op e) = found ds e
-  found ds (Binary op e f) = or_else (found ds e) (found ds f)
-  found ds (Conditional c e f) = or_else (found ds c) (or_else (found ds e) (found ds f))
+  found ds (Binary op e f) = or_fault (found ds e) (found ds f)
+  found ds (Conditional c e f) = or_fault (found ds c) (or_fault (found ds e) (found ds f))
 
   pub all_found : List Declared → Expressions Text → Option Fault
   all_found ds Nothing = None
-  all_found ds (Also e es) = or_else (found ds e) (all_found ds es)
+  all_found ds (Also e es) = or_fault (found ds e) (all_found ds es)
 
 -- a delay that is too long
 abbrev pub found_delay : Option ℕ → Option Fault
@@ -157,41 +157,41 @@ found_format format count = found_where (not (is_format_for (pieces_of format) c
 
 -- what is wrong first with statements, in the order of the text
 abbrev mutual
-  pub found_in : List Declared → source.Statement → Option Fault
+  pub found_in : List Declared → source.SourceStatement → Option Fault
   found_in ds source.Empty = None
   found_in ds (source.Block body) = all_found_in ds body
-  found_in ds (source.Assign name delay e) = or_else (found_delay delay) (found ds e)
-  found_in ds (source.AssignLater name delay e) = or_else (found_delay delay) (found ds e)
-  found_in ds (source.Delay delay s) = or_else (found_delay (Some delay)) (found_in ds s)
+  found_in ds (source.Assign name delay e) = or_fault (found_delay delay) (found ds e)
+  found_in ds (source.AssignLater name delay e) = or_fault (found_delay delay) (found ds e)
+  found_in ds (source.Delay delay s) = or_fault (found_delay (Some delay)) (found_in ds s)
   found_in ds (source.Await triggers s) = found_in ds s
-  found_in ds (source.If c body) = or_else (found ds c) (all_found_in ds body)
-  found_in ds (source.IfElse c body otherwise) = or_else (found ds c) (or_else (all_found_in ds body) (all_found_in ds otherwise))
-  found_in ds (source.While c body) = or_else (found ds c) (all_found_in ds body)
-  found_in ds (source.Print task format arguments) = or_else (found_format format (count_of arguments)) (all_found ds arguments)
+  found_in ds (source.If c body) = or_fault (found ds c) (all_found_in ds body)
+  found_in ds (source.IfElse c body otherwise) = or_fault (found ds c) (or_fault (all_found_in ds body) (all_found_in ds otherwise))
+  found_in ds (source.While c body) = or_fault (found ds c) (all_found_in ds body)
+  found_in ds (source.Print task format arguments) = or_fault (found_format format (count_of arguments)) (all_found ds arguments)
   found_in ds source.Finish = None
 
-  pub all_found_in : List Declared → source.Statements → Option Fault
+  pub all_found_in : List Declared → source.SourceStatements → Option Fault
   all_found_in ds source.End = None
-  all_found_in ds (source.Then s ss) = or_else (found_in ds s) (all_found_in ds ss)
+  all_found_in ds (source.Then s ss) = or_fault (found_in ds s) (all_found_in ds ss)
 
 -- what is wrong first with processes
-abbrev pub found_by : List Declared → List source.Process → Option Fault
+abbrev pub found_by : List Declared → List source.SourceProcess → Option Fault
 found_by ds [] = None
-found_by ds (p ∷ ps) = or_else (found_in ds p.body) (found_by ds ps)
+found_by ds (p ∷ ps) = or_fault (found_in ds p.body) (found_by ds ps)
 
 -- too many processes
 abbrev pub found_few : ℕ → Option Fault
 found_few count = found_where (nat_lt most_processes count) model.TooManyProcesses
 
 -- what is wrong first with the processes of a module: too many, names, and the rest
-abbrev pub found_among : List Declared → List source.Process → Option Fault
-found_among ds ps = or_else (found_few (length ps)) (or_else (used_by ds ps) (found_by ds ps))
+abbrev pub found_among : List Declared → List source.SourceProcess → Option Fault
+found_among ds ps = or_fault (found_few (length ps)) (or_fault (used_by ds ps) (found_by ds ps))
 
 -- what is wrong first with a module
 abbrev pub found_module : source.Module → Option Fault
-found_module m = or_else (found_names [] (declared m)) (found_among (declared m) m.processes)
+found_module m = or_fault (found_names [] (declared m)) (found_among (declared m) m.processes)
 
 -- a fault that is told is what was found first; only want of memory is told where nothing was found
 abbrev pub IsFirstOf : ElabFault → Option Fault → Type 0
-IsFirstOf fault (Some f) = IsFaultOf fault f
+IsFirstOf fault (Some f) = IsModuleFaultOf fault f
 IsFirstOf fault None = fault ≡ told.Memory

@@ -14,10 +14,10 @@ stage_of AfterPercent = model.AfterPercent
 stage_of AfterZero = model.AfterZero
 
 -- the piece that a byte completes, if it completes one
-abbrev pub shown : Option Piece → List design.Piece
-shown None = []
-shown (Some piece) = piece_of piece ∷ []
+abbrev pub completed_piece : Option Piece → List design.Piece
+completed_piece None = []
+completed_piece (Some piece) = piece_of piece ∷ []
 
 -- where a format is read next, and the piece that was completed
 abbrev pub step_of : FormatStage × Option Piece → model.FormatStage × List design.Piece
-step_of step = (stage_of step.0, shown step.1)
+step_of step = (stage_of step.0, completed_piece step.1)

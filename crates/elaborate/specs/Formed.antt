@@ -27,7 +27,7 @@ abbrev mutual
 
 -- each expression of the statements is formed
 abbrev mutual
-  pub IsFormedStatement : source.Statement → Type 0
+  pub IsFormedStatement : source.SourceStatement → Type 0
   IsFormedStatement source.Empty = Unit {0}
   IsFormedStatement (source.Block body) = AreFormedStatements body
   IsFormedStatement (source.Assign name delay e) = IsFormed e
@@ -40,11 +40,11 @@ abbrev mutual
   IsFormedStatement (source.Print task format arguments) = AreFormed arguments
   IsFormedStatement source.Finish = Unit {0}
 
-  pub AreFormedStatements : source.Statements → Type 0
+  pub AreFormedStatements : source.SourceStatements → Type 0
   AreFormedStatements source.End = Unit {0}
   AreFormedStatements (source.Then s ss) = IsFormedStatement s × AreFormedStatements ss
 
 -- each process has a formed body
-abbrev pub AreFormedProcesses : List source.Process → Type 0
+abbrev pub AreFormedProcesses : List source.SourceProcess → Type 0
 AreFormedProcesses [] = Unit {0}
 AreFormedProcesses (p ∷ ps) = IsFormedStatement p.body × AreFormedProcesses ps

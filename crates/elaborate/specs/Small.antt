@@ -21,17 +21,17 @@ abbrev mutual
   AreSmall (Also e es) = IsSmall e × AreSmall es
 
 -- a delay isn't too long, if there is one
-abbrev pub IsShort : Option ℕ → Type 0
-IsShort None = Unit {0}
-IsShort (Some delay) = delay ≤ greatest_delay
+abbrev pub IsShortDelay : Option ℕ → Type 0
+IsShortDelay None = Unit {0}
+IsShortDelay (Some delay) = delay ≤ greatest_delay
 
 -- each delay isn't too long, and each expression is small
 abbrev mutual
-  pub IsSmallStatement : source.Statement → Type 0
+  pub IsSmallStatement : source.SourceStatement → Type 0
   IsSmallStatement source.Empty = Unit {0}
   IsSmallStatement (source.Block body) = AreSmallStatements body
-  IsSmallStatement (source.Assign name delay e) = IsShort delay × IsSmall e
-  IsSmallStatement (source.AssignLater name delay e) = IsShort delay × IsSmall e
+  IsSmallStatement (source.Assign name delay e) = IsShortDelay delay × IsSmall e
+  IsSmallStatement (source.AssignLater name delay e) = IsShortDelay delay × IsSmall e
   IsSmallStatement (source.Delay delay s) = (delay ≤ greatest_delay) × IsSmallStatement s
   IsSmallStatement (source.Await triggers s) = IsSmallStatement s
   IsSmallStatement (source.If c body) = IsSmall c × AreSmallStatements body
@@ -40,11 +40,11 @@ abbrev mutual
   IsSmallStatement (source.Print task format arguments) = AreSmall arguments
   IsSmallStatement source.Finish = Unit {0}
 
-  pub AreSmallStatements : source.Statements → Type 0
+  pub AreSmallStatements : source.SourceStatements → Type 0
   AreSmallStatements source.End = Unit {0}
   AreSmallStatements (source.Then s ss) = IsSmallStatement s × AreSmallStatements ss
 
 -- each process has a small body
-abbrev pub AreSmallProcesses : List source.Process → Type 0
+abbrev pub AreSmallProcesses : List source.SourceProcess → Type 0
 AreSmallProcesses [] = Unit {0}
 AreSmallProcesses (p ∷ ps) = IsSmallStatement p.body × AreSmallProcesses ps

@@ -4,7 +4,7 @@ ghost use Rattle.design.specs.DesignTrees.{expression_of, expressions_of, piece_
 ghost use Rattle.model.specs.Design as model;
 ghost use Rattle.model.specs.Elaboration.{alone, assignment, followed_by};
 ghost use Rattle.model.specs.Syntax as syntax;
-ghost use Rattle.elaborate.specs.Small.{IsShort};
+ghost use Rattle.elaborate.specs.Small.{IsShortDelay};
 
 use design::tree::{Expression, Piece, Statement};
 use design::{RegId, Trigger};
@@ -56,7 +56,7 @@ pub fn unary_of(alloc: Global, op: UnaryOperator, e: Expression) -> Built<Expres
 }
 
 pub fn assign_of(register: RegId, wait: Option<u64>, value: Expression) -> Statement
-    requires { IsShort wait }
+    requires { IsShortDelay wait }
     ensures { statement_of result ≡ assignment register wait (expression_of value) }
 {
     match wait {
@@ -67,7 +67,7 @@ pub fn assign_of(register: RegId, wait: Option<u64>, value: Expression) -> State
 
 /// How long a nonblocking assignment waits.
 pub fn wait_of(wait: Option<u64>) -> u32
-    requires { IsShort wait }
+    requires { IsShortDelay wait }
     ensures { result ≡ unwrap_or wait 0 }
 {
     match wait {

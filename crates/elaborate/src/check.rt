@@ -5,16 +5,18 @@ ghost use Rattle.model.specs.Expressions.{own_size, result_size, sizing_of, tota
 ghost use Rattle.model.specs.Elaboration as model;
 ghost use Rattle.model.specs.Syntax.{Literal, Select};
 ghost use Rattle.logic4.specs.Vector.{greatest_width};
-ghost use Rattle.model.specs.SourceTrees.{expression_of, expressions, process_of, statement_of, statements};
+ghost use Rattle.model.specs.SourceTrees.{source_expression_of, source_expressions, source_process_of, source_statement_of, source_statements};
 ghost use Rattle.elaborate.specs.Formed.{IsFormed, AreFormed, IsFormedStatement, AreFormedStatements, AreFormedProcesses};
-ghost use Rattle.elaborate.specs.FirstFindings.{first_finding, or_else, capped, found_where, found, all_found, found_delay, found_format, found_in, all_found_in, found_by};
+ghost use Rattle.elaborate.specs.FirstFindings.{first_finding, or_fault, capped, found_where, found, all_found, found_delay, found_format, found_in, all_found_in, found_by};
 
 use crate::finding::Finding;
 use crate::format;
-use crate::names::Names;
+use crate::names::RegisterNames;
 use design::{Sizing, sizing_of};
 use logic4::bits::{Bits, MAX_WIDTH};
-use model::tree::{BinaryOperator, Expression, Process, Statement, UnaryOperator};
+use model::tree::{
+    BinaryOperator, SourceExpression, SourceProcess, SourceStatement, UnaryOperator,
+};
 
 const MAX_DELAY: u64 = 4_294_967_295;
 
@@ -26,9 +28,12 @@ struct Checked<'a> {
 }
 
 /// Refuses the first thing that is wrong with these processes.
-pub fn processes<'a>(names: &Names, processes: &'a [Process]) -> Result<(), Finding<'a>>
-    ensures found { first_finding result ≡ found_by names.now (map process_of processes.now) }
-    ensures formed { OnOk result (AreFormedProcesses (map process_of processes.now)) }
+pub fn processes<'a>(
+    names: &RegisterNames,
+    processes: &'a [SourceProcess],
+) -> Result<(), Finding<'a>>
+    ensures found { first_finding result ≡ found_by names.now (map source_process_of processes.now) }
+    ensures formed { OnOk result (AreFormedProcesses (map source_process_of processes.now)) }
 {
     for process in processes {
         statement(names, &process.body)?;
@@ -37,32 +42,32 @@ pub fn processes<'a>(names: &Names, processes: &'a [Process]) -> Result<(), Find
 }
 
 #[cycle(found_in)]
-fn statement<'a>(names: &Names, s: &'a Statement) -> Result<(), Finding<'a>>
-    ensures found { first_finding result ≡ found_in names.now (statement_of s.now) }
-    ensures formed { OnOk result (IsFormedStatement (statement_of s.now)) }
+fn statement<'a>(names: &RegisterNames, s: &'a SourceStatement) -> Result<(), Finding<'a>>
+    ensures found { first_finding result ≡ found_in names.now (source_statement_of s.now) }
+    ensures formed { OnOk result (IsFormedStatement (source_statement_of s.now)) }
 {
     match s {
-        Statement::Empty | Statement::Finish => Ok(()),
-        Statement::Block(body) => block(names, body.as_slice()),
-        Statement::Assign(_, wait, e) | Statement::AssignLater(_, wait, e) => {
+        SourceStatement::Empty | SourceStatement::Finish => Ok(()),
+        SourceStatement::Block(body) => block(names, body.as_slice()),
+        SourceStatement::Assign(_, wait, e) | SourceStatement::AssignLater(_, wait, e) => {
             delay(*wait)?;
             expression(names, e).first_finding
         }
-        Statement::Delay(wait, s) => {
+        SourceStatement::Delay(wait, s) => {
             delay(Some(*wait))?;
             statement(names, s)
         }
-        Statement::Await(_, s) => statement(names, s),
-        Statement::If(c, body) | Statement::While(c, body) => {
+        SourceStatement::Await(_, s) => statement(names, s),
+        SourceStatement::If(c, body) | SourceStatement::While(c, body) => {
             expression(names, c).first_finding?;
             block(names, body.as_slice())
         }
-        Statement::IfElse(c, body, otherwise) => {
+        SourceStatement::IfElse(c, body, otherwise) => {
             expression(names, c).first_finding?;
             block(names, body.as_slice())?;
             block(names, otherwise.as_slice())
         }
-        Statement::Print(_, format, arguments) => {
+        SourceStatement::Print(_, format, arguments) => {
             line(format.as_slice(), arguments.as_slice())?;
             expressions(names, arguments.as_slice()).first_finding
         }
@@ -70,9 +75,9 @@ fn statement<'a>(names: &Names, s: &'a Statement) -> Result<(), Finding<'a>>
 }
 
 #[cycle(found_in)]
-fn block<'a>(names: &Names, body: &'a [Statement]) -> Result<(), Finding<'a>>
-    ensures found { first_finding result ≡ all_found_in names.now (statements (map statement_of body.now)) }
-    ensures formed { OnOk result (AreFormedStatements (statements (map statement_of body.now))) }
+fn block<'a>(names: &RegisterNames, body: &'a [SourceStatement]) -> Result<(), Finding<'a>>
+    ensures found { first_finding result ≡ all_found_in names.now (source_statements (map source_statement_of body.now)) }
+    ensures formed { OnOk result (AreFormedStatements (source_statements (map source_statement_of body.now))) }
 {
     for s in body {
         statement(names, s)?;
@@ -89,8 +94,8 @@ fn delay<'a>(wait: Option<u64>) -> Result<(), Finding<'a>>
     }
 }
 
-fn line<'a>(format: &[u8], arguments: &[Expression]) -> Result<(), Finding<'a>>
-    ensures { first_finding result ≡ found_format format.now (count_of (expressions (map expression_of arguments.now))) }
+fn line<'a>(format: &[u8], arguments: &[SourceExpression]) -> Result<(), Finding<'a>>
+    ensures { first_finding result ≡ found_format format.now (count_of (source_expressions (map source_expression_of arguments.now))) }
 {
     shows(format, arguments.len())
 }
@@ -105,28 +110,32 @@ fn shows<'a>(format: &[u8], arguments: usize) -> Result<(), Finding<'a>>
 }
 
 #[cycle(found)]
-fn expression<'a>(names: &Names, e: &'a Expression) -> Checked<'a>
-    ensures size { result.size ≡ capped (own_size (widths_of names.now) (resolved names.now (expression_of e.now))) }
-    ensures found { first_finding result.first_finding ≡ found names.now (expression_of e.now) }
-    ensures formed { IsFormed (expression_of e.now) }
+fn expression<'a>(names: &RegisterNames, e: &'a SourceExpression) -> Checked<'a>
+    ensures size { result.size ≡ capped (own_size (widths_of names.now) (resolved names.now (source_expression_of e.now))) }
+    ensures found { first_finding result.first_finding ≡ found names.now (source_expression_of e.now) }
+    ensures formed { IsFormed (source_expression_of e.now) }
 {
     match e {
-        Expression::Name(name) => Checked {
+        SourceExpression::Name(name) => Checked {
             size: names.width(name.as_str()),
             first_finding: Ok(()),
         },
-        Expression::Select(name, index) => Checked {
+        SourceExpression::Select(name, index) => Checked {
             size: 1,
             first_finding: bit(names, name.as_str(), *index),
         },
-        Expression::Literal(bits) => literal(*bits),
-        Expression::Concat(part, others) => {
+        SourceExpression::Literal(bits) => literal(*bits),
+        SourceExpression::Concat(part, others) => {
             let part = expression(names, part);
             concat(part, expressions(names, others.as_slice()))
         }
-        Expression::Unary(op, e) => unary(*op, expression(names, e)),
-        Expression::Binary(op, e, f) => binary(*op, expression(names, e), expression(names, f)),
-        Expression::Conditional(c, e, f) => {
+        SourceExpression::Unary(op, e) => unary(*op, expression(names, e)),
+        SourceExpression::Binary(op, e, f) => binary(
+            *op,
+            expression(names, e),
+            expression(names, f),
+        ),
+        SourceExpression::Conditional(c, e, f) => {
             let test = expression(names, c);
             conditional(test, expression(names, e), expression(names, f))
         }
@@ -134,10 +143,10 @@ fn expression<'a>(names: &Names, e: &'a Expression) -> Checked<'a>
 }
 
 #[cycle(found)]
-fn expressions<'a>(names: &Names, parts: &'a [Expression]) -> Checked<'a>
-    ensures size { result.size ≡ capped (total_size (widths_of names.now) (all_resolved names.now (expressions (map expression_of parts.now)))) }
-    ensures found { first_finding result.first_finding ≡ all_found names.now (expressions (map expression_of parts.now)) }
-    ensures formed { AreFormed (expressions (map expression_of parts.now)) }
+fn expressions<'a>(names: &RegisterNames, parts: &'a [SourceExpression]) -> Checked<'a>
+    ensures size { result.size ≡ capped (total_size (widths_of names.now) (all_resolved names.now (source_expressions (map source_expression_of parts.now)))) }
+    ensures found { first_finding result.first_finding ≡ all_found names.now (source_expressions (map source_expression_of parts.now)) }
+    ensures formed { AreFormed (source_expressions (map source_expression_of parts.now)) }
 {
     let mut size = 0;
     let mut first_finding = Ok(());
@@ -170,7 +179,7 @@ fn unary<'a>(op: UnaryOperator, operand: Checked<'a>) -> Checked<'a>
 
 fn binary<'a>(op: BinaryOperator, left: Checked<'a>, right: Checked<'a>) -> Checked<'a>
     ensures size { result.size ≡ result_size (sizing_of op) left.entry.size right.entry.size }
-    ensures first_finding { first_finding result.first_finding ≡ or_else (first_finding left.entry.first_finding) (first_finding right.entry.first_finding) }
+    ensures first_finding { first_finding result.first_finding ≡ or_fault (first_finding left.entry.first_finding) (first_finding right.entry.first_finding) }
 {
     Checked {
         size: binary_size(op, left.size, right.size),
@@ -192,7 +201,7 @@ fn binary_size(op: BinaryOperator, left: u32, right: u32) -> u32
 fn conditional<'a>(test: Checked<'a>, left: Checked<'a>, right: Checked<'a>) -> Checked<'a>
     ensures size { result.size ≡ max left.entry.size right.entry.size }
     ensures first_finding { first_finding result.first_finding
-        ≡ or_else (first_finding test.entry.first_finding) (or_else (first_finding left.entry.first_finding) (first_finding right.entry.first_finding)) }
+        ≡ or_fault (first_finding test.entry.first_finding) (or_fault (first_finding left.entry.first_finding) (first_finding right.entry.first_finding)) }
 {
     Checked {
         size: left.size.max(right.size),
@@ -218,8 +227,8 @@ fn literal<'a>(bits: Bits) -> Checked<'a>
 fn concat<'a>(part: Checked<'a>, others: Checked<'a>) -> Checked<'a>
     ensures size { result.size ≡ capped (part.entry.size + others.entry.size) }
     ensures first_finding { first_finding result.first_finding
-        ≡ or_else (found_where (nat_lt greatest_width (part.entry.size + others.entry.size)) model.WideConcat)
-        (or_else (first_finding part.entry.first_finding) (first_finding others.entry.first_finding)) }
+        ≡ or_fault (found_where (nat_lt greatest_width (part.entry.size + others.entry.size)) model.WideConcat)
+        (or_fault (first_finding part.entry.first_finding) (first_finding others.entry.first_finding)) }
 {
     let size = cap(part.size.saturating_add(others.size));
     Checked {
@@ -231,7 +240,7 @@ fn concat<'a>(part: Checked<'a>, others: Checked<'a>) -> Checked<'a>
     }
 }
 
-fn bit<'a>(names: &Names, name: &'a str, index: u64) -> Result<(), Finding<'a>>
+fn bit<'a>(names: &RegisterNames, name: &'a str, index: u64) -> Result<(), Finding<'a>>
     ensures { first_finding result ≡ found names.now (Select name.now index) }
 {
     match names.range(name) {
@@ -256,7 +265,7 @@ fn first<'a>(
     one: Result<(), Finding<'a>>,
     other: Result<(), Finding<'a>>,
 ) -> Result<(), Finding<'a>>
-    ensures { first_finding result ≡ or_else (first_finding one.entry) (first_finding other.entry) }
+    ensures { first_finding result ≡ or_fault (first_finding one.entry) (first_finding other.entry) }
 {
     one?;
     other

@@ -9,14 +9,14 @@ ghost use Rattle.elaborate.specs.Formed.{AreFormedProcesses};
 ghost use Rattle.elaborate.specs.Small.{AreSmallProcesses};
 ghost use Rattle.model.specs.Elaboration as model;
 ghost use Rattle.model.specs.Elaboration.{declared, faults};
-ghost use Rattle.model.specs.SourceTrees.{module_of, process_of};
+ghost use Rattle.model.specs.SourceTrees.{module_of, source_process_of};
 
 use crate::fault::ElabFault;
 use crate::finding::Finding;
-use crate::names::Names;
+use crate::names::RegisterNames;
 use crate::{check, registers, resolve, uses};
 use design::Design;
-use model::tree::{Module, Process};
+use model::tree::{Module, SourceProcess};
 use std::alloc::Global;
 
 const MAX_PROCESSES: usize = 256;
@@ -31,7 +31,7 @@ const MAX_PROCESSES: usize = 256;
 /// `Memory` where memory is refused.
 pub fn elaborate(alloc: Global, source: &Module) -> Result<Design, ElabFault>
     ensures faultless { IfOk result (λ d. faults (module_of source.now) ≡ []) }
-    ensures design { IfOk result (λ d. design_of d ≡ model.design_of (module_of source.now)) }
+    ensures design { IfOk result (λ d. design_of d ≡ model.design_of_module (module_of source.now)) }
     ensures names { IfOk result (λ d. d.names ≡ map (λ x. x.0) (declared (module_of source.now))) }
     ensures fault { IfErr result (λ f. IsFirstFault f (faults (module_of source.now))) }
 {
@@ -48,7 +48,7 @@ pub fn elaborate(alloc: Global, source: &Module) -> Result<Design, ElabFault>
 /// As those of `elaborate`.
 pub fn elaborate_owned(alloc: Global, source: Module) -> Result<Design, ElabFault>
     ensures faultless { IfOk result (λ d. faults (module_of source) ≡ []) }
-    ensures design { IfOk result (λ d. design_of d ≡ model.design_of (module_of source)) }
+    ensures design { IfOk result (λ d. design_of d ≡ model.design_of_module (module_of source)) }
     ensures names { IfOk result (λ d. d.names ≡ map (λ x. x.0) (declared (module_of source))) }
     ensures fault { IfErr result (λ f. IsFirstFault f (faults (module_of source))) }
 {
@@ -59,10 +59,10 @@ pub fn elaborate_owned(alloc: Global, source: Module) -> Result<Design, ElabFaul
 }
 
 // The registers of a module without faults, or the first fault of the module.
-fn registers_of(alloc: Global, source: &Module) -> Result<Names, ElabFault>
+fn registers_of(alloc: Global, source: &Module) -> Result<RegisterNames, ElabFault>
     ensures faultless { IfOk result (λ names. faults (module_of source.now) ≡ []) }
     ensures small { IfOk result (λ names. AreSmallProcesses (module_of source.now).processes) }
-    ensures sound { IfOk result (λ names. IsSound (model.design_of (module_of source.now))) }
+    ensures sound { IfOk result (λ names. IsSound (model.design_of_module (module_of source.now))) }
     ensures names { IfOk result (λ names. names ≡ declared (module_of source.now)) }
     ensures fault { IfErr result (λ f. IsFirstFault f (faults (module_of source.now))) }
 {
@@ -72,11 +72,11 @@ fn registers_of(alloc: Global, source: &Module) -> Result<Names, ElabFault>
 }
 
 // The first thing that is wrong with the processes of a module is told, and not want of memory where it has no name in it.
-fn told(alloc: Global, names: &Names, processes: &[Process]) -> Result<(), ElabFault>
-    ensures fault { IfErr result (λ f. IsFirstOf f (found_among names.now (map process_of processes.now))) }
-    ensures none { OnOk result (found_among names.now (map process_of processes.now) ≡ None) }
-    ensures formed { OnOk result (AreFormedProcesses (map process_of processes.now)) }
-    ensures certain { (f : ElabFault) → told_of (found_among names.now (map process_of processes.now)) ≡ Some f → result ≡ Err f }
+fn told(alloc: Global, names: &RegisterNames, processes: &[SourceProcess]) -> Result<(), ElabFault>
+    ensures fault { IfErr result (λ f. IsFirstOf f (found_among names.now (map source_process_of processes.now))) }
+    ensures none { OnOk result (found_among names.now (map source_process_of processes.now) ≡ None) }
+    ensures formed { OnOk result (AreFormedProcesses (map source_process_of processes.now)) }
+    ensures certain { (f : ElabFault) → told_of (found_among names.now (map source_process_of processes.now)) ≡ Some f → result ≡ Err f }
 {
     if let Err(finding) = allowed(names, processes) {
         return Err(finding.fault(alloc));
@@ -85,9 +85,9 @@ fn told(alloc: Global, names: &Names, processes: &[Process]) -> Result<(), ElabF
 }
 
 /// Refuses the first thing that is wrong with the processes of a module.
-pub fn allowed<'a>(names: &Names, processes: &'a [Process]) -> Result<(), Finding<'a>>
-    ensures found { first_finding result ≡ found_among names.now (map process_of processes.now) }
-    ensures formed { OnOk result (AreFormedProcesses (map process_of processes.now)) }
+pub fn allowed<'a>(names: &RegisterNames, processes: &'a [SourceProcess]) -> Result<(), Finding<'a>>
+    ensures found { first_finding result ≡ found_among names.now (map source_process_of processes.now) }
+    ensures formed { OnOk result (AreFormedProcesses (map source_process_of processes.now)) }
 {
     few(processes.len())?;
     uses::processes(names, processes)?;

@@ -1,6 +1,6 @@
 //! What a walk over the tree finds first, with the name as it stands in the tree.
 ghost use Rattle.std.specs.Prelude.{◌≡◌, Ok, Some, IfOk};
-ghost use Rattle.elaborate.specs.FirstFindings.{IsFaultOf, plain, told_of};
+ghost use Rattle.elaborate.specs.FirstFindings.{IsModuleFaultOf, plain, told_of};
 ghost use Rattle.elaborate.specs.declared.fault.ElabFault.{ElabFault};
 
 use crate::fault::ElabFault;
@@ -23,7 +23,7 @@ pub enum Finding<'a> {
 impl Finding<'_> {
     /// The fault that is told. Where memory is refused for the name, that is the fault.
     pub fn fault(self, alloc: Global) -> ElabFault
-        ensures found { IsFaultOf result (plain self.entry) }
+        ensures found { IsModuleFaultOf result (plain self.entry) }
         // A fault with no name in it is told whatever memory there is.
         ensures certain { (f : ElabFault) → told_of (Some (plain self.entry)) ≡ Some f → result ≡ f }
     {
@@ -34,7 +34,7 @@ impl Finding<'_> {
     }
 
     fn owned(self, alloc: Global) -> Result<ElabFault, AllocError>
-        ensures found { IfOk result (λ f. IsFaultOf f (plain self.entry)) }
+        ensures found { IfOk result (λ f. IsModuleFaultOf f (plain self.entry)) }
         ensures certain { (f : ElabFault) → told_of (Some (plain self.entry)) ≡ Some f → result ≡ Ok f }
     {
         Ok(match self {

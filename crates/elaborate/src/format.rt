@@ -3,7 +3,7 @@ ghost use Rattle.std.specs.Prelude.{◌≡◌, ◌≤◌, ◌↔◌, ◌++◌, �
 ghost use Rattle.model.specs.Design.{Byte};
 ghost use Rattle.model.specs.Elaboration.{AtByte, AfterPercent, argument_count, pieces_of, read_byte};
 ghost use Rattle.design.specs.DesignTrees.{piece_of};
-ghost use Rattle.elaborate.specs.Formats.{stage_of, step_of, shown};
+ghost use Rattle.elaborate.specs.Formats.{stage_of, step_of, completed_piece};
 
 use design::Ascii;
 use design::tree::{Conversion, Piece};
@@ -106,7 +106,7 @@ fn conversion(byte: u8) -> Option<(FormatStage, Option<Piece>)>
 }
 
 fn arguments(piece: Option<Piece>) -> usize
-    ensures value { result ≡ argument_count (shown piece) }
+    ensures value { result ≡ argument_count (completed_piece piece) }
     ensures few { result ≤ 1 }
 {
     match piece {
@@ -116,7 +116,7 @@ fn arguments(piece: Option<Piece>) -> usize
 }
 
 fn push(pieces: &mut Vec<Piece>, piece: Option<Piece>) -> Result<(), AllocError>
-    ensures { OnOk result (map piece_of pieces.new.items ≡ map piece_of pieces.old.items ++ shown piece) }
+    ensures { OnOk result (map piece_of pieces.new.items ≡ map piece_of pieces.old.items ++ completed_piece piece) }
 {
     if let Some(piece) = piece {
         pieces.push(piece)?;

@@ -5,7 +5,7 @@ ghost use Rattle.model.specs.Elaboration.{is_declared, is_range, most_registers,
 ghost use Rattle.design.specs.Compiled.{design_of};
 ghost use Rattle.design.specs.Sound.{IsSound};
 ghost use Rattle.design.specs.DesignTrees.{tree_design};
-ghost use Rattle.elaborate.specs.FirstFindings.{first_finding, unknown, found_name, IsFirstOf};
+ghost use Rattle.elaborate.specs.FirstFindings.{first_finding, undeclared_fault, found_name, IsFirstOf};
 
 use crate::fault::ElabFault;
 use crate::finding::Finding;
@@ -23,12 +23,12 @@ pub type Range = Option<(u64, u64)>;
 
 /// The names and the ranges of the declared registers, in the order of their numbers.
 #[derive(Drop)]
-pub struct Names {
+pub struct RegisterNames {
     names: IndexSet<String>,
     ranges: Vec<Range>,
 }
 
-impl Model for Names {
+impl Model for RegisterNames {
     ghost use Rattle.std.specs.Prelude.{List, map, string_bytes};
     ghost use Rattle.model.specs.Elaboration.{Declared};
     ghost use Rattle.elaborate.specs.Registers.{with_ranges, AreRegisters};
@@ -40,12 +40,12 @@ impl Model for Names {
     ghost invariant = { λ n. AreRegisters (map string_bytes n.names.keys) n.ranges.items };
 }
 
-impl Names {
+impl RegisterNames {
     /// No register.
-    pub fn new(alloc: Global) -> Names
+    pub fn new(alloc: Global) -> RegisterNames
         ensures { result ≡ [] }
     {
-        Names {
+        RegisterNames {
             names: IndexSet::new(alloc),
             ranges: Vec::new(alloc),
         }
@@ -53,7 +53,12 @@ impl Names {
 
     /// One register more. Refuses a name that is declared already, a range that isn't allowed and a register too many,
     /// in this order, and fails where memory is refused.
-    pub fn declare(self, alloc: Global, name: &str, range: Range) -> Result<Names, ElabFault>
+    pub fn declare(
+        self,
+        alloc: Global,
+        name: &str,
+        range: Range,
+    ) -> Result<RegisterNames, ElabFault>
         ensures allowed { OnOk result (found_name self (name.now, range) ≡ None) }
         ensures added { IfOk result (λ names. names ≡ self ++ (name.now, range) ∷ []) }
         ensures fault { IfErr result (λ f. IsFirstOf f (found_name self (name.now, range))) }
@@ -78,22 +83,22 @@ impl Names {
         }
     }
 
-    fn with(self, alloc: Global, name: &str, range: Range) -> Result<Names, AllocError>
+    fn with(self, alloc: Global, name: &str, range: Range) -> Result<RegisterNames, AllocError>
         requires { found_name self (name.now, range) ≡ None }
         ensures { IfOk result (λ names. names ≡ self ++ (name.now, range) ∷ []) }
     {
-        let Names {
+        let RegisterNames {
             mut names,
             mut ranges,
         } = self;
         names.insert(String::from_str(alloc, name)?)?;
         ranges.push(range)?;
-        Ok(Names { names, ranges })
+        Ok(RegisterNames { names, ranges })
     }
 
     /// Refuses a name that isn't declared.
     pub fn known<'a>(&self, name: &'a str) -> Result<(), Finding<'a>>
-        ensures { first_finding result ≡ unknown self.now name.now }
+        ensures { first_finding result ≡ undeclared_fault self.now name.now }
     {
         if self.contains(name) {
             Ok(())
@@ -164,7 +169,7 @@ impl Names {
         ensures design { IfOk result (λ d. design_of d ≡ tree_design (widths_of self) processes.items) }
         ensures names { IfOk result (λ d. d.names ≡ map (λ d. d.0) self) }
     {
-        let Names { names, ranges } = self;
+        let RegisterNames { names, ranges } = self;
         let widths = widths(alloc, ranges.as_slice())?;
         Design::new(alloc, names, widths, processes)
     }

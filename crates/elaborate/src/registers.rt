@@ -5,18 +5,18 @@ ghost use Rattle.elaborate.specs.Registers.{all_declared, of_range};
 ghost use Rattle.elaborate.specs.FirstFindings.{found_names, IsFirstOf};
 
 use crate::fault::ElabFault;
-use crate::names::{Names, Range};
+use crate::names::{Range, RegisterNames};
 use model::tree::Declaration;
 use std::alloc::Global;
 
 /// The registers of these declarations. Refuses the first name that may not be declared.
-pub fn registers(alloc: Global, declarations: &[Declaration]) -> Result<Names, ElabFault>
+pub fn registers(alloc: Global, declarations: &[Declaration]) -> Result<RegisterNames, ElabFault>
     ensures registers { IfOk result (λ names. names ≡ all_declared (map declaration_of declarations.now)) }
     ensures allowed { OnOk result (found_names [] (all_declared (map declaration_of declarations.now)) ≡ None) }
     ensures fault { IfErr result
         (λ f. IsFirstOf f (found_names [] (all_declared (map declaration_of declarations.now)))) }
 {
-    let mut names = Names::new(alloc);
+    let mut names = RegisterNames::new(alloc);
     for declaration in declarations {
         names = with_all(
             alloc,
@@ -30,10 +30,10 @@ pub fn registers(alloc: Global, declarations: &[Declaration]) -> Result<Names, E
 
 fn with_all(
     alloc: Global,
-    registers: Names,
+    registers: RegisterNames,
     more: &[String],
     range: Range,
-) -> Result<Names, ElabFault>
+) -> Result<RegisterNames, ElabFault>
     ensures registers { IfOk result (λ names. names ≡ registers ++ of_range range (map string_bytes more.now)) }
     ensures allowed { OnOk result (found_names registers (of_range range (map string_bytes more.now)) ≡ None) }
     ensures fault { IfErr result (λ f. IsFirstOf f (found_names registers (of_range range (map string_bytes more.now)))) }

@@ -4,12 +4,12 @@ ghost use Rattle.design.specs.DesignTrees as tree;
 ghost use Rattle.model.specs.Elaboration as model;
 ghost use Rattle.model.specs.Design as designs;
 ghost use Rattle.model.specs.Elaboration.{all_resolved, assignment, block_of, followed_by, number_of, pieces_of, resolved};
-ghost use Rattle.model.specs.SourceTrees.{expression_of, expressions, process_of, statement_of, statements, trigger_of};
-ghost use Rattle.elaborate.specs.Small.{IsSmall, AreSmall, IsShort, IsSmallStatement, AreSmallStatements, AreSmallProcesses};
+ghost use Rattle.model.specs.SourceTrees.{source_expression_of, source_expressions, source_process_of, source_statement_of, source_statements, source_trigger_of};
+ghost use Rattle.elaborate.specs.Small.{IsSmall, AreSmall, IsShortDelay, IsSmallStatement, AreSmallStatements, AreSmallProcesses};
 
 use crate::build::{self, Built};
 use crate::format;
-use crate::names::Names;
+use crate::names::RegisterNames;
 use design::Trigger;
 use design::tree::{Expression, Process, Statement};
 use model::tree as source;
@@ -17,10 +17,14 @@ use model::tree::Task;
 use std::alloc::Global;
 
 /// The processes of a design, from those of a module.
-pub fn processes(alloc: Global, names: &Names, processes: &[source::Process]) -> Built<Vec<Process>>
-    requires { AreSmallProcesses (map process_of processes.now) }
+pub fn processes(
+    alloc: Global,
+    names: &RegisterNames,
+    processes: &[source::Process],
+) -> Built<Vec<Process>>
+    requires { AreSmallProcesses (map source_process_of processes.now) }
     ensures { IfOk result
-        (λ made. map tree.process_of made.items ≡ map (model.process_of names.now) (map process_of processes.now)) }
+        (λ made. map tree.process_of made.items ≡ map (model.elaborated_process names.now) (map source_process_of processes.now)) }
 {
     let mut made = Vec::new(alloc);
     for process in processes {
@@ -36,12 +40,12 @@ pub fn processes(alloc: Global, names: &Names, processes: &[source::Process]) ->
 /// their memory.
 pub fn processes_given_up(
     alloc: Global,
-    names: &Names,
+    names: &RegisterNames,
     processes: Vec<source::Process>,
 ) -> Built<Vec<Process>>
-    requires { AreSmallProcesses (map process_of processes.items) }
+    requires { AreSmallProcesses (map source_process_of processes.items) }
     ensures { IfOk result
-        (λ made. map tree.process_of made.items ≡ map (model.process_of names.now) (map process_of processes.items)) }
+        (λ made. map tree.process_of made.items ≡ map (model.elaborated_process names.now) (map source_process_of processes.items)) }
 {
     let mut made = Vec::new(alloc);
     for process in processes {
@@ -50,9 +54,13 @@ pub fn processes_given_up(
     Ok(made)
 }
 
-fn process_given_up(alloc: Global, names: &Names, process: source::Process) -> Built<Process>
-    requires { IsSmallStatement (statement_of process.body) }
-    ensures { IfOk result (λ made. tree.process_of made ≡ model.process_of names.now (process_of process)) }
+fn process_given_up(
+    alloc: Global,
+    names: &RegisterNames,
+    process: source::Process,
+) -> Built<Process>
+    requires { IsSmallStatement (source_statement_of process.body) }
+    ensures { IfOk result (λ made. tree.process_of made ≡ model.elaborated_process names.now (source_process_of process)) }
 {
     let source::Process { repeats, body } = process;
     let body = given_up(alloc, names, body)?;
@@ -60,9 +68,9 @@ fn process_given_up(alloc: Global, names: &Names, process: source::Process) -> B
 }
 
 // The statements of the body of a process: of a block, or of an event control before one.
-fn given_up(alloc: Global, names: &Names, s: source::Statement) -> Built<Vec<Statement>>
-    requires { IsSmallStatement (statement_of s) }
-    ensures { IfOk result (λ made. tree.statements_of made.items ≡ model.statements_of names.now (statement_of s)) }
+fn given_up(alloc: Global, names: &RegisterNames, s: source::Statement) -> Built<Vec<Statement>>
+    requires { IsSmallStatement (source_statement_of s) }
+    ensures { IfOk result (λ made. tree.statements_of made.items ≡ model.statements_of names.now (source_statement_of s)) }
 {
     match s {
         source::Statement::Await(events, s) => {
@@ -76,9 +84,13 @@ fn given_up(alloc: Global, names: &Names, s: source::Statement) -> Built<Vec<Sta
     }
 }
 
-fn block_given_up(alloc: Global, names: &Names, s: source::Statement) -> Built<Vec<Statement>>
-    requires { IsSmallStatement (statement_of s) }
-    ensures { IfOk result (λ made. tree.statements_of made.items ≡ model.statements_of names.now (statement_of s)) }
+fn block_given_up(
+    alloc: Global,
+    names: &RegisterNames,
+    s: source::Statement,
+) -> Built<Vec<Statement>>
+    requires { IsSmallStatement (source_statement_of s) }
+    ensures { IfOk result (λ made. tree.statements_of made.items ≡ model.statements_of names.now (source_statement_of s)) }
 {
     match s {
         source::Statement::Block(body) => each_given_up(alloc, names, body),
@@ -88,11 +100,11 @@ fn block_given_up(alloc: Global, names: &Names, s: source::Statement) -> Built<V
 
 fn each_given_up(
     alloc: Global,
-    names: &Names,
+    names: &RegisterNames,
     body: Vec<source::Statement>,
 ) -> Built<Vec<Statement>>
-    requires { AreSmallStatements (statements (map statement_of body.items)) }
-    ensures { IfOk result (λ made. tree.statements_of made.items ≡ block_of names.now (statements (map statement_of body.items))) }
+    requires { AreSmallStatements (source_statements (map source_statement_of body.items)) }
+    ensures { IfOk result (λ made. tree.statements_of made.items ≡ block_of names.now (source_statements (map source_statement_of body.items))) }
 {
     let mut made = Vec::with_capacity(alloc, body.len())?;
     for one in body {
@@ -103,12 +115,12 @@ fn each_given_up(
 
 fn one_given_up(
     alloc: Global,
-    names: &Names,
+    names: &RegisterNames,
     s: source::Statement,
     into: &mut Vec<Statement>,
 ) -> Built<()>
-    requires { IsSmallStatement (statement_of s) }
-    ensures { OnOk result (tree.statements_of into.new.items ≡ followed_by (tree.statements_of into.old.items) (model.statements_of names.now (statement_of s))) }
+    requires { IsSmallStatement (source_statement_of s) }
+    ensures { OnOk result (tree.statements_of into.new.items ≡ followed_by (tree.statements_of into.old.items) (model.statements_of names.now (source_statement_of s))) }
 {
     statement(alloc, names, &s, into)
 }
@@ -123,9 +135,9 @@ fn count_of(s: &source::Statement) -> usize {
 
 // The statements of one statement.
 #[cycle(resolved_in)]
-fn alone(alloc: Global, names: &Names, s: &source::Statement) -> Built<Vec<Statement>>
-    requires { IsSmallStatement (statement_of s.now) }
-    ensures { IfOk result (λ made. tree.statements_of made.items ≡ model.statements_of names.now (statement_of s.now)) }
+fn alone(alloc: Global, names: &RegisterNames, s: &source::Statement) -> Built<Vec<Statement>>
+    requires { IsSmallStatement (source_statement_of s.now) }
+    ensures { IfOk result (λ made. tree.statements_of made.items ≡ model.statements_of names.now (source_statement_of s.now)) }
 {
     let mut made = Vec::with_capacity(alloc, count_of(s))?;
     statement(alloc, names, s, &mut made)?;
@@ -134,9 +146,9 @@ fn alone(alloc: Global, names: &Names, s: &source::Statement) -> Built<Vec<State
 
 // The statements of a block.
 #[cycle(resolved_in)]
-fn block(alloc: Global, names: &Names, body: &[source::Statement]) -> Built<Vec<Statement>>
-    requires { AreSmallStatements (statements (map statement_of body.now)) }
-    ensures { IfOk result (λ made. tree.statements_of made.items ≡ block_of names.now (statements (map statement_of body.now))) }
+fn block(alloc: Global, names: &RegisterNames, body: &[source::Statement]) -> Built<Vec<Statement>>
+    requires { AreSmallStatements (source_statements (map source_statement_of body.now)) }
+    ensures { IfOk result (λ made. tree.statements_of made.items ≡ block_of names.now (source_statements (map source_statement_of body.now))) }
 {
     let mut made = Vec::with_capacity(alloc, body.len())?;
     all(alloc, names, body, &mut made)?;
@@ -146,13 +158,13 @@ fn block(alloc: Global, names: &Names, body: &[source::Statement]) -> Built<Vec<
 #[cycle(resolved_in)]
 fn all(
     alloc: Global,
-    names: &Names,
+    names: &RegisterNames,
     body: &[source::Statement],
     into: &mut Vec<Statement>,
 ) -> Built<()>
-    requires { AreSmallStatements (statements (map statement_of body.now)) }
+    requires { AreSmallStatements (source_statements (map source_statement_of body.now)) }
     ensures { OnOk result (tree.statements_of into.new.items
-        ≡ followed_by (tree.statements_of into.old.items) (block_of names.now (statements (map statement_of body.now)))) }
+        ≡ followed_by (tree.statements_of into.old.items) (block_of names.now (source_statements (map source_statement_of body.now)))) }
 {
     for s in body {
         statement(alloc, names, s, into)?;
@@ -166,13 +178,13 @@ fn all(
 #[inline(never)]
 fn statement(
     alloc: Global,
-    names: &Names,
+    names: &RegisterNames,
     s: &source::Statement,
     into: &mut Vec<Statement>,
 ) -> Built<()>
-    requires { IsSmallStatement (statement_of s.now) }
+    requires { IsSmallStatement (source_statement_of s.now) }
     ensures { OnOk result (tree.statements_of into.new.items
-        ≡ followed_by (tree.statements_of into.old.items) (model.statements_of names.now (statement_of s.now))) }
+        ≡ followed_by (tree.statements_of into.old.items) (model.statements_of names.now (source_statement_of s.now))) }
 {
     match s {
         source::Statement::Empty => empty(into),
@@ -238,16 +250,16 @@ fn finish(into: &mut Vec<Statement>) -> Built<()>
 #[inline(never)]
 fn assign(
     alloc: Global,
-    names: &Names,
+    names: &RegisterNames,
     name: &str,
     wait: Option<u64>,
     e: &source::Expression,
     into: &mut Vec<Statement>,
 ) -> Built<()>
-    requires short { IsShort wait }
-    requires small { IsSmall (expression_of e.now) }
+    requires short { IsShortDelay wait }
+    requires small { IsSmall (source_expression_of e.now) }
     ensures { OnOk result (tree.statements_of into.new.items
-        ≡ followed_by (tree.statements_of into.old.items) (model.alone (assignment (number_of names.now name.now) wait (resolved names.now (expression_of e.now))))) }
+        ≡ followed_by (tree.statements_of into.old.items) (model.alone (assignment (number_of names.now name.now) wait (resolved names.now (source_expression_of e.now))))) }
 {
     let value = expression(alloc, names, e)?;
     build::push(into, build::assign_of(names.number(name), wait, value))
@@ -257,15 +269,15 @@ fn assign(
 #[inline(never)]
 fn assign_later(
     alloc: Global,
-    names: &Names,
+    names: &RegisterNames,
     name: &str,
     wait: u32,
     e: &source::Expression,
     into: &mut Vec<Statement>,
 ) -> Built<()>
-    requires { IsSmall (expression_of e.now) }
+    requires { IsSmall (source_expression_of e.now) }
     ensures { OnOk result (tree.statements_of into.new.items
-        ≡ followed_by (tree.statements_of into.old.items) (model.alone (designs.AssignLater (number_of names.now name.now) wait (resolved names.now (expression_of e.now))))) }
+        ≡ followed_by (tree.statements_of into.old.items) (model.alone (designs.AssignLater (number_of names.now name.now) wait (resolved names.now (source_expression_of e.now))))) }
 {
     let value = expression(alloc, names, e)?;
     build::push(
@@ -296,15 +308,15 @@ fn await_one(into: &mut Vec<Statement>, triggers: Vec<Trigger>, body: Vec<Statem
 #[inline(never)]
 fn choice(
     alloc: Global,
-    names: &Names,
+    names: &RegisterNames,
     c: &source::Expression,
     body: Vec<Statement>,
     otherwise: Vec<Statement>,
     into: &mut Vec<Statement>,
 ) -> Built<()>
-    requires { IsSmall (expression_of c.now) }
+    requires { IsSmall (source_expression_of c.now) }
     ensures { OnOk result (tree.statements_of into.new.items
-        ≡ followed_by (tree.statements_of into.old.items) (model.alone (designs.If (resolved names.now (expression_of c.now)) (tree.statements_of body.items) (tree.statements_of otherwise.items)))) }
+        ≡ followed_by (tree.statements_of into.old.items) (model.alone (designs.If (resolved names.now (source_expression_of c.now)) (tree.statements_of body.items) (tree.statements_of otherwise.items)))) }
 {
     let test = expression(alloc, names, c)?;
     build::push(into, build::if_of(test, body, otherwise))
@@ -314,14 +326,14 @@ fn choice(
 #[inline(never)]
 fn repetition(
     alloc: Global,
-    names: &Names,
+    names: &RegisterNames,
     c: &source::Expression,
     body: Vec<Statement>,
     into: &mut Vec<Statement>,
 ) -> Built<()>
-    requires { IsSmall (expression_of c.now) }
+    requires { IsSmall (source_expression_of c.now) }
     ensures { OnOk result (tree.statements_of into.new.items
-        ≡ followed_by (tree.statements_of into.old.items) (model.alone (designs.While (resolved names.now (expression_of c.now)) (tree.statements_of body.items)))) }
+        ≡ followed_by (tree.statements_of into.old.items) (model.alone (designs.While (resolved names.now (source_expression_of c.now)) (tree.statements_of body.items)))) }
 {
     let test = expression(alloc, names, c)?;
     build::push(into, build::while_of(test, body))
@@ -331,23 +343,23 @@ fn repetition(
 #[inline(never)]
 fn print(
     alloc: Global,
-    names: &Names,
+    names: &RegisterNames,
     task: Task,
     format: &[u8],
     arguments: &[source::Expression],
     into: &mut Vec<Statement>,
 ) -> Built<()>
-    requires { AreSmall (expressions (map expression_of arguments.now)) }
+    requires { AreSmall (source_expressions (map source_expression_of arguments.now)) }
     ensures { OnOk result (tree.statements_of into.new.items
-        ≡ followed_by (tree.statements_of into.old.items) (model.alone (designs.Print task (unwrap_or (pieces_of format.now) []) (all_resolved names.now (expressions (map expression_of arguments.now)))))) }
+        ≡ followed_by (tree.statements_of into.old.items) (model.alone (designs.Print task (unwrap_or (pieces_of format.now) []) (all_resolved names.now (source_expressions (map source_expression_of arguments.now)))))) }
 {
     let pieces = format::pieces(alloc, format)?;
     let arguments = expressions(alloc, names, arguments, arguments.len())?;
     build::push(into, build::print_of(task, pieces, arguments))
 }
 
-fn triggers(alloc: Global, names: &Names, events: &[source::Event]) -> Built<Vec<Trigger>>
-    ensures { IfOk result (λ made. made.items ≡ map (model.trigger_of names.now) (map trigger_of events.now)) }
+fn triggers(alloc: Global, names: &RegisterNames, events: &[source::Event]) -> Built<Vec<Trigger>>
+    ensures { IfOk result (λ made. made.items ≡ map (model.trigger_of names.now) (map source_trigger_of events.now)) }
 {
     let mut made = Vec::with_capacity(alloc, events.len())?;
     for event in events {
@@ -357,9 +369,9 @@ fn triggers(alloc: Global, names: &Names, events: &[source::Event]) -> Built<Vec
 }
 
 #[cycle(resolved)]
-fn expression(alloc: Global, names: &Names, e: &source::Expression) -> Built<Expression>
-    requires { IsSmall (expression_of e.now) }
-    ensures { IfOk result (λ made. tree.expression_of made ≡ resolved names.now (expression_of e.now)) }
+fn expression(alloc: Global, names: &RegisterNames, e: &source::Expression) -> Built<Expression>
+    requires { IsSmall (source_expression_of e.now) }
+    ensures { IfOk result (λ made. tree.expression_of made ≡ resolved names.now (source_expression_of e.now)) }
 {
     match e {
         source::Expression::Name(name) => Ok(Expression::Register(names.number(name.as_str()))),
@@ -395,13 +407,13 @@ fn expression(alloc: Global, names: &Names, e: &source::Expression) -> Built<Exp
 #[cycle(resolved)]
 fn expressions(
     alloc: Global,
-    names: &Names,
+    names: &RegisterNames,
     parts: &[source::Expression],
     room: usize,
 ) -> Built<Vec<Expression>>
-    requires { AreSmall (expressions (map expression_of parts.now)) }
+    requires { AreSmall (source_expressions (map source_expression_of parts.now)) }
     ensures { IfOk result
-        (λ made. tree.expressions_of made.items ≡ all_resolved names.now (expressions (map expression_of parts.now))) }
+        (λ made. tree.expressions_of made.items ≡ all_resolved names.now (source_expressions (map source_expression_of parts.now))) }
 {
     let mut made = Vec::with_capacity(alloc, room)?;
     for part in parts {

@@ -1,15 +1,18 @@
 //! Names that are used and not declared, in the order of the text.
 ghost use Rattle.std.specs.Prelude.{◌≡◌, map};
-ghost use Rattle.model.specs.SourceTrees.{expression_of, expressions, statement_of, statements, trigger_of, process_of};
+ghost use Rattle.model.specs.SourceTrees.{source_expression_of, source_expressions, source_statement_of, source_statements, source_trigger_of, source_process_of};
 ghost use Rattle.elaborate.specs.FirstFindings.{first_finding, used, all_used, unknown_among, used_in, all_used_in, used_by};
 
 use crate::finding::Finding;
-use crate::names::Names;
-use model::tree::{Event, Expression, Process, Statement};
+use crate::names::RegisterNames;
+use model::tree::{EventExpression, SourceExpression, SourceProcess, SourceStatement};
 
 /// Refuses the first name of these processes that isn't declared.
-pub fn processes<'a>(names: &Names, processes: &'a [Process]) -> Result<(), Finding<'a>>
-    ensures { first_finding result ≡ used_by names.now (map process_of processes.now) }
+pub fn processes<'a>(
+    names: &RegisterNames,
+    processes: &'a [SourceProcess],
+) -> Result<(), Finding<'a>>
+    ensures { first_finding result ≡ used_by names.now (map source_process_of processes.now) }
 {
     for process in processes {
         statement(names, &process.body)?;
@@ -18,38 +21,38 @@ pub fn processes<'a>(names: &Names, processes: &'a [Process]) -> Result<(), Find
 }
 
 #[cycle(used_in)]
-fn statement<'a>(names: &Names, s: &'a Statement) -> Result<(), Finding<'a>>
-    ensures { first_finding result ≡ used_in names.now (statement_of s.now) }
+fn statement<'a>(names: &RegisterNames, s: &'a SourceStatement) -> Result<(), Finding<'a>>
+    ensures { first_finding result ≡ used_in names.now (source_statement_of s.now) }
 {
     match s {
-        Statement::Empty | Statement::Finish => Ok(()),
-        Statement::Block(body) => block(names, body.as_slice()),
-        Statement::Assign(name, _, e) | Statement::AssignLater(name, _, e) => {
+        SourceStatement::Empty | SourceStatement::Finish => Ok(()),
+        SourceStatement::Block(body) => block(names, body.as_slice()),
+        SourceStatement::Assign(name, _, e) | SourceStatement::AssignLater(name, _, e) => {
             names.known(name.as_str())?;
             expression(names, e)
         }
-        Statement::Delay(_, s) => statement(names, s),
-        Statement::Await(triggers, s) => {
+        SourceStatement::Delay(_, s) => statement(names, s),
+        SourceStatement::Await(triggers, s) => {
             events(names, triggers.as_slice())?;
             statement(names, s)
         }
-        Statement::If(c, body) | Statement::While(c, body) => {
+        SourceStatement::If(c, body) | SourceStatement::While(c, body) => {
             expression(names, c)?;
             block(names, body.as_slice())
         }
-        Statement::IfElse(c, body, otherwise) => {
+        SourceStatement::IfElse(c, body, otherwise) => {
             expression(names, c)?;
             block(names, body.as_slice())?;
             block(names, otherwise.as_slice())
         }
-        Statement::Print(_, _, arguments) => expressions(names, arguments.as_slice()),
+        SourceStatement::Print(_, _, arguments) => expressions(names, arguments.as_slice()),
     }
 }
 
 #[cycle(used_in)]
-fn block<'a>(names: &Names, body: &'a [Statement]) -> Result<(), Finding<'a>>
+fn block<'a>(names: &RegisterNames, body: &'a [SourceStatement]) -> Result<(), Finding<'a>>
     ensures { first_finding result
-        ≡ all_used_in names.now (statements (map statement_of body.now)) }
+        ≡ all_used_in names.now (source_statements (map source_statement_of body.now)) }
 {
     for s in body {
         statement(names, s)?;
@@ -57,8 +60,8 @@ fn block<'a>(names: &Names, body: &'a [Statement]) -> Result<(), Finding<'a>>
     Ok(())
 }
 
-fn events<'a>(names: &Names, events: &'a [Event]) -> Result<(), Finding<'a>>
-    ensures { first_finding result ≡ unknown_among names.now (map (λ t. t.1) (map trigger_of events.now)) }
+fn events<'a>(names: &RegisterNames, events: &'a [EventExpression]) -> Result<(), Finding<'a>>
+    ensures { first_finding result ≡ unknown_among names.now (map (λ t. t.1) (map source_trigger_of events.now)) }
 {
     for event in events {
         names.known(event.name.as_str())?;
@@ -67,22 +70,24 @@ fn events<'a>(names: &Names, events: &'a [Event]) -> Result<(), Finding<'a>>
 }
 
 #[cycle(used)]
-fn expression<'a>(names: &Names, e: &'a Expression) -> Result<(), Finding<'a>>
-    ensures { first_finding result ≡ used names.now (expression_of e.now) }
+fn expression<'a>(names: &RegisterNames, e: &'a SourceExpression) -> Result<(), Finding<'a>>
+    ensures { first_finding result ≡ used names.now (source_expression_of e.now) }
 {
     match e {
-        Expression::Name(name) | Expression::Select(name, _) => names.known(name.as_str()),
-        Expression::Literal(_) => Ok(()),
-        Expression::Concat(part, others) => {
+        SourceExpression::Name(name) | SourceExpression::Select(name, _) => names.known(
+            name.as_str(),
+        ),
+        SourceExpression::Literal(_) => Ok(()),
+        SourceExpression::Concat(part, others) => {
             expression(names, part)?;
             expressions(names, others.as_slice())
         }
-        Expression::Unary(_, e) => expression(names, e),
-        Expression::Binary(_, e, f) => {
+        SourceExpression::Unary(_, e) => expression(names, e),
+        SourceExpression::Binary(_, e, f) => {
             expression(names, e)?;
             expression(names, f)
         }
-        Expression::Conditional(c, e, f) => {
+        SourceExpression::Conditional(c, e, f) => {
             expression(names, c)?;
             expression(names, e)?;
             expression(names, f)
@@ -91,8 +96,8 @@ fn expression<'a>(names: &Names, e: &'a Expression) -> Result<(), Finding<'a>>
 }
 
 #[cycle(used)]
-fn expressions<'a>(names: &Names, parts: &'a [Expression]) -> Result<(), Finding<'a>>
-    ensures { first_finding result ≡ all_used names.now (expressions (map expression_of parts.now)) }
+fn expressions<'a>(names: &RegisterNames, parts: &'a [SourceExpression]) -> Result<(), Finding<'a>>
+    ensures { first_finding result ≡ all_used names.now (source_expressions (map source_expression_of parts.now)) }
 {
     for part in parts {
         expression(names, part)?;

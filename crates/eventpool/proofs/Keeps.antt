@@ -3,7 +3,7 @@ use Rattle.std.proofs.Common.{◌≡◌, ℕ, ◌+◌, ◌≤◌, List, [], ◌�
 use Rattle.crossbeam_deque.specs.Tasks.{FindsFew}
 use Rattle.eventpool.specs.declared.rule.Hand.{Hand}
 use Rattle.eventpool.specs.Ends.{Owning}
-use Rattle.eventpool.specs.DequeTrail.{tickets_of, NamedBelow, AreHands, IsDealt}
+use Rattle.eventpool.specs.DequeTrail.{trail_tickets, NamedBelow, AreHands, IsDealt}
 use Rattle.eventpool.specs.DequeRule.{owner, thief, DequeInvariant, Removed, Bare, Tallies}
 use Rattle.eventpool.proofs.Trails.{got_no_more, tickets_length, begins_length}
 use Rattle.eventpool.proofs.Moves.{finds_few}
@@ -30,7 +30,7 @@ module _ {T : Type 0} where
   pub fewer_taken : (v w : Hand T) (xs : List T) → v.owns ≡ true → Removed v xs w → length w.got ≤ length w.put
   fewer_taken v w xs owns r =
       let a : length w.got ≤ length w.seen = omega (arith, ap length r.2, got_no_more v.name w.seen) in
-      let b : length (tickets_of w.seen) ≤ length v.put = begins_length _ _ (r.3 owns) in
+      let b : length (trail_tickets w.seen) ≤ length v.put = begins_length _ _ (r.3 owns) in
       let c : length w.put ≡ length v.put = ap (λ (u : Hand T). length u.put) r.0 in
       omega (arith, tickets_length w.seen)
 

@@ -6,7 +6,7 @@ use Rattle.std.proofs.lemmas.List.{map-set, get_or-set_same, get_or-set_other, l
 use native.Mathlib.Decide.{ℕ_discrete}
 use Rattle.eventpool.specs.Ends.{Owning, Stealing}
 use Rattle.eventpool.specs.Pools.{around, row_of, IsPool, IsUnused}
-use Rattle.eventpool.specs.Making.{IsNew, IsBegun, IsOf, IsArmed}
+use Rattle.eventpool.specs.Making.{IsUntouched, IsBegunPool, IsThiefOf, IsArmed}
 use Rattle.eventpool.proofs.Places.{below_at, there_at, one_at, set_here, set_there, got_map, around_below, around_back}
 
 -- an element of a list that is one longer
@@ -23,22 +23,22 @@ module _ {T : Type 0} where
   row_more (r ∷ rs) v zero e new = e
   row_more (r ∷ rs) v (suc j) e new = row_more rs v j e new
 
-  pub begun_none : IsBegun {T = T} 0 [] []
+  pub begun_none : IsBegunPool {T = T} 0 [] []
   begun_none = (refl, refl, (λ d o e. absurd (cc e)), none)
     where
       none : (w : ℕ) → row_of {T = T} [] w ≡ []
       none zero = refl
       none (suc w) = refl
 
-  pub begun_more : (n : ℕ) (O : List (Owning T)) (R : List (Vec (Stealing T))) (o : Owning T) (v : Vec (Stealing T)) → IsBegun n O R → IsNew o → o.given ≡ 1 → v.items ≡ [] → IsBegun (n + 1) (O ++ o ∷ []) (R ++ v ∷ [])
+  pub begun_more : (n : ℕ) (O : List (Owning T)) (R : List (Vec (Stealing T))) (o : Owning T) (v : Vec (Stealing T)) → IsBegunPool n O R → IsUntouched o → o.given ≡ 1 → v.items ≡ [] → IsBegunPool (n + 1) (O ++ o ∷ []) (R ++ v ∷ [])
   begun_more n O R o v h new given empty = (
     omega (arith, length-append O (o ∷ []), h.0),
     omega (arith, length-append R (v ∷ []), h.1),
-    (λ d p e. ⊎_elim (λ (t : slice_get O d ≡ Some p). h.2 d p t) (λ (t : (d ≡ length O) × (p ≡ o)). subst (λ (x : Owning T). IsNew x × (x.given ≡ 1)) (sym t.1) (new, given)) (snoc_at O o p d e)),
+    (λ d p e. ⊎_elim (λ (t : slice_get O d ≡ Some p). h.2 d p t) (λ (t : (d ≡ length O) × (p ≡ o)). subst (λ (x : Owning T). IsUntouched x × (x.given ≡ 1)) (sym t.1) (new, given)) (snoc_at O o p d e)),
     (λ w. row_more R v w (h.3 w) empty),
   )
 
-  pub armed_none : (n : ℕ) (O : List (Owning T)) (R : List (Vec (Stealing T))) → IsBegun n O R → IsArmed n 0 0 O R
+  pub armed_none : (n : ℕ) (O : List (Owning T)) (R : List (Vec (Stealing T))) → IsBegunPool n O R → IsArmed n 0 0 O R
   armed_none n O R h = (
     h.0,
     h.1,
@@ -67,7 +67,7 @@ module _ {T : Type 0} where
 
   -- what is known where a row gets a thief
   pub given_now : (n c w d : ℕ) (O : List (Owning T)) (R : List (Vec (Stealing T))) (o : Owning T)
-      → c < n - 1 → w < n → d ≡ around n (w + (c + 1)) → IsArmed n c w O R → o ≡ get_or O d o → IsNew o × (o.given ≡ c + 1) × (slice_get O d ≡ Some o)
+      → c < n - 1 → w < n → d ≡ around n (w + (c + 1)) → IsArmed n c w O R → o ≡ get_or O d o → IsUntouched o × (o.given ≡ c + 1) × (slice_get O d ≡ Some o)
   given_now n c w d O R o more lt at h there =
       let below : d < n = subst (λ k. k < n) (sym at) (around_below n (w + (c + 1)) (omega arith)) in
       let is : slice_get O d ≡ Some o = there_at O d o (let l = h.0 in omega arith) there in
@@ -95,9 +95,9 @@ module _ {T : Type 0} where
         | yes same ↦ (o, ap (λ k. slice_get O k) same ∙ g.2, ap (λ (x : Owning T). x.deque) (one_at (set O d p) d q p (subst (λ k. slice_get (set O d p) k ≡ Some q) same is) (set_here O d p (let l = h.0 in omega arith)) ∙ next))
         | no other ↦ (q, sym (set_there O d e p other) ∙ is, refl)
       ] in
-      let carry : (j i : ℕ) (x : Stealing T) → IsOf n O j i x → IsOf n (set O d p) j i x
+      let carry : (j i : ℕ) (x : Stealing T) → IsThiefOf n O j i x → IsThiefOf n (set O d p) j i x
       = λ j i x f. (f.0, f.1, f.2, (λ q is. let s = same_deque _ q is in f.3 s.0 s.1 ∙ sym s.2)) in
-      let fresh : IsOf n (set O d p) w c t = (
+      let fresh : IsThiefOf n (set O d p) w c t = (
         ap (λ (x : Stealing T). x.name) made ∙ g.1,
         ap (λ (x : Stealing T). x.stolen) made,
         ap (λ (x : Stealing T). x.seen) made,
@@ -115,8 +115,8 @@ module _ {T : Type 0} where
         (λ j i x is. elim (ℕ_discrete j w) [
           | yes same ↦
               ⊎_elim
-              (λ (a : slice_get (row_of R w) i ≡ Some x). subst (λ k. IsOf n (set O d p) k i x) (sym same) (carry w i x (h.3 w i x a)))
-              (λ (a : (i ≡ length (row_of R w)) × (x ≡ t)). subst (λ (y : ℕ × ℕ × Stealing T). IsOf n (set O d p) y.0 y.1 y.2) (λ k. (sym same k, sym (a.0 ∙ long) k, sym a.1 k)) fresh)
+              (λ (a : slice_get (row_of R w) i ≡ Some x). subst (λ k. IsThiefOf n (set O d p) k i x) (sym same) (carry w i x (h.3 w i x a)))
+              (λ (a : (i ≡ length (row_of R w)) × (x ≡ t)). subst (λ (y : ℕ × ℕ × Stealing T). IsThiefOf n (set O d p) y.0 y.1 y.2) (λ k. (sym same k, sym (a.0 ∙ long) k, sym a.1 k)) fresh)
               (snoc_at (row_of R w) t x i (subst (λ l. slice_get l i ≡ Some x) row_new (subst (λ k. slice_get (row_of (set R w u) k) i ≡ Some x) same is)))
           | no other ↦ carry j i x (h.3 j i x (subst (λ l. slice_get l i ≡ Some x) (row_old j other) is))
         ]),
@@ -124,7 +124,7 @@ module _ {T : Type 0} where
           | yes same ↦
               (let q_is : q ≡ record o { given = o.given + 1 } = one_at (set O d p) d q p (subst (λ k. slice_get (set O d p) k ≡ Some q) same is) (set_here O d p (let l = h.0 in omega arith)) ∙ next in
               let b : around n (e + (n - 1 - c)) ≡ w = ap (λ k. around n (k + (n - 1 - c))) same ∙ back in (
-                subst IsNew (sym q_is) g.0,
+                subst IsUntouched (sym q_is) g.0,
                 (λ le. absurd (omega arith)),
                 (λ less. omega (arith, ap (λ (x : Owning T). x.given) q_is, g.1)),
               ))

@@ -6,8 +6,8 @@ use lib.ListN.{get_elem?}
 use Rattle.crossbeam_deque.specs.Tasks.{Pushes, Takes, Finds, FindsFew, Learns, Forks, Merges}
 use Rattle.crossbeam_deque.proofs.Lists.{at_set}
 use Rattle.eventpool.specs.declared.rule.Hand.{Hand}
-use Rattle.eventpool.specs.DequeTrail.{tickets_of, got_by, AreHands}
-use Rattle.eventpool.specs.DequeRule.{owner, thief, nobody, Fits, DequeInvariant, Removed, AllGone, Bare, Tallies}
+use Rattle.eventpool.specs.DequeTrail.{trail_tickets, got_by, AreHands}
+use Rattle.eventpool.specs.DequeRule.{owner, thief, nameless_hand, FitsDeque, DequeInvariant, Removed, AllGone, Bare, Tallies}
 use Rattle.eventpool.proofs.Trails.{eqb_self, eqb_off, begins_self, begins_none, begins_on, got_more, got_other, got_none, named_more, named_wider, hands_more, tickets_more}
 
 off : false ≡ true → ⊥
@@ -30,7 +30,7 @@ unfolding seat_more
 seat_old seat name port k n = ap (λ b. cond b port (seat k)) (eqb_off k name n)
 
 module _ {T : Type 0} where
-  nobody_fits : (seat : ℕ → ℕ) (opened : ℕ) (put : List T) (trail : List (ℕ × T)) (port : ℕ) → Fits seat opened put trail port nobody
+  nobody_fits : (seat : ℕ → ℕ) (opened : ℕ) (put : List T) (trail : List (ℕ × T)) (port : ℕ) → FitsDeque seat opened put trail port nameless_hand
   nobody_fits seat opened put trail port = record { seen = begins_none trail; named = λ h. absurd (off h); owns = λ h. absurd (off h) }
 
   -- one pass changes its view
@@ -46,16 +46,16 @@ module _ {T : Type 0} where
   pub begins : DequeInvariant {T = T} [] (owner 1 [] [] [] [] ∷ [])
   begins = record { seat = λ k. k; opened = 1; trail = []; each = one }
     where
-      first : Fits {T = T} (λ k. k) 1 [] [] 0 (owner 1 [] [] [] [])
+      first : FitsDeque {T = T} (λ k. k) 1 [] [] 0 (owner 1 [] [] [] [])
       first = record { seen = begins_none []; named = λ _. (refl, omega arith, refl); owns = λ _. (refl, refl, refl, refl, tt, tt) }
 
-      one : (port : ℕ) (v : Hand T) → get_elem? (owner 1 [] [] [] [] ∷ []) port ≡ some v → Fits {T = T} (λ k. k) 1 [] [] port v
-      one zero v e = subst (Fits {T = T} (λ k. k) 1 [] [] 0) (some-injective _ _ e) first
+      one : (port : ℕ) (v : Hand T) → get_elem? (owner 1 [] [] [] [] ∷ []) port ≡ some v → FitsDeque {T = T} (λ k. k) 1 [] [] port v
+      one zero v e = subst (FitsDeque {T = T} (λ k. k) 1 [] [] 0) (some-injective _ _ e) first
       one (suc port) v e = absurd (some-ne-none v (sym e))
 
   -- one owner at most
   one_owner : (seat : ℕ → ℕ) (opened : ℕ) (put : List T) (trail : List (ℕ × T)) (i j : ℕ) (v u : Hand T)
-      → Fits seat opened put trail i v → Fits seat opened put trail j u → v.owns ≡ true → u.owns ≡ true → j ≡ i
+      → FitsDeque seat opened put trail i v → FitsDeque seat opened put trail j u → v.owns ≡ true → u.owns ≡ true → j ≡ i
   one_owner seat opened put trail i j v u f g a b =
       let x = f.owns a in let y = g.owns b in
       sym (g.named y.0).0 ∙ ap seat (y.1 ∙ sym x.1) ∙ (f.named x.0).0
@@ -65,8 +65,8 @@ module _ {T : Type 0} where
       let w : Hand T = record v { put = v.put ++ xs } in
       let mine = h.each port v at in
       let o = mine.owns may in
-      let more : tickets_of h.trail ++ (items ++ xs) ≡ (tickets_of h.trail ++ items) ++ xs = sym (append_assoc (tickets_of h.trail) items xs) in
-      let P : ℕ → Hand T → Type 0 = Fits h.seat h.opened (tickets_of h.trail ++ (items ++ xs)) h.trail in (
+      let more : trail_tickets h.trail ++ (items ++ xs) ≡ (trail_tickets h.trail ++ items) ++ xs = sym (append_assoc (trail_tickets h.trail) items xs) in
+      let P : ℕ → Hand T → Type 0 = FitsDeque h.seat h.opened (trail_tickets h.trail ++ (items ++ xs)) h.trail in (
         w,
         record {
           seat = h.seat;
@@ -87,8 +87,8 @@ module _ {T : Type 0} where
       let n = mine.named may in
       let trail : List (ℕ × T) = h.trail ++ (v.name, x) ∷ [] in
       let w : Hand T = record v { got = v.got ++ x ∷ []; seen = trail } in
-      let put : tickets_of trail ++ items ≡ tickets_of h.trail ++ x ∷ items = tickets_more h.trail v.name x items in
-      let P : ℕ → Hand T → Type 0 = Fits h.seat h.opened (tickets_of trail ++ items) trail in
+      let put : trail_tickets trail ++ items ≡ trail_tickets h.trail ++ x ∷ items = tickets_more h.trail v.name x items in
+      let P : ℕ → Hand T → Type 0 = FitsDeque h.seat h.opened (trail_tickets trail ++ items) trail in
       let got : v.got ++ x ∷ [] ≡ got_by v.name trail = ap (λ l. l ++ x ∷ []) n.2 ∙ sym (got_more v.name h.trail x) in (
         w,
         record {
@@ -125,11 +125,11 @@ module _ {T : Type 0} where
   pub finds : (port : ℕ) (v : Hand T) → v.owns ≡ true → Finds DequeInvariant port v (AllGone v)
   finds port v may views h at =
       let mine = h.each port v at in let o = mine.owns may in
-      (h.trail, mine.seen, o.2 ∙ append_none (tickets_of h.trail), (mine.named o.0).2, o.5)
+      (h.trail, mine.seen, o.2 ∙ append_none (trail_tickets h.trail), (mine.named o.0).2, o.5)
 
   pub finds_few : (port : ℕ) (v : Hand T) → v.named ≡ true → FindsFew DequeInvariant 0 port v (Bare v)
   finds_few port v may [] views none h at =
-      let mine = h.each port v at in (h.trail, tickets_of h.trail, mine.seen, refl, (mine.named may).2)
+      let mine = h.each port v at in (h.trail, trail_tickets h.trail, mine.seen, refl, (mine.named may).2)
   finds_few port v may (x ∷ xs) views none h at = absurd (omega arith)
 
   -- the new pass is the last
@@ -150,8 +150,8 @@ module _ {T : Type 0} where
       let right : Hand T = thief v.given [] [] in
       let new : ℕ = length (set views port left) in
       let seat : ℕ → ℕ = seat_more h.seat v.given new in
-      let put : List T = tickets_of h.trail ++ items in
-      let P : ℕ → Hand T → Type 0 = Fits seat (v.given + 1) put h.trail in
+      let put : List T = trail_tickets h.trail ++ items in
+      let P : ℕ → Hand T → Type 0 = FitsDeque seat (v.given + 1) put h.trail in
       let older : (k : ℕ) → k < h.opened → seat k ≡ h.seat k = λ k lt. seat_old h.seat v.given new k (λ same. absurd (omega arith)) in
       let first : P port left = record {
         seen = mine.seen;
@@ -179,7 +179,7 @@ module _ {T : Type 0} where
       }
 
   pub returns : (port : ℕ) (v : Hand T) (other : ℕ) (u : Hand T) → v.owns ≡ true → u.named ≡ true → (u.name + 1) + length v.back ≡ v.given
-      → Merges DequeInvariant port v other u (record v { back = (u.got, u.seen) ∷ v.back }) nobody
+      → Merges DequeInvariant port v other u (record v { back = (u.got, u.seen) ∷ v.back }) nameless_hand
   returns port v other u may named last items views h at apart there =
       let both : Hand T = record v { back = (u.got, u.seen) ∷ v.back } in
       let mine = h.each port v at in
@@ -189,9 +189,9 @@ module _ {T : Type 0} where
       let theirs = h.each other u was in
       let t = theirs.named named in
       let opened : h.opened ≡ u.name + 1 = let e = o.3 in omega arith in
-      let put : List T = tickets_of h.trail ++ items in
-      let P : ℕ → Hand T → Type 0 = Fits h.seat u.name put h.trail in
-      let below : (j : ℕ) (x : Hand T) → j ≢ other → Fits h.seat h.opened put h.trail j x → (is : x.named ≡ true) → x.name < u.name
+      let put : List T = trail_tickets h.trail ++ items in
+      let P : ℕ → Hand T → Type 0 = FitsDeque h.seat u.name put h.trail in
+      let below : (j : ℕ) (x : Hand T) → j ≢ other → FitsDeque h.seat h.opened put h.trail j x → (is : x.named ≡ true) → x.name < u.name
       = λ j x away f is. let g = f.named is in
       let differ : x.name ≢ u.name = (λ same. away (sym g.0 ∙ ap h.seat same ∙ t.0)) in let lt = g.1 in omega arith in
       let back : AreHands (u.name + 1) v.back h.trail = subst (λ k. AreHands k v.back h.trail) opened o.4 in
@@ -211,7 +211,7 @@ module _ {T : Type 0} where
         seat = h.seat;
         opened = u.name;
         trail = h.trail;
-        each = each_set P (set views port both) other nobody (nobody_fits h.seat u.name put h.trail other) (λ j x away e. now j x e away);
+        each = each_set P (set views port both) other nameless_hand (nobody_fits h.seat u.name put h.trail other) (λ j x away e. now j x e away);
       }
 
   pub tallies : (port : ℕ) (v : Hand T) → v.owns ≡ true → Learns DequeInvariant port v (Tallies v)

@@ -3,7 +3,7 @@ use Rattle.std.proofs.Common.{◌≡◌, ◌≢◌, ℕ, suc, ◌+◌, ◌<◌, 
 use Rattle.std.specs.Prelude.{◌==◌}
 use Rattle.std.proofs.lemmas.Bool.Decides.{eqb_tells}
 use mathlib.Core.List.{IsPrefix}
-use Rattle.eventpool.specs.DequeTrail.{tickets_of, own, got_by, NamedBelow, AreHands}
+use Rattle.eventpool.specs.DequeTrail.{trail_tickets, own, got_by, NamedBelow, AreHands}
 
 -- beginnings
 module _ {A : Type 0} where
@@ -70,7 +70,7 @@ module _ {T : Type 0} where
     hands_more (name + 1) k bs trail x h.2 (omega arith),
   )
 
-  pub tickets_more : (trail : List (ℕ × T)) (k : ℕ) (x : T) (items : List T) → tickets_of (trail ++ (k, x) ∷ []) ++ items ≡ tickets_of trail ++ x ∷ items
+  pub tickets_more : (trail : List (ℕ × T)) (k : ℕ) (x : T) (items : List T) → trail_tickets (trail ++ (k, x) ∷ []) ++ items ≡ trail_tickets trail ++ x ∷ items
   tickets_more [] k x items = refl
   tickets_more (e ∷ es) k x items = ap (λ l. e.1 ∷ l) (tickets_more es k x items)
 
@@ -81,6 +81,6 @@ module _ {T : Type 0} where
     | false ↦ omega (arith, got_no_more k es)
   ]
 
-  pub tickets_length : (trail : List (ℕ × T)) → length (tickets_of trail) ≡ length trail
+  pub tickets_length : (trail : List (ℕ × T)) → length (trail_tickets trail) ≡ length trail
   tickets_length [] = refl
   tickets_length (e ∷ es) = ap suc (tickets_length es)

@@ -3,7 +3,7 @@ use Rattle.std.specs.Prelude.{◌≡◌, ℕ, List}
 use mathlib.Core.List.{IsPrefix}
 use Rattle.eventpool.specs.declared.ends.Stolen.{Stolen}
 use Rattle.eventpool.specs.declared.ends.Stolen.TheVariants.{One, Empty, Again}
-use Rattle.eventpool.specs.DequeTrail.{tickets_of, got_by, NamedBelow}
+use Rattle.eventpool.specs.DequeTrail.{trail_tickets, got_by, NamedBelow}
 use Rattle.eventpool.specs.Ends.{Owning, Stealing}
 
 module _ {T : Type 0} where
@@ -28,9 +28,9 @@ module _ {T : Type 0} where
   -- at one moment all that was put had left: the trail then begins with what the owner had seen, and has no more of the owner's
   abbrev pub IsAllGone : Owning T → Type 0
   IsAllGone o =
-      (trail : List (ℕ × T)) × IsPrefix o.seen trail × (o.put ≡ tickets_of trail) × (o.taken ≡ got_by 0 trail) × NamedBelow o.given trail
+      (trail : List (ℕ × T)) × IsPrefix o.seen trail × (o.put ≡ trail_tickets trail) × (o.taken ≡ got_by 0 trail) × NamedBelow o.given trail
 
   -- at one moment all that had been put had left: the trail then begins with what the thief had seen, and has no more of the thief's
   abbrev pub IsBare : Stealing T → Type 0
   IsBare t =
-      (trail : List (ℕ × T)) × (put : List T) × IsPrefix t.seen trail × (put ≡ tickets_of trail) × (t.stolen ≡ got_by t.name trail)
+      (trail : List (ℕ × T)) × (put : List T) × IsPrefix t.seen trail × (put ≡ trail_tickets trail) × (t.stolen ≡ got_by t.name trail)

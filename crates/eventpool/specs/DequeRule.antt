@@ -4,7 +4,7 @@ use mathlib.Core.Option.{some}
 use mathlib.Core.List.{IsPrefix}
 use lib.ListN.{get_elem?}
 use Rattle.eventpool.specs.declared.rule.Hand.{Hand}
-use Rattle.eventpool.specs.DequeTrail.{tickets_of, got_by, NamedBelow, AreHands, EndsWith}
+use Rattle.eventpool.specs.DequeTrail.{trail_tickets, got_by, NamedBelow, AreHands, EndsWith}
 
 module _ {T : Type 0} where
   -- what an owner knows
@@ -16,11 +16,11 @@ module _ {T : Type 0} where
   thief name stolen seen = record { owns = false; named = true; name = name; given = 0; put = []; got = stolen; seen = seen; back = [] }
 
   -- what a pass without a name knows
-  abbrev pub nobody : Hand T
-  nobody = record { owns = false; named = false; name = 0; given = 0; put = []; got = []; seen = []; back = [] }
+  abbrev pub nameless_hand : Hand T
+  nameless_hand = record { owns = false; named = false; name = 0; given = 0; put = []; got = []; seen = []; back = [] }
 
   -- what the rule says of one pass: `seat` says which pass has a name, and the names from `open` on came back
-  pub record Fits (seat : ℕ → ℕ) (opened : ℕ) (put : List T) (trail : List (ℕ × T)) (port : ℕ) (v : Hand T) : Type 0 where
+  pub record FitsDeque (seat : ℕ → ℕ) (opened : ℕ) (put : List T) (trail : List (ℕ × T)) (port : ℕ) (v : Hand T) : Type 0 where
     pub seen : IsPrefix v.seen trail
     pub named : v.named ≡ true → (seat v.name ≡ port) × (v.name < opened) × (v.got ≡ got_by v.name trail)
     pub owns : v.owns ≡ true → (v.named ≡ true) × (v.name ≡ 0) × (v.put ≡ put) × (opened + length v.back ≡ v.given) × AreHands opened v.back trail × NamedBelow v.given trail
@@ -30,7 +30,7 @@ module _ {T : Type 0} where
     pub seat : ℕ → ℕ
     pub opened : ℕ
     pub trail : List (ℕ × T)
-    pub each : (port : ℕ) (v : Hand T) → get_elem? views port ≡ some v → Fits seat opened (tickets_of trail ++ items) trail port v
+    pub each : (port : ℕ) (v : Hand T) → get_elem? views port ≡ some v → FitsDeque seat opened (trail_tickets trail ++ items) trail port v
 
   -- a ticket left at the front, which the trail has now
   abbrev pub Removed : Hand T → List T → Hand T → Type 0
@@ -38,18 +38,18 @@ module _ {T : Type 0} where
       (w ≡ record v { got = v.got ++ xs; seen = w.seen })
       × ((x : T) → xs ≡ x ∷ [] → EndsWith v.seen w.seen v.name x)
       × (w.got ≡ got_by v.name w.seen)
-      × (v.owns ≡ true → IsPrefix (tickets_of w.seen) v.put)
+      × (v.owns ≡ true → IsPrefix (trail_tickets w.seen) v.put)
 
   -- a trail that begins with all that was seen has every ticket that was put
   abbrev pub AllGone : Hand T → Type 0
-  AllGone v = (trail : List (ℕ × T)) × IsPrefix v.seen trail × (v.put ≡ tickets_of trail) × (v.got ≡ got_by v.name trail) × NamedBelow v.given trail
+  AllGone v = (trail : List (ℕ × T)) × IsPrefix v.seen trail × (v.put ≡ trail_tickets trail) × (v.got ≡ got_by v.name trail) × NamedBelow v.given trail
 
   -- at one moment the trail had every ticket that was put
   abbrev pub Bare : Hand T → Type 0
-  Bare v = (trail : List (ℕ × T)) × (put : List T) × IsPrefix v.seen trail × (put ≡ tickets_of trail) × (v.got ≡ got_by v.name trail)
+  Bare v = (trail : List (ℕ × T)) × (put : List T) × IsPrefix v.seen trail × (put ≡ trail_tickets trail) × (v.got ≡ got_by v.name trail)
 
   -- the tickets that were put, of which some are in the deque
   abbrev pub Tallies : Hand T → List T → Type 0
   Tallies v items =
-      (trail : List (ℕ × T)) × (v.put ≡ tickets_of trail ++ items) × (v.got ≡ got_by 0 trail) × IsPrefix v.seen trail
+      (trail : List (ℕ × T)) × (v.put ≡ trail_tickets trail ++ items) × (v.got ≡ got_by 0 trail) × IsPrefix v.seen trail
       × (opened : ℕ) × (opened + length v.back ≡ v.given) × AreHands opened v.back trail × NamedBelow v.given trail

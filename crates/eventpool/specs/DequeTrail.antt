@@ -4,8 +4,8 @@ use mathlib.Core.List.{IsPrefix}
 
 module _ {T : Type 0} where
   -- the tickets of a trail
-  abbrev pub tickets_of : List (ℕ × T) → List T
-  tickets_of trail = map (λ e. e.1) trail
+  abbrev pub trail_tickets : List (ℕ × T) → List T
+  trail_tickets trail = map (λ e. e.1) trail
 
   -- the ticket of an entry, if this name got it
   abbrev pub own : ℕ → ℕ × T → List T
@@ -33,4 +33,4 @@ module _ {T : Type 0} where
   -- one trail has every ticket that left: these are the first of those that were put, and the others are left, in order. Each of them went to one of the hands, which has its tickets in the order of the trail, and had seen a beginning of it
   abbrev pub IsDealt : List T → List (List T × List (ℕ × T)) → List T → Type 0
   IsDealt put hands left =
-      (trail : List (ℕ × T)) × (put ≡ tickets_of trail ++ left) × AreHands 0 hands trail × NamedBelow (length hands) trail
+      (trail : List (ℕ × T)) × (put ≡ trail_tickets trail ++ left) × AreHands 0 hands trail × NamedBelow (length hands) trail

@@ -5,15 +5,15 @@ use Rattle.eventpool.specs.Ends.{Owning, Stealing, DequeId, thief_card}
 use Rattle.eventpool.specs.DequeTrail.{IsDealt}
 
 -- what an end got, and the beginning of the trail that it saw
-abbrev pub Haul : Type 0 → Type 0
-Haul T = List T × List (ℕ × T)
+abbrev pub EndHistory : Type 0 → Type 0
+EndHistory T = List T × List (ℕ × T)
 
 -- the number of the deque that x names, counting round from n on: x is below twice n
 abbrev pub around : ℕ → ℕ → ℕ
 around n x = cond (ltb x n) x (x - n)
 
 -- how many tickets of a pool were put, taken, stolen and left
-pub record Counts : Type 0 where
+pub record PoolCounts : Type 0 where
   pub puts : ℕ
   pub takes : ℕ
   pub steals : ℕ
@@ -25,17 +25,17 @@ module _ {T : Type 0} where
   row_of rows w = slice_index_or (map (λ (v : Vec (Stealing T)). v.items) rows) w []
 
   -- what the i-th thief of a row got and saw
-  abbrev pub haul_in : List (Stealing T) → ℕ → Haul T
-  haul_in row i = slice_index_or (map (λ (t : Stealing T). (t.stolen, t.seen)) row) i ([], [])
+  abbrev pub end_history_in : List (Stealing T) → ℕ → EndHistory T
+  end_history_in row i = slice_index_or (map (λ (t : Stealing T). (t.stolen, t.seen)) row) i ([], [])
 
-  -- the hauls of the thieves of the deque d with the c last names: the thief of the name n - c is in the row of the worker c places on
-  abbrev pub hauls_back : List (Vec (Stealing T)) → ℕ → ℕ → ℕ → List (Haul T)
-  hauls_back rows n d zero = []
-  hauls_back rows n d (suc c) = haul_in (row_of rows (around n (d + suc c))) (n - suc c - 1) ∷ hauls_back rows n d c
+  -- the histories of the thieves of the deque d with the c last names: the thief of the name n - c is in the row of the worker c places on
+  abbrev pub end_histories_back : List (Vec (Stealing T)) → ℕ → ℕ → ℕ → List (EndHistory T)
+  end_histories_back rows n d zero = []
+  end_histories_back rows n d (suc c) = end_history_in (row_of rows (around n (d + suc c))) (n - suc c - 1) ∷ end_histories_back rows n d c
 
-  -- the hauls of the deque d: its owner's, and its thieves' by rising name
-  abbrev pub hauls_of : List (Vec (Stealing T)) → ℕ → ℕ → Owning T → List (Haul T)
-  hauls_of rows n d o = (o.taken, o.seen) ∷ hauls_back rows n d (n - 1)
+  -- the histories of the deque d: its owner's, and its thieves' by rising name
+  abbrev pub end_histories_of : List (Vec (Stealing T)) → ℕ → ℕ → Owning T → List (EndHistory T)
+  end_histories_of rows n d o = (o.taken, o.seen) ∷ end_histories_back rows n d (n - 1)
 
   -- the i-th thief of the worker w is that of the deque i + 1 places on, and has the name i + 1
   abbrev pub IsRow : List (Owning T) → ℕ → List (Stealing T) → Type 0
@@ -64,4 +64,4 @@ module _ {T : Type 0} where
   abbrev pub AllDealt : List (Owning T) → List (Vec (Stealing T)) → List (List T) → Type 0
   AllDealt owners rows left =
       (length left ≡ length owners)
-      × ((d : ℕ) (o : Owning T) → slice_get owners d ≡ Some o → IsDealt o.put (hauls_of rows (length owners) d o) (slice_index_or left d []))
+      × ((d : ℕ) (o : Owning T) → slice_get owners d ≡ Some o → IsDealt o.put (end_histories_of rows (length owners) d o) (slice_index_or left d []))

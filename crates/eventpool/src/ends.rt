@@ -1,11 +1,13 @@
 //! The ends of a deque: its owner, and its thieves.
 ghost use Rattle.std.specs.Prelude.{◌≡◌, ℕ, ◌+◌, ◌<◌, ◌≤◌, ◌^◌, List, [], ◌∷◌, ◌++◌, ◌⊎◌, length, IfOk, IfErr, IfSome, IfNone, OnOk, sum_by};
 ghost use mathlib.Core.List.{IsPrefix};
-ghost use Rattle.eventpool.specs.DequeTrail.{tickets_of, got_by, EndsWith, IsDealt};
+ghost use Rattle.eventpool.specs.DequeTrail.{trail_tickets, got_by, EndsWith, IsDealt};
 ghost use Rattle.eventpool.specs.Ends.{owner_card, thief_card};
 ghost use Rattle.eventpool.specs.DequeAnswers.{IfOne, IfEmpty, IfAgain, IsAllGone, IsBare};
 
-use crate::rule::{Counts, Names, OwnerEnd, Puts, Returns, Steals, Takes, ThiefEnd, ThiefPass};
+use crate::rule::{
+    NextThief, OwnerCounts, OwnerEnd, Puts, Returns, Steals, Takes, ThiefEnd, ThiefPass,
+};
 use crossbeam_deque::Steal;
 use std::alloc::{AllocError, Global};
 use std::marker::Model;
@@ -123,7 +125,7 @@ impl<T: Drop> Owner<T> {
         ensures taken { IfSome result (λ x. self.new ≡ record self.old { taken = self.old.taken ++ x ∷ []; seen = self.new.seen }) }
         ensures seen { IfSome result (λ x. EndsWith self.old.seen self.new.seen 0 x) }
         ensures got { IfSome result (λ _. self.new.taken ≡ got_by 0 self.new.seen) }
-        ensures put { IfSome result (λ _. IsPrefix (tickets_of self.new.seen) self.old.put) }
+        ensures put { IfSome result (λ _. IsPrefix (trail_tickets self.new.seen) self.old.put) }
         ensures none { IfNone result ((self.new ≡ self.old) × IsAllGone self.old) }
         ensures end { owner_card self.new ≡ owner_card self.old }
     {
@@ -143,7 +145,7 @@ impl<T: Drop> Owner<T> {
         ensures owner { OnOk result (self.new ≡ record self.old { given = self.old.given + 1 }) }
     {
         let end = self.end.stealer()?;
-        let pass = self.end.another::<Names>();
+        let pass = self.end.another::<NextThief>();
         Ok(Thief { end, pass })
     }
 
@@ -164,7 +166,7 @@ impl<T: Drop> Owner<T> {
         ensures same { self.new ≡ self.old }
         ensures dealt { (left : List T) × (length left ≡ result) × IsDealt self.old.put ((self.old.taken, self.old.seen) ∷ self.old.back) left }
     {
-        self.end.len_as::<Counts>() as u64
+        self.end.len_as::<OwnerCounts>() as u64
     }
 
     // What became of the tickets, once all thieves came back.

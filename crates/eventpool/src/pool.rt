@@ -1,7 +1,7 @@
 //! The pool: one deque a worker, and for each worker the thieves of all others.
 ghost use Rattle.std.specs.Prelude.{◌≡◌, ℕ, ◌+◌, ◌-◌, ◌<◌, ◌≤◌, List, [], length, map, sum_by, IfOk, Some, slice_get};
-ghost use Rattle.eventpool.specs.Pools.{around, hauls_back, IsPool, IsUnused, AllDealt};
-ghost use Rattle.eventpool.specs.Making.{IsBegun, IsArmed};
+ghost use Rattle.eventpool.specs.Pools.{around, end_histories_back, IsPool, IsUnused, AllDealt};
+ghost use Rattle.eventpool.specs.Making.{IsBegunPool, IsArmed};
 ghost use Rattle.eventpool.specs.Ends.{Owning, Stealing};
 
 use crate::ends::{Owner, Thief};
@@ -24,7 +24,7 @@ fn around(n: usize, x: usize) -> usize
 fn gather<T: Drop>(owners: &mut Vec<Owner<T>>, rows: &mut Vec<Vec<Thief<T>>>)
     requires { IsPool owners.old.items rows.old.items }
     ensures long { length owners.new.items ≡ length owners.old.items }
-    ensures back { (d : ℕ) (o : Owning T) → slice_get owners.old.items d ≡ Some o → slice_get owners.new.items d ≡ Some (record o { back = hauls_back rows.old.items (length owners.old.items) d (length owners.old.items - 1) }) }
+    ensures back { (d : ℕ) (o : Owning T) → slice_get owners.old.items d ≡ Some o → slice_get owners.new.items d ≡ Some (record o { back = end_histories_back rows.old.items (length owners.old.items) d (length owners.old.items - 1) }) }
 {
     let n = owners.len();
     for done in 0..n - 1 {
@@ -43,7 +43,7 @@ fn begin<T: Drop>(
     alloc: Global,
     workers: usize,
 ) -> Result<(Vec<Owner<T>>, Vec<Vec<Thief<T>>>), AllocError>
-    ensures { IfOk result (λ p. IsBegun workers p.0.items p.1.items) }
+    ensures { IfOk result (λ p. IsBegunPool workers p.0.items p.1.items) }
 {
     let mut owners = Vec::new(alloc);
     let mut rows = Vec::new(alloc);

@@ -26,13 +26,13 @@ pub struct FirstInFirstOut;
 
 impl<T> Protocol<T, Hand<T>> for FirstInFirstOut {
     ghost use Rattle.std.specs.Prelude.{[]};
-    ghost use Rattle.eventpool.specs.DequeRule.{owner, nobody, DequeInvariant};
+    ghost use Rattle.eventpool.specs.DequeRule.{owner, nameless_hand, DequeInvariant};
 
     ghost holds = { DequeInvariant };
 
     ghost first = { owner 1 [] [] [] [] };
 
-    ghost guest = { nobody };
+    ghost guest = { nameless_hand };
 }
 
 /// A put by the owner.
@@ -67,9 +67,9 @@ impl<T> Outcome<T, Hand<T>> for Steals {
 }
 
 /// Makes the thief of the next name.
-pub struct Names;
+pub struct NextThief;
 
-impl<T> Split<Hand<T>> for Names {
+impl<T> Split<Hand<T>> for NextThief {
     ghost use Rattle.std.specs.Prelude.{[], ◌+◌};
     ghost use Rattle.eventpool.specs.DequeRule.{thief};
 
@@ -83,17 +83,17 @@ pub struct Returns;
 
 impl<T> Join<Hand<T>> for Returns {
     ghost use Rattle.std.specs.Prelude.{◌∷◌};
-    ghost use Rattle.eventpool.specs.DequeRule.{nobody};
+    ghost use Rattle.eventpool.specs.DequeRule.{nameless_hand};
 
     ghost both = { λ v u. record v { back = (u.got, u.seen) ∷ v.back } };
 
-    ghost spent = { nobody };
+    ghost spent = { nameless_hand };
 }
 
 /// What the owner learns of the deque at one moment.
-pub struct Counts;
+pub struct OwnerCounts;
 
-impl<T> Lesson<T, Hand<T>> for Counts {
+impl<T> Lesson<T, Hand<T>> for OwnerCounts {
     ghost use Rattle.eventpool.specs.DequeRule.{Tallies};
 
     ghost fact = { Tallies };

@@ -14,9 +14,9 @@ pub struct Tally {
 }
 
 impl Model for Tally {
-    ghost use Rattle.eventpool.specs.Pools.{Counts};
+    ghost use Rattle.eventpool.specs.Pools.{PoolCounts};
 
-    ghost Value = { Counts };
+    ghost Value = { PoolCounts };
 
     ghost use Rattle.std.specs.Prelude.{◌≡◌, ◌+◌};
 

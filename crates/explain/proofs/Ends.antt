@@ -13,24 +13,24 @@ use Rattle.replay.specs.ReplayBytes.{AreRead, IsReplayFault}
 use Rattle.explain.specs.declared.failure.ExplainFault.{ExplainFault}
 use Rattle.explain.specs.declared.failure.ExplainFault.TheVariants.{Source, Read, Replay, CannotWrite, Memory}
 use Rattle.explain.specs.declared.telling.Window.{Window}
-use Rattle.explain.specs.declared.telling.Telling.{Telling}
+use Rattle.explain.specs.declared.telling.ExplanationOptions.{ExplanationOptions}
 use Rattle.explain.specs.ExplainedText.{TellsAll, TellsFault, IsTelling, Explains, ExplainsFault, ExplainsText, ExplainsTextFault}
-use Rattle.explain.specs.Explained.{IsLawfulText, IsOfEntries, IsNoFault, IfSource, IfRead, IfReplay, UnlessBegun}
+use Rattle.explain.specs.Explained.{IsLawfulJournalText, IsOfEntries, IsNoFault, IfExplainSource, IfExplainRead, IfExplainReplay, UnlessExplainBegun}
 
 -- want of memory and a failed write are no fault of a journal
-pub no_replay : (fault : ExplainFault) (P : ReplayFault → Type 0) → IsNoFault fault → IfReplay {X = Unit {0}} (Err fault) P
+pub no_replay : (fault : ExplainFault) (P : ReplayFault → Type 0) → IsNoFault fault → IfExplainReplay {X = Unit {0}} (Err fault) P
 no_replay (Source f) P is = tt
 no_replay (Read f) P is = tt
 no_replay (Replay f) P is = absurd is
 no_replay CannotWrite P is = tt
 no_replay Memory P is = tt
 
-pub no_replay_if : {X : Type 0} (r : Result X ExplainFault) (P : ReplayFault → Type 0) → IfErr r IsNoFault → IfReplay r P
+pub no_replay_if : {X : Type 0} (r : Result X ExplainFault) (P : ReplayFault → Type 0) → IfErr r IsNoFault → IfExplainReplay r P
 no_replay_if (Ok x) P is = tt
 no_replay_if (Err fault) P is = no_replay fault P is
 
 -- nor is any other fault that is none
-pub no_replay_but : (fault other : ExplainFault) (P : ReplayFault → Type 0) → fault ≡ other → ((f : ReplayFault) → fault ≡ Replay f → ⊥) → IfReplay {X = Unit {0}} (Err other) P
+pub no_replay_but : (fault other : ExplainFault) (P : ReplayFault → Type 0) → fault ≡ other → ((f : ReplayFault) → fault ≡ Replay f → ⊥) → IfExplainReplay {X = Unit {0}} (Err other) P
 no_replay_but fault (Source f) P same other_than = tt
 no_replay_but fault (Read f) P same other_than = tt
 no_replay_but fault (Replay f) P same other_than = absurd (other_than f same)
@@ -50,7 +50,7 @@ of_entries_if (Ok x) is = tt
 of_entries_if (Err fault) is = of_entries fault is
 
 -- once source and journal are read, neither has a fault
-pub no_source_if : {X : Type 0} (r : Result X ExplainFault) (P : SourceFault → Type 0) → IfErr r IsOfEntries → IfSource r P
+pub no_source_if : {X : Type 0} (r : Result X ExplainFault) (P : SourceFault → Type 0) → IfErr r IsOfEntries → IfExplainSource r P
 no_source_if (Ok x) P is = tt
 no_source_if (Err (Source f)) P is = absurd is
 no_source_if (Err (Read f)) P is = tt
@@ -58,7 +58,7 @@ no_source_if (Err (Replay f)) P is = tt
 no_source_if (Err CannotWrite) P is = tt
 no_source_if (Err Memory) P is = tt
 
-pub no_read_if : {X : Type 0} (r : Result X ExplainFault) (P : ReadFault → Type 0) → IfErr r IsOfEntries → IfRead r P
+pub no_read_if : {X : Type 0} (r : Result X ExplainFault) (P : ReadFault → Type 0) → IfErr r IsOfEntries → IfExplainRead r P
 no_read_if (Ok x) P is = tt
 no_read_if (Err (Source f)) P is = tt
 no_read_if (Err (Read f)) P is = absurd is
@@ -66,7 +66,7 @@ no_read_if (Err (Replay f)) P is = tt
 no_read_if (Err CannotWrite) P is = tt
 no_read_if (Err Memory) P is = tt
 
-pub begun_if : {X : Type 0} (r : Result X ExplainFault) (P : Type 0) → IfErr r IsOfEntries → UnlessBegun r P
+pub begun_if : {X : Type 0} (r : Result X ExplainFault) (P : Type 0) → IfErr r IsOfEntries → UnlessExplainBegun r P
 begun_if (Ok x) P is = tt
 begun_if (Err (Source f)) P is = absurd is
 begun_if (Err (Read f)) P is = absurd is
@@ -80,13 +80,13 @@ keeps None = tt
 keeps (Some xs) = refl
 
 -- by these names and this window
-pub explains_if : {X E : Type 0} (r : Result X E) (source : List ℕ) (code : Compiled) (window : Window) (journal : List Entry) (old new : Option (List ℕ)) (t : Telling)
+pub explains_if : {X E : Type 0} (r : Result X E) (source : List ℕ) (code : Compiled) (window : Window) (journal : List Entry) (old new : Option (List ℕ)) (t : ExplanationOptions)
     → IsTelling source code window t → OnOk r (TellsAll t journal old new) → OnOk r (Explains source code window journal old new)
 explains_if (Ok u) source code window journal old new t is tells = record { telling = t; is_telling = is; tells = tells }
 explains_if (Err e) source code window journal old new t is tells = tt
 
-pub explains_fault_if : {X : Type 0} (r : Result X ExplainFault) (source : List ℕ) (code : Compiled) (window : Window) (journal : List Entry) (old new : Option (List ℕ)) (t : Telling)
-    → IsTelling source code window t → IfReplay r (TellsFault t journal old new) → IfReplay r (ExplainsFault source code window journal old new)
+pub explains_fault_if : {X : Type 0} (r : Result X ExplainFault) (source : List ℕ) (code : Compiled) (window : Window) (journal : List Entry) (old new : Option (List ℕ)) (t : ExplanationOptions)
+    → IsTelling source code window t → IfExplainReplay r (TellsFault t journal old new) → IfExplainReplay r (ExplainsFault source code window journal old new)
 explains_fault_if (Ok u) source code window journal old new t is tells = tt
 explains_fault_if (Err (Source f)) source code window journal old new t is tells = tt
 explains_fault_if (Err (Read f)) source code window journal old new t is tells = tt
@@ -101,7 +101,7 @@ text_if (Ok u) source code window journal left old new read explains = record { 
 text_if (Err e) source code window journal left old new read explains = tt
 
 pub text_fault_if : {X : Type 0} (r : Result X ExplainFault) (source : List ℕ) (code : Compiled) (window : Window) (journal : List Entry) (left old new : Option (List ℕ))
-    → AreRead source left code journal → IfReplay r (ExplainsFault source code window journal old new) → IfReplay r (ExplainsTextFault source window left old new)
+    → AreRead source left code journal → IfExplainReplay r (ExplainsFault source code window journal old new) → IfExplainReplay r (ExplainsTextFault source window left old new)
 text_fault_if (Ok u) source code window journal left old new read explains = tt
 text_fault_if (Err (Source f)) source code window journal left old new read explains = tt
 text_fault_if (Err (Read f)) source code window journal left old new read explains = tt
@@ -114,7 +114,7 @@ lawful : (code : Compiled) (journal : List Entry) (e : Effect) → run (design_o
 lawful code journal e ran = subst (λ (o : Option Effect). IsSome o) (sym ran) refl
 
 pub lawful_if : {X E : Type 0} (r : Result X E) (source : List ℕ) (code : Compiled) (window : Window) (journal : List Entry) (left old new : Option (List ℕ))
-    → AreRead source left code journal → OnOk r (Explains source code window journal old new) → OnOk r (IsLawfulText source left)
+    → AreRead source left code journal → OnOk r (Explains source code window journal old new) → OnOk r (IsLawfulJournalText source left)
 lawful_if (Ok u) source code window journal left old new read explains = record {
   design = code;
   journal = journal;
@@ -126,7 +126,7 @@ lawful_if (Err e) source code window journal left old new read explains = tt
 
 -- a fault that is told is one of the journal
 pub replay_if : {X : Type 0} (r : Result X ExplainFault) (source : List ℕ) (code : Compiled) (window : Window) (journal : List Entry) (left old new : Option (List ℕ))
-    → AreRead source left code journal → IfReplay r (ExplainsFault source code window journal old new) → IfReplay r (IsReplayFault source left)
+    → AreRead source left code journal → IfExplainReplay r (ExplainsFault source code window journal old new) → IfExplainReplay r (IsReplayFault source left)
 replay_if (Ok u) source code window journal left old new read explains = tt
 replay_if (Err (Source f)) source code window journal left old new read explains = tt
 replay_if (Err (Read f)) source code window journal left old new read explains = tt

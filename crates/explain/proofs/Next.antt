@@ -9,15 +9,15 @@ use Rattle.regions.specs.Machine.{MachineView, IsNotTaken}
 use Rattle.replay.specs.Replays as replays
 use Rattle.replay.specs.JournalFaults.{IsCauseOf, cause_of}
 use Rattle.replay.proofs.Runs.{next_fault}
-use Rattle.steps.specs.ExplainerStanding.{Standing, IsBehind, IsExplained}
+use Rattle.steps.specs.ExplainerStanding.{Standing, IsExplainerBehind, IsExplained}
 
 -- one entry more
-pub next_behind : (journal : List Entry) (at : ℕ) (d : Entry) (old new : Standing) → at < length journal → IsBehind (take at journal) old
-    → ((j : List Entry) → IsBehind j old → IsExplained j (slice_index_or journal at d) old new) → IsBehind (take (at + 1) journal) new
+pub next_behind : (journal : List Entry) (at : ℕ) (d : Entry) (old new : Standing) → at < length journal → IsExplainerBehind (take at journal) old
+    → ((j : List Entry) → IsExplainerBehind j old → IsExplained j (slice_index_or journal at d) old new) → IsExplainerBehind (take (at + 1) journal) new
 next_behind journal at d old new inside behind told =
     let one : suc at ≡ at + 1 = omega arith in
     let more : take (at + 1) journal ≡ take at journal ++ slice_index_or journal at d ∷ [] = ap (λ (n : ℕ). take n journal) (sym one) ∙ take-suc journal at d inside in
-    subst (λ (j : List Entry). IsBehind j new) (sym more) (told (take at journal) behind).behind
+    subst (λ (j : List Entry). IsExplainerBehind j new) (sym more) (told (take at journal) behind).behind
 
 not_taken_lines : (p : MachineView) (lines : List ℕ) (entry : Entry) (f : TakeFault) → IsNotTaken p entry f → IsNotTaken (record p { lines = lines }) entry f
 not_taken_lines p lines entry (Refused r) h = h
@@ -27,7 +27,7 @@ not_taken_lines p lines entry ApplyMemory h = h
 not_taken_lines p lines entry Memory h = h
 
 -- the fault of one entry more
-pub next_failure : (journal : List Entry) (at : ℕ) (d : Entry) (x : Standing) (f : TakeFault) → at < length journal → IsBehind (take at journal) x
+pub next_failure : (journal : List Entry) (at : ℕ) (d : Entry) (x : Standing) (f : TakeFault) → at < length journal → IsExplainerBehind (take at journal) x
     → x.position.core.entries ≡ at → IsNotTaken x.position (slice_index_or journal at d) f → IsCauseOf x.position.code journal (at + 1) (cause_of f)
 next_failure journal at d x f inside behind count stop =
     let p : MachineView = record x.position { lines = behind.effect.lines } in

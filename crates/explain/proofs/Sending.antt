@@ -4,7 +4,7 @@ use Rattle.std.specs.Prelude.{slice_get, slice_index_or}
 use Rattle.std.specs.Io.KnownBytes.{Appends}
 use Rattle.std.proofs.lemmas.List.{append-nil}
 use Rattle.std.proofs.lemmas.Option.{slice_get-get_or}
-use Rattle.journal.specs.Written.{Passes}
+use Rattle.journal.specs.Written.{IsWrittenUpTo}
 use Rattle.model.specs.declared.entry.Entry.{Entry}
 use Rattle.model.specs.States.{State}
 use Rattle.model.specs.Runs.{Effect, is_quiet, run}
@@ -14,13 +14,13 @@ use Rattle.replay.specs.declared.fault.ReplayFault.{ReplayFault}
 use Rattle.replay.specs.JournalFaults.{IsFaultOf}
 use Rattle.explain.specs.declared.failure.ExplainFault.{ExplainFault}
 use Rattle.explain.specs.declared.failure.ExplainFault.TheVariants as failures
-use Rattle.explain.specs.declared.telling.Telling.{Telling}
-use Rattle.steps.specs.Accounts.{IsTold}
-use Rattle.steps.specs.ExplainerStanding.{Standing, IsBehind, IsExplained}
+use Rattle.explain.specs.declared.telling.ExplanationOptions.{ExplanationOptions}
+use Rattle.steps.specs.Accounts.{IsAccountOf}
+use Rattle.steps.specs.ExplainerStanding.{Standing, IsExplainerBehind, IsExplained}
 use Rattle.explain.specs.ExplainedEnd.{AreNext, IsEndText, PutsEnd, end_text, refusal_text}
-use Rattle.explain.specs.ExplainedText.{told_design, told_text, IsEntryText, AreEntryTexts, TellsAll, TellsFault}
+use Rattle.explain.specs.ExplainedText.{told_design, told_text, IsExplainedEntry, AreEntryTexts, TellsAll, TellsFault}
 use Rattle.explain.specs.Sent.{IsNextTold, IsToldTo, IsStoppedAt, SendsEnd}
-use Rattle.explain.specs.Explained.{IsFaultOfEntries, IfReplay}
+use Rattle.explain.specs.Explained.{IsFaultOfEntries, IfExplainReplay}
 use Rattle.explain.proofs.Next.{next_behind}
 
 -- nothing was written
@@ -36,29 +36,29 @@ appends_both (Some xs) (Some ys) None a b h k = absurd k
 appends_both (Some xs) (Some ys) (Some zs) a b h k = k ∙ (ap (λ (t : List ℕ). t ++ b) h ∙ append_assoc xs a b)
 
 -- the rest was written, with a text behind it
-pub sent_with : (start now new : Option (List ℕ)) (told text more : List ℕ) → Passes start now told text → Appends now new (text ++ more) → Appends start new (told ++ more)
+pub sent_with : (start now new : Option (List ℕ)) (told text more : List ℕ) → IsWrittenUpTo start now told text → Appends now new (text ++ more) → Appends start new (told ++ more)
 sent_with start now new told text more (sent, is, sent_is) put =
     subst (λ (t : List ℕ). Appends start new t) (sym (append_assoc sent text more) ∙ ap (λ (t : List ℕ). t ++ more) (sym is))
     (appends_both start now new sent (text ++ more) sent_is put)
 
 -- the rest was written
-pub sent_off : (start now new : Option (List ℕ)) (told text text' : List ℕ) → Passes start now told text → Appends now new text → text' ≡ [] → Passes start new told text'
+pub sent_off : (start now new : Option (List ℕ)) (told text text' : List ℕ) → IsWrittenUpTo start now told text → Appends now new text → text' ≡ [] → IsWrittenUpTo start new told text'
 sent_off start now new told text text' (sent, is, sent_is) put empty =
     (sent ++ text, is ∙ (sym (append-nil (sent ++ text)) ∙ ap (λ (t : List ℕ). (sent ++ text) ++ t) (sym empty)), appends_both start now new sent text sent_is put)
 
 pub sent_off_if : {X E : Type 0} (r : Result X E) (now new : Option (List ℕ)) (text text' : List ℕ) → OnOk r (Appends now new text) → OnOk r (text' ≡ [])
-    → (start : Option (List ℕ)) (told : List ℕ) → Passes start now told text → OnOk r (Passes start new told text')
+    → (start : Option (List ℕ)) (told : List ℕ) → IsWrittenUpTo start now told text → OnOk r (IsWrittenUpTo start new told text')
 sent_off_if (Ok x) now new text text' put empty start told passes = sent_off start now new told text text' passes put empty
 sent_off_if (Err e) now new text text' put empty start told passes = tt
 
 -- a text was put behind the rest
-passes_more : (start now : Option (List ℕ)) (told text line text' : List ℕ) → Passes start now told text → text' ≡ text ++ line → Passes start now (told ++ line) text'
+passes_more : (start now : Option (List ℕ)) (told text line text' : List ℕ) → IsWrittenUpTo start now told text → text' ≡ text ++ line → IsWrittenUpTo start now (told ++ line) text'
 passes_more start now told text line text' (sent, is, sent_is) put =
     (sent, ap (λ (t : List ℕ). t ++ line) is ∙ (append_assoc sent text line ∙ ap (λ (t : List ℕ). sent ++ t) (sym put)), sent_is)
 
 -- the entry at a place was taken and told
-pub next_told : (journal : List Entry) (at : ℕ) (d : Entry) (old new : Standing) → at < length journal → IsBehind (take at journal) old → old.position.core.entries ≡ at
-    → ((j : List Entry) → IsBehind j old → IsExplained j (slice_index_or journal at d) old new) → new.position.core.entries ≡ old.position.core.entries + 1
+pub next_told : (journal : List Entry) (at : ℕ) (d : Entry) (old new : Standing) → at < length journal → IsExplainerBehind (take at journal) old → old.position.core.entries ≡ at
+    → ((j : List Entry) → IsExplainerBehind j old → IsExplained j (slice_index_or journal at d) old new) → new.position.core.entries ≡ old.position.core.entries + 1
     → IsNextTold journal at old new
 next_told journal at d old new inside behind count told more = record {
   entry = slice_index_or journal at d;
@@ -69,7 +69,7 @@ next_told journal at d old new inside behind count told more = record {
 }
 
 -- a machine of the design that is told has run so
-ran_so : (t : Telling) (journal : List Entry) (x : Standing) (e : Effect) → x.position.code ≡ t.names.design.now → run (design_of x.position.code) journal ≡ Some e → run (told_design t) journal ≡ Some e
+ran_so : (t : ExplanationOptions) (journal : List Entry) (x : Standing) (e : Effect) → x.position.code ≡ t.names.design.now → run (design_of x.position.code) journal ≡ Some e → run (told_design t) journal ≡ Some e
 ran_so t journal x e code ran = ap (λ (c : Compiled). run (design_of c) journal) (sym code) ∙ ran
 
 -- the entry is the one at its place
@@ -79,8 +79,8 @@ same_entry journal at d entry inside there =
     cc
 
 -- the text of the entry that was told
-entry_told : (t : Telling) (journal : List Entry) (at : ℕ) (old new : Standing) (line : List ℕ) → old.position.code ≡ t.names.design.now
-    → (next : IsNextTold journal at old new) → line ≡ told_text t (at + 1) next.entry new.account → IsEntryText t journal at line
+entry_told : (t : ExplanationOptions) (journal : List Entry) (at : ℕ) (old new : Standing) (line : List ℕ) → old.position.code ≡ t.names.design.now
+    → (next : IsNextTold journal at old new) → line ≡ told_text t (at + 1) next.entry new.account → IsExplainedEntry t journal at line
 entry_told t journal at old new line code next is = record {
   entry = next.entry;
   there = next.there;
@@ -88,18 +88,18 @@ entry_told t journal at old new line code next is = record {
   is_run = ran_so t (take at journal) old next.told.before code next.told.is_run;
   effect = next.told.effect;
   account = new.account;
-  told = subst (λ (c : Compiled). IsTold (design_of c) next.told.before next.entry next.told.effect new.account) code next.told.told;
+  told = subst (λ (c : Compiled). IsAccountOf (design_of c) next.told.before next.entry next.told.effect new.account) code next.told.told;
   text_is = is;
 }
 
 -- the texts of one entry more
-texts_more : (t : Telling) (journal : List Entry) (at : ℕ) (texts line : List ℕ) → AreEntryTexts t journal at texts → IsEntryText t journal at line → AreEntryTexts t journal (at + 1) (texts ++ line)
+texts_more : (t : ExplanationOptions) (journal : List Entry) (at : ℕ) (texts line : List ℕ) → AreEntryTexts t journal at texts → IsExplainedEntry t journal at line → AreEntryTexts t journal (at + 1) (texts ++ line)
 texts_more t journal at texts line before one =
     let next : suc at ≡ at + 1 = omega arith in
     subst (λ (n : ℕ). AreEntryTexts t journal n (texts ++ line)) next (texts, line, before, one, refl)
 
 -- one entry more is told
-pub told_more : (t : Telling) (journal : List Entry) (at : ℕ) (d : Entry) (old new : Standing) (start now : Option (List ℕ)) (text text' : List ℕ) → at < length journal
+pub told_more : (t : ExplanationOptions) (journal : List Entry) (at : ℕ) (d : Entry) (old new : Standing) (start now : Option (List ℕ)) (text text' : List ℕ) → at < length journal
     → IsNextTold journal at old new → new.position.code ≡ old.position.code
     → text' ≡ text ++ told_text t new.position.core.entries (slice_index_or journal at d) new.account
     → IsToldTo t journal at old start now text → IsToldTo t journal (at + 1) new start now text'
@@ -121,7 +121,7 @@ told_more t journal at d old new start now text text' inside next same put to =
     }
 
 -- a journal is told up to its fault
-stopped_at : (t : Telling) (journal : List Entry) (at : ℕ) (old new : Standing) (start now : Option (List ℕ)) (text : List ℕ) (fault : ReplayFault)
+stopped_at : (t : ExplanationOptions) (journal : List Entry) (at : ℕ) (old new : Standing) (start now : Option (List ℕ)) (text : List ℕ) (fault : ReplayFault)
     → IsFaultOf old.position.code journal fault → fault.entry ≡ at + 1 → state_at new.position ≡ state_at old.position
     → IsToldTo t journal at old start now text → IsStoppedAt t journal new start now text fault
 stopped_at t journal at old new start now text fault is_fault number state to = record {
@@ -134,9 +134,9 @@ stopped_at t journal at old new start now text fault is_fault number state to = 
   so_far = to.so_far;
 }
 
-pub stopped_if : (t : Telling) (journal : List Entry) (at : ℕ) (old new : Standing) (start now : Option (List ℕ)) (text : List ℕ) (fault : ExplainFault)
-    → IsFaultOfEntries old.position.code journal fault → IfReplay {X = Unit {0}} (Err fault) (λ f. f.entry ≡ at + 1) → state_at new.position ≡ state_at old.position
-    → IsToldTo t journal at old start now text → IfReplay {X = Unit {0}} (Err fault) (IsStoppedAt t journal new start now text)
+pub stopped_if : (t : ExplanationOptions) (journal : List Entry) (at : ℕ) (old new : Standing) (start now : Option (List ℕ)) (text : List ℕ) (fault : ExplainFault)
+    → IsFaultOfEntries old.position.code journal fault → IfExplainReplay {X = Unit {0}} (Err fault) (λ f. f.entry ≡ at + 1) → state_at new.position ≡ state_at old.position
+    → IsToldTo t journal at old start now text → IfExplainReplay {X = Unit {0}} (Err fault) (IsStoppedAt t journal new start now text)
 stopped_if t journal at old new start now text (failures.Source f) is_fault number state to = tt
 stopped_if t journal at old new start now text (failures.Read f) is_fault number state to = tt
 stopped_if t journal at old new start now text (failures.Replay f) is_fault number state to = stopped_at t journal at old new start now text f is_fault number state to
@@ -144,8 +144,8 @@ stopped_if t journal at old new start now text failures.CannotWrite is_fault num
 stopped_if t journal at old new start now text failures.Memory is_fault number state to = tt
 
 -- what is told is written, or stands in the text that isn't
-pub told_sent_if : {X E : Type 0} (r : Result X E) (t : Telling) (journal : List Entry) (at : ℕ) (x : Standing) (start mid new : Option (List ℕ)) (text text' : List ℕ)
-    → ((s : Option (List ℕ)) (told : List ℕ) → Passes s mid told text → OnOk r (Passes s new told text'))
+pub told_sent_if : {X E : Type 0} (r : Result X E) (t : ExplanationOptions) (journal : List Entry) (at : ℕ) (x : Standing) (start mid new : Option (List ℕ)) (text text' : List ℕ)
+    → ((s : Option (List ℕ)) (told : List ℕ) → IsWrittenUpTo s mid told text → OnOk r (IsWrittenUpTo s new told text'))
     → IsToldTo t journal at x start mid text → OnOk r (IsToldTo t journal at x start new text')
 told_sent_if (Ok u) t journal at x start mid new text text' sent to = record {
   code = to.code;
@@ -156,8 +156,8 @@ told_sent_if (Ok u) t journal at x start mid new text text' sent to = record {
 told_sent_if (Err e) t journal at x start mid new text text' sent to = tt
 
 -- at the start nothing is told
-pub told_none : (t : Telling) (journal : List Entry) (x : Standing) (now : Option (List ℕ)) (text : List ℕ) → x.position.code ≡ t.names.design.now
-    → IsBehind [] x → x.position.core.entries ≡ 0 → text ≡ [] → IsToldTo t journal 0 x now now text
+pub told_none : (t : ExplanationOptions) (journal : List Entry) (x : Standing) (now : Option (List ℕ)) (text : List ℕ) → x.position.code ≡ t.names.design.now
+    → IsExplainerBehind [] x → x.position.core.entries ≡ 0 → text ≡ [] → IsToldTo t journal 0 x now now text
 told_none t journal x now text code behind count empty = record {
   code = code;
   behind = behind;
@@ -174,7 +174,7 @@ end_same : (s s' : State) (n n' : ℕ) (text : List ℕ) → s ≡ s' → n ≡ 
 end_same s s' n n' text same count h = subst (λ (x : State). IsEndText x n' text) same (subst (λ (k : ℕ). IsEndText s k text) count h)
 
 -- a lawful journal was told to its end
-pub told_all : (t : Telling) (journal : List Entry) (x : Standing) (start now new : Option (List ℕ)) (text : List ℕ) → SendsEnd x.position text now new
+pub told_all : (t : ExplanationOptions) (journal : List Entry) (x : Standing) (start now new : Option (List ℕ)) (text : List ℕ) → SendsEnd x.position text now new
     → IsToldTo t journal (length journal) x start now text → TellsAll t journal start new
 told_all t journal x start now new text ended to =
     let ran : run (told_design t) journal ≡ Some to.behind.effect =
@@ -189,13 +189,13 @@ told_all t journal x start now new text ended to =
       grown = sent_with start now new to.so_far.told text ended.ending to.so_far.passes ended.grown;
     }
 
-pub told_all_if : {X E : Type 0} (r : Result X E) (t : Telling) (journal : List Entry) (x : Standing) (start now new : Option (List ℕ)) (text : List ℕ) → OnOk r (SendsEnd x.position text now new)
+pub told_all_if : {X E : Type 0} (r : Result X E) (t : ExplanationOptions) (journal : List Entry) (x : Standing) (start now new : Option (List ℕ)) (text : List ℕ) → OnOk r (SendsEnd x.position text now new)
     → IsToldTo t journal (length journal) x start now text → OnOk r (TellsAll t journal start new)
 told_all_if (Ok u) t journal x start now new text ended to = told_all t journal x start now new text ended to
 told_all_if (Err e) t journal x start now new text ended to = tt
 
 -- a journal was told up to its fault
-told_fault : (t : Telling) (journal : List Entry) (x : Standing) (start now new : Option (List ℕ)) (text : List ℕ) (fault : ReplayFault)
+told_fault : (t : ExplanationOptions) (journal : List Entry) (x : Standing) (start now new : Option (List ℕ)) (text : List ℕ) (fault : ReplayFault)
     → Appends now new (text ++ refusal_text t.names (state_at x.position) fault) → IsStoppedAt t journal x start now text fault → TellsFault t journal start new fault
 told_fault t journal x start now new text fault put stop = record {
   is_fault = stop.is_fault;
@@ -210,14 +210,14 @@ told_fault t journal x start now new text fault put stop = record {
 }
 
 -- the fault that is answered is the one that was told
-pub told_fault_if : {X : Type 0} (r : Result X ExplainFault) (fault : ExplainFault) (t : Telling) (journal : List Entry) (x : Standing) (start now new : Option (List ℕ)) (text : List ℕ)
-    → IfReplay r (λ of. (fault ≡ failures.Replay of) × Appends now new (text ++ refusal_text t.names (state_at x.position) of))
-    → IfReplay {X = Unit {0}} (Err fault) (IsStoppedAt t journal x start now text) → IfReplay r (TellsFault t journal start new)
+pub told_fault_if : {X : Type 0} (r : Result X ExplainFault) (fault : ExplainFault) (t : ExplanationOptions) (journal : List Entry) (x : Standing) (start now new : Option (List ℕ)) (text : List ℕ)
+    → IfExplainReplay r (λ of. (fault ≡ failures.Replay of) × Appends now new (text ++ refusal_text t.names (state_at x.position) of))
+    → IfExplainReplay {X = Unit {0}} (Err fault) (IsStoppedAt t journal x start now text) → IfExplainReplay r (TellsFault t journal start new)
 told_fault_if (Ok u) fault t journal x start now new text told stop = tt
 told_fault_if (Err (failures.Source f)) fault t journal x start now new text told stop = tt
 told_fault_if (Err (failures.Read f)) fault t journal x start now new text told stop = tt
 told_fault_if (Err (failures.Replay f)) fault t journal x start now new text told stop =
-    told_fault t journal x start now new text f told.1 (subst (λ (e : ExplainFault). IfReplay {X = Unit {0}} (Err e) (IsStoppedAt t journal x start now text)) told.0 stop)
+    told_fault t journal x start now new text f told.1 (subst (λ (e : ExplainFault). IfExplainReplay {X = Unit {0}} (Err e) (IsStoppedAt t journal x start now text)) told.0 stop)
 told_fault_if (Err failures.CannotWrite) fault t journal x start now new text told stop = tt
 told_fault_if (Err failures.Memory) fault t journal x start now new text told stop = tt
 
@@ -242,7 +242,7 @@ ended_if (Ok x) p q text text' sent old new same puts is put = record {
 ended_if (Err e) p q text text' sent old new same puts is put = tt
 
 -- why an entry isn't lawful was put behind a text, and both were written
-pub refused_if : {X E : Type 0} (r : Result X E) (t : Telling) (p q : MachineView) (fault : ReplayFault) (text sent : List ℕ) (old new : Option (List ℕ)) → q ≡ p
+pub refused_if : {X E : Type 0} (r : Result X E) (t : ExplanationOptions) (p q : MachineView) (fault : ReplayFault) (text sent : List ℕ) (old new : Option (List ℕ)) → q ≡ p
     → sent ≡ text ++ refusal_text t.names (state_at q) fault → OnOk r (Appends old new sent) → OnOk r (Appends old new (text ++ refusal_text t.names (state_at p) fault))
 refused_if (Ok x) t p q fault text sent old new same is put =
     subst (λ (m : MachineView). Appends old new (text ++ refusal_text t.names (state_at m) fault)) same (subst (λ (l : List ℕ). Appends old new l) is put)

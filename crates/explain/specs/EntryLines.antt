@@ -5,11 +5,11 @@ use Rattle.model.specs.declared.entry.Entry.{Entry}
 use Rattle.model.specs.declared.entry.Entry.TheVariants as entries
 use Rattle.model.specs.Runs.{has_any}
 use Rattle.turn.specs.declared.log.Nba.{Nba}
-use Rattle.explain.specs.declared.phrases.Names.{Names}
+use Rattle.explain.specs.declared.phrases.SourceNames.{SourceNames}
 use Rattle.steps.specs.declared.entry_account.Reading.{Reading}
 use Rattle.steps.specs.declared.entry_account.Changed.{Changed}
-use Rattle.steps.specs.declared.entry_account.Deed.{Deed}
-use Rattle.steps.specs.declared.entry_account.Deed.TheVariants as deeds
+use Rattle.steps.specs.declared.entry_account.EntryActor.{EntryActor}
+use Rattle.steps.specs.declared.entry_account.EntryActor.TheVariants as actors
 use Rattle.steps.specs.Accounts.{Account}
 use Rattle.explain.specs.Phrases.{value_text, quoted_text, register_text, process_text}
 
@@ -23,16 +23,16 @@ abbrev pub lead : ℕ → Bool → List ℕ → List ℕ
 lead place behind word = if place == 0 then delimiter behind ++ word else codes ", "
 
 -- a register that is read
-abbrev pub reading_text : Names → Reading → List ℕ
+abbrev pub reading_text : SourceNames → Reading → List ℕ
 reading_text names r =
     register_text names r.register ++ codes "=" ++ value_text r.value ++ codes " (version " ++ decimal r.version ++ codes ")"
 
 -- a change
-abbrev pub change_text : Names → Changed → List ℕ
+abbrev pub change_text : SourceNames → Changed → List ℕ
 change_text names c = register_text names c.register ++ codes " " ++ value_text c.before ++ codes " -> " ++ value_text c.after
 
 -- a nonblocking assignment
-abbrev pub assignment_text : Names → Nba → List ℕ
+abbrev pub assignment_text : SourceNames → Nba → List ℕ
 assignment_text names n = register_text names n.reg ++ codes " <= " ++ value_text n.value ++ codes " for time " ++ decimal n.due
 
 -- the parts of a kind, from a place on
@@ -46,7 +46,7 @@ printed_text behind [] = []
 printed_text behind (byte ∷ bytes) = delimiter behind ++ codes "prints " ++ quoted_text (byte ∷ bytes)
 
 -- an update
-abbrev pub update_text : Names → ℕ → Vector → List ℕ
+abbrev pub update_text : SourceNames → ℕ → Vector → List ℕ
 update_text names r v = codes "update of " ++ register_text names r ++ codes " to " ++ value_text v
 
 -- a change of the regions
@@ -59,13 +59,13 @@ region_text (entries.Turn number) = codes "turn"
 region_text (entries.Update number) = codes "update"
 
 -- the region of an entry, and who does it
-abbrev pub deed_text : Names → Entry → Deed → List ℕ
-deed_text names entry (deeds.Turn p) = codes "active  turn of " ++ process_text names p
-deed_text names entry (deeds.Update r v) = codes "active  " ++ update_text names r v
-deed_text names entry deeds.Regions = region_text entry
+abbrev pub actor_text : SourceNames → Entry → EntryActor → List ℕ
+actor_text names entry (actors.Turn p) = codes "active  turn of " ++ process_text names p
+actor_text names entry (actors.Update r v) = codes "active  " ++ update_text names r v
+actor_text names entry actors.Regions = region_text entry
 
 -- what is read, changed, assigned and printed
-abbrev pub parts_text : Names → Account → List ℕ
+abbrev pub parts_text : SourceNames → Account → List ℕ
 parts_text names a =
     list_text (reading_text names) (codes "reads ") false 0 a.reads
     ++ list_text (change_text names) (codes "writes ") (has_any a.reads) 0 a.changes
@@ -73,6 +73,6 @@ parts_text names a =
     ++ printed_text (has_any a.reads || has_any a.changes || has_any a.assigned) a.lines
 
 -- the line of an entry: its number, the time, who does it, and what it reads, changes, assigns and prints
-abbrev pub entry_text : Names → ℕ → Entry → Account → List ℕ
-entry_text names number entry a =
-    decimal number ++ codes "  time " ++ decimal a.time ++ codes "  " ++ deed_text names entry a.deed ++ parts_text names a ++ codes "\n"
+abbrev pub entry_account_text : SourceNames → ℕ → Entry → Account → List ℕ
+entry_account_text names number entry a =
+    decimal number ++ codes "  time " ++ decimal a.time ++ codes "  " ++ actor_text names entry a.actor ++ parts_text names a ++ codes "\n"

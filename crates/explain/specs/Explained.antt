@@ -12,7 +12,7 @@ use Rattle.explain.specs.declared.failure.ExplainFault.{ExplainFault}
 use Rattle.explain.specs.declared.failure.ExplainFault.TheVariants.{Source, Read, Replay, CannotWrite, Memory}
 
 -- The source describes a design, and what was left to read is the text of a journal that is lawful for it.
-pub record IsLawfulText (source : List ℕ) (left : Option (List ℕ)) : Type 0 where
+pub record IsLawfulJournalText (source : List ℕ) (left : Option (List ℕ)) : Type 0 where
   pub design : Compiled
   pub journal : List Entry
   pub are_read : AreRead source left design journal
@@ -40,22 +40,22 @@ IsNoFault CannotWrite = Unit {0}
 IsNoFault Memory = Unit {0}
 
 -- P of the fault of the source, where one is answered
-abbrev pub IfSource : {X : Type 0} → Result X ExplainFault → (SourceFault → Type 0) → Type 0
-IfSource (Err (Source fault)) P = P fault
-IfSource result P = Unit {0}
+abbrev pub IfExplainSource : {X : Type 0} → Result X ExplainFault → (SourceFault → Type 0) → Type 0
+IfExplainSource (Err (Source fault)) P = P fault
+IfExplainSource result P = Unit {0}
 
 -- P of the fault of reading, where one is answered
-abbrev pub IfRead : {X : Type 0} → Result X ExplainFault → (ReadFault → Type 0) → Type 0
-IfRead (Err (Read fault)) P = P fault
-IfRead result P = Unit {0}
+abbrev pub IfExplainRead : {X : Type 0} → Result X ExplainFault → (ReadFault → Type 0) → Type 0
+IfExplainRead (Err (Read fault)) P = P fault
+IfExplainRead result P = Unit {0}
 
 -- P of the fault of the journal, where one is answered
-abbrev pub IfReplay : {X : Type 0} → Result X ExplainFault → (ReplayFault → Type 0) → Type 0
-IfReplay (Err (Replay fault)) P = P fault
-IfReplay result P = Unit {0}
+abbrev pub IfExplainReplay : {X : Type 0} → Result X ExplainFault → (ReplayFault → Type 0) → Type 0
+IfExplainReplay (Err (Replay fault)) P = P fault
+IfExplainReplay result P = Unit {0}
 
 -- P, where the answer is a fault of the source or of reading
-abbrev pub UnlessBegun : {X : Type 0} → Result X ExplainFault → Type 0 → Type 0
-UnlessBegun (Err (Source fault)) P = P
-UnlessBegun (Err (Read fault)) P = P
-UnlessBegun result P = Unit {0}
+abbrev pub UnlessExplainBegun : {X : Type 0} → Result X ExplainFault → Type 0 → Type 0
+UnlessExplainBegun (Err (Source fault)) P = P
+UnlessExplainBegun (Err (Read fault)) P = P
+UnlessExplainBegun result P = Unit {0}

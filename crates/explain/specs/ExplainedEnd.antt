@@ -9,7 +9,7 @@ use Rattle.regions.specs.Machine.{AreInOrder}
 use Rattle.replay.specs.declared.fault.Cause.{Cause}
 use Rattle.replay.specs.declared.fault.Cause.TheVariants.{Refused, TooLong, TooMany, ApplyMemory, Memory, Start}
 use Rattle.replay.specs.declared.fault.ReplayFault.{ReplayFault}
-use Rattle.explain.specs.declared.phrases.Names.{Names}
+use Rattle.explain.specs.declared.phrases.SourceNames.{SourceNames}
 use Rattle.explain.specs.Phrases.{process_text}
 use Rattle.explain.specs.EntryLines.{update_text}
 
@@ -88,16 +88,16 @@ rule_text Memory = codes "memory was refused"
 rule_text (Start refused) = codes "memory was refused"
 
 -- what an event does
-abbrev pub action_text : Names → Action → List ℕ
+abbrev pub action_text : SourceNames → Action → List ℕ
 action_text names (Evaluate p) = codes "turn of " ++ process_text names p
 action_text names (Update r v) = update_text names r v
 
 -- an event: its number, and what it does
-abbrev pub event_text : Names → Event → List ℕ
+abbrev pub event_text : SourceNames → Event → List ℕ
 event_text names e = codes "  event " ++ decimal e.0 ++ codes ", " ++ action_text names e.1
 
 -- a line for each event of a region
-abbrev pub region_lines : Names → List ℕ → List Event → List ℕ
+abbrev pub region_lines : SourceNames → List ℕ → List Event → List ℕ
 region_lines names region [] = []
 region_lines names region (e ∷ es) = region ++ (event_text names e ++ (codes "\n" ++ region_lines names region es))
 
@@ -106,16 +106,16 @@ abbrev pub strobes_text : ℕ → List ℕ
 strobes_text count = if count == 0 then [] else codes "  monitor  lines of $strobe to be made: " ++ decimal count ++ codes "\n"
 
 -- the line of an event that is due later
-abbrev pub due_text : Names → ℕ × Event → List ℕ
+abbrev pub due_text : SourceNames → ℕ × Event → List ℕ
 due_text names d = codes "  future  time " ++ decimal d.0 ++ event_text names d.1 ++ codes "\n"
 
 -- a line for each of them
-abbrev pub future_lines : Names → List (ℕ × Event) → List ℕ
+abbrev pub future_lines : SourceNames → List (ℕ × Event) → List ℕ
 future_lines names [] = []
 future_lines names (d ∷ ds) = due_text names d ++ future_lines names ds
 
 -- a line for each event of each region (11.3)
-abbrev pub events_text : Names → State → List ℕ
+abbrev pub events_text : SourceNames → State → List ℕ
 events_text names s =
     region_lines names (codes "  active") s.active ++ region_lines names (codes "  inactive") s.inactive
     ++ region_lines names (codes "  nonblocking") s.nonblocking ++ strobes_text (length s.monitor)
@@ -132,5 +132,5 @@ cause_text fault =
     codes "entry " ++ decimal fault.entry ++ said_text fault.cause ++ code_text fault.cause ++ codes ": " ++ rule_text fault.cause
 
 -- so, with the events of each region before it
-abbrev pub refusal_text : Names → State → ReplayFault → List ℕ
+abbrev pub refusal_text : SourceNames → State → ReplayFault → List ℕ
 refusal_text names s fault = cause_text fault ++ codes "\nat time " ++ decimal s.time ++ title_text (is_quiet s) ++ events_text names s

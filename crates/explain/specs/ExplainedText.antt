@@ -9,14 +9,14 @@ use Rattle.locations.specs.SourceLocations.{AreProcesses}
 use Rattle.replay.specs.declared.fault.ReplayFault.{ReplayFault}
 use Rattle.replay.specs.ReplayBytes.{AreRead}
 use Rattle.replay.specs.JournalFaults.{IsFaultOf}
-use Rattle.explain.specs.declared.telling.Telling.{Telling}
+use Rattle.explain.specs.declared.telling.ExplanationOptions.{ExplanationOptions}
 use Rattle.explain.specs.declared.telling.Window.{Window}
-use Rattle.steps.specs.Accounts.{Account, IsTold}
-use Rattle.explain.specs.EntryLines.{entry_text}
+use Rattle.steps.specs.Accounts.{Account, IsAccountOf}
+use Rattle.explain.specs.EntryLines.{entry_account_text}
 use Rattle.explain.specs.ExplainedEnd.{IsEndText, refusal_text}
 
 -- the design that is told
-abbrev pub told_design : Telling → Design
+abbrev pub told_design : ExplanationOptions → Design
 told_design t = design_of t.names.design.now
 
 -- which entries are told: from this one on, to this one or the last that there may be
@@ -24,8 +24,8 @@ abbrev pub window_of : ℕ → Option ℕ → Window
 window_of from to = record { from = from; to = unwrap_or to 18446744073709551615 }
 
 -- whether a window has an entry with this number
-abbrev pub has : Window → ℕ → Bool
-has window number = nat_le window.from number && nat_le number window.to
+abbrev pub has_entry : Window → ℕ → Bool
+has_entry window number = nat_le window.from number && nat_le number window.to
 
 -- a line, where it is shown
 abbrev pub shown_text : Bool → List ℕ → List ℕ
@@ -33,28 +33,28 @@ shown_text true line = line
 shown_text false line = []
 
 -- the line of an entry, where the window has it
-abbrev pub told_text : Telling → ℕ → Entry → Account → List ℕ
-told_text t number entry a = shown_text (has t.window number) (entry_text t.names number entry a)
+abbrev pub told_text : ExplanationOptions → ℕ → Entry → Account → List ℕ
+told_text t number entry a = shown_text (has_entry t.window number) (entry_account_text t.names number entry a)
 
 -- This is told of the entry at a place of a journal: by what comes of its step behind those before it.
-pub record IsEntryText (t : Telling) (journal : List Entry) (at : ℕ) (text : List ℕ) : Type 0 where
+pub record IsExplainedEntry (t : ExplanationOptions) (journal : List Entry) (at : ℕ) (text : List ℕ) : Type 0 where
   pub entry : Entry
   pub there : slice_get journal at ≡ Some entry
   pub before : Effect
   pub is_run : run (told_design t) (take at journal) ≡ Some before
   pub effect : Effect
   pub account : Account
-  pub told : IsTold (told_design t) before entry effect account
+  pub told : IsAccountOf (told_design t) before entry effect account
   pub text_is : text ≡ told_text t (at + 1) entry account
 
 -- These are the texts of so many entries of a journal, one after another.
-abbrev pub AreEntryTexts : Telling → List Entry → ℕ → List ℕ → Type 0
+abbrev pub AreEntryTexts : ExplanationOptions → List Entry → ℕ → List ℕ → Type 0
 AreEntryTexts t journal zero text = text ≡ []
 AreEntryTexts t journal (suc n) text =
-    (old : List ℕ) × (line : List ℕ) × AreEntryTexts t journal n old × IsEntryText t journal n line × (text ≡ old ++ line)
+    (old : List ℕ) × (line : List ℕ) × AreEntryTexts t journal n old × IsExplainedEntry t journal n line × (text ≡ old ++ line)
 
 -- A lawful journal was told to its end: what was written grew by the lines of its entries, and by how the run stands.
-pub record TellsAll (t : Telling) (journal : List Entry) (old new : Option (List ℕ)) : Type 0 where
+pub record TellsAll (t : ExplanationOptions) (journal : List Entry) (old new : Option (List ℕ)) : Type 0 where
   pub effect : Effect
   pub is_run : run (told_design t) journal ≡ Some effect
   pub lines : List ℕ
@@ -64,7 +64,7 @@ pub record TellsAll (t : Telling) (journal : List Entry) (old new : Option (List
   pub grown : Appends old new (lines ++ ending)
 
 -- A journal was told up to its fault: what was written grew by the lines of the entries before it, and by why it isn't taken.
-pub record TellsFault (t : Telling) (journal : List Entry) (old new : Option (List ℕ)) (fault : ReplayFault) : Type 0 where
+pub record TellsFault (t : ExplanationOptions) (journal : List Entry) (old new : Option (List ℕ)) (fault : ReplayFault) : Type 0 where
   pub is_fault : IsFaultOf t.names.design.now journal fault
   pub before : ℕ
   pub number_is : fault.entry ≡ before + 1
@@ -75,7 +75,7 @@ pub record TellsFault (t : Telling) (journal : List Entry) (old new : Option (Li
   pub grown : Appends old new (lines ++ refusal_text t.names effect.state fault)
 
 -- what is told is of this design, by the processes of its source, and of this window
-pub record IsTelling (source : List ℕ) (code : Compiled) (window : Window) (t : Telling) : Type 0 where
+pub record IsTelling (source : List ℕ) (code : Compiled) (window : Window) (t : ExplanationOptions) : Type 0 where
   pub source_is : t.names.source.now ≡ source
   pub design_is : t.names.design.now ≡ code
   pub are_processes : AreProcesses source t.names.processes.now
@@ -83,13 +83,13 @@ pub record IsTelling (source : List ℕ) (code : Compiled) (window : Window) (t 
 
 -- so a journal was told to its end
 pub record Explains (source : List ℕ) (code : Compiled) (window : Window) (journal : List Entry) (old new : Option (List ℕ)) : Type 0 where
-  pub telling : Telling
+  pub telling : ExplanationOptions
   pub is_telling : IsTelling source code window telling
   pub tells : TellsAll telling journal old new
 
 -- so it was told up to its fault
 pub record ExplainsFault (source : List ℕ) (code : Compiled) (window : Window) (journal : List Entry) (old new : Option (List ℕ)) (fault : ReplayFault) : Type 0 where
-  pub telling : Telling
+  pub telling : ExplanationOptions
   pub is_telling : IsTelling source code window telling
   pub tells : TellsFault telling journal old new fault
 

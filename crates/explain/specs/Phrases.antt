@@ -3,8 +3,8 @@ use Rattle.std.specs.Prelude.{ℕ, ◌==◌, Bool, true, false, nat_lt, if◌the
 use Rattle.logic4.specs.Vector.{Vector}
 use Rattle.logic4.specs.Display.{binary_text}
 use Rattle.model.specs.Syntax.{Text}
-use Rattle.locations.specs.declared.location.Process.{Process}
-use Rattle.explain.specs.declared.phrases.Names.{Names}
+use Rattle.locations.specs.declared.location.ProcessLocation.{ProcessLocation}
+use Rattle.explain.specs.declared.phrases.SourceNames.{SourceNames}
 
 -- the size of a literal, of one digit none
 abbrev pub size_text : ℕ → List ℕ
@@ -35,7 +35,7 @@ known_name (Some name) = name
 known_name None = []
 
 -- the name of a register
-abbrev pub register_text : Names → ℕ → List ℕ
+abbrev pub register_text : SourceNames → ℕ → List ℕ
 register_text names r = known_name (slice_get names.design.now.names r)
 
 -- the word that a process begins with
@@ -44,10 +44,10 @@ word_text true = codes "always"
 word_text false = codes "initial"
 
 -- the word and the line of a process, where they are known
-abbrev pub location_text : Option Process → List ℕ
+abbrev pub location_text : Option ProcessLocation → List ℕ
 location_text (Some process) = codes ", " ++ word_text process.always ++ codes " at line " ++ decimal process.location.line
 location_text None = []
 
 -- a process: its number, its word and its line
-abbrev pub process_text : Names → ℕ → List ℕ
+abbrev pub process_text : SourceNames → ℕ → List ℕ
 process_text names p = codes "process " ++ decimal p ++ location_text (slice_get names.processes.now p)

@@ -10,7 +10,7 @@ ghost use Rattle.explain.specs.ExplainedEnd.{PutsEnd};
 
 use crate::cause::{cause_code, cause_rule, said};
 use crate::lines::push_update;
-use crate::phrases::{Names, push_labelled, push_process};
+use crate::phrases::{SourceNames, push_labelled, push_process};
 use regions::{Due, Evaluation, Machine, Update};
 use replay::ReplayFault;
 use std::alloc::{AllocError, Global};
@@ -81,14 +81,14 @@ trait Queued {
     ghost event: { Self → Event };
 
     /// Puts its number and what it does behind a text.
-    fn push(&self, text: &mut Vec<u8>, names: &Names<'_>) -> Result<(), AllocError>
+    fn push(&self, text: &mut Vec<u8>, names: &SourceNames<'_>) -> Result<(), AllocError>
         ensures { OnOk result (text.new.items ≡ text.old.items ++ event_text names.entry.now (event self.now)) };
 }
 
 impl Queued for Evaluation {
     ghost event = { evaluation_event };
 
-    fn push(&self, text: &mut Vec<u8>, names: &Names<'_>) -> Result<(), AllocError> {
+    fn push(&self, text: &mut Vec<u8>, names: &SourceNames<'_>) -> Result<(), AllocError> {
         push_labelled(text, b"  event ", self.number)?;
         text.extend_from_slice(b", ")?;
         text.extend_from_slice(b"turn of ")?;
@@ -99,7 +99,7 @@ impl Queued for Evaluation {
 impl Queued for Update {
     ghost event = { update_event };
 
-    fn push(&self, text: &mut Vec<u8>, names: &Names<'_>) -> Result<(), AllocError> {
+    fn push(&self, text: &mut Vec<u8>, names: &SourceNames<'_>) -> Result<(), AllocError> {
         push_labelled(text, b"  event ", self.number)?;
         text.extend_from_slice(b", ")?;
         push_update(text, names, self.register, self.value)
@@ -109,7 +109,7 @@ impl Queued for Update {
 // Puts a line for each event of a region behind a text.
 fn push_queue<E: Queued>(
     text: &mut Vec<u8>,
-    names: &Names<'_>,
+    names: &SourceNames<'_>,
     region: &str,
     events: &VecDeque<E>,
 ) -> Result<(), AllocError>
@@ -126,7 +126,7 @@ fn push_queue<E: Queued>(
 // Puts the line of an event that is due later behind a text.
 fn push_due<E: Queued>(
     text: &mut Vec<u8>,
-    names: &Names<'_>,
+    names: &SourceNames<'_>,
     due: &Due<E>,
 ) -> Result<(), AllocError>
     ensures { OnOk result (text.new.items ≡ text.old.items ++ due_text names.entry.now (due_event E.event due.now)) }
@@ -139,7 +139,7 @@ fn push_due<E: Queued>(
 // Puts a line for each of them behind a text.
 fn push_future<E: Queued>(
     text: &mut Vec<u8>,
-    names: &Names<'_>,
+    names: &SourceNames<'_>,
     events: &VecDeque<Due<E>>,
 ) -> Result<(), AllocError>
     ensures { OnOk result (text.new.items ≡ text.old.items ++ future_lines names.entry.now (map (due_event E.event) events.now.items)) }
@@ -168,7 +168,7 @@ fn push_strobes(text: &mut Vec<u8>, count: usize) -> Result<(), AllocError>
 // Puts a line for each active event behind a text.
 fn push_active(
     text: &mut Vec<u8>,
-    names: &Names<'_>,
+    names: &SourceNames<'_>,
     machine: &Machine<'_>,
 ) -> Result<(), AllocError>
     ensures { OnOk result (text.new.items ≡ text.old.items ++ region_lines names.entry.now (codes "  active") machine.now.core.active) }
@@ -181,7 +181,7 @@ fn push_active(
 // Puts a line for each event of each region behind a text (11.3).
 fn push_events(
     text: &mut Vec<u8>,
-    names: &Names<'_>,
+    names: &SourceNames<'_>,
     machine: &Machine<'_>,
 ) -> Result<(), AllocError>
     ensures { OnOk result (text.new.items ≡ text.old.items ++ events_text names.entry.now (state_at machine.now)) }
@@ -219,7 +219,7 @@ fn push_cause(text: &mut Vec<u8>, fault: ReplayFault) -> Result<(), AllocError>
 /// Puts behind a text which entry isn't lawful, the rule that it breaks, and the events of each region as they stand before it.
 pub(crate) fn push_refusal(
     text: &mut Vec<u8>,
-    names: &Names<'_>,
+    names: &SourceNames<'_>,
     machine: &Machine<'_>,
     fault: ReplayFault,
 ) -> Result<(), AllocError>

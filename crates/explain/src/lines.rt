@@ -4,16 +4,16 @@ ghost use Rattle.std.specs.Prelude.{◌≡◌, ◌++◌, OnOk, codes};
 ghost use Rattle.model.specs.Runs.{has_any};
 ghost use Rattle.explain.specs.Phrases.{quoted_text, register_text, value_text};
 ghost use Rattle.steps.specs.Accounts.{account_of};
-ghost use Rattle.explain.specs.EntryLines.{assignment_text, change_text, deed_text, entry_text, lead, list_text, delimiter, parts_text, printed_text, reading_text, region_text, update_text};
+ghost use Rattle.explain.specs.EntryLines.{assignment_text, change_text, actor_text, entry_account_text, lead, list_text, delimiter, parts_text, printed_text, reading_text, region_text, update_text};
 
 use crate::phrases::{
-    Names, push_labelled, push_number, push_process, push_quoted, push_register, push_value,
+    SourceNames, push_labelled, push_number, push_process, push_quoted, push_register, push_value,
 };
 use design::RegId;
 use logic4::bits::Bits;
 use model::entry::Entry;
 use std::alloc::AllocError;
-use steps::{Changed, Deed, EntryAccount, Reading};
+use steps::{Changed, EntryAccount, EntryActor, Reading};
 use turn::Nba;
 
 // The delimiter before the first part of a kind.
@@ -40,7 +40,7 @@ fn push_lead(text: &mut Vec<u8>, place: usize, behind: bool, word: &str) -> Resu
 // Puts a register and a value behind a text, with a delimiter between them.
 fn push_valued(
     text: &mut Vec<u8>,
-    names: &Names<'_>,
+    names: &SourceNames<'_>,
     register: RegId,
     delimiter: &[u8],
     value: Bits,
@@ -53,51 +53,51 @@ fn push_valued(
 }
 
 /// What a line has a list of.
-trait Part {
+trait ListedPart {
     ghost use Rattle.std.specs.Prelude.{ℕ, List};
-    ghost use Rattle.explain.specs.declared.phrases.Names.{Names};
+    ghost use Rattle.explain.specs.declared.phrases.SourceNames.{SourceNames};
 
     /// Its text.
-    ghost part_text: { Names → Self → List ℕ };
+    ghost part_text: { SourceNames → Self → List ℕ };
 
     /// Puts it behind a text.
-    fn push(&self, text: &mut Vec<u8>, names: &Names<'_>) -> Result<(), AllocError>
+    fn push(&self, text: &mut Vec<u8>, names: &SourceNames<'_>) -> Result<(), AllocError>
         ensures { OnOk result (text.new.items ≡ text.old.items ++ part_text names.entry.now self.now) };
 }
 
-impl Part for Reading {
+impl ListedPart for Reading {
     ghost part_text = { reading_text };
 
-    fn push(&self, text: &mut Vec<u8>, names: &Names<'_>) -> Result<(), AllocError> {
+    fn push(&self, text: &mut Vec<u8>, names: &SourceNames<'_>) -> Result<(), AllocError> {
         push_valued(text, names, self.register, b"=", self.value)?;
         push_labelled(text, b" (version ", self.version)?;
         text.extend_from_slice(b")")
     }
 }
 
-impl Part for Changed {
+impl ListedPart for Changed {
     ghost part_text = { change_text };
 
-    fn push(&self, text: &mut Vec<u8>, names: &Names<'_>) -> Result<(), AllocError> {
+    fn push(&self, text: &mut Vec<u8>, names: &SourceNames<'_>) -> Result<(), AllocError> {
         push_valued(text, names, self.register, b" ", self.before)?;
         text.extend_from_slice(b" -> ")?;
         push_value(text, self.after)
     }
 }
 
-impl Part for Nba {
+impl ListedPart for Nba {
     ghost part_text = { assignment_text };
 
-    fn push(&self, text: &mut Vec<u8>, names: &Names<'_>) -> Result<(), AllocError> {
+    fn push(&self, text: &mut Vec<u8>, names: &SourceNames<'_>) -> Result<(), AllocError> {
         push_valued(text, names, self.reg, b" <= ", self.value)?;
         push_labelled(text, b" for time ", self.due)
     }
 }
 
 // Puts all parts of a kind behind a text.
-fn push_list<P: Part>(
+fn push_list<P: ListedPart>(
     text: &mut Vec<u8>,
-    names: &Names<'_>,
+    names: &SourceNames<'_>,
     parts: &[P],
     behind: bool,
     word: &str,
@@ -131,7 +131,7 @@ fn push_prints(text: &mut Vec<u8>, printed: &[u8], behind: bool) -> Result<(), A
 /// Puts an update behind a text.
 pub(crate) fn push_update(
     text: &mut Vec<u8>,
-    names: &Names<'_>,
+    names: &SourceNames<'_>,
     register: RegId,
     value: Bits,
 ) -> Result<(), AllocError>
@@ -155,24 +155,24 @@ fn region_change(entry: Entry) -> &'static str
     }
 }
 
-fn push_deed(
+fn push_actor(
     text: &mut Vec<u8>,
-    names: &Names<'_>,
+    names: &SourceNames<'_>,
     entry: Entry,
-    deed: Deed,
+    actor: EntryActor,
 ) -> Result<(), AllocError>
-    ensures put { OnOk result (text.new.items ≡ text.old.items ++ deed_text names.entry.now entry deed) }
+    ensures put { OnOk result (text.new.items ≡ text.old.items ++ actor_text names.entry.now entry actor) }
 {
-    match deed {
-        Deed::Turn(process) => {
+    match actor {
+        EntryActor::Turn(process) => {
             text.extend_from_slice(b"active  turn of ")?;
             push_process(text, names, process)
         }
-        Deed::Update(register, value) => {
+        EntryActor::Update(register, value) => {
             text.extend_from_slice(b"active  ")?;
             push_update(text, names, register, value)
         }
-        Deed::Regions => text.extend_from_slice(region_change(entry).as_bytes()),
+        EntryActor::Regions => text.extend_from_slice(region_change(entry).as_bytes()),
     }
 }
 
@@ -188,7 +188,7 @@ fn has_any<T>(list: &[T]) -> bool
 // Puts what is read, changed, assigned and printed behind a text.
 fn push_parts(
     text: &mut Vec<u8>,
-    names: &Names<'_>,
+    names: &SourceNames<'_>,
     account: &EntryAccount,
 ) -> Result<(), AllocError>
     ensures { OnOk result (text.new.items ≡ text.old.items ++ parts_text names.entry.now (account_of account.now)) }
@@ -206,17 +206,17 @@ fn push_parts(
 /// and prints.
 pub(crate) fn push_entry(
     text: &mut Vec<u8>,
-    names: &Names<'_>,
+    names: &SourceNames<'_>,
     number: u64,
     entry: Entry,
     account: &EntryAccount,
 ) -> Result<(), AllocError>
-    ensures { OnOk result (text.new.items ≡ text.old.items ++ entry_text names.entry.now number entry (account_of account.now)) }
+    ensures { OnOk result (text.new.items ≡ text.old.items ++ entry_account_text names.entry.now number entry (account_of account.now)) }
 {
     push_number(text, number)?;
     push_labelled(text, b"  time ", account.time)?;
     text.extend_from_slice(b"  ")?;
-    push_deed(text, names, entry, account.deed)?;
+    push_actor(text, names, entry, account.actor)?;
     push_parts(text, names, account)?;
     text.extend_from_slice(b"\n")
 }

@@ -6,17 +6,17 @@ ghost use Rattle.explain.specs.Phrases.{escaped, escaped_text, known_name, locat
 
 use design::{Design, RegId};
 use itoa::Buffer;
-use locations::Process;
+use locations::ProcessLocation;
 use logic4::bits::Bits;
 use logic4::digit::Digit;
 use std::alloc::AllocError;
 
 /// What registers and processes are called by: a source with its design, and its processes.
 #[derive(Clone, Copy)]
-pub struct Names<'a> {
+pub struct SourceNames<'a> {
     pub source: &'a [u8],
     pub design: &'a Design,
-    pub processes: &'a [Process],
+    pub processes: &'a [ProcessLocation],
 }
 
 /// Puts a number behind a text.
@@ -121,7 +121,7 @@ fn name_of(design: &Design, register: RegId) -> &str
 /// Puts the name of a register behind a text.
 pub(crate) fn push_register(
     text: &mut Vec<u8>,
-    names: &Names<'_>,
+    names: &SourceNames<'_>,
     register: RegId,
 ) -> Result<(), AllocError>
     ensures { OnOk result (text.new.items ≡ text.old.items ++ register_text names.entry.now register) }
@@ -130,13 +130,13 @@ pub(crate) fn push_register(
 }
 
 // The word that a process begins with.
-fn word_of(process: &Process) -> &'static str
+fn word_of(process: &ProcessLocation) -> &'static str
     ensures { result.now ≡ word_text process.now.always }
 {
     if process.always { "always" } else { "initial" }
 }
 
-fn push_place(text: &mut Vec<u8>, process: &Process) -> Result<(), AllocError>
+fn push_place(text: &mut Vec<u8>, process: &ProcessLocation) -> Result<(), AllocError>
     ensures { OnOk result (text.new.items ≡ text.old.items ++ location_text (Some process.now)) }
 {
     text.extend_from_slice(b", ")?;
@@ -145,7 +145,7 @@ fn push_place(text: &mut Vec<u8>, process: &Process) -> Result<(), AllocError>
 }
 
 // Puts the word and the line of a process behind a text.
-fn push_begin(text: &mut Vec<u8>, names: &Names<'_>, process: u32) -> Result<(), AllocError>
+fn push_begin(text: &mut Vec<u8>, names: &SourceNames<'_>, process: u32) -> Result<(), AllocError>
     ensures { OnOk result (text.new.items ≡ text.old.items ++ location_text (slice_get names.entry.now.processes.now process)) }
 {
     match names.processes.get(process as usize) {
@@ -157,7 +157,7 @@ fn push_begin(text: &mut Vec<u8>, names: &Names<'_>, process: u32) -> Result<(),
 /// Puts a process behind a text: its number, its word and its line.
 pub(crate) fn push_process(
     text: &mut Vec<u8>,
-    names: &Names<'_>,
+    names: &SourceNames<'_>,
     process: u32,
 ) -> Result<(), AllocError>
     ensures put { OnOk result (text.new.items ≡ text.old.items ++ process_text names.entry.now process) }

@@ -4,11 +4,11 @@ use Rattle.std.proofs.lemmas.List.Elements.{Contains-append_left}
 use Rattle.std.proofs.lemmas.List.{get_or_default}
 use Rattle.std.specs.List.{All, Any}
 use Rattle.explore.specs.Grown.{Extends}
-use Rattle.explore.specs.SearchKept.{Leads}
+use Rattle.explore.specs.SearchKept.{IsServed}
 use Rattle.explore.specs.SearchedRuns.{Runs}
 use Rattle.explore.specs.Search.{IsShown, Serves, IsFollowed, IsCovered, AreAllShown}
-use Rattle.explore.specs.declared.Ended.{Ended}
-use Rattle.explore.specs.declared.Next.{Next}
+use Rattle.explore.specs.declared.EndedPath.{EndedPath}
+use Rattle.explore.specs.declared.Successor.{Successor}
 use Rattle.explore.specs.declared.Shown.{Shown}
 
 -- what holds of some element does where more are added
@@ -71,19 +71,19 @@ IsFollowed-more {M} {N} {E} runs ways ways' shown shown' run more told followed 
     ]
 
 -- A covered run is followed, where runs that serve those of its successors were reached and what it came to is shown.
-pub followed_from_covered : {M N E : Type 0} (runs : Runs M N E) (law : (i j : List M) → runs.Alike i j → Serves runs i j) (successors : List (Next N M)) (ended : List (Ended M E)) (ways : List (List M)) (shown : List (Shown M E)) (run : List M) →
+pub followed_from_covered : {M N E : Type 0} (runs : Runs M N E) (law : (i j : List M) → runs.Alike i j → Serves runs i j) (successors : List (Successor N M)) (ended : List (EndedPath M E)) (ways : List (List M)) (shown : List (Shown M E)) (run : List M) →
     IsCovered runs successors ended run →
-    All (λ next. Leads runs ways (run ++ next.moves.items)) successors →
+    All (λ next. IsServed runs ways (run ++ next.moves.items)) successors →
     All (λ one. IsShown shown (runs.text run ++ one.printed.items) one.end) ended →
     IsFollowed runs (IsShown shown) (Serves runs) ways run
 followed_from_covered {M} {N} {E} runs law successors ended ways shown run covered there told moves end ends =
     elim (covered moves end ends) [
       | inl s ↦ inl (
-          let here : IsShown shown (runs.text run ++ s.1.printed.items) s.1.end = subst (λ (one : Ended M E). IsShown shown (runs.text run ++ one.printed.items) one.end) s.3 (told s.0 s.1 s.2) in
+          let here : IsShown shown (runs.text run ++ s.1.printed.items) s.1.end = subst (λ (one : EndedPath M E). IsShown shown (runs.text run ++ one.printed.items) one.end) s.3 (told s.0 s.1 s.2) in
           subst (λ (e : E). IsShown shown (runs.text (run ++ moves)) e) s.4.1 (subst (λ (t : List ℕ). IsShown shown t s.1.end) s.4.0 here))
       | inr p ↦
           let at = p.leads in
-          let on : Leads runs ways (run ++ at.1.moves.items) = subst (λ (n : Next N M). Leads runs ways (run ++ n.moves.items)) at.3 (there at.0 at.1 at.2) in
+          let on : IsServed runs ways (run ++ at.1.moves.items) = subst (λ (n : Successor N M). IsServed runs ways (run ++ n.moves.items)) at.3 (there at.0 at.1 at.2) in
           inr (record {
             part = p.part;
             rest = p.rest;

@@ -7,17 +7,17 @@ use Rattle.std.proofs.lemmas.List.{get_or_default}
 use Rattle.std.proofs.lemmas.List.Elements.{All-cons}
 use Rattle.explore.specs.Grown.{Extends, grown}
 use Rattle.explore.specs.Pieces.{pieces}
-use Rattle.explore.specs.Links.{IsEdge, IsStep, IsLinked, IsUnmarked, AreClosed}
-use Rattle.explore.specs.SearchKept.{AreKept, Grows, Leads, LeadsOn, IsContinued, AreContinued, StayUnmarked}
+use Rattle.explore.specs.Links.{IsEdge, IsRunStep, IsLinked, IsUnmarked, AreClosed}
+use Rattle.explore.specs.SearchKept.{AreKept, Grows, IsServed, LeadsOn, IsContinued, AreContinued, StayUnmarked}
 use Rattle.explore.specs.SearchedRuns.{Runs}
 use Rattle.explore.specs.Search.{Serves, IsCovered, NeverEnds}
 use Rattle.explore.specs.NumberedTexts.{texts}
 use Rattle.explore.specs.Lineage.{ways}
 use Rattle.explore.specs.Visited.{IsThere, visits}
-use Rattle.explore.specs.declared.Ended.{Ended}
-use Rattle.explore.specs.declared.Next.{Next}
+use Rattle.explore.specs.declared.EndedPath.{EndedPath}
+use Rattle.explore.specs.declared.Successor.{Successor}
 use Rattle.explore.specs.declared.kept.KeptNodes.{KeptNodes}
-use Rattle.explore.specs.declared.links.Edge.{Edge}
+use Rattle.explore.specs.declared.links.SearchEdge.{SearchEdge}
 use Rattle.explore.proofs.Growing.{length-extends, get_or-extends, length-grown, slice_get-extends}
 use Rattle.explore.proofs.Steps.{length-gone}
 use Rattle.explore.proofs.Complete.{Any-extends, Serves-itself, Serves-through, shorter}
@@ -44,16 +44,16 @@ pub empty_is_none : {X : Type 0} (v : Vec X Global) (b : Bool) → b ≡ (vec_le
 empty_is_none v b is yes_it_is = grind (arith, common_steps)
 
 -- a run that serves this one was reached, where one of the ways from a node leads to it
-pub leads_of : {M N E : Type 0} (runs : Runs M N E) (kept : KeptNodes N M) (from : ℕ) (run : List M) → LeadsOn runs kept from run → Leads runs (ways kept.lineage) run
+pub leads_of : {M N E : Type 0} (runs : Runs M N E) (kept : KeptNodes N M) (from : ℕ) (run : List M) → LeadsOn runs kept from run → IsServed runs (ways kept.lineage) run
 leads_of {M} runs kept from run on =
     let way = get_or (ways kept.lineage) on.to [] in
     (on.to, way, on.within, get_or_default (ways kept.lineage) on.to way [] on.within, on.serves)
 
 -- a way leads where it led, where runs, steps and edges are added
-step_more : {M : Type 0} (old new : List (ℕ × List M)) (from to : ℕ) → Extends old new → IsStep old from to → IsStep new from to
+step_more : {M : Type 0} (old new : List (ℕ × List M)) (from to : ℕ) → Extends old new → IsRunStep old from to → IsRunStep new from to
 step_more old new from to more (k, moves, is, at) = (k, moves, is, slice_get-extends old new k (from, moves) more at)
 
-linked_more : {M : Type 0} (old new : List (ℕ × List M)) (edges edges' : List Edge) (from to : ℕ) → Extends old new → Extends edges edges' → IsLinked old edges from to → IsLinked new edges' from to
+linked_more : {M : Type 0} (old new : List (ℕ × List M)) (edges edges' : List SearchEdge) (from to : ℕ) → Extends old new → Extends edges edges' → IsLinked old edges from to → IsLinked new edges' from to
 linked_more old new edges edges' from to more most linked = elim linked [
   | inl step ↦ inl (step_more old new from to more step)
   | inr edge ↦ inr (Any-extends (IsEdge from to) edges edges' most edge)
@@ -134,14 +134,14 @@ pushed_leads {M} runs old new from moves told more steps =
     }
 
 -- a way that leads somewhere still does where runs, steps and edges are added, and one more does
-pub leads_more : {M N E : Type 0} (runs : Runs M N E) (old new : KeptNodes N M) (from : ℕ) (way : List M) (did : List (Next N M)) (next : Next N M) → Grows old new → All (λ n. LeadsOn runs old from (way ++ n.moves.items)) did → LeadsOn runs new from (way ++ next.moves.items) →
+pub leads_more : {M N E : Type 0} (runs : Runs M N E) (old new : KeptNodes N M) (from : ℕ) (way : List M) (did : List (Successor N M)) (next : Successor N M) → Grows old new → All (λ n. LeadsOn runs old from (way ++ n.moves.items)) did → LeadsOn runs new from (way ++ next.moves.items) →
     All (λ n. LeadsOn runs new from (way ++ n.moves.items)) (next ∷ did)
 leads_more {M} {N} runs old new from way did next grows before now =
-    All-cons (λ (n : Next N M). LeadsOn runs new from (way ++ n.moves.items)) next did now
+    All-cons (λ (n : Successor N M). LeadsOn runs new from (way ++ n.moves.items)) next did now
     (λ k d h. LeadsOn-more runs old new from (way ++ (get_or did k d).moves.items) grows.lineage grows.steps grows.edges (before k d h))
 
 -- a node that was expanded whole, and at which no run ends, is continued
-pub continued_now : {M N E : Type 0} (runs : Runs M N E) (law : (i j : List M) → runs.Alike i j → Serves runs i j) (successors : List (Next N M)) (ended : List (Ended M E)) (kept : KeptNodes N M) (from : ℕ) (run : List M) →
+pub continued_now : {M N E : Type 0} (runs : Runs M N E) (law : (i j : List M) → runs.Alike i j → Serves runs i j) (successors : List (Successor N M)) (ended : List (EndedPath M E)) (kept : KeptNodes N M) (from : ℕ) (run : List M) →
     from < length (ways kept.lineage) → get_or (ways kept.lineage) from [] ≡ run → length ended ≡ 0 → IsCovered runs successors ended run → All (λ next. LeadsOn runs kept from (run ++ next.moves.items)) successors → IsContinued runs kept from
 continued_now {M} {N} {E} runs law successors ended kept from run within is none covered there =
     record {
@@ -150,7 +150,7 @@ continued_now {M} {N} {E} runs law successors ended kept from run within is none
         | inl told ↦ let less = told.2 in absurd (omega (arith, less, none))
         | inr p ↦
             let at = p.leads in
-            let on : LeadsOn runs kept from (run ++ at.1.moves.items) = subst (λ (n : Next N M). LeadsOn runs kept from (run ++ n.moves.items)) at.3 (there at.0 at.1 at.2) in
+            let on : LeadsOn runs kept from (run ++ at.1.moves.items) = subst (λ (n : Successor N M). LeadsOn runs kept from (run ++ n.moves.items)) at.3 (there at.0 at.1 at.2) in
             let same : run ++ p.part ≡ get_or (ways kept.lineage) from [] ++ p.part = ap (λ (l : List M). l ++ p.part) (sym is) in
             let serves : Serves runs (run ++ p.part) (get_or (ways kept.lineage) on.to []) = Serves-through runs (run ++ p.part) (run ++ at.1.moves.items) (get_or (ways kept.lineage) on.to []) (law (run ++ p.part) (run ++ at.1.moves.items) at.4) on.serves in
             record {

@@ -14,7 +14,7 @@ use Rattle.explore.specs.Links.{IsNeverEnding}
 use Rattle.explore.specs.declared.Shown.{Shown}
 use Rattle.explore.specs.Outcome.{stopped_of}
 use Rattle.explore.specs.declared.kept.KeptNodes.{KeptNodes}
-use Rattle.explore.specs.declared.search.Outcome.{Outcome}
+use Rattle.explore.specs.declared.search.SearchOutcome.{SearchOutcome}
 use Rattle.explore.specs.declared.stopped.Stopped.{Stopped}
 use Rattle.explore.specs.declared.stopped.Stopped.TheVariants.{Memory}
 use Rattle.explore.proofs.Complete.{AreFollowed}
@@ -79,6 +79,6 @@ endless_of runs HasKey kept None known continued found = tt
 endless_of runs HasKey kept (Some moves) known continued found = is_endless runs HasKey kept moves.items known continued found
 
 -- where a search fails, a refusal of memory stopped it
-pub by_memory : {M F : Type 0} (r : Result (Outcome M) F) (R : F → Type 0) → IsErrAnd r R → stopped_of r ≡ Some Memory
+pub by_memory : {M F : Type 0} (r : Result (SearchOutcome M) F) (R : F → Type 0) → IsErrAnd r R → stopped_of r ≡ Some Memory
 by_memory (Ok outcome) R never = absurd never
 by_memory (Err fault) R is = refl

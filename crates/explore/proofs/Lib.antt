@@ -4,7 +4,7 @@ pub mod Counting
 pub mod Edges
 pub mod Growing
 pub mod Keeping
-pub mod Letters
+pub mod TrieNodes
 pub mod Places
 pub mod Rows
 pub mod Shows

@@ -5,7 +5,7 @@ use Rattle.std.specs.List.{All, Any, Contains}
 use Rattle.std.proofs.lemmas.List.{get_or_default}
 use Rattle.std.proofs.lemmas.List.Elements.{All-push, All-contains, Contains-append_left, Contains-append_right}
 use Rattle.explore.specs.Grown.{Extends, IsLastPart}
-use Rattle.explore.specs.Placed.{IsAt, IsPlaced, ArePlaced, AreStood}
+use Rattle.explore.specs.Placed.{IsNodeAt, IsPlaced, ArePlaced, AreStood}
 use Rattle.explore.specs.SearchedRuns.{Runs}
 use Rattle.explore.specs.declared.again.Nodes.{Nodes}
 use Rattle.explore.specs.declared.recent.Placed.{Placed}
@@ -63,7 +63,7 @@ ArePlaced-push {M} {N} runs old new nodes nodes' p more placed part checkpoints 
     }
 
 -- the node that was taken out stands at the run with its number
-pub taken_stands : {M N E : Type 0} (runs : Runs M N E) (ways : List (List M)) (ps : List (Placed N)) (number : ℕ) (node : N) → All (IsPlaced runs ways) ps → Any (IsAt number node) ps → runs.Stands node (get_or ways number [])
+pub taken_stands : {M N E : Type 0} (runs : Runs M N E) (ways : List (List M)) (ps : List (Placed N)) (number : ℕ) (node : N) → All (IsPlaced runs ways) ps → Any (IsNodeAt number node) ps → runs.Stands node (get_or ways number [])
 taken_stands {M} {N} runs ways ps number node all (k, p, within, at, (same, is)) =
     let here : IsPlaced runs ways p = subst (IsPlaced runs ways) at (all k p within) in
     subst (λ (n : N). runs.Stands n (get_or ways number [])) is (subst (λ (n : ℕ). runs.Stands p.node (get_or ways n [])) same here.stands)

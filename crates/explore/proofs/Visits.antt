@@ -6,12 +6,12 @@ use Rattle.std.proofs.lemmas.Option.{slice_get-map}
 use Rattle.std.proofs.Math.Dec.{eqb}
 use Rattle.std.specs.Prelude.{slice_get, not}
 use Rattle.std.specs.Option.{option_map}
-use Rattle.sharing.specs.Parts.{whole, IsHeld, Extends}
+use Rattle.sharing.specs.Parts.{unshortened, HoldsWhole, Extends}
 use Rattle.sharing.specs.declared.parts.Shortened.{Shortened}
 use Rattle.sharing.proofs.Telling.{told-extends, AreTold-extends}
 use Rattle.explore.specs.Visited.{visit}
 use Rattle.explore.specs.declared.visited.Visit.{Visit}
-use Rattle.explore.proofs.Letters.{both}
+use Rattle.explore.proofs.TrieNodes.{both}
 use Rattle.explore.proofs.Growing.{slice_get_push}
 
 -- what a key was shortened to
@@ -20,7 +20,7 @@ short_of row = record { number = row.number; levels = row.levels }
 
 -- the parts of each key are there
 abbrev pub AreHeld : List (List ℕ) → List Visit → Type 0
-AreHeld chunks rows = (k : ℕ) (row : Visit) → slice_get rows k ≡ Some row → IsHeld chunks (short_of row)
+AreHeld chunks rows = (k : ℕ) (row : Visit) → slice_get rows k ≡ Some row → HoldsWhole chunks (short_of row)
 
 -- the keys stay the same where parts are added
 pub visits-extends : (old new : List (List ℕ)) (rows : List Visit) → Extends old new → AreHeld old rows → map (visit new) rows ≡ map (visit old) rows
@@ -34,21 +34,21 @@ pub AreHeld-extends : (old new : List (List ℕ)) (rows : List Visit) → Extend
 AreHeld-extends old new rows more held k row at = AreTold-extends old new row.levels (row.number ∷ []) more (held k row at)
 
 -- the parts of one key more are there
-pub AreHeld-push : (chunks : List (List ℕ)) (rows rows' : List Visit) (row : Visit) → rows' ≡ rows ++ row ∷ [] → AreHeld chunks rows → IsHeld chunks (short_of row) → AreHeld chunks rows'
+pub AreHeld-push : (chunks : List (List ℕ)) (rows rows' : List Visit) (row : Visit) → rows' ≡ rows ++ row ∷ [] → AreHeld chunks rows → HoldsWhole chunks (short_of row) → AreHeld chunks rows'
 AreHeld-push chunks rows rows' row pushed held one k r at =
     elim (slice_get_push rows row r k (ap (λ (l : List Visit). slice_get l k) (sym pushed) ∙ at)) [
       | inl h ↦ held k r h.1
-      | inr h ↦ subst (λ (v : Visit). IsHeld chunks (short_of v)) h.1 one
+      | inr h ↦ subst (λ (v : Visit). HoldsWhole chunks (short_of v)) h.1 one
     ]
 
 -- a visit more
-pub visits-push : (chunks : List (List ℕ)) (rows rows' : List Visit) (row : Visit) (key : List ℕ) → rows' ≡ rows ++ row ∷ [] → whole chunks (short_of row) ≡ key → map (visit chunks) rows' ≡ map (visit chunks) rows ++ (row.text, key) ∷ []
+pub visits-push : (chunks : List (List ℕ)) (rows rows' : List Visit) (row : Visit) (key : List ℕ) → rows' ≡ rows ++ row ∷ [] → unshortened chunks (short_of row) ≡ key → map (visit chunks) rows' ≡ map (visit chunks) rows ++ (row.text, key) ∷ []
 visits-push chunks rows rows' row key pushed told =
     ap (λ (l : List Visit). map (visit chunks) l) pushed
     ∙ (map-append (visit chunks) rows (row ∷ []) ∙ ap (λ (l : List ℕ). map (visit chunks) rows ++ (row.text, l) ∷ []) told)
 
 -- what stands among the rows is a visit
-pub visit_at : (chunks : List (List ℕ)) (rows : List Visit) (k : ℕ) (row : Visit) (key : List ℕ) → slice_get rows k ≡ Some row → whole chunks (short_of row) ≡ key → slice_get (map (visit chunks) rows) k ≡ Some (row.text, key)
+pub visit_at : (chunks : List (List ℕ)) (rows : List Visit) (k : ℕ) (row : Visit) (key : List ℕ) → slice_get rows k ≡ Some row → unshortened chunks (short_of row) ≡ key → slice_get (map (visit chunks) rows) k ≡ Some (row.text, key)
 visit_at chunks rows k row key at told =
     slice_get-map (visit chunks) rows k ∙ (ap (λ (o : Option Visit). option_map (visit chunks) o) at ∙ ap (λ (l : List ℕ). Some (row.text, l)) told)
 

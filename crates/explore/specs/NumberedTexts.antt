@@ -1,17 +1,17 @@
 -- The texts that have numbers.
 use Rattle.std.specs.Prelude.{◌≡◌, ℕ, ◌≤◌, List, [], ◌∷◌, map, Some, slice_get}
 use Rattle.explore.specs.Grown.{grown_all}
-use Rattle.explore.specs.declared.texts.Letter.{Letter}
-use Rattle.explore.specs.declared.texts.Texts.{Texts}
+use Rattle.explore.specs.declared.text_trie.TrieNode.{TrieNode}
+use Rattle.explore.specs.declared.text_trie.TextTrie.{TextTrie}
 
--- the text that a letter comes after, and the letter alone
-abbrev pub piece : Letter → ℕ × List ℕ
-piece letter = (letter.before, letter.byte ∷ [])
+-- the text that a trie node comes after, and the trie node alone
+abbrev pub text_step : TrieNode → ℕ × List ℕ
+text_step trie_node = (trie_node.before, trie_node.byte ∷ [])
 
 -- the texts, by their numbers
-abbrev pub texts : Texts → List (List ℕ)
-texts held = grown_all ([] ∷ []) (map piece held.letters.keys)
+abbrev pub texts : TextTrie → List (List ℕ)
+texts held = grown_all ([] ∷ []) (map text_step held.trie_nodes.keys)
 
--- each letter comes after a text that was there before it
-abbrev pub IsTexts : Texts → Type 0
-IsTexts held = (k : ℕ) (letter : Letter) → slice_get held.letters.keys k ≡ Some letter → letter.before ≤ k
+-- each trie node comes after a text that was there before it
+abbrev pub IsTexts : TextTrie → Type 0
+IsTexts held = (k : ℕ) (trie_node : TrieNode) → slice_get held.trie_nodes.keys k ≡ Some trie_node → trie_node.before ≤ k

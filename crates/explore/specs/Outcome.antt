@@ -1,10 +1,10 @@
 -- How a search came to its end.
 use Rattle.std.specs.Prelude.{Option, Some, Result, Ok, Err}
-use Rattle.explore.specs.declared.search.Outcome.{Outcome}
+use Rattle.explore.specs.declared.search.SearchOutcome.{SearchOutcome}
 use Rattle.explore.specs.declared.stopped.Stopped.{Stopped}
 use Rattle.explore.specs.declared.stopped.Stopped.TheVariants.{Memory}
 
 -- what stopped a search, which is a refusal of memory where it fails
-abbrev pub stopped_of : {Move Fault : Type 0} → Result (Outcome Move) Fault → Option Stopped
+abbrev pub stopped_of : {Move Fault : Type 0} → Result (SearchOutcome Move) Fault → Option Stopped
 stopped_of (Ok outcome) = outcome.stopped
 stopped_of (Err _) = Some Memory

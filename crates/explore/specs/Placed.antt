@@ -6,8 +6,8 @@ use Rattle.explore.specs.declared.again.Nodes.{Nodes}
 use Rattle.explore.specs.declared.recent.Placed.{Placed}
 
 -- this is the node of the run with a number
-abbrev pub IsAt : {Node : Type 0} → ℕ → Node → Placed Node → Type 0
-IsAt number node placed = (placed.number ≡ number) × (placed.node ≡ node)
+abbrev pub IsNodeAt : {Node : Type 0} → ℕ → Node → Placed Node → Type 0
+IsNodeAt number node placed = (placed.number ≡ number) × (placed.node ≡ node)
 
 -- a node stands at the run with its number
 pub record IsPlaced {Move Node End : Type 0} (runs : Runs Move Node End) (ways : List (List Move)) (placed : Placed Node) : Type 0 where

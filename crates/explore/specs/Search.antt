@@ -2,8 +2,8 @@
 use Rattle.std.specs.Prelude.{◌≡◌, ℕ, ◌<◌, List, [], ◌++◌, length, get_or, Option, Some, None, ◌⊎◌}
 use Rattle.std.specs.List.{All, Any}
 use Rattle.explore.specs.SearchedRuns.{Runs}
-use Rattle.explore.specs.declared.Ended.{Ended}
-use Rattle.explore.specs.declared.Next.{Next}
+use Rattle.explore.specs.declared.EndedPath.{EndedPath}
+use Rattle.explore.specs.declared.Successor.{Successor}
 use Rattle.explore.specs.declared.Shown.{Shown}
 use Rattle.explore.specs.declared.stopped.Stopped.{Stopped}
 use Rattle.explore.specs.declared.stopped.Stopped.TheVariants.{Memory}
@@ -33,13 +33,13 @@ abbrev pub IsPrinted : {Move Node End : Type 0} → Runs Move Node End → List 
 IsPrinted runs run moves printed = runs.text (run ++ moves) ≡ runs.text run ++ printed
 
 -- the run goes on by these moves to this end, what they print is told, and it has no more moves than it may have
-abbrev pub IsEnded : {Move Node End : Type 0} → Runs Move Node End → List Move → Ended Move End → Type 0
-IsEnded runs run ended =
+abbrev pub IsEndedPath : {Move Node End : Type 0} → Runs Move Node End → List Move → EndedPath Move End → Type 0
+IsEndedPath runs run ended =
     runs.Ends (run ++ ended.moves.items) ended.end × IsPrinted runs run ended.moves.items ended.printed.items × runs.Within (run ++ ended.moves.items)
 
 -- the node stands at the run that goes on by its moves, and what they print is told
-abbrev pub IsNext : {Move Node End : Type 0} → Runs Move Node End → List Move → Next Node Move → Type 0
-IsNext runs run next = runs.Stands next.node (run ++ next.moves.items) × IsPrinted runs run next.moves.items next.printed.items
+abbrev pub IsSuccessor : {Move Node End : Type 0} → Runs Move Node End → List Move → Successor Node Move → Type 0
+IsSuccessor runs run next = runs.Stands next.node (run ++ next.moves.items) × IsPrinted runs run next.moves.items next.printed.items
 
 -- However the first of two runs goes on to an end, the second goes on by as many moves to the same end and the same text.
 abbrev pub Serves : {Move Node End : Type 0} → Runs Move Node End → List Move → List Move → Type 0
@@ -58,19 +58,19 @@ pub record Passes {Move X : Type 0} (IsLike : List Move → X → Type 0) (run m
 
 -- However a run goes on to an end, its text and that end are told, or its way passes through what is like one of these.
 abbrev pub IsFollowed : {Move Node End X : Type 0} → Runs Move Node End → (List ℕ → End → Type 0) → (List Move → X → Type 0) → List X → List Move → Type 0
-IsFollowed {Move} {Node} {End} runs IsTold IsLike xs run =
+IsFollowed {Move} {Node} {End} runs IsEndOfPath IsLike xs run =
     (moves : List Move) (end : End) → runs.Ends (run ++ moves) end →
-    IsTold (runs.text (run ++ moves)) end ⊎ Passes IsLike run moves xs
+    IsEndOfPath (runs.text (run ++ moves)) end ⊎ Passes IsLike run moves xs
 
 -- the text and the end are those of one of the ways on which a run has come to an end
-abbrev pub IsTold : {Move Node End : Type 0} → Runs Move Node End → List (Ended Move End) → List Move → List ℕ → End → Type 0
-IsTold runs ended run text end = Any (λ s. (runs.text run ++ s.printed.items ≡ text) × (s.end ≡ end)) ended
+abbrev pub IsEndOfPath : {Move Node End : Type 0} → Runs Move Node End → List (EndedPath Move End) → List Move → List ℕ → End → Type 0
+IsEndOfPath runs ended run text end = Any (λ s. (runs.text run ++ s.printed.items ≡ text) × (s.end ≡ end)) ended
 
 -- The law of cover, all that a search knows of how a node that stands at a run was expanded: each way to an end is one
 -- of those that have come to it, or passes through a run that goes on like the run that leads to a successor.
-abbrev pub IsCovered : {Move Node End : Type 0} → Runs Move Node End → List (Next Node Move) → List (Ended Move End) → List Move → Type 0
+abbrev pub IsCovered : {Move Node End : Type 0} → Runs Move Node End → List (Successor Node Move) → List (EndedPath Move End) → List Move → Type 0
 IsCovered runs successors ended run =
-    IsFollowed runs (IsTold runs ended run) (λ way next. runs.Alike way (run ++ next.moves.items)) successors run
+    IsFollowed runs (IsEndOfPath runs ended run) (λ way next. runs.Alike way (run ++ next.moves.items)) successors run
 
 -- however a run goes on from this one, it comes to no end
 abbrev pub NeverEnds : {Move Node End : Type 0} → Runs Move Node End → List Move → Type 0

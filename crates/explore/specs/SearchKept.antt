@@ -13,7 +13,7 @@ use Rattle.explore.specs.Placed.{ArePlaced}
 use Rattle.explore.specs.declared.kept.KeptNodes.{KeptNodes}
 use Rattle.explore.specs.declared.kept.Pending.{Pending}
 use Rattle.explore.specs.declared.kept.Reached.{Reached}
-use Rattle.explore.specs.declared.texts.Texts.{Texts}
+use Rattle.explore.specs.declared.text_trie.TextTrie.{TextTrie}
 use Rattle.explore.specs.declared.lineage.Lineage.{Lineage}
 
 -- the text with a text number is that of the run with its number
@@ -23,7 +23,7 @@ pub record IsText {Move Node End : Type 0} (runs : Runs Move Node End) (ways : L
   pub same : get_or texts reached.text [] ≡ runs.text (get_or ways reached.number [])
 
 -- a lineage and texts hold the run with a number, and its text
-pub record IsHeld {Move Node End : Type 0} (runs : Runs Move Node End) (lineage : Lineage Move) (held : Texts) (reached : Reached) : Type 0 where
+pub record HoldsRun {Move Node End : Type 0} (runs : Runs Move Node End) (lineage : Lineage Move) (held : TextTrie) (reached : Reached) : Type 0 where
   pub is_lineage : IsLineage lineage
   pub are_texts : IsTexts held
   pub text : IsText runs (ways lineage) (texts held) reached
@@ -36,7 +36,7 @@ pub record IsVisited {Move Node End : Type 0} (runs : Runs Move Node End) (HasKe
   pub text : IsText runs ways texts reached
 
 -- the node that is expanded next stands at the run of its number
-pub record IsPending {Move Node End : Type 0} (runs : Runs Move Node End) (ways : List (List Move)) (texts : List (List ℕ)) (pending : Pending Node) : Type 0 where
+pub record IsPendingNode {Move Node End : Type 0} (runs : Runs Move Node End) (ways : List (List Move)) (texts : List (List ℕ)) (pending : Pending Node) : Type 0 where
   pub stands : runs.Stands pending.node (get_or ways pending.reached.number [])
   pub text : IsText runs ways texts pending.reached
 
@@ -62,8 +62,8 @@ pub record Grows {Node Move : Type 0} (old new : KeptNodes Node Move) : Type 0 w
   pub waits : (k : ℕ) → length (ways old.lineage) ≤ k → k < length (ways new.lineage) → Any (λ reached. reached.number ≡ k) new.pending.items
 
 -- one of the runs that were reached serves this one
-abbrev pub Leads : {Move Node End : Type 0} → Runs Move Node End → List (List Move) → List Move → Type 0
-Leads runs reached run = Any (λ way. Serves runs run way) reached
+abbrev pub IsServed : {Move Node End : Type 0} → Runs Move Node End → List (List Move) → List Move → Type 0
+IsServed runs reached run = Any (λ way. Serves runs run way) reached
 
 -- The run with some number serves this one, and one of the ways from the node with the first number leads there.
 pub record LeadsOn {Move Node End : Type 0} (runs : Runs Move Node End) (kept : KeptNodes Node Move) (from : ℕ) (run : List Move) : Type 0 where

@@ -11,7 +11,7 @@ ghost use Rattle.explore.specs.Placed.{ArePlaced, AreStood, IsPlaced};
 
 use crate::lineage::Lineage;
 use crate::recent::{Most, Placed, Recent};
-use crate::{Bounds, Orders, Scope};
+use crate::{Bounds, Orders, SearchScope};
 use std::alloc::{AllocError, Global};
 
 // The most nodes that are kept for those that are pending.
@@ -63,7 +63,7 @@ impl<N: Drop> Nodes<N> {
 
 // The node of a run, made from that of another, where the run goes on from that.
 fn make_from<O: Orders>(
-    scope: Scope,
+    scope: SearchScope,
     orders: &O,
     room: &mut O::Room,
     lineage: &Lineage<O::Move>,
@@ -88,7 +88,7 @@ fn make_from<O: Orders>(
 
 // The node of a run, made from the start.
 fn make_whole<O: Orders>(
-    scope: Scope,
+    scope: SearchScope,
     orders: &O,
     room: &mut O::Room,
     lineage: &Lineage<O::Move>,
@@ -107,7 +107,7 @@ fn make_whole<O: Orders>(
 
 // The node of a run, made from the newest checkpoint, where there is one and the run goes on from it.
 fn make_near<O: Orders>(
-    scope: Scope,
+    scope: SearchScope,
     orders: &O,
     room: &mut O::Room,
     lineage: &Lineage<O::Move>,
@@ -128,7 +128,7 @@ fn make_near<O: Orders>(
 
 // The node of a run, made again.
 fn make<O: Orders>(
-    scope: Scope,
+    scope: SearchScope,
     orders: &O,
     room: &mut O::Room,
     lineage: &Lineage<O::Move>,
@@ -169,7 +169,7 @@ fn drop_astray<N: Drop, M: Copy>(lineage: &Lineage<M>, checkpoints: &mut Recent<
 
 // Keeps the node of a run as a checkpoint.
 fn place<O: Orders>(
-    scope: Scope,
+    scope: SearchScope,
     orders: &O,
     room: &mut O::Room,
     lineage: &Lineage<O::Move>,
@@ -195,7 +195,7 @@ fn place<O: Orders>(
 
 // Places checkpoints on the way to a run from the newest one, or else from the start: each at half of the way that is left.
 fn place_all<O: Orders>(
-    scope: Scope,
+    scope: SearchScope,
     orders: &O,
     room: &mut O::Room,
     lineage: &Lineage<O::Move>,
@@ -220,7 +220,7 @@ fn place_all<O: Orders>(
 
 /// The node of a run that was reached: the newest one that is kept, where it is that of this run, and else made again.
 pub(crate) fn node_at<O: Orders>(
-    scope: Scope,
+    scope: SearchScope,
     orders: &O,
     room: &mut O::Room,
     lineage: &Lineage<O::Move>,

@@ -5,11 +5,11 @@
 ghost use Rattle.std.specs.Prelude.{◌≡◌, ◌<◌, ℕ, length, true, get_or, IsTrue, IfOk, IfSome};
 ghost use Rattle.std.specs.List.{All};
 ghost use Rattle.explore.specs.Lineage.{ways, IsLineage};
-ghost use Rattle.explore.specs.Links.{AreClosed, GoesBack, IsNeverEnding, IsStep, IsUnmarked};
+ghost use Rattle.explore.specs.Links.{AreClosed, GoesBack, IsNeverEnding, IsRunStep, IsUnmarked};
 ghost use Rattle.explore.specs.Pieces.{pieces};
 
 use crate::lineage::Lineage;
-use crate::links::{Edge, Links};
+use crate::links::{Links, SearchEdge};
 use crate::pieces::narrow;
 use std::alloc::{AllocError, Global};
 
@@ -32,7 +32,7 @@ fn edge_at(edges: &[Option<u32>], at: usize) -> Option<usize> {
 }
 
 /// The edges that lead to each of so many nodes.
-fn incoming_of(alloc: Global, edges: &[Edge], count: usize) -> Result<Incoming, AllocError> {
+fn incoming_of(alloc: Global, edges: &[SearchEdge], count: usize) -> Result<Incoming, AllocError> {
     let mut first = Vec::new(alloc);
     first.resize(count, None)?;
     let mut next = Vec::with_capacity(alloc, edges.len())?;
@@ -69,7 +69,7 @@ fn mark(marks: &mut [bool], pending: &mut Vec<usize>, number: usize) -> Result<(
 /// Marks the nodes from which a step or an edge leads to this one.
 fn mark_sources<M: Copy>(
     lineage: &Lineage<M>,
-    edges: &[Edge],
+    edges: &[SearchEdge],
     incoming: &Incoming,
     marks: &mut [bool],
     pending: &mut Vec<usize>,
@@ -159,7 +159,7 @@ fn are_ends_marked(links: &Links, marks: &[bool]) -> bool
 /// Whether marks go back by all steps.
 fn are_steps_marked<M: Copy>(lineage: &Lineage<M>, marks: &[bool]) -> bool
     requires lineage { IsLineage lineage.now }
-    ensures { IsTrue result → (from to : ℕ) → to < length (ways lineage.now) → IsStep (pieces lineage.now.steps) from to → IsUnmarked marks.now from → IsUnmarked marks.now to }
+    ensures { IsTrue result → (from to : ℕ) → to < length (ways lineage.now) → IsRunStep (pieces lineage.now.steps) from to → IsUnmarked marks.now from → IsUnmarked marks.now to }
 {
     for number in 1..lineage.len() {
         let (from, _) = lineage.last_step(number);
@@ -171,7 +171,7 @@ fn are_steps_marked<M: Copy>(lineage: &Lineage<M>, marks: &[bool]) -> bool
 }
 
 /// Whether marks go back by all edges.
-fn are_edges_marked(edges: &[Edge], marks: &[bool]) -> bool
+fn are_edges_marked(edges: &[SearchEdge], marks: &[bool]) -> bool
     ensures { IsTrue result → All (GoesBack marks.now) edges.now }
 {
     for edge in edges {

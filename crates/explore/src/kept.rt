@@ -2,7 +2,7 @@
 ghost use Rattle.std.specs.Prelude.{◌≡◌, ◌<◌, ◌≤◌, ◌++◌, [], ◌∷◌, false, true, length, get_or, IsTrue, IfOk, OnOk};
 ghost use Rattle.std.specs.List.{All, Any};
 ghost use Rattle.explore.specs.SearchKept.{AreKept, Grows, IsText, LeadsOn, StayUnmarked};
-ghost use Rattle.explore.specs.Search.{IsNext};
+ghost use Rattle.explore.specs.Search.{IsSuccessor};
 ghost use Rattle.explore.specs.NumberedTexts.{texts};
 ghost use Rattle.explore.specs.Lineage.{ways};
 
@@ -10,9 +10,9 @@ use crate::again::{Nodes, most_newest};
 use crate::lineage::Lineage;
 use crate::links::Links;
 use crate::recent::Placed;
-use crate::texts::Texts;
+use crate::text_trie::TextTrie;
 use crate::visited::Visited;
-use crate::{Next, Orders, Scope};
+use crate::{Orders, SearchScope, Successor};
 use std::alloc::{AllocError, Global};
 
 /// The number of a run that was reached, and that of its text.
@@ -34,7 +34,7 @@ pub(crate) struct Pending<N> {
 #[derive(Drop)]
 pub(crate) struct KeptNodes<N, M> {
     pub(crate) lineage: Lineage<M>,
-    pub(crate) texts: Texts,
+    pub(crate) texts: TextTrie,
     pub(crate) visited: Visited,
     pub(crate) links: Links,
     pub(crate) pending: Vec<Reached>,
@@ -60,7 +60,7 @@ impl<N: Drop, M: Copy> KeptNodes<N, M> {
 
 /// What is kept at first: the node at which each run starts.
 pub(crate) fn first<O: Orders>(
-    scope: Scope,
+    scope: SearchScope,
     orders: &O,
     room: &mut O::Room,
 ) -> Result<KeptNodes<O::Node, O::Move>, AllocError>
@@ -90,7 +90,7 @@ pub(crate) fn first<O: Orders>(
     nodes.newest.push(placed, most_newest(scope.bounds))?;
     Ok(KeptNodes {
         lineage: Lineage::new(alloc),
-        texts: Texts::new(alloc),
+        texts: TextTrie::new(alloc),
         visited,
         links,
         pending,
@@ -102,16 +102,16 @@ pub(crate) fn first<O: Orders>(
 /// Adds the node that a way from a run leads to, unless one that goes on alike was reached. The answer is whether one is
 /// there now: it isn't where the most nodes are kept.
 fn follow<O: Orders>(
-    scope: Scope,
+    scope: SearchScope,
     orders: &O,
     room: &mut O::Room,
     kept: &mut KeptNodes<O::Node, O::Move>,
     from: Reached,
-    next: Next<O::Node, O::Move>,
+    next: Successor<O::Node, O::Move>,
 ) -> Result<bool, AllocError>
     requires kept { AreKept (O.runs orders.now) (O.has_key orders.now) kept.old }
     requires from { IsText (O.runs orders.now) (ways kept.old.lineage) (texts kept.old.texts) from }
-    requires next { IsNext (O.runs orders.now) (get_or (ways kept.old.lineage) from.number []) next }
+    requires next { IsSuccessor (O.runs orders.now) (get_or (ways kept.old.lineage) from.number []) next }
     requires room { length (ways kept.old.lineage) ≤ scope.bounds.nodes }
     ensures kept { OnOk result (AreKept (O.runs orders.now) (O.has_key orders.now) kept.new) }
     ensures grows { OnOk result (Grows kept.old kept.new) }
@@ -120,7 +120,7 @@ fn follow<O: Orders>(
     ensures full { IfOk result (λ there. there ≡ false → length (ways kept.new.lineage) ≡ scope.bounds.nodes) }
     ensures leads { IfOk result (λ there. IsTrue there → LeadsOn (O.runs orders.now) kept.new from.number (get_or (ways kept.old.lineage) from.number [] ++ next.moves.items)) }
 {
-    let Next {
+    let Successor {
         node,
         printed,
         moves,
@@ -155,16 +155,16 @@ fn follow<O: Orders>(
 /// Adds the nodes that these ways from a run lead to, unless ones that go on alike were reached. The answer is whether
 /// for each of them one is there now.
 pub(crate) fn follow_all<O: Orders>(
-    scope: Scope,
+    scope: SearchScope,
     orders: &O,
     room: &mut O::Room,
     kept: &mut KeptNodes<O::Node, O::Move>,
     from: Reached,
-    successors: Vec<Next<O::Node, O::Move>>,
+    successors: Vec<Successor<O::Node, O::Move>>,
 ) -> Result<bool, AllocError>
     requires kept { AreKept (O.runs orders.now) (O.has_key orders.now) kept.old }
     requires from { IsText (O.runs orders.now) (ways kept.old.lineage) (texts kept.old.texts) from }
-    requires successors { All (IsNext (O.runs orders.now) (get_or (ways kept.old.lineage) from.number [])) successors.items }
+    requires successors { All (IsSuccessor (O.runs orders.now) (get_or (ways kept.old.lineage) from.number [])) successors.items }
     requires room { length (ways kept.old.lineage) ≤ scope.bounds.nodes }
     ensures kept { OnOk result (AreKept (O.runs orders.now) (O.has_key orders.now) kept.new) }
     ensures grows { OnOk result (Grows kept.old kept.new) }

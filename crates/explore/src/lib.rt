@@ -5,7 +5,7 @@
 //! 2. `explore` takes the last node off a stack, follows its ways, and puts the nodes that they lead to on the stack,
 //!    but for those of which one that goes on alike was there before.
 //! 3. The node itself is dropped then. What stays of it is the step that led to it (`lineage`), the number of what its run
-//!    printed (`texts`), and its key, shortened by `sharing` (`visited`). Of the nodes on the stack the newest are kept (`recent`), and
+//!    printed (`text_trie`), and its key, shortened by `sharing` (`visited`). Of the nodes on the stack the newest are kept (`recent`), and
 //!    the others are made again by their moves when their turn comes (`again`).
 //! 4. Where a way ends, its text and end are shown, with the moves of the whole run, unless they are there already.
 //! 5. The search is over when the stack is empty. If nothing was left out on the way, each text and end of every run is
@@ -25,7 +25,7 @@ mod recent;
 mod search;
 mod show;
 mod stopped;
-mod texts;
+mod text_trie;
 mod visited;
 
 pub use orders::Orders;
@@ -35,7 +35,7 @@ pub use stopped::Stopped;
 
 /// A node, what was printed on the way to it from the one that was expanded, and the moves of that way.
 #[derive(Drop)]
-pub struct Next<N, M> {
+pub struct Successor<N, M> {
     pub node: N,
     pub printed: Vec<u8>,
     pub moves: Vec<M>,
@@ -43,7 +43,7 @@ pub struct Next<N, M> {
 
 /// A way from a node to an end: what was printed on it, how it ended, and its moves.
 #[derive(Drop)]
-pub struct Ended<M, E> {
+pub struct EndedPath<M, E> {
     pub printed: Vec<u8>,
     pub end: E,
     pub moves: Vec<M>,
@@ -53,9 +53,9 @@ pub struct Ended<M, E> {
 #[derive(Drop)]
 pub struct Expanded<N, M, E> {
     /// Where its ways lead.
-    pub successors: Vec<Next<N, M>>,
+    pub successors: Vec<Successor<N, M>>,
     /// Its ways that have come to an end.
-    pub ended: Vec<Ended<M, E>>,
+    pub ended: Vec<EndedPath<M, E>>,
     /// Whether no way was left out.
     pub whole: bool,
 }
@@ -95,7 +95,7 @@ pub struct Bounds {
 
 /// How far a search goes, and what gives it memory.
 #[derive(Clone, Copy)]
-struct Scope {
+struct SearchScope {
     alloc: Global,
     bounds: Bounds,
 }

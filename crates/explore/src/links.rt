@@ -8,7 +8,7 @@ use std::alloc::{AllocError, Global};
 
 /// A way leads from one node to another that was there before, by their numbers.
 #[derive(Clone, Copy)]
-pub(crate) struct Edge {
+pub(crate) struct SearchEdge {
     pub(crate) from: u32,
     pub(crate) to: u32,
 }
@@ -17,7 +17,7 @@ pub(crate) struct Edge {
 #[derive(Drop)]
 pub(crate) struct Links {
     /// The edges to nodes that were there before. The step of a run leads to each other node.
-    pub(crate) edges: Vec<Edge>,
+    pub(crate) edges: Vec<SearchEdge>,
     /// Whether a run may come to an end at a node, for all that is known, by the numbers of the nodes.
     pub(crate) may_end: Vec<bool>,
 }
@@ -36,7 +36,10 @@ impl Links {
 
     /// About how many bytes they take.
     pub(crate) fn bytes(&self) -> usize {
-        let edges = self.edges.capacity().saturating_mul(size_of::<Edge>());
+        let edges = self
+            .edges
+            .capacity()
+            .saturating_mul(size_of::<SearchEdge>());
         edges.saturating_add(self.may_end.capacity())
     }
 
@@ -71,7 +74,7 @@ impl Links {
             Some(to) => {
                 let from = narrow(from)?;
                 let to = narrow(to)?;
-                self.edges.push(Edge { from, to })?;
+                self.edges.push(SearchEdge { from, to })?;
                 Ok(true)
             }
             None => Ok(false),

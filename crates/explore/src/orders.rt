@@ -1,7 +1,7 @@
 //! What a search needs of what it searches.
 ghost use Rattle.std.specs.Prelude.{◌≡◌, ◌↔◌, ℕ, List, [], ◌++◌, IsTrue, IfOk, OnOk};
 ghost use Rattle.std.specs.List.{All};
-ghost use Rattle.explore.specs.Search.{IsEnded, IsReached, IsNext, IsCovered, Serves};
+ghost use Rattle.explore.specs.Search.{IsEndedPath, IsReached, IsSuccessor, IsCovered, Serves};
 
 use crate::Expanded;
 use std::alloc::{AllocError, Global};
@@ -43,8 +43,8 @@ pub trait Orders {
         node: Self::Node,
     ) -> Result<Expanded<Self::Node, Self::Move, Self::End>, AllocError>
         requires { IsReached (runs self.now) node }
-        ensures next { IfOk result (λ x. (run : List Self.Move) → (runs self.now).Stands node run → All (IsNext (runs self.now) run) x.successors.items) }
-        ensures sound { IfOk result (λ x. (run : List Self.Move) → (runs self.now).Stands node run → All (IsEnded (runs self.now) run) x.ended.items) }
+        ensures next { IfOk result (λ x. (run : List Self.Move) → (runs self.now).Stands node run → All (IsSuccessor (runs self.now) run) x.successors.items) }
+        ensures sound { IfOk result (λ x. (run : List Self.Move) → (runs self.now).Stands node run → All (IsEndedPath (runs self.now) run) x.ended.items) }
         ensures cover { IfOk result (λ x. IsTrue x.whole → (run : List Self.Move) → (runs self.now).Stands node run → IsCovered (runs self.now) x.successors.items x.ended.items run) };
 
     /// Fills `key` with the key of a node: nodes of one key, whose runs have one text, go on alike. Where memory is refused, any

@@ -6,7 +6,7 @@ use std::alloc::{AllocError, Global};
 
 /// The number beside a list, the length of the list, and where it begins in the arena.
 #[derive(Clone, Copy)]
-pub(crate) struct Piece {
+pub(crate) struct NumberedSpan {
     pub(crate) number: u32,
     pub(crate) length: u32,
     pub(crate) begin: usize,
@@ -15,7 +15,7 @@ pub(crate) struct Piece {
 /// Lists, each beside a number.
 #[derive(Drop)]
 pub(crate) struct Pieces<T> {
-    pub(crate) rows: Vec<Piece>,
+    pub(crate) rows: Vec<NumberedSpan>,
     pub(crate) arena: Vec<T>,
 }
 
@@ -43,7 +43,10 @@ impl<T: Copy> Pieces<T> {
 
     /// About how many bytes they take, where each item takes so many.
     pub(crate) fn bytes(&self, item: usize) -> usize {
-        let rows = self.rows.capacity().saturating_mul(size_of::<Piece>());
+        let rows = self
+            .rows
+            .capacity()
+            .saturating_mul(size_of::<NumberedSpan>());
         let arena = self.arena.capacity().saturating_mul(item);
         rows.saturating_add(arena)
     }
@@ -65,7 +68,7 @@ impl<T: Copy> Pieces<T> {
         let length = narrow(items.len())?;
         let begin = self.arena.len();
         self.arena.extend_from_slice(items)?;
-        self.rows.push(Piece {
+        self.rows.push(NumberedSpan {
             number,
             length,
             begin,

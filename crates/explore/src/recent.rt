@@ -2,7 +2,7 @@
 ghost use Rattle.std.specs.Prelude.{◌≡◌, ◌++◌, [], ◌∷◌, IfSome, OnOk};
 ghost use Rattle.std.specs.List.{Any};
 ghost use Rattle.explore.specs.Grown.{Extends, IsLastPart};
-ghost use Rattle.explore.specs.Placed.{IsAt};
+ghost use Rattle.explore.specs.Placed.{IsNodeAt};
 
 use std::alloc::{AllocError, Global};
 use std::collections::VecDeque;
@@ -90,7 +90,7 @@ impl<N: Drop> Recent<N> {
     /// Takes the newest node out. The answer is the node, where it is that of the run with this number.
     pub(crate) fn take(&mut self, number: usize) -> Option<N>
         ensures rest { Extends self.new.nodes.items self.old.nodes.items }
-        ensures node { IfSome result (λ node. Any (IsAt number node) self.old.nodes.items) }
+        ensures node { IfSome result (λ node. Any (IsNodeAt number node) self.old.nodes.items) }
     {
         match self.nodes.pop_back() {
             Some(placed) => {

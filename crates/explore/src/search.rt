@@ -2,7 +2,7 @@
 ghost use Rattle.std.specs.Prelude.{◌≡◌, ◌<◌, ◌≤◌, ◌⊎◌, [], true, false, length, get_or, None, Some, IsTrue, IfOk, IfSome, OnOk};
 ghost use Rattle.std.specs.List.{All, AllPairs};
 ghost use Rattle.explore.specs.Grown.{Extends};
-ghost use Rattle.explore.specs.SearchKept.{AreContinued, AreKept, Grows, IsPending};
+ghost use Rattle.explore.specs.SearchKept.{AreContinued, AreKept, Grows, IsPendingNode};
 ghost use Rattle.explore.specs.Search.{AreAllShown, AreCounted, AreDistinct, IsEndless, IsFollowed, IsOfRun, IsShown, Serves};
 ghost use Rattle.explore.specs.Outcome.{stopped_of};
 ghost use Rattle.explore.specs.NumberedTexts.{texts};
@@ -12,8 +12,8 @@ ghost use Rattle.explore.specs.declared.stopped.Stopped.TheVariants as stop;
 use crate::again::node_at;
 use crate::endless::find_endless;
 use crate::kept::{KeptNodes, Pending, first, follow_all};
-use crate::show::{Run, show_all};
-use crate::{Bounds, Expanded, Explored, Orders, Scope, Shown, Stopped};
+use crate::show::{ReachedRun, show_all};
+use crate::{Bounds, Expanded, Explored, Orders, SearchScope, Shown, Stopped};
 use progress::{HowFar, Progress};
 use std::alloc::{AllocError, Global};
 
@@ -22,7 +22,7 @@ const STRIDE: usize = 1024;
 
 /// How a search came to its end: why it may have left something out, and the moves of a run from which no end is reached.
 #[derive(Drop)]
-struct Outcome<M> {
+struct SearchOutcome<M> {
     stopped: Option<Stopped>,
     endless: Option<Vec<M>>,
 }
@@ -77,8 +77,8 @@ fn earlier(one: Option<Stopped>, other: Option<Stopped>) -> Option<Stopped>
 
 /// Expands a node: shows its ways that have come to an end, and keeps the nodes that the others lead to. The answer is
 /// why something was left out. Where that is a text, the nodes aren't kept.
-fn turn<O: Orders>(
-    scope: Scope,
+fn expand_node<O: Orders>(
+    scope: SearchScope,
     orders: &O,
     room: &mut O::Room,
     kept: &mut KeptNodes<O::Node, O::Move>,
@@ -91,7 +91,7 @@ fn turn<O: Orders>(
     requires sound { All (IsOfRun (O.runs orders.now)) shown.old.items }
     requires distinct { AllPairs AreDistinct shown.old.items }
     requires few { length shown.old.items ≤ scope.bounds.shown }
-    requires at { IsPending (O.runs orders.now) (ways kept.old.lineage) (texts kept.old.texts) at }
+    requires at { IsPendingNode (O.runs orders.now) (ways kept.old.lineage) (texts kept.old.texts) at }
     ensures sound { All (IsOfRun (O.runs orders.now)) shown.new.items }
     ensures distinct { AllPairs AreDistinct shown.new.items }
     ensures shown { Extends shown.old.items shown.new.items }
@@ -111,7 +111,7 @@ fn turn<O: Orders>(
         whole,
     } = orders.expand(scope.alloc, room, node)?;
     let goes_on = ended.is_empty();
-    let run = Run {
+    let run = ReachedRun {
         lineage: &kept.lineage,
         texts: &kept.texts,
         reached,
@@ -135,12 +135,12 @@ fn tell_nodes<P: Progress>(progress: &P, before: usize, now: usize) {
 
 /// Shows what the runs print and how they end, and counts the nodes that are kept.
 fn search<O: Orders, P: Progress>(
-    scope: Scope,
+    scope: SearchScope,
     orders: &O,
     shown: &mut Vec<Shown<O::Move, O::End>>,
     nodes: &mut usize,
     progress: &P,
-) -> Result<Outcome<O::Move>, AllocError>
+) -> Result<SearchOutcome<O::Move>, AllocError>
     requires room { 0 < scope.bounds.nodes }
     requires none { shown.old.items ≡ [] }
     requires begun { nodes.old ≡ 0 }
@@ -160,7 +160,7 @@ fn search<O: Orders, P: Progress>(
     let mut stopped = None;
     while let Some(reached) = kept.pending.pop() {
         if kept.bytes() > scope.bounds.bytes {
-            return Ok(Outcome {
+            return Ok(SearchOutcome {
                 stopped: Some(Stopped::Bytes),
                 endless: None,
             });
@@ -174,12 +174,12 @@ fn search<O: Orders, P: Progress>(
             reached.number,
         )?;
         let at = Pending { node, reached };
-        let left = turn(scope, orders, &mut room, &mut kept, shown, at)?;
+        let left = expand_node(scope, orders, &mut room, &mut kept, shown, at)?;
         let count = kept.lineage.len();
         tell_nodes(progress, *nodes, count);
         *nodes = count;
         if is_full(left) {
-            return Ok(Outcome {
+            return Ok(SearchOutcome {
                 stopped: left,
                 endless: None,
             });
@@ -187,7 +187,7 @@ fn search<O: Orders, P: Progress>(
         stopped = earlier(stopped, left);
     }
     let endless = find_endless(scope.alloc, &kept.lineage, &kept.links)?;
-    Ok(Outcome { stopped, endless })
+    Ok(SearchOutcome { stopped, endless })
 }
 
 /// Searches the runs, depth first. Each text and end that is shown is that of the run of the moves beside it, and no two
@@ -219,9 +219,9 @@ pub fn explore<O: Orders, P: Progress>(
 {
     let mut shown = Vec::new(alloc);
     let mut nodes = 0;
-    let scope = Scope { alloc, bounds };
+    let scope = SearchScope { alloc, bounds };
     match search(scope, orders, &mut shown, &mut nodes, progress) {
-        Ok(Outcome { stopped, endless }) => Explored {
+        Ok(SearchOutcome { stopped, endless }) => Explored {
             shown,
             stopped,
             nodes,

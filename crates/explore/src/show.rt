@@ -2,21 +2,21 @@
 ghost use Rattle.std.specs.Prelude.{◌≡◌, ◌≤◌, ◌++◌, ◌↔◌, [], false, length, get_or, IsTrue, IfOk};
 ghost use Rattle.std.specs.List.{All, AllPairs};
 ghost use Rattle.explore.specs.Grown.{Extends};
-ghost use Rattle.explore.specs.SearchKept.{IsHeld};
-ghost use Rattle.explore.specs.Search.{AreDistinct, Differs, IsEnded, IsOfRun, IsShown};
+ghost use Rattle.explore.specs.SearchKept.{HoldsRun};
+ghost use Rattle.explore.specs.Search.{AreDistinct, Differs, IsEndedPath, IsOfRun, IsShown};
 ghost use Rattle.explore.specs.Lineage.{ways};
 
 use crate::kept::Reached;
 use crate::lineage::Lineage;
-use crate::texts::Texts;
-use crate::{Ended, Orders, Shown};
+use crate::text_trie::TextTrie;
+use crate::{EndedPath, Orders, Shown};
 use std::alloc::{AllocError, Global};
 
 /// A run that was reached, and what holds its moves and its text.
 #[derive(Clone, Copy)]
-pub(crate) struct Run<'a, M> {
+pub(crate) struct ReachedRun<'a, M> {
     pub(crate) lineage: &'a Lineage<M>,
-    pub(crate) texts: &'a Texts,
+    pub(crate) texts: &'a TextTrie,
     pub(crate) reached: Reached,
 }
 
@@ -58,16 +58,16 @@ fn is_shown<O: Orders>(
 fn show<O: Orders>(
     alloc: Global,
     orders: &O,
-    run: Run<'_, O::Move>,
+    run: ReachedRun<'_, O::Move>,
     shown: &mut Vec<Shown<O::Move, O::End>>,
-    ended: Ended<O::Move, O::End>,
+    ended: EndedPath<O::Move, O::End>,
     most: usize,
 ) -> Result<bool, AllocError>
-    requires run { IsHeld (O.runs orders.now) run.lineage.now run.texts.now run.reached }
+    requires run { HoldsRun (O.runs orders.now) run.lineage.now run.texts.now run.reached }
     requires sound { All (IsOfRun (O.runs orders.now)) shown.old.items }
     requires distinct { AllPairs AreDistinct shown.old.items }
     requires few { length shown.old.items ≤ most }
-    requires ended { IsEnded (O.runs orders.now) (get_or (ways run.lineage.now) run.reached.number []) ended }
+    requires ended { IsEndedPath (O.runs orders.now) (get_or (ways run.lineage.now) run.reached.number []) ended }
     ensures sound { All (IsOfRun (O.runs orders.now)) shown.new.items }
     ensures distinct { AllPairs AreDistinct shown.new.items }
     ensures grows { Extends shown.old.items shown.new.items }
@@ -75,7 +75,7 @@ fn show<O: Orders>(
     ensures full { IfOk result (λ there. there ≡ false → length shown.new.items ≡ most) }
     ensures there { IfOk result (λ there. IsTrue there → IsShown shown.new.items ((O.runs orders.now).text (get_or (ways run.entry.lineage.now) run.entry.reached.number []) ++ ended.printed.items) ended.end) }
 {
-    let Ended {
+    let EndedPath {
         printed,
         end,
         moves: last,
@@ -97,16 +97,16 @@ fn show<O: Orders>(
 pub(crate) fn show_all<O: Orders>(
     alloc: Global,
     orders: &O,
-    run: Run<'_, O::Move>,
+    run: ReachedRun<'_, O::Move>,
     shown: &mut Vec<Shown<O::Move, O::End>>,
-    ended: Vec<Ended<O::Move, O::End>>,
+    ended: Vec<EndedPath<O::Move, O::End>>,
     most: usize,
 ) -> Result<bool, AllocError>
-    requires run { IsHeld (O.runs orders.now) run.lineage.now run.texts.now run.reached }
+    requires run { HoldsRun (O.runs orders.now) run.lineage.now run.texts.now run.reached }
     requires sound { All (IsOfRun (O.runs orders.now)) shown.old.items }
     requires distinct { AllPairs AreDistinct shown.old.items }
     requires few { length shown.old.items ≤ most }
-    requires ended { All (IsEnded (O.runs orders.now) (get_or (ways run.lineage.now) run.reached.number [])) ended.items }
+    requires ended { All (IsEndedPath (O.runs orders.now) (get_or (ways run.lineage.now) run.reached.number [])) ended.items }
     ensures sound { All (IsOfRun (O.runs orders.now)) shown.new.items }
     ensures distinct { AllPairs AreDistinct shown.new.items }
     ensures grows { Extends shown.old.items shown.new.items }

@@ -1,7 +1,7 @@
 //! Where the paths of a command line lead.
 
 ghost use Rattle.std.specs.Prelude.{◌≡◌, Bool, IfOk, IfSome, List, None, OnErr, OnOk, Option, ℕ};
-ghost use Rattle.files.specs.Saved.{Made, KeepsFiles, KeepsHeld, IsOpened, HoldsNothing, ClosesFile};
+ghost use Rattle.files.specs.Saved.{MadeFile, KeepsFiles, KeepsHeld, IsOpened, HoldsNothing, ClosesFile};
 
 use progress::Progress;
 use std::io;
@@ -18,7 +18,7 @@ pub trait Files {
     type Progress: Progress + Drop;
 
     // The files that were made and finished, one after another, where they are known.
-    ghost made: { Self → Option (List Made) } = { λ _. None };
+    ghost made: { Self → Option (List MadeFile) } = { λ _. None };
 
     // Whether two paths lead to one file, where that is known.
     ghost alike: { Self → Option (List ℕ → List ℕ → Bool) } = { λ _. None };

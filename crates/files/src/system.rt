@@ -44,7 +44,7 @@ impl<'a, R: std::rt::Files + Input + Print + Clock + AllocGlobal + Sync> Files
     }
 
     fn same(&self, source: &str, out: &str) -> bool {
-        match fs::metadata(self.rt, place_of(source)) {
+        match fs::metadata(self.rt, system_path(source)) {
             Ok(source) => keeps_bytes(&source) && is_at(self.rt, out, &source),
             Err(_) => false,
         }
@@ -117,7 +117,7 @@ impl<R: std::rt::Files + Print> Write for SystemTarget<'_, R> {
 }
 
 /// Where the system has what a source's path names.
-fn place_of(source: &str) -> &str {
+fn system_path(source: &str) -> &str {
     if source == INPUT {
         "/dev/stdin"
     } else {

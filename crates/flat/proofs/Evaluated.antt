@@ -19,25 +19,25 @@ use Rattle.orders.proofs.EventLists.{updates-append}
 use Rattle.orders.specs.Apart.{WakesNone}
 use Rattle.design.specs.declared.code.ProcState.{ProcState}
 use Rattle.design.specs.Compiled.{Compiled, design_of}
-use Rattle.design.specs.DesignInvariant.{remainder_of, controls_of}
+use Rattle.design.specs.DesignInvariant.{remainder_of_state, controls_of}
 use Rattle.turn.specs.TurnLogs.{LogView, IsLogOf}
 use Rattle.regions.specs.declared.queue.Continuation.{Continuation}
 use Rattle.regions.specs.declared.queue.Update.{Update}
 use Rattle.regions.specs.declared.queue.Evaluation.{Evaluation}
-use Rattle.regions.specs.Queue.{Core, state_of, standing, process_of, update_event, evaluation_event}
+use Rattle.regions.specs.Queue.{Core, state_of, standing, process_wait_of, update_event, evaluation_event}
 use Rattle.regions.specs.ProcessWaking.{triggers_at}
 use Rattle.regions.specs.Machine.{IsTurnLogged, IsEvaluated}
-use Rattle.flat.specs.declared.turned.Turned.{Turned}
-use Rattle.flat.specs.Turned.{turn_in, event_of, IsTurned}
-use Rattle.flat.specs.Tests.{waiting, AreUpdatesNext}
+use Rattle.flat.specs.declared.evaluated_turn.EvaluatedTurn.{EvaluatedTurn}
+use Rattle.flat.specs.EvaluatedTurns.{turn_in, event_of, IsTurned}
+use Rattle.flat.specs.Tests.{waiting_continuation, AreUpdatesNext}
 use Rattle.flat.proofs.Sleeping.{nobody_waits, wakes_none_more}
 
 -- a log stands for one turn
-one_turn : (code : Compiled) (log : LogView) (turn : Turn) → IsLogOf (remainder_of code) (controls_of code) log turn → turn ≡ turn_in code log
+one_turn : (code : Compiled) (log : LogView) (turn : Turn) → IsLogOf (remainder_of_state code) (controls_of code) log turn → turn ≡ turn_in code log
 one_turn code log turn is = rw (is.uses, is.writes, is.nbas, is.lines, is.strobes, is.rest, is.wait, is.finish, is.count) refl
 
 -- what the turn of an evaluation is
-pub turn_is : (code : Compiled) (s : State) (turned : Turned) → IsTurned code s turned → turn_of (design_of code) s turned.process ≡ Some (turn_in code turned.log)
+pub turn_is : (code : Compiled) (s : State) (turned : EvaluatedTurn) → IsTurned code s turned → turn_of (design_of code) s turned.process ≡ Some (turn_in code turned.log)
 turn_is code s turned h =
     h.is_log.is_turn ∙ ap (λ (t : Turn). Some t) (one_turn code turned.log h.is_log.turn h.is_log.is_log)
 
@@ -53,12 +53,12 @@ logged code s number p log found differs h is off =
     subst (IsEvaluated code s number log) (some_same found p (option_eq eqb found (Some p)) refl (sym is ∙ off)) h
 
 -- where each process sleeps, all do
-pub all_sleep : (a : Store) (ws : List (ℕ × Vector)) (controls : List (List Trigger)) (rem : ProcState → Remainder) (ps : List Continuation) → All (λ p. WakesNone a ws (waiting (triggers_at controls p.waits) ∷ [])) ps
-    → WakesNone a ws (map (standing rem) (map (process_of controls) ps))
+pub all_sleep : (a : Store) (ws : List (ℕ × Vector)) (controls : List (List Trigger)) (rem : ProcState → Remainder) (ps : List Continuation) → All (λ p. WakesNone a ws (waiting_continuation (triggers_at controls p.waits) ∷ [])) ps
+    → WakesNone a ws (map (standing rem) (map (process_wait_of controls) ps))
 all_sleep a ws controls rem [] each = nobody_waits a ws
 all_sleep a ws controls rem (p ∷ ps) each =
-    wakes_none_more a ws (standing rem (process_of controls p)) (map (standing rem) (map (process_of controls) ps)) (All-head (λ q. WakesNone a ws (waiting (triggers_at controls q.waits) ∷ [])) p ps each)
-    (all_sleep a ws controls rem ps (All-tail (λ q. WakesNone a ws (waiting (triggers_at controls q.waits) ∷ [])) p ps each))
+    wakes_none_more a ws (standing rem (process_wait_of controls p)) (map (standing rem) (map (process_wait_of controls) ps)) (All-head (λ q. WakesNone a ws (waiting_continuation (triggers_at controls q.waits) ∷ [])) p ps each)
+    (all_sleep a ws controls rem ps (All-tail (λ q. WakesNone a ws (waiting_continuation (triggers_at controls q.waits) ∷ [])) p ps each))
 
 -- the writes of one update more
 pub writes_more : (us : List Update) (at : ℕ) (ws more : List (ℕ × Vector)) (u : Update) → at < length us → ws ≡ updates_in (map update_event (take at us)) → u ≡ get_or us at u → more ≡ ws ++ (u.register, u.value) ∷ [] → more ≡ updates_in (map update_event (take (at + 1) us))
@@ -73,18 +73,18 @@ only_updates [] p = refl
 only_updates (u ∷ us) p = omega (arith, only_updates us p)
 
 -- updates that are next wake nobody where each process sleeps through them
-pub silent_from : (code : Compiled) (core one two : Core) (values store : List Vector) (us : List Update) (ps : List Continuation) (controls : List (List Trigger)) (writes ws : List (ℕ × Vector)) → AreUpdatesNext (state_of (remainder_of code) values core) → map update_event us ≡ one.nonblocking → one ≡ core
-    → ws ≡ updates_in (map update_event us) → writes ≡ ws → map (process_of two.controls) ps ≡ two.processes → two ≡ core → controls ≡ core.controls → store ≡ values → WakesNone store writes (map (standing (remainder_of code)) (map (process_of controls) ps))
-    → IsInert (state_of (remainder_of code) values core)
+pub silent_from : (code : Compiled) (core one two : Core) (values store : List Vector) (us : List Update) (ps : List Continuation) (controls : List (List Trigger)) (writes ws : List (ℕ × Vector)) → AreUpdatesNext (state_of (remainder_of_state code) values core) → map update_event us ≡ one.nonblocking → one ≡ core
+    → ws ≡ updates_in (map update_event us) → writes ≡ ws → map (process_wait_of two.controls) ps ≡ two.processes → two ≡ core → controls ≡ core.controls → store ≡ values → WakesNone store writes (map (standing (remainder_of_state code)) (map (process_wait_of controls) ps))
+    → IsInert (state_of (remainder_of_state code) values core)
 silent_from code core one two values store us ps controls writes ws next events same is same_ws processes same' controls_are still sleeps =
     let events' : map update_event us ≡ core.nonblocking = events ∙ ap (λ (k : Core). k.nonblocking) same in
     let writes_are : writes ≡ updates_in core.nonblocking = same_ws ∙ (is ∙ ap updates_in events') in
-    let processes' : map (process_of controls) ps ≡ core.processes =
-    ap (λ (cs : List (List Trigger)). map (process_of cs) ps) (controls_are ∙ ap (λ (k : Core). k.controls) (sym same')) ∙ (processes ∙ ap (λ (k : Core). k.processes) same') in
-    let wakes : WakesNone values (updates_in core.nonblocking) (map (standing (remainder_of code)) core.processes) =
-    subst (λ (qs : List (ProcState × List Trigger)). WakesNone values (updates_in core.nonblocking) (map (standing (remainder_of code)) qs)) processes'
-    (subst (λ (vs : List (ℕ × Vector)). WakesNone values vs (map (standing (remainder_of code)) (map (process_of controls) ps))) writes_are
-    (subst (λ (a : List Vector). WakesNone a writes (map (standing (remainder_of code)) (map (process_of controls) ps))) still sleeps)) in
+    let processes' : map (process_wait_of controls) ps ≡ core.processes =
+    ap (λ (cs : List (List Trigger)). map (process_wait_of cs) ps) (controls_are ∙ ap (λ (k : Core). k.controls) (sym same')) ∙ (processes ∙ ap (λ (k : Core). k.processes) same') in
+    let wakes : WakesNone values (updates_in core.nonblocking) (map (standing (remainder_of_state code)) core.processes) =
+    subst (λ (qs : List (ProcState × List Trigger)). WakesNone values (updates_in core.nonblocking) (map (standing (remainder_of_state code)) qs)) processes'
+    (subst (λ (vs : List (ℕ × Vector)). WakesNone values vs (map (standing (remainder_of_state code)) (map (process_wait_of controls) ps))) writes_are
+    (subst (λ (a : List Vector). WakesNone a writes (map (standing (remainder_of_state code)) (map (process_wait_of controls) ps))) still sleeps)) in
     record {
       goes_on = next.goes_on;
       active = next.active;
@@ -105,7 +105,7 @@ no_elements [] none = refl
 no_elements (x ∷ xs) none = absurd (omega (arith, none))
 
 -- what is active, where no update is and the turn of each evaluation is among these
-pub all_active : (core queue : Core) (us : List Update) (es : List Evaluation) (turns : List Turned) (at : ℕ) → length us ≡ 0 → length es ≤ at → map update_event us ++ map evaluation_event es ≡ queue.active → queue ≡ core → map event_of turns ≡ map evaluation_event (take at es)
+pub all_active : (core queue : Core) (us : List Update) (es : List Evaluation) (turns : List EvaluatedTurn) (at : ℕ) → length us ≡ 0 → length es ≤ at → map update_event us ++ map evaluation_event es ≡ queue.active → queue ≡ core → map event_of turns ≡ map evaluation_event (take at es)
     → core.active ≡ map event_of turns
 all_active core queue us es turns at none few active same events =
     let whole : map event_of turns ≡ map evaluation_event es = events ∙ ap (map evaluation_event) (take_whole es at few) in

@@ -17,7 +17,7 @@ use Rattle.orders.specs.Apart.{given, all_given, wakes_any, WakesNone}
 use Rattle.design.specs.ControlWaking.{wakes_by}
 use Rattle.std.specs.List.{All, list_any}
 use Rattle.orders.proofs.Stores.{all_other}
-use Rattle.flat.specs.Tests.{waiting, IsNotWritten}
+use Rattle.flat.specs.Tests.{waiting_continuation, IsNotWritten}
 
 pub and_false : (b : Bool) → (b && false) ≡ false
 and_false true = refl
@@ -68,7 +68,7 @@ pub nobody_waits : (a : Store) (ws : List (ℕ × Vector)) → WakesNone a ws []
 nobody_waits a [] = tt
 nobody_waits a (w ∷ ws) = (refl, nobody_waits (given a w) ws)
 
-pub nothing_awaited : (a : Store) (ws : List (ℕ × Vector)) → WakesNone a ws (waiting [] ∷ [])
+pub nothing_awaited : (a : Store) (ws : List (ℕ × Vector)) → WakesNone a ws (waiting_continuation [] ∷ [])
 nothing_awaited a [] = tt
 nothing_awaited a (w ∷ ws) = (refl, nothing_awaited (given a w) ws)
 
@@ -77,7 +77,7 @@ neither true c one none = one
 neither false c one none = none
 
 -- one process more, which sleeps as any does that waits for the same changes
-pub wakes_none_more : (a : Store) (ws : List (ℕ × Vector)) (p : Continuation) (ps : List Continuation) → WakesNone a ws (waiting p.triggers ∷ []) → WakesNone a ws ps → WakesNone a ws (p ∷ ps)
+pub wakes_none_more : (a : Store) (ws : List (ℕ × Vector)) (p : Continuation) (ps : List Continuation) → WakesNone a ws (waiting_continuation p.triggers ∷ []) → WakesNone a ws ps → WakesNone a ws (p ∷ ps)
 wakes_none_more a [] p ps one none = tt
 wakes_none_more a (w ∷ ws) p ps (first, one) (others, none) =
     (neither (is_woken w.0 (value_of a w.0) w.1 p) (wakes_any a w ps) first others, wakes_none_more (given a w) ws p ps one none)
@@ -90,10 +90,10 @@ element_at (y ∷ xs) (suc k) x d is = element_at xs k x d is
 
 -- whoever waits sleeps through the write at a place
 pub asleep_at : (triggers : List Trigger) (a : Store) (ws earlier : List (ℕ × Vector)) (at : ℕ) (w : ℕ × Vector) → at < length ws → w ≡ slice_index_or ws at w → earlier ≡ take at ws → wakes triggers w.0 (value_of (all_given a earlier) w.0) w.1 ≡ false
-    → (d : ℕ × Vector) → wakes_any (all_given a (take at ws)) (slice_index_or ws at d) (waiting triggers ∷ []) ≡ false
+    → (d : ℕ × Vector) → wakes_any (all_given a (take at ws)) (slice_index_or ws at d) (waiting_continuation triggers ∷ []) ≡ false
 asleep_at triggers a ws earlier at w within is front none d =
-    subst (λ (v : ℕ × Vector). wakes_any (all_given a (take at ws)) v (waiting triggers ∷ []) ≡ false) (is ∙ get_or_default ws at w d within)
-    (subst (λ (vs : List (ℕ × Vector)). wakes_any (all_given a vs) w (waiting triggers ∷ []) ≡ false) front (alone (wakes triggers w.0 (value_of (all_given a earlier) w.0) w.1) none))
+    subst (λ (v : ℕ × Vector). wakes_any (all_given a (take at ws)) v (waiting_continuation triggers ∷ []) ≡ false) (is ∙ get_or_default ws at w d within)
+    (subst (λ (vs : List (ℕ × Vector)). wakes_any (all_given a vs) w (waiting_continuation triggers ∷ []) ≡ false) front (alone (wakes triggers w.0 (value_of (all_given a earlier) w.0) w.1) none))
 
 -- what holds up to a place, and there, holds up to the next
 pub upto_more : {X : Type 0} (P : X → Type 0) (xs : List X) (i : ℕ) → ((k : ℕ) (d : X) → k < i → P (slice_index_or xs k d)) → ((d : X) → P (slice_index_or xs i d)) → (k : ℕ) (d : X) → k < i + 1 → P (slice_index_or xs k d)
@@ -128,7 +128,7 @@ unawaited (t ∷ ts) w ws e none =
     off false is none' = refl
 
 -- whoever waits for no register that is written sleeps
-pub sleeps_unwritten : (triggers : List Trigger) (a : Store) (ws : List (ℕ × Vector)) → All (λ t. IsNotWritten ws t.1) triggers → WakesNone a ws (waiting triggers ∷ [])
+pub sleeps_unwritten : (triggers : List Trigger) (a : Store) (ws : List (ℕ × Vector)) → All (λ t. IsNotWritten ws t.1) triggers → WakesNone a ws (waiting_continuation triggers ∷ [])
 sleeps_unwritten triggers a [] none = tt
 sleeps_unwritten triggers a (w ∷ ws) none = (
   alone (wakes triggers w.0 (value_of a w.0) w.1) (unawaited triggers w ws (edge (value_of a w.0) w.1) none),

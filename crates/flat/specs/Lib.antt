@@ -1,4 +1,4 @@
-pub mod Turned
+pub mod EvaluatedTurns
 pub mod Tests
 pub mod Sleeping
-pub mod Plain
+pub mod UpdateOnly

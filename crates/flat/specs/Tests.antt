@@ -12,12 +12,12 @@ use Rattle.turn.specs.declared.log.Nba.{Nba}
 use Rattle.turn.specs.declared.log.Suspend.{Suspend}
 use Rattle.turn.specs.TurnLogs.{assignment_of, wait_of}
 use Rattle.regions.specs.ProcessWaking.{triggers_at}
-use Rattle.flat.specs.declared.turned.Turned.{Turned}
-use Rattle.flat.specs.Turned.{turn_in, turns_in, IsTurned}
+use Rattle.flat.specs.declared.evaluated_turn.EvaluatedTurn.{EvaluatedTurn}
+use Rattle.flat.specs.EvaluatedTurns.{turn_in, turns_in, IsTurned}
 
 -- a process that waits for these changes
-abbrev pub waiting : List Trigger → Continuation
-waiting triggers = record { remainder = []; triggers = triggers }
+abbrev pub waiting_continuation : List Trigger → Continuation
+waiting_continuation triggers = record { remainder = []; triggers = triggers }
 
 -- the number of the event control at which a process waits after a turn, if it waits at one
 abbrev pub IsControlOf : Suspend → Option ℕ → Type 0
@@ -44,19 +44,19 @@ abbrev pub AreNbasApart : ℕ → Nba → Nba → Type 0
 AreNbasApart now n m = n.due ≡ m.due → (n.reg ≢ m.reg) × (n.due ≡ now)
 
 -- a turn that wakes nobody and doesn't finish
-pub record IsQuietTurn (code : Compiled) (s : State) (turned : Turned) : Type 0 where
+pub record IsQuietTurn (code : Compiled) (s : State) (turned : EvaluatedTurn) : Type 0 where
   pub is_turned : IsTurned code s turned
   pub ends : turned.log.finish ≡ false
   pub wakes : WakesNone s.store turned.log.writes s.processes
 
 -- two turns are those of two processes, and keep off each other
-pub record ArePair (code : Compiled) (s : State) (one other : Turned) : Type 0 where
+pub record ArePair (code : Compiled) (s : State) (one other : EvaluatedTurn) : Type 0 where
   pub processes : one.process ≢ other.process
   pub apart : AreApart s (turn_in code one.log) (turn_in code other.log)
   pub futures : FuturesApart s (turn_in code one.log) (turn_in code other.log)
 
 -- turns, each quiet, and any two apart
-pub record AreQuiet (code : Compiled) (s : State) (turns : List Turned) : Type 0 where
+pub record AreQuiet (code : Compiled) (s : State) (turns : List EvaluatedTurn) : Type 0 where
   pub each : All (IsQuietTurn code s) turns
   pub pairs : AllPairs (ArePair code s) turns
 

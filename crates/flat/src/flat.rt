@@ -4,13 +4,13 @@ ghost use Rattle.std.specs.List.{All};
 ghost use Rattle.design.specs.DesignInvariant.{controls_of};
 ghost use Rattle.regions.specs.Machine.{state_at};
 ghost use Rattle.regions.specs.Queue.{evaluation_event};
-ghost use Rattle.flat.specs.Turned.{event_of, AreTurned};
+ghost use Rattle.flat.specs.EvaluatedTurns.{event_of, AreTurned};
 ghost use Rattle.flat.specs.Tests.{ArePair, AreQuiet, IsFlatState, IsOneMaker, IsQuietTurn, MakesNone};
-ghost use Rattle.flat.specs.Plain.{ArePlain};
+ghost use Rattle.flat.specs.UpdateOnly.{AreUpdateOnly};
 
+use crate::evaluated_turn::{EvaluatedTurn, Logs, evaluate};
 use crate::pairs::are_apart;
-use crate::plain::Plain;
-use crate::turned::{Logs, Turned, evaluate};
+use crate::update_only::UpdateOnlyTurns;
 use crate::waits::all_sleep;
 use design::Control;
 use regions::{Evaluation, Machine};
@@ -18,7 +18,12 @@ use std::alloc::AllocError;
 use turn::Nba;
 
 // Whether a turn keeps off each of these.
-fn is_apart(machine: &Machine<'_>, controls: &[Control], turns: &[Turned], turned: &Turned) -> bool
+fn is_apart(
+    machine: &Machine<'_>,
+    controls: &[Control],
+    turns: &[EvaluatedTurn],
+    turned: &EvaluatedTurn,
+) -> bool
     requires controls { controls.now ≡ controls_of machine.now.code }
     requires turns { All (IsQuietTurn machine.now.code (state_at machine.now)) turns.now }
     requires turned { IsQuietTurn machine.now.code (state_at machine.now) turned.now }
@@ -36,16 +41,16 @@ fn is_apart(machine: &Machine<'_>, controls: &[Control], turns: &[Turned], turne
 fn is_apart_from(
     machine: &Machine<'_>,
     controls: &[Control],
-    turns: &[Turned],
-    turned: &Turned,
-    plain: &mut Plain,
+    turns: &[EvaluatedTurn],
+    turned: &EvaluatedTurn,
+    plain: &mut UpdateOnlyTurns,
 ) -> bool
     requires controls { controls.now ≡ controls_of machine.now.code }
     requires turns { All (IsQuietTurn machine.now.code (state_at machine.now)) turns.now }
     requires turned { IsQuietTurn machine.now.code (state_at machine.now) turned.now }
-    requires plain { plain.old.holds ≡ true → ArePlain machine.now.core.time plain.old.processes.items plain.old.registers.items turns.now }
+    requires plain { plain.old.holds ≡ true → AreUpdateOnly machine.now.core.time plain.old.processes.items plain.old.registers.items turns.now }
     ensures apart { result ≡ true → All (λ one. ArePair machine.now.code (state_at machine.now) one turned.now) turns.now }
-    ensures plain { plain.new.holds ≡ true → ArePlain machine.now.core.time plain.new.processes.items plain.new.registers.items (turns.now ++ turned.now ∷ []) }
+    ensures plain { plain.new.holds ≡ true → AreUpdateOnly machine.now.core.time plain.new.processes.items plain.new.registers.items (turns.now ++ turned.now ∷ []) }
 {
     if plain.take(machine.time(), turned) {
         return true;
@@ -61,7 +66,7 @@ fn quiet_turn(
     logs: &mut Logs,
     evaluation: Evaluation,
     near: usize,
-) -> Result<Option<Turned>, AllocError>
+) -> Result<Option<EvaluatedTurn>, AllocError>
     requires controls { controls.now ≡ controls_of machine.now.code }
     ensures event { IfOk result (λ found. IfSome found (λ turned. event_of turned ≡ evaluation_event evaluation)) }
     ensures quiet { IfOk result (λ found. IfSome found (IsQuietTurn machine.now.code (state_at machine.now))) }
@@ -91,15 +96,15 @@ fn quiet_turn(
 fn add_turn(
     machine: &Machine<'_>,
     logs: &mut Logs,
-    plain: &mut Plain,
-    turns: &mut Vec<Turned>,
+    plain: &mut UpdateOnlyTurns,
+    turns: &mut Vec<EvaluatedTurn>,
     evaluation: Evaluation,
 ) -> Result<bool, AllocError>
     requires quiet { AreQuiet machine.now.code (state_at machine.now) turns.old.items }
-    requires plain { plain.old.holds ≡ true → ArePlain machine.now.core.time plain.old.processes.items plain.old.registers.items turns.old.items }
+    requires plain { plain.old.holds ≡ true → AreUpdateOnly machine.now.core.time plain.old.processes.items plain.old.registers.items turns.old.items }
     ensures events { OnOk result (result ≡ Ok true → map event_of turns.new.items ≡ map event_of turns.old.items ++ evaluation_event evaluation ∷ []) }
     ensures quiet { OnOk result (AreQuiet machine.now.code (state_at machine.now) turns.new.items) }
-    ensures plain { OnOk result (result ≡ Ok true → plain.new.holds ≡ true → ArePlain machine.now.core.time plain.new.processes.items plain.new.registers.items turns.new.items) }
+    ensures plain { OnOk result (result ≡ Ok true → plain.new.holds ≡ true → AreUpdateOnly machine.now.core.time plain.new.processes.items plain.new.registers.items turns.new.items) }
 {
     let controls = machine.design().event_controls();
     let turned = match quiet_turn(machine, controls, logs, evaluation, turns.len())? {
@@ -117,7 +122,10 @@ fn add_turn(
 /// The active evaluations of a machine with their turns, where its state is flat: nothing is finished, no update is active, each turn is
 /// short, doesn't finish and wakes nobody who waits, and any two are apart. A state that is flat may be refused where a turn changes a
 /// register for which a process waits more than once.
-pub fn flat_turns(machine: &Machine<'_>, logs: &mut Logs) -> Result<Option<Vec<Turned>>, AllocError>
+pub fn flat_turns(
+    machine: &Machine<'_>,
+    logs: &mut Logs,
+) -> Result<Option<Vec<EvaluatedTurn>>, AllocError>
     ensures flat { IfOk result (λ found. IfSome found (λ turns. IsFlatState machine.now.code (state_at machine.now))) }
     ensures turns { IfOk result (λ found. IfSome found (λ turns. AreTurned machine.now.code (state_at machine.now) turns.items)) }
     ensures quiet { IfOk result (λ found. IfSome found (λ turns. AreQuiet machine.now.code (state_at machine.now) turns.items)) }
@@ -131,7 +139,7 @@ pub fn flat_turns(machine: &Machine<'_>, logs: &mut Logs) -> Result<Option<Vec<T
     }
     let processes = machine.state().processes().len();
     let registers = machine.design().widths().len();
-    let mut plain = Plain::new(logs.alloc, processes, registers)?;
+    let mut plain = UpdateOnlyTurns::new(logs.alloc, processes, registers)?;
     let mut turns = Vec::with_capacity(logs.alloc, evaluations.len())?;
     for at in 0..evaluations.len() {
         if !add_turn(machine, logs, &mut plain, &mut turns, evaluations[at])? {
@@ -155,7 +163,7 @@ fn makes_now(now: u64, nbas: &[Nba]) -> bool
 }
 
 // The process of the first turn that makes an update for now, or 0 where none does.
-fn first_maker(now: u64, turns: &[Turned]) -> u32 {
+fn first_maker(now: u64, turns: &[EvaluatedTurn]) -> u32 {
     for turned in turns {
         if makes_now(now, turned.log.nbas()) {
             return turned.process;
@@ -165,7 +173,7 @@ fn first_maker(now: u64, turns: &[Turned]) -> u32 {
 }
 
 /// The process whose turn alone may make updates for now, where at most one of these turns does.
-pub fn one_maker(machine: &Machine<'_>, turns: &[Turned]) -> Option<u32>
+pub fn one_maker(machine: &Machine<'_>, turns: &[EvaluatedTurn]) -> Option<u32>
     requires turns { AreTurned machine.now.code (state_at machine.now) turns.now }
     ensures { IfSome result (IsOneMaker machine.now.code (state_at machine.now)) }
 {

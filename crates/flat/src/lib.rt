@@ -8,13 +8,13 @@
 //! The answers are those of `IsFlat`, `HasOneMaker` and `IsInert` of `orders`, whose laws say what a search may leave out.
 #![tactic(auto)]
 
+mod evaluated_turn;
 mod flat;
 mod inert;
 mod pairs;
-mod plain;
-mod turned;
+mod update_only;
 mod waits;
 
+pub use evaluated_turn::{EvaluatedTurn, Logs};
 pub use flat::{flat_turns, one_maker};
 pub use inert::is_inert;
-pub use turned::{Logs, Turned};

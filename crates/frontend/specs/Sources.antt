@@ -20,18 +20,18 @@ pub record IsDesignOf (source : List ℕ) (design : Compiled) : Type 0 where
   pub spells : Spells parsed source
   pub shallow : ¬ (IsDeepText source)
   pub faultless : faults parsed ≡ []
-  pub is_design : design_of design ≡ model.design_of parsed
+  pub is_design : design_of design ≡ model.design_of_module parsed
   pub names : design.names ≡ map (λ d. d.0) (declared parsed)
 
 -- The text has this fault: its cut into tokens stops at this byte; or it is cut into tokens to its end, and these spell no
 -- module, or nest too deep at this token and at none before it. Want of memory says nothing of the text.
-abbrev pub IsTextFault : List ℕ → ParseFault → Type 0
-IsTextFault source (Byte place) = Stops source stray place
-IsTextFault source (Literal place) = Stops source bad_number place
-IsTextFault source (Syntax token) = IsUnspelledAt source token
-IsTextFault source (Unsized token) = IsUnspelledAt source token
-IsTextFault source (Deep token) = IsDeepTextAt source token
-IsTextFault source Memory = Unit {0}
+abbrev pub IsParseFaultOf : List ℕ → ParseFault → Type 0
+IsParseFaultOf source (Byte place) = Stops source stray place
+IsParseFaultOf source (Literal place) = Stops source bad_number place
+IsParseFaultOf source (Syntax token) = IsUnspelledAt source token
+IsParseFaultOf source (Unsized token) = IsUnspelledAt source token
+IsParseFaultOf source (Deep token) = IsDeepTextAt source token
+IsParseFaultOf source Memory = Unit {0}
 
 -- the text spells a module and nests no deeper than it may, and of the module this fault is told
 pub record HasModuleFault (source : List ℕ) (fault : ElabFault) : Type 0 where
@@ -47,5 +47,5 @@ IsFaultOfModule faults (Elaborate fault) = IsFirstFault fault faults
 
 -- a fault of a source
 abbrev pub IsSourceFault : List ℕ → SourceFault → Type 0
-IsSourceFault source (Parse fault) = IsTextFault source fault
+IsSourceFault source (Parse fault) = IsParseFaultOf source fault
 IsSourceFault source (Elaborate fault) = HasModuleFault source fault

@@ -42,7 +42,7 @@ pub fn read_design(alloc: Global, source: &[u8]) -> Result<Design, SourceFault>
 // The design of a module that a source spells, or its first fault, which is told as none of the text.
 fn designed(alloc: Global, parsed: Module) -> Result<Design, SourceFault>
     ensures faultless { IfOk result (λ d. faults (module_of parsed) ≡ []) }
-    ensures design { IfOk result (λ d. design_of d ≡ model.design_of (module_of parsed)) }
+    ensures design { IfOk result (λ d. design_of d ≡ model.design_of_module (module_of parsed)) }
     ensures names { IfOk result (λ d. d.names ≡ map (λ x. x.0) (declared (module_of parsed))) }
     ensures fault { IfErr result (IsFaultOfModule (faults (module_of parsed))) }
 {

@@ -5,11 +5,11 @@ use Rattle.tokens.specs.declared.token.Kind.{Kind}
 use Rattle.tokens.specs.declared.token.Kind.TheVariants as k
 use Rattle.model.specs.declared.tree.UnaryOperator.{UnaryOperator}
 use Rattle.model.specs.declared.tree.BinaryOperator.{BinaryOperator}
-use Rattle.grammar.specs.Cursor.{kind, sees, and_then}
+use Rattle.grammar.specs.Cursor.{kind, sees, parse_and_then}
 use Rattle.tokens.specs.Tokens.{PlainToken, PlainTokens, same_kind}
 use Rattle.logic4.specs.Vector.{Vector}
 use Rattle.model.specs.Syntax.{Text, Expression, Expressions}
-use Rattle.model.specs.SourceTrees.{expressions}
+use Rattle.model.specs.SourceTrees.{source_expressions}
 use Rattle.model.specs.Syntax as tree
 use Rattle.grammar.specs.Grammar.{operator, prefix, IsExpression, plain, chosen, IsBinary, operand, tighter, joined, IsUnary, bare, prefixed, IsPrimary, named, selected, sized, concatenated, nested, IsParts, last_part, next_part}
 use Rattle.grammar.specs.Reading as spec
@@ -80,7 +80,7 @@ climb-turn inner m n level found op l r t us rest q o w read = let c = continues
 
 -- what was read up to here, and nothing more of its level
 whole-is : (inner : ℕ → Parser (Expression Text)) (n level m : ℕ) (e x : Expression Text) (ts us rest : PlainTokens)
-    → and_then (spec.parse_operand inner n ts) (parse_operators inner n level) ≡ parse_operators inner m level e us → 0 < m → continues level (kind us) ≡ None
+    → parse_and_then (spec.parse_operand inner n ts) (parse_operators inner n level) ≡ parse_operators inner m level e us → 0 < m → continues level (kind us) ≡ None
     → conditional_at inner level e us ≡ Some (x, rest) → parse_level inner n level ts ≡ Some (x, rest)
 unfolding parse_level
 whole-is inner n level m e x ts us rest h w stop next = let c = climb-stop inner m level e us w stop in rw (h, c) next
@@ -136,7 +136,7 @@ abbrev pub list_of : Expressions Text → List (Expression Text)
 list_of tree.Nothing = []
 list_of (tree.Also e es) = e ∷ list_of es
 
-pub expressions_list : (es : Expressions Text) → expressions (list_of es) ≡ es
+pub expressions_list : (es : Expressions Text) → source_expressions (list_of es) ≡ es
 expressions_list tree.Nothing = refl
 expressions_list (tree.Also e es) = ap (tree.Also e) (expressions_list es)
 
@@ -167,7 +167,7 @@ unfolding parse_primary spec.parse_literal
 primary-sized inner budget d t rest q is = rw (q, is)
 
 primary-concat : (inner : ℕ → Parser (Expression Text)) (budget : ℕ) (e : Expression Text) (es : List (Expression Text)) (t : PlainToken) (ts us rest : PlainTokens) → t.kind ≡ k.OpenCurly
-    → inner 0 ts ≡ Some (e, us) → parse_list inner k.CloseCurly budget [] us ≡ Some (es, rest) → parse_primary inner budget (t ∷ ts) ≡ Some (tree.Concat (tree.Also e (expressions es)), rest)
+    → inner 0 ts ≡ Some (e, us) → parse_list inner k.CloseCurly budget [] us ≡ Some (es, rest) → parse_primary inner budget (t ∷ ts) ≡ Some (tree.Concat (tree.Also e (source_expressions es)), rest)
 unfolding parse_primary spec.parse_concat
 primary-concat inner budget e es t ts us rest q read others = rw (q, read, others)
 
@@ -217,7 +217,7 @@ record ReadsParts (n : ℕ) (es : Expressions Text) (ts rest : PlainTokens) : Ty
 
 -- from the first operand on, what was read up to the rest, and the turns that are left
 abbrev Reached : ℕ → ℕ → Expression Text → PlainTokens → PlainTokens → Type 0
-Reached n level e ts rest = (m : ℕ) × (length rest < m) × (and_then (spec.parse_operand (parse_expression n) n ts) (parse_operators (parse_expression n) n level) ≡ parse_operators (parse_expression n) m level e rest)
+Reached n level e ts rest = (m : ℕ) × (length rest < m) × (parse_and_then (spec.parse_operand (parse_expression n) n ts) (parse_operators (parse_expression n) n level) ≡ parse_operators (parse_expression n) m level e rest)
 
 read-level : (n level : ℕ) (e : Expression Text) (ts rest : PlainTokens) → 0 < n → continues (suc level) (kind rest) ≡ None → Reached (n - 1) (suc level) e ts rest
     → parse_expression n (suc level) ts ≡ Some (e, rest)

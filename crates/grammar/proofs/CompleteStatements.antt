@@ -8,9 +8,9 @@ use Rattle.model.specs.declared.tree.Task.{Task}
 use Rattle.model.specs.declared.tree.Change.{Change}
 use Rattle.model.specs.declared.tree.Change.TheVariants.{Any}
 use Rattle.grammar.specs.Cursor.{kind, sees}
-use Rattle.model.specs.Syntax.{Text, Expression, Expressions, Statement, Statements, Declaration, Process, Module}
-use Rattle.model.specs.SourceTrees.{expressions, statements}
-use Rattle.grammar.specs.Nodes.{Trigger}
+use Rattle.model.specs.Syntax.{Text, Expression, Expressions, SourceStatement, SourceStatements, Declaration, SourceProcess, Module}
+use Rattle.model.specs.SourceTrees.{source_expressions, source_statements}
+use Rattle.grammar.specs.Nodes.{SourceTrigger}
 use Rattle.model.specs.Syntax as tree
 use Rattle.grammar.specs.Grammar.{IsExpression, IsDelay, no_delay, some_delay, change_of, IsTrigger, any, edge, separates, IsTriggers, last_trigger, next_trigger, IsArguments, no_argument, one_argument, IsStatement, emptied, grouped, assigned, assigned_later, delayed, awaited, branched, branched_else, looped, printed, task_kind, finished, IsBeginEnd, begun, IsStatements, no_more, one_more, IsRange, no_range, some_range, IsNames, last_name, next_name, repeats_of, IsItems, no_items, regs, proc, IsModule, spelled, prefix}
 use Rattle.grammar.specs.Grammar as gr
@@ -25,11 +25,11 @@ short-delay : {d : Option ℕ} {ts rest : PlainTokens} → IsDelay d ts rest →
 short-delay no_delay = omega arith
 short-delay (some_delay q n) = omega arith
 
-short-trigger : {e : Trigger} {ts rest : PlainTokens} → IsTrigger e ts rest → length rest < length ts
+short-trigger : {e : SourceTrigger} {ts rest : PlainTokens} → IsTrigger e ts rest → length rest < length ts
 short-trigger (any q) = omega arith
 short-trigger (edge q n) = omega arith
 
-short-triggers : {es : List Trigger} {ts rest : PlainTokens} → IsTriggers es ts rest → length rest < length ts
+short-triggers : {es : List SourceTrigger} {ts rest : PlainTokens} → IsTriggers es ts rest → length rest < length ts
 short-triggers (last_trigger d end) = let x = short-trigger d in omega arith
 short-triggers (next_trigger d c ds) = let x = short-trigger d in let y = short-triggers ds in omega arith
 
@@ -38,7 +38,7 @@ short-arguments (no_argument q) = omega arith
 short-arguments (one_argument q d ds) = let x = short-expression d in let y = short-arguments ds in omega arith
 
 mutual
-  short-statement : {s : Statement} {ts rest : PlainTokens} → IsStatement s ts rest → length rest < length ts
+  short-statement : {s : SourceStatement} {ts rest : PlainTokens} → IsStatement s ts rest → length rest < length ts
   short-statement (emptied q) = omega arith
   short-statement (grouped d) = short-block d
   short-statement (assigned q sign d e end) = let x = short-delay d in let y = short-expression e in omega arith
@@ -51,23 +51,23 @@ mutual
   short-statement (branched q start d end b) = let x = short-expression d in let y = short-block b in omega arith
   short-statement (branched_else q start d end b other o) = let x = short-expression d in let y = short-block b in let z = short-block o in omega arith
 
-  short-block : {ss : Statements} {ts rest : PlainTokens} → IsBeginEnd ss ts rest → length rest < length ts
+  short-block : {ss : SourceStatements} {ts rest : PlainTokens} → IsBeginEnd ss ts rest → length rest < length ts
   short-block (begun q d end) = let x = short-statements d in omega arith
 
-  short-statements : {ss : Statements} {ts rest : PlainTokens} → IsStatements ss ts rest → length rest ≤ length ts
+  short-statements : {ss : SourceStatements} {ts rest : PlainTokens} → IsStatements ss ts rest → length rest ≤ length ts
   short-statements no_more = omega arith
   short-statements (one_more d ds) = let x = short-statement d in let y = short-statements ds in omega arith
 
 -- ---- what a statement begins with, and what may follow one
 
-first-block : {ss : Statements} {ts rest : PlainTokens} → IsBeginEnd ss ts rest → kind ts ≡ k.Begin
+first-block : {ss : SourceStatements} {ts rest : PlainTokens} → IsBeginEnd ss ts rest → kind ts ≡ k.Begin
 first-block (begun q d end) = q
 
 begins : (ts : PlainTokens) → kind ts ≡ k.Begin → (sees k.EndBlock ts ≡ false) × (sees k.Else ts ≡ false)
 unfolding same_kind
 begins ts q = (rw q, rw q)
 
-first-statement : {s : Statement} {ts rest : PlainTokens} → IsStatement s ts rest → (sees k.EndBlock ts ≡ false) × (sees k.Else ts ≡ false)
+first-statement : {s : SourceStatement} {ts rest : PlainTokens} → IsStatement s ts rest → (sees k.EndBlock ts ≡ false) × (sees k.Else ts ≡ false)
 unfolding same_kind
 first-statement (emptied q) = (rw q, rw q)
 first-statement {ts = ts} (grouped d) = begins ts (first-block d)
@@ -86,7 +86,7 @@ no_else : (t : PlainToken) (ts : PlainTokens) → t.kind ≡ k.EndBlock → sees
 unfolding same_kind
 no_else t ts q = rw q
 
-after_statements : {ss : Statements} {ts rest : PlainTokens} → IsStatements ss ts rest → sees k.Else rest ≡ false → sees k.Else ts ≡ false
+after_statements : {ss : SourceStatements} {ts rest : PlainTokens} → IsStatements ss ts rest → sees k.Else rest ≡ false → sees k.Else ts ≡ false
 after_statements no_more h = h
 after_statements (one_more d ds) h = (first-statement d).1
 
@@ -140,36 +140,36 @@ ends-arguments (one_argument {t = t} {ts = ts} q d ds) = ends-Comma t ts q
 
 -- ---- steps
 
-abbrev list_of : Statements → List Statement
+abbrev list_of : SourceStatements → List SourceStatement
 list_of tree.End = []
 list_of (tree.Then s ss) = s ∷ list_of ss
 
-statements_list : (ss : Statements) → statements (list_of ss) ≡ ss
+statements_list : (ss : SourceStatements) → source_statements (list_of ss) ≡ ss
 statements_list tree.End = refl
 statements_list (tree.Then s ss) = ap (tree.Then s) (statements_list ss)
 
-statements-end : (inner : Parser Statement) (m : ℕ) (found : List Statement) (t : PlainToken) (rest : PlainTokens) → 0 < m → t.kind ≡ k.EndBlock
+statements-end : (inner : Parser SourceStatement) (m : ℕ) (found : List SourceStatement) (t : PlainToken) (rest : PlainTokens) → 0 < m → t.kind ≡ k.EndBlock
     → parse_statements inner m found (t ∷ rest) ≡ Some (found, rest)
 unfolding parse_statements
 statements-end inner zero found t rest w q = absurd (omega arith)
 statements-end inner (suc m) found t rest w q = let x = same_kind-is t.kind k.EndBlock q in rw x
 
-statements-turn : (inner : Parser Statement) (m n : ℕ) (found : List Statement) (s : Statement) (ts us : PlainTokens) → m ≡ suc n → sees k.EndBlock ts ≡ false → inner ts ≡ Some (s, us)
+statements-turn : (inner : Parser SourceStatement) (m n : ℕ) (found : List SourceStatement) (s : SourceStatement) (ts us : PlainTokens) → m ≡ suc n → sees k.EndBlock ts ≡ false → inner ts ≡ Some (s, us)
     → parse_statements inner m found ts ≡ parse_statements inner n (found ++ s ∷ []) us
 unfolding parse_statements
 statements-turn inner m n found s ts us e q read = rw (e, q, read)
 
-block-is : (inner : Parser Statement) (budget : ℕ) (body : List Statement) (t : PlainToken) (ts rest : PlainTokens) → t.kind ≡ k.Begin → parse_statements inner budget [] ts ≡ Some (body, rest)
+block-is : (inner : Parser SourceStatement) (budget : ℕ) (body : List SourceStatement) (t : PlainToken) (ts rest : PlainTokens) → t.kind ≡ k.Begin → parse_statements inner budget [] ts ≡ Some (body, rest)
     → spec.parse_block inner budget (t ∷ ts) ≡ Some (body, rest)
 unfolding spec.parse_block
 block-is inner budget body t ts rest q read = let x = expect-is k.Begin t ts q in rw (x, read)
 
-statement-empty : (inner : Parser Statement) (budget : ℕ) (t : PlainToken) (rest : PlainTokens) → t.kind ≡ k.Semicolon → spec.parse_form inner budget (t ∷ rest) ≡ Some (tree.Empty, rest)
+statement-empty : (inner : Parser SourceStatement) (budget : ℕ) (t : PlainToken) (rest : PlainTokens) → t.kind ≡ k.Semicolon → spec.parse_form inner budget (t ∷ rest) ≡ Some (tree.Empty, rest)
 unfolding spec.parse_form
 statement-empty inner budget t rest q = rw q
 
-statement-block : (inner : Parser Statement) (budget : ℕ) (body : List Statement) (ts rest : PlainTokens) → kind ts ≡ k.Begin → spec.parse_block inner budget ts ≡ Some (body, rest)
-    → spec.parse_form inner budget ts ≡ Some (tree.Block (statements body), rest)
+statement-block : (inner : Parser SourceStatement) (budget : ℕ) (body : List SourceStatement) (ts rest : PlainTokens) → kind ts ≡ k.Begin → spec.parse_block inner budget ts ≡ Some (body, rest)
+    → spec.parse_form inner budget ts ≡ Some (tree.Block (source_statements body), rest)
 unfolding spec.parse_form
 statement-block inner budget body ts rest q read = rw (q, read)
 
@@ -200,23 +200,23 @@ not_at_most : (u : PlainToken) (ts : PlainTokens) → u.kind ≡ k.Assign → se
 unfolding same_kind
 not_at_most u ts q = rw q
 
-statement-assign : (inner : Parser Statement) (budget : ℕ) (d : Option ℕ) (e : Expression Text) (t u : PlainToken) (ts rest : PlainTokens) → t.kind ≡ k.Name → u.kind ≡ k.Assign
+statement-assign : (inner : Parser SourceStatement) (budget : ℕ) (d : Option ℕ) (e : Expression Text) (t u : PlainToken) (ts rest : PlainTokens) → t.kind ≡ k.Name → u.kind ≡ k.Assign
     → spec.parse_value budget ts ≡ Some ((d, e), rest) → spec.parse_form inner budget (t ∷ u ∷ ts) ≡ Some (tree.Assign t.text d e, rest)
 unfolding spec.parse_form spec.parse_assign
 statement-assign inner budget d e t u ts rest q sign read =
     let x = expect-is k.Assign u ts sign in let y = not_at_most u ts sign in rw (q, y, x, read)
 
-statement-assign_later : (inner : Parser Statement) (budget : ℕ) (d : Option ℕ) (e : Expression Text) (t u : PlainToken) (ts rest : PlainTokens) → t.kind ≡ k.Name → u.kind ≡ k.AtMost
+statement-assign_later : (inner : Parser SourceStatement) (budget : ℕ) (d : Option ℕ) (e : Expression Text) (t u : PlainToken) (ts rest : PlainTokens) → t.kind ≡ k.Name → u.kind ≡ k.AtMost
     → spec.parse_value budget ts ≡ Some ((d, e), rest) → spec.parse_form inner budget (t ∷ u ∷ ts) ≡ Some (tree.AssignLater t.text d e, rest)
 unfolding spec.parse_form spec.parse_assign
 statement-assign_later inner budget d e t u ts rest q sign read = let y = same_kind-is u.kind k.AtMost sign in rw (q, y, read)
 
-statement-delayed : (inner : Parser Statement) (budget : ℕ) (s : Statement) (t u : PlainToken) (ts rest : PlainTokens) → t.kind ≡ k.Hash → u.kind ≡ k.Decimal
+statement-delayed : (inner : Parser SourceStatement) (budget : ℕ) (s : SourceStatement) (t u : PlainToken) (ts rest : PlainTokens) → t.kind ≡ k.Hash → u.kind ≡ k.Decimal
     → inner ts ≡ Some (s, rest) → spec.parse_form inner budget (t ∷ u ∷ ts) ≡ Some (tree.Delay u.value s, rest)
 unfolding spec.parse_form spec.parse_delayed
 statement-delayed inner budget s t u ts rest q n read = let x = expect-is k.Decimal u ts n in rw (q, x, read)
 
-statement-awaited : (inner : Parser Statement) (budget : ℕ) (es : List Trigger) (s : Statement) (t u : PlainToken) (ts us rest : PlainTokens) → t.kind ≡ k.At → u.kind ≡ k.Open
+statement-awaited : (inner : Parser SourceStatement) (budget : ℕ) (es : List SourceTrigger) (s : SourceStatement) (t u : PlainToken) (ts us rest : PlainTokens) → t.kind ≡ k.At → u.kind ≡ k.Open
     → parse_events budget [] ts ≡ Some (es, us) → inner us ≡ Some (s, rest) → spec.parse_form inner budget (t ∷ u ∷ ts) ≡ Some (tree.Await es s, rest)
 unfolding spec.parse_form spec.parse_awaited spec.parse_event_control
 statement-awaited inner budget es s t u ts us rest q start read body = let x = expect-is k.Open u ts start in rw (q, x, read, body)
@@ -229,22 +229,22 @@ trigger-edge : (c : Change) (t u : PlainToken) (rest : PlainTokens) → change_o
 unfolding spec.parse_event
 trigger-edge c t u rest q n = let x = expect-is k.Name u rest n in rw (q, x)
 
-complete-trigger : {e : Trigger} {ts rest : PlainTokens} → IsTrigger e ts rest → spec.parse_event ts ≡ Some (e, rest)
+complete-trigger : {e : SourceTrigger} {ts rest : PlainTokens} → IsTrigger e ts rest → spec.parse_event ts ≡ Some (e, rest)
 complete-trigger (any {t = t} {rest = rest} q) = trigger-any t rest q
 complete-trigger (edge {c = c} {t = t} {u = u} {rest = rest} q n) = trigger-edge c t u rest q n
 
-triggers-last : (m : ℕ) (found : List Trigger) (e : Trigger) (ts : PlainTokens) (u : PlainToken) (rest : PlainTokens) → 0 < m → spec.parse_event ts ≡ Some (e, u ∷ rest) → u.kind ≡ k.Close
+triggers-last : (m : ℕ) (found : List SourceTrigger) (e : SourceTrigger) (ts : PlainTokens) (u : PlainToken) (rest : PlainTokens) → 0 < m → spec.parse_event ts ≡ Some (e, u ∷ rest) → u.kind ≡ k.Close
     → parse_events m found ts ≡ Some (found ++ e ∷ [], rest)
 unfolding parse_events
 triggers-last zero found e ts u rest w read end = absurd (omega arith)
 triggers-last (suc m) found e ts u rest w read end = let y : separates u.kind ≡ false = rw end in let z = expect-is k.Close u rest end in rw (read, y, z)
 
-triggers-next : (m n : ℕ) (found : List Trigger) (e : Trigger) (ts : PlainTokens) (u : PlainToken) (us : PlainTokens) → m ≡ suc n → spec.parse_event ts ≡ Some (e, u ∷ us) → separates u.kind ≡ true
+triggers-next : (m n : ℕ) (found : List SourceTrigger) (e : SourceTrigger) (ts : PlainTokens) (u : PlainToken) (us : PlainTokens) → m ≡ suc n → spec.parse_event ts ≡ Some (e, u ∷ us) → separates u.kind ≡ true
     → parse_events m found ts ≡ parse_events n (found ++ e ∷ []) us
 unfolding parse_events
 triggers-next m n found e ts u us is read c = rw (is, read, c)
 
-complete-triggers : {es : List Trigger} {ts rest : PlainTokens} → IsTriggers es ts rest → (m : ℕ) (found : List Trigger) → length ts ≤ m → parse_events m found ts ≡ Some (found ++ es, rest)
+complete-triggers : {es : List SourceTrigger} {ts rest : PlainTokens} → IsTriggers es ts rest → (m : ℕ) (found : List SourceTrigger) → length ts ≤ m → parse_events m found ts ≡ Some (found ++ es, rest)
 complete-triggers {ts = ts} {rest = rest} (last_trigger {e = e} {u = u} d end) m found w =
     let x = short-trigger d in triggers-last m found e ts u rest (omega arith) (complete-trigger d) end
 complete-triggers {ts = ts} {rest = rest} (next_trigger {e = e} {es = es} {u = u} {us = us} d c ds) m found w =
@@ -275,46 +275,46 @@ complete-arguments {rest = rest} (one_argument {e = e} {es = es} {t = t} {ts = t
     ∙ complete-arguments ds budget (m - 1) (found ++ e ∷ []) (omega arith) (omega arith)
     ∙ ap (λ x. Some (x, rest)) (append_assoc found (e ∷ []) (expression_list es))
 
-statement-print : (task : Task) (inner : Parser Statement) (budget : ℕ) (es : List (Expression Text)) (t u v w : PlainToken) (ts rest : PlainTokens) → t.kind ≡ task_kind task → u.kind ≡ k.Open → v.kind ≡ k.Text
+statement-print : (task : Task) (inner : Parser SourceStatement) (budget : ℕ) (es : List (Expression Text)) (t u v w : PlainToken) (ts rest : PlainTokens) → t.kind ≡ task_kind task → u.kind ≡ k.Open → v.kind ≡ k.Text
     → parse_list (spec.parse_expression budget) k.Close budget [] ts ≡ Some (es, w ∷ rest) → w.kind ≡ k.Semicolon
-    → spec.parse_form inner budget (t ∷ u ∷ v ∷ ts) ≡ Some (tree.Print task (string_text v.text) (expressions es), rest)
+    → spec.parse_form inner budget (t ∷ u ∷ v ∷ ts) ≡ Some (tree.Print task (string_text v.text) (source_expressions es), rest)
 unfolding spec.parse_form spec.parse_print
 statement-print Task.Display inner budget es t u v w ts rest q start f read end =
     let x = expect-is k.Open u (v ∷ ts) start in let y = expect-is k.Text v ts f in let z = expect-is k.Semicolon w rest end in rw (q, x, y, read, z)
 statement-print Task.Strobe inner budget es t u v w ts rest q start f read end =
     let x = expect-is k.Open u (v ∷ ts) start in let y = expect-is k.Text v ts f in let z = expect-is k.Semicolon w rest end in rw (q, x, y, read, z)
 
-statement-finish : (inner : Parser Statement) (budget : ℕ) (t u : PlainToken) (rest : PlainTokens) → t.kind ≡ k.Finish → u.kind ≡ k.Semicolon → spec.parse_form inner budget (t ∷ u ∷ rest) ≡ Some (tree.Finish, rest)
+statement-finish : (inner : Parser SourceStatement) (budget : ℕ) (t u : PlainToken) (rest : PlainTokens) → t.kind ≡ k.Finish → u.kind ≡ k.Semicolon → spec.parse_form inner budget (t ∷ u ∷ rest) ≡ Some (tree.Finish, rest)
 unfolding spec.parse_form spec.parse_finish
 statement-finish inner budget t u rest q end = let z = expect-is k.Semicolon u rest end in rw (q, z)
 
-statement-loop : (inner : Parser Statement) (budget : ℕ) (e : Expression Text) (body : List Statement) (t : PlainToken) (ts us rest : PlainTokens) → t.kind ≡ k.While
+statement-loop : (inner : Parser SourceStatement) (budget : ℕ) (e : Expression Text) (body : List SourceStatement) (t : PlainToken) (ts us rest : PlainTokens) → t.kind ≡ k.While
     → spec.parse_parenthesized (spec.parse_expression budget) ts ≡ Some (e, us) → spec.parse_block inner budget us ≡ Some (body, rest)
-    → spec.parse_form inner budget (t ∷ ts) ≡ Some (tree.While e (statements body), rest)
+    → spec.parse_form inner budget (t ∷ ts) ≡ Some (tree.While e (source_statements body), rest)
 unfolding spec.parse_form spec.parse_while spec.parse_guarded
 statement-loop inner budget e body t ts us rest q test read = rw (q, test, read)
 
-statement-branch : (inner : Parser Statement) (budget : ℕ) (e : Expression Text) (body : List Statement) (t : PlainToken) (ts us rest : PlainTokens) → t.kind ≡ k.If
+statement-branch : (inner : Parser SourceStatement) (budget : ℕ) (e : Expression Text) (body : List SourceStatement) (t : PlainToken) (ts us rest : PlainTokens) → t.kind ≡ k.If
     → spec.parse_parenthesized (spec.parse_expression budget) ts ≡ Some (e, us) → spec.parse_block inner budget us ≡ Some (body, rest)
     → spec.parse_form inner budget (t ∷ ts) ≡ spec.parse_else inner budget e body rest
 unfolding spec.parse_form spec.parse_if spec.parse_guarded
 statement-branch inner budget e body t ts us rest q test read = rw (q, test, read)
 
-otherwise-none : (inner : Parser Statement) (budget : ℕ) (e : Expression Text) (body : List Statement) (rest : PlainTokens) → sees k.Else rest ≡ false
-    → spec.parse_else inner budget e body rest ≡ Some (tree.If e (statements body), rest)
+otherwise-none : (inner : Parser SourceStatement) (budget : ℕ) (e : Expression Text) (body : List SourceStatement) (rest : PlainTokens) → sees k.Else rest ≡ false
+    → spec.parse_else inner budget e body rest ≡ Some (tree.If e (source_statements body), rest)
 unfolding spec.parse_else
 otherwise-none inner budget e body rest q = rw q
 
-otherwise-some : (inner : Parser Statement) (budget : ℕ) (e : Expression Text) (body other : List Statement) (t : PlainToken) (ts rest : PlainTokens) → t.kind ≡ k.Else
+otherwise-some : (inner : Parser SourceStatement) (budget : ℕ) (e : Expression Text) (body other : List SourceStatement) (t : PlainToken) (ts rest : PlainTokens) → t.kind ≡ k.Else
     → spec.parse_block inner budget ts ≡ Some (other, rest)
-    → spec.parse_else inner budget e body (t ∷ ts) ≡ Some (tree.IfElse e (statements body) (statements other), rest)
+    → spec.parse_else inner budget e body (t ∷ ts) ≡ Some (tree.IfElse e (source_statements body) (source_statements other), rest)
 unfolding spec.parse_else
 otherwise-some inner budget e body other t ts rest q read = let x = same_kind-is t.kind k.Else q in rw (x, read)
 
 -- ---- statements
 
 mutual
-  complete-statement : {s : Statement} {ts rest : PlainTokens} → IsStatement s ts rest → (n : ℕ) → length ts ≤ n → sees k.Else rest ≡ false
+  complete-statement : {s : SourceStatement} {ts rest : PlainTokens} → IsStatement s ts rest → (n : ℕ) → length ts ≤ n → sees k.Else rest ≡ false
       → spec.parse_form (parse_statement n) n ts ≡ Some (s, rest)
   complete-statement (emptied {t = t} {rest = rest} q) n w follow = statement-empty (parse_statement n) n t rest q
   complete-statement {ts = ts} {rest = rest} (grouped {ss = ss} d) n w follow =
@@ -352,13 +352,13 @@ mutual
       let rest_body = complete-block o n (omega arith) in
       statement-branch (parse_statement n) n e (list_of ss) t (u ∷ ts) us (w ∷ vs) q test body
       ∙ otherwise-some (parse_statement n) n e (list_of ss) (list_of rs) w vs rest other rest_body
-      ∙ ap (λ x. Some (tree.IfElse e x (statements (list_of rs)), rest)) (statements_list ss) ∙ ap (λ x. Some (tree.IfElse e ss x, rest)) (statements_list rs)
+      ∙ ap (λ x. Some (tree.IfElse e x (source_statements (list_of rs)), rest)) (statements_list ss) ∙ ap (λ x. Some (tree.IfElse e ss x, rest)) (statements_list rs)
 
-  complete-block : {ss : Statements} {ts rest : PlainTokens} → IsBeginEnd ss ts rest → (n : ℕ) → length ts ≤ n → spec.parse_block (parse_statement n) n ts ≡ Some (list_of ss, rest)
+  complete-block : {ss : SourceStatements} {ts rest : PlainTokens} → IsBeginEnd ss ts rest → (n : ℕ) → length ts ≤ n → spec.parse_block (parse_statement n) n ts ≡ Some (list_of ss, rest)
   complete-block (begun {ss = ss} {t = t} {u = u} {ts = ts} {rest = rest} q d end) n w =
       block-is (parse_statement n) n (list_of ss) t ts rest q (complete-statements d n n [] u rest refl (omega arith) (omega arith) end)
 
-  complete-statements : {ss : Statements} {ts all : PlainTokens} → IsStatements ss ts all → (n m : ℕ) (found : List Statement) (u : PlainToken) (rest : PlainTokens) → all ≡ u ∷ rest → length ts < n → length ts ≤ m
+  complete-statements : {ss : SourceStatements} {ts all : PlainTokens} → IsStatements ss ts all → (n m : ℕ) (found : List SourceStatement) (u : PlainToken) (rest : PlainTokens) → all ≡ u ∷ rest → length ts < n → length ts ≤ m
       → u.kind ≡ k.EndBlock → parse_statements (parse_statement n) m found ts ≡ Some (found ++ list_of ss, rest)
   complete-statements {ts = ts} no_more n m found u rest is w turns end =
       let long : 0 < m = omega (arith, ap length is) in
@@ -433,7 +433,7 @@ complete-range : {r : Option (ℕ × ℕ)} {ts rest : PlainTokens} → IsRange r
 complete-range (no_range {ts = ts}) none = range-none ts none
 complete-range (some_range {t = t} {u = u} {v = v} {w = w} {x = x} {rest = rest} a b c d e) none = range-some t u v w x rest a b c d e
 
-first-items : {ds : List Declaration} {ps : List Process} {ts rest : PlainTokens} → IsItems ds ps ts rest → sees k.Else rest ≡ false → sees k.Else ts ≡ false
+first-items : {ds : List Declaration} {ps : List SourceProcess} {ts rest : PlainTokens} → IsItems ds ps ts rest → sees k.Else rest ≡ false → sees k.Else ts ≡ false
 unfolding same_kind
 first-items no_items h = h
 first-items (regs q r d ds) h = rw q
@@ -445,7 +445,7 @@ unfolding spec.parse_item spec.parse_declaration
 item-regs budget m r ns t ts us rest q range read =
     let none : repeats_of t.kind ≡ None = rw q in let x = same_kind-is t.kind k.Reg q in rw (none, x, range, read)
 
-item-proc : (budget : ℕ) (m : Module) (b : Bool) (s : Statement) (t : PlainToken) (ts rest : PlainTokens) → repeats_of t.kind ≡ Some b → parse_statement budget ts ≡ Some (s, rest)
+item-proc : (budget : ℕ) (m : Module) (b : Bool) (s : SourceStatement) (t : PlainToken) (ts rest : PlainTokens) → repeats_of t.kind ≡ Some b → parse_statement budget ts ≡ Some (s, rest)
     → spec.parse_item budget m (t ∷ ts) ≡ Some (record m { processes = m.processes ++ record { repeats = b; body = s } ∷ [] }, rest)
 unfolding spec.parse_item spec.parse_process
 item-proc budget m b s t ts rest q read = rw (q, read)
@@ -464,19 +464,19 @@ not_end-Reg : (t : PlainToken) (ts : PlainTokens) → t.kind ≡ k.Reg → sees 
 unfolding same_kind
 not_end-Reg t ts q = rw q
 
-abbrev with_items : Module → List Declaration → List Process → Module
+abbrev with_items : Module → List Declaration → List SourceProcess → Module
 with_items m ds ps = record { name = m.name; declarations = m.declarations ++ ds; processes = m.processes ++ ps }
 
 with_none : (m : Module) → with_items m [] [] ≡ m
 with_none m = rw (append-nil m.declarations, append-nil m.processes)
 
-with_reg : (m : Module) (d : Declaration) (ds : List Declaration) (ps : List Process) → with_items (record m { declarations = m.declarations ++ d ∷ [] }) ds ps ≡ with_items m (d ∷ ds) ps
+with_reg : (m : Module) (d : Declaration) (ds : List Declaration) (ps : List SourceProcess) → with_items (record m { declarations = m.declarations ++ d ∷ [] }) ds ps ≡ with_items m (d ∷ ds) ps
 with_reg m d ds ps = rw (append_assoc m.declarations (d ∷ []) ds)
 
-with_proc : (m : Module) (p : Process) (ds : List Declaration) (ps : List Process) → with_items (record m { processes = m.processes ++ p ∷ [] }) ds ps ≡ with_items m ds (p ∷ ps)
+with_proc : (m : Module) (p : SourceProcess) (ds : List Declaration) (ps : List SourceProcess) → with_items (record m { processes = m.processes ++ p ∷ [] }) ds ps ≡ with_items m ds (p ∷ ps)
 with_proc m p ds ps = rw (append_assoc m.processes (p ∷ []) ps)
 
-complete-items : {ds : List Declaration} {ps : List Process} {ts all : PlainTokens} → IsItems ds ps ts all → (budget n : ℕ) (m : Module) (u : PlainToken) (rest : PlainTokens) → all ≡ u ∷ rest
+complete-items : {ds : List Declaration} {ps : List SourceProcess} {ts all : PlainTokens} → IsItems ds ps ts all → (budget n : ℕ) (m : Module) (u : PlainToken) (rest : PlainTokens) → all ≡ u ∷ rest
     → length ts < budget → length ts ≤ n → u.kind ≡ k.EndModule → parse_items budget n m ts ≡ Some (with_items m ds ps, rest)
 complete-items no_items budget n m u rest is w turns end =
     let some : 0 < n = omega (arith, ap length is) in
@@ -492,7 +492,7 @@ complete-items (regs {r = r} {ns = ns} {ds = ds} {ps = ps} {t = t} {ts = ts} {us
 complete-items (proc {b = b} {s = s} {ds = ds} {ps = ps} {t = t} {ts = ts} {us = us} q d more) budget n m u rest is w turns end =
     let x = short-statement d in
     let follow = first-items more (rw is (no_else_after u rest end)) in
-    let made : Process = record { repeats = b; body = s } in
+    let made : SourceProcess = record { repeats = b; body = s } in
     let one : parse_statement budget ts ≡ Some (s, us) = deeper (λ x. parse_statement x ts) budget (omega arith) ∙ complete-statement d (budget - 1) (omega arith) follow in
     let read = item-proc budget m b s t ts us q one in
     items-turn budget n (n - 1) m (record m { processes = m.processes ++ made ∷ [] }) (t ∷ ts) us (omega arith) (apart repeats_of b t.kind k.EndModule q refl) read

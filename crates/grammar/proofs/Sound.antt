@@ -5,11 +5,11 @@ use Rattle.tokens.specs.declared.token.Kind.{Kind}
 use Rattle.tokens.specs.declared.token.Kind.TheVariants as k
 use Rattle.model.specs.declared.tree.UnaryOperator.{UnaryOperator}
 use Rattle.model.specs.declared.tree.BinaryOperator.{BinaryOperator}
-use Rattle.grammar.specs.Cursor.{kind, sees, and_then, take, expect}
+use Rattle.grammar.specs.Cursor.{kind, sees, parse_and_then, take, expect}
 use Rattle.tokens.specs.Tokens.{PlainToken, PlainTokens}
 use Rattle.logic4.specs.Vector.{Vector}
 use Rattle.model.specs.Syntax.{Text, Expression}
-use Rattle.model.specs.SourceTrees.{expressions}
+use Rattle.model.specs.SourceTrees.{source_expressions}
 use Rattle.model.specs.Syntax as tree
 use Rattle.grammar.specs.Grammar.{operator, prefix, IsExpression, plain, chosen, IsBinary, operand, tighter, joined, IsUnary, bare, prefixed, IsPrimary, named, selected, sized, concatenated, nested, IsParts, last_part, next_part}
 use Rattle.grammar.specs.Reading as spec
@@ -134,7 +134,7 @@ sound-sized e ts rest p h =
 pub record IsPartsRest (first : Expression Text) (found all : List (Expression Text)) (ts rest : PlainTokens) : Type 0 where
   pub more : List (Expression Text)
   pub is_all : all ≡ found ++ more
-  pub spells : IsParts (tree.Also first (expressions more)) ts rest
+  pub spells : IsParts (tree.Also first (source_expressions more)) ts rest
 
 module _ (inner : ℕ → Parser (Expression Text))
     (sound : (level : ℕ) (e : Expression Text) (ts rest : PlainTokens) → level ≤ 10 → inner level ts ≡ Some (e, rest) → IsAt level e ts rest × (continues level (kind rest) ≡ None)) where
@@ -174,11 +174,11 @@ module _ (inner : ℕ → Parser (Expression Text))
       and_then-cases (take ts) _ _ h (λ t us took h1.
       and_then-cases (inner 0 us) _ _ h1 (λ a vs read h2.
       and_then-cases (parse_list inner k.CloseCurly budget [] vs) _ _ h2 (λ es ws others h3.
-      let same = some-pair (tree.Concat (tree.Also a (expressions es))) e ws rest h3 in
+      let same = some-pair (tree.Concat (tree.Also a (source_expressions es))) e ws rest h3 in
       let is = take-some ts t us took in
       let q : t.kind ≡ k.OpenCurly = sym (ap kind is) ∙ o in
       let r = sound-parts budget a [] es us vs ws (sound 0 a us vs (omega arith) read).0 others in
-      let d : IsParts (tree.Also a (expressions es)) us ws = rw r.is_all r.spells in
+      let d : IsParts (tree.Also a (source_expressions es)) us ws = rw r.is_all r.spells in
       rw (is, sym same.0, sym same.1) (concatenated q d))))
 
   sound-primary : (budget : ℕ) (e : Expression Text) (ts rest : PlainTokens) → parse_primary inner budget ts ≡ Some (e, rest) → IsPrimary e ts rest
@@ -253,7 +253,7 @@ module _ (inner : ℕ → Parser (Expression Text))
       → IsAt level e ts rest × (continues level (kind rest) ≡ None)
   unfolding parse_level
   sound-whole budget level e ts rest w h =
-      and_then-cases (and_then (spec.parse_operand inner budget ts) (parse_operators inner budget level)) _ _ h (λ left vs h1 h2.
+      and_then-cases (parse_and_then (spec.parse_operand inner budget ts) (parse_operators inner budget level)) _ _ h (λ left vs h1 h2.
       and_then-cases (spec.parse_operand inner budget ts) _ _ h1 (λ first us h3 h4.
       let d = sound-climb budget level 10 first left ts us vs w (operand (sound-operand budget first ts us h3)) (continues-none 11 (kind us) (omega arith)) h4 in
       at_level level left vs d h2)) where

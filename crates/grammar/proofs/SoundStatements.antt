@@ -8,9 +8,9 @@ use Rattle.model.specs.declared.tree.Task.{Task}
 use Rattle.model.specs.declared.tree.Change.{Change}
 use Rattle.model.specs.declared.tree.Change.TheVariants.{Any}
 use Rattle.grammar.specs.Cursor.{kind, sees, done, take, expect}
-use Rattle.model.specs.Syntax.{Text, Expression, Statement, Declaration, Process, Module}
-use Rattle.model.specs.SourceTrees.{expressions, statements}
-use Rattle.grammar.specs.Nodes.{Trigger}
+use Rattle.model.specs.Syntax.{Text, Expression, SourceStatement, Declaration, SourceProcess, Module}
+use Rattle.model.specs.SourceTrees.{source_expressions, source_statements}
+use Rattle.grammar.specs.Nodes.{SourceTrigger}
 use Rattle.model.specs.Syntax as tree
 use Rattle.grammar.specs.Grammar.{IsExpression, IsDelay, no_delay, some_delay, change_of, IsTrigger, any, edge, separates, IsTriggers, last_trigger, next_trigger, IsArguments, no_argument, one_argument, IsStatement, emptied, grouped, assigned, assigned_later, delayed, awaited, branched, branched_else, looped, printed, task_kind, finished, IsBeginEnd, begun, IsStatements, no_more, one_more, IsRange, no_range, some_range, IsNames, last_name, next_name, repeats_of, IsItems, no_items, regs, proc, IsModule, spelled}
 use Rattle.grammar.specs.Reading as spec
@@ -51,7 +51,7 @@ sound-value budget p ts rest h =
     let x : IsExpression e us vs = (sound-expression budget 0 e us vs (omega arith) read).0 in
     rw (sym same.0, sym same.1) (record { between = us; end = v; waits = sound-delay d ts us waits; spells = rw end.0 at x; ends = end.1 }))))
 
-sound-assign : (budget : ℕ) (s : Statement) (ts rest : PlainTokens) → kind ts ≡ k.Name → spec.parse_assign budget ts ≡ Some (s, rest) → IsStatement s ts rest
+sound-assign : (budget : ℕ) (s : SourceStatement) (ts rest : PlainTokens) → kind ts ≡ k.Name → spec.parse_assign budget ts ≡ Some (s, rest) → IsStatement s ts rest
 unfolding spec.parse_assign
 sound-assign budget s ts rest q h =
     and_then-cases (take ts) _ _ h (λ t us took h1.
@@ -73,32 +73,32 @@ sound-assign budget s ts rest q h =
           rw (is, sign.0, sym same.0, sym same.1) (assigned p sign.1 d.waits d.spells d.ends)))
     ])
 
-sound-trigger : (e : Trigger) (ts rest : PlainTokens) → spec.parse_event ts ≡ Some (e, rest) → IsTrigger e ts rest
+sound-trigger : (e : SourceTrigger) (ts rest : PlainTokens) → spec.parse_event ts ≡ Some (e, rest) → IsTrigger e ts rest
 unfolding spec.parse_event
 sound-trigger e ts rest h = by (change_of (kind ts)) refl h where
   by : (o : Option Change) → change_of (kind ts) ≡ o → event_by o ts ≡ Some (e, rest) → IsTrigger e ts rest
   by None q h =
       and_then-cases (expect k.Name ts) _ _ h (λ t us named h1.
-      let made : Trigger = (Any, t.text) in
+      let made : SourceTrigger = (Any, t.text) in
       let same = some-pair made e us rest h1 in
       let n = expect-some k.Name ts t us named in
       rw (n.0, sym same.0, sym same.1) (any n.1))
   by (Some c) q h =
       and_then-cases (take ts) _ _ h (λ t us took h1.
       and_then-cases (expect k.Name us) _ _ h1 (λ u vs named h2.
-      let made : Trigger = (c, u.text) in
+      let made : SourceTrigger = (c, u.text) in
       let same = some-pair made e vs rest h2 in
       let is = take-some ts t us took in
       let p : change_of t.kind ≡ Some c = sym (ap (λ x. change_of (kind x)) is) ∙ q in
       let n = expect-some k.Name us u vs named in
       rw (is, n.0, sym same.0, sym same.1) (edge p n.1)))
 
-pub record IsTriggersRest (found all : List Trigger) (ts rest : PlainTokens) : Type 0 where
-  pub more : List Trigger
+pub record IsTriggersRest (found all : List SourceTrigger) (ts rest : PlainTokens) : Type 0 where
+  pub more : List SourceTrigger
   pub is_all : all ≡ found ++ more
   pub spells : IsTriggers more ts rest
 
-sound-triggers : (m : ℕ) (found all : List Trigger) (ts rest : PlainTokens) → parse_events m found ts ≡ Some (all, rest) → IsTriggersRest found all ts rest
+sound-triggers : (m : ℕ) (found all : List SourceTrigger) (ts rest : PlainTokens) → parse_events m found ts ≡ Some (all, rest) → IsTriggersRest found all ts rest
 unfolding parse_events
 sound-triggers zero found all ts rest h = absurd (cc)
 sound-triggers (suc m) found all ts rest h =
@@ -119,7 +119,7 @@ sound-triggers (suc m) found all ts rest h =
 pub record IsArgumentsRest (found all : List (Expression Text)) (ts rest : PlainTokens) : Type 0 where
   pub more : List (Expression Text)
   pub is_all : all ≡ found ++ more
-  pub spells : IsArguments (expressions more) ts rest
+  pub spells : IsArguments (source_expressions more) ts rest
 
 sound-arguments : (budget m : ℕ) (found all : List (Expression Text)) (ts rest : PlainTokens) → parse_list (spec.parse_expression budget) k.Close m found ts ≡ Some (all, rest) → IsArgumentsRest found all ts rest
 unfolding parse_list
@@ -138,7 +138,7 @@ sound-arguments budget (suc m) found all ts rest h = elim (if-is (sees k.Comma t
       rw (end.0, sym same.0, sym same.1) (record { more = []; is_all = sym (append-nil found); spells = no_argument end.1 }))
 ]
 
-sound-print : (task : Task) (budget : ℕ) (s : Statement) (ts rest : PlainTokens) → kind ts ≡ task_kind task → spec.parse_print task budget ts ≡ Some (s, rest) → IsStatement s ts rest
+sound-print : (task : Task) (budget : ℕ) (s : SourceStatement) (ts rest : PlainTokens) → kind ts ≡ task_kind task → spec.parse_print task budget ts ≡ Some (s, rest) → IsStatement s ts rest
 unfolding spec.parse_print
 sound-print task budget s ts rest q h =
     and_then-cases (take ts) _ _ h (λ t us took h1.
@@ -146,17 +146,17 @@ sound-print task budget s ts rest q h =
     and_then-cases (expect k.Text vs) _ _ h2 (λ v ws format h3.
     and_then-cases (parse_list (spec.parse_expression budget) k.Close budget [] ws) _ _ h3 (λ es xs read h4.
     and_then-cases (expect k.Semicolon xs) _ _ h4 (λ x ys ended h5.
-    let same = some-pair (tree.Print task (string_text v.text) (expressions es)) s ys rest h5 in
+    let same = some-pair (tree.Print task (string_text v.text) (source_expressions es)) s ys rest h5 in
     let is = take-some ts t us took in
     let p : t.kind ≡ task_kind task = sym (ap kind is) ∙ q in
     let start = expect-some k.Open us u vs opened in
     let f = expect-some k.Text vs v ws format in
     let end = expect-some k.Semicolon xs x ys ended in
     let r = sound-arguments budget budget [] es ws xs read in
-    let d : IsArguments (expressions es) ws xs = rw r.is_all r.spells in
+    let d : IsArguments (source_expressions es) ws xs = rw r.is_all r.spells in
     rw (is, start.0, f.0, sym same.0, sym same.1) (printed p start.1 f.1 (rw end.0 at d) end.1))))))
 
-sound-finish : (s : Statement) (ts rest : PlainTokens) → kind ts ≡ k.Finish → spec.parse_finish ts ≡ Some (s, rest) → IsStatement s ts rest
+sound-finish : (s : SourceStatement) (ts rest : PlainTokens) → kind ts ≡ k.Finish → spec.parse_finish ts ≡ Some (s, rest) → IsStatement s ts rest
 unfolding spec.parse_finish
 sound-finish s ts rest q h =
     and_then-cases (take ts) _ _ h (λ t us took h1.
@@ -190,24 +190,24 @@ sound-condition budget e ts rest h =
     rw (sym same.0, sym same.1) (record { start = t; close = u; inside = us; is_start = start.0; opens = start.1; spells = rw end.0 at d; closes = end.1 }))))
 
 -- an expression in parentheses and a block, behind a word
-pub record IsGuarded (p : Expression Text × List Statement) (ts rest : PlainTokens) : Type 0 where
+pub record IsGuarded (p : Expression Text × List SourceStatement) (ts rest : PlainTokens) : Type 0 where
   pub word : PlainToken
   pub inside : PlainTokens
   pub between : PlainTokens
   pub is_word : ts ≡ word ∷ inside
   pub test : IsCondition p.0 inside between
-  pub block : IsBeginEnd (statements p.1) between rest
+  pub block : IsBeginEnd (source_statements p.1) between rest
 
 -- statements, and the end of the block
-pub record IsRest (found all : List Statement) (ts rest : PlainTokens) : Type 0 where
-  pub more : List Statement
+pub record IsRest (found all : List SourceStatement) (ts rest : PlainTokens) : Type 0 where
+  pub more : List SourceStatement
   pub is_all : all ≡ found ++ more
   pub end : PlainToken
-  pub spells : IsStatements (statements more) ts (end ∷ rest)
+  pub spells : IsStatements (source_statements more) ts (end ∷ rest)
   pub ends : end.kind ≡ k.EndBlock
 
-module _ (inner : Parser Statement) (sound : (s : Statement) (ts rest : PlainTokens) → inner ts ≡ Some (s, rest) → IsStatement s ts rest) where
-  sound-statements : (m : ℕ) (found all : List Statement) (ts rest : PlainTokens) → parse_statements inner m found ts ≡ Some (all, rest) → IsRest found all ts rest
+module _ (inner : Parser SourceStatement) (sound : (s : SourceStatement) (ts rest : PlainTokens) → inner ts ≡ Some (s, rest) → IsStatement s ts rest) where
+  sound-statements : (m : ℕ) (found all : List SourceStatement) (ts rest : PlainTokens) → parse_statements inner m found ts ≡ Some (all, rest) → IsRest found all ts rest
   unfolding parse_statements
   sound-statements zero found all ts rest h = absurd (cc)
   sound-statements (suc m) found all ts rest h = elim (if-is (sees k.EndBlock ts) _ _ (Some (all, rest)) h) [
@@ -222,7 +222,7 @@ module _ (inner : Parser Statement) (sound : (s : Statement) (ts rest : PlainTok
         record { more = s ∷ r.more; is_all = r.is_all ∙ append_assoc found (s ∷ []) r.more; end = r.end; spells = one_more d r.spells; ends = r.ends })
   ]
 
-  sound-block : (budget : ℕ) (body : List Statement) (ts rest : PlainTokens) → spec.parse_block inner budget ts ≡ Some (body, rest) → IsBeginEnd (statements body) ts rest
+  sound-block : (budget : ℕ) (body : List SourceStatement) (ts rest : PlainTokens) → spec.parse_block inner budget ts ≡ Some (body, rest) → IsBeginEnd (source_statements body) ts rest
   unfolding spec.parse_block
   sound-block budget body ts rest h =
       and_then-cases (expect k.Begin ts) _ _ h (λ t us begun_by h1.
@@ -230,20 +230,20 @@ module _ (inner : Parser Statement) (sound : (s : Statement) (ts rest : PlainTok
       let r = sound-statements budget [] body us rest h1 in
       rw (start.0, r.is_all) (begun start.1 r.spells r.ends))
 
-  sound-guarded : (budget : ℕ) (p : Expression Text × List Statement) (ts rest : PlainTokens) → spec.parse_guarded inner budget ts ≡ Some (p, rest) → IsGuarded p ts rest
+  sound-guarded : (budget : ℕ) (p : Expression Text × List SourceStatement) (ts rest : PlainTokens) → spec.parse_guarded inner budget ts ≡ Some (p, rest) → IsGuarded p ts rest
   unfolding spec.parse_guarded
   sound-guarded budget p ts rest h =
       and_then-cases (take ts) _ _ h (λ t us took h1.
       and_then-cases (spec.parse_parenthesized (spec.parse_expression budget) us) _ _ h1 (λ e vs read h2.
       and_then-cases (spec.parse_block inner budget vs) _ _ h2 (λ body ws read_body h3.
-      let made : Expression Text × List Statement = (e, body) in
+      let made : Expression Text × List SourceStatement = (e, body) in
       let same = some-pair made p ws rest h3 in
       let is = take-some ts t us took in
       let c = sound-condition budget e us vs read in
       let b = sound-block budget body vs ws read_body in
       rw (sym same.0, sym same.1) (record { word = t; inside = us; between = vs; is_word = is; test = c; block = b }))))
 
-  sound-branch : (budget : ℕ) (s : Statement) (ts rest : PlainTokens) → kind ts ≡ k.If → spec.parse_if inner budget ts ≡ Some (s, rest) → IsStatement s ts rest
+  sound-branch : (budget : ℕ) (s : SourceStatement) (ts rest : PlainTokens) → kind ts ≡ k.If → spec.parse_if inner budget ts ≡ Some (s, rest) → IsStatement s ts rest
   unfolding spec.parse_if spec.parse_else
   sound-branch budget s ts rest q h =
       and_then-cases (spec.parse_guarded inner budget ts) _ _ h (λ p ws read h1.
@@ -253,27 +253,27 @@ module _ (inner : Parser Statement) (sound : (s : Statement) (ts rest : PlainTok
       elim (if-is (sees k.Else ws) _ _ (Some (s, rest)) h1) [
         | inl e1 ↦ and_then-cases (take ws) _ _ e1.1 (λ w xs took_else h2.
             and_then-cases (spec.parse_block inner budget xs) _ _ h2 (λ other ys read_other h3.
-            let same = some-pair (tree.IfElse p.0 (statements p.1) (statements other)) s ys rest h3 in
+            let same = some-pair (tree.IfElse p.0 (source_statements p.1) (source_statements other)) s ys rest h3 in
             let at = take-some ws w xs took_else in
             let o = sound-block budget other xs ys read_other in
             let q_else : w.kind ≡ k.Else = sym (ap kind at) ∙ same_kind-true _ _ e1.0 in
-            rw (g.is_word, c.is_start, sym same.0, sym same.1) (branched_else word c.opens c.spells c.closes (subst (λ x. IsBeginEnd (statements p.1) g.between x) at g.block) q_else o)))
+            rw (g.is_word, c.is_start, sym same.0, sym same.1) (branched_else word c.opens c.spells c.closes (subst (λ x. IsBeginEnd (source_statements p.1) g.between x) at g.block) q_else o)))
         | inr e1 ↦ (
-            let same = some-pair (tree.If p.0 (statements p.1)) s ws rest e1.1 in
+            let same = some-pair (tree.If p.0 (source_statements p.1)) s ws rest e1.1 in
             rw (g.is_word, c.is_start, sym same.0, sym same.1) (branched word c.opens c.spells c.closes g.block))
       ])
 
-  sound-loop : (budget : ℕ) (s : Statement) (ts rest : PlainTokens) → kind ts ≡ k.While → spec.parse_while inner budget ts ≡ Some (s, rest) → IsStatement s ts rest
+  sound-loop : (budget : ℕ) (s : SourceStatement) (ts rest : PlainTokens) → kind ts ≡ k.While → spec.parse_while inner budget ts ≡ Some (s, rest) → IsStatement s ts rest
   unfolding spec.parse_while
   sound-loop budget s ts rest q h =
       and_then-cases (spec.parse_guarded inner budget ts) _ _ h (λ p ws read h1.
       let g = sound-guarded budget p ts ws read in
       let c = g.test in
       let word : g.word.kind ≡ k.While = sym (ap kind g.is_word) ∙ q in
-      let same = some-pair (tree.While p.0 (statements p.1)) s ws rest h1 in
+      let same = some-pair (tree.While p.0 (source_statements p.1)) s ws rest h1 in
       rw (g.is_word, c.is_start, sym same.0, sym same.1) (looped word c.opens c.spells c.closes g.block))
 
-  sound-delayed : (s : Statement) (ts rest : PlainTokens) → kind ts ≡ k.Hash → spec.parse_delayed inner ts ≡ Some (s, rest) → IsStatement s ts rest
+  sound-delayed : (s : SourceStatement) (ts rest : PlainTokens) → kind ts ≡ k.Hash → spec.parse_delayed inner ts ≡ Some (s, rest) → IsStatement s ts rest
   unfolding spec.parse_delayed
   sound-delayed s ts rest q h =
       and_then-cases (take ts) _ _ h (λ t us took h1.
@@ -286,7 +286,7 @@ module _ (inner : Parser Statement) (sound : (s : Statement) (ts rest : PlainTok
       let d = sound x vs ws read in
       rw (is, n.0, sym same.0, sym same.1) (delayed p n.1 d))))
 
-  sound-awaited : (budget : ℕ) (s : Statement) (ts rest : PlainTokens) → kind ts ≡ k.At → spec.parse_awaited inner budget ts ≡ Some (s, rest) → IsStatement s ts rest
+  sound-awaited : (budget : ℕ) (s : SourceStatement) (ts rest : PlainTokens) → kind ts ≡ k.At → spec.parse_awaited inner budget ts ≡ Some (s, rest) → IsStatement s ts rest
   unfolding spec.parse_awaited spec.parse_event_control
   sound-awaited budget s ts rest q h =
       and_then-cases (spec.parse_event_control budget ts) _ _ h (λ es vs read h1.
@@ -302,7 +302,7 @@ module _ (inner : Parser Statement) (sound : (s : Statement) (ts rest : PlainTok
       let b = sound x vs ws read_body in
       rw (is, start.0, sym same.0, sym same.1) (awaited p start.1 d b)))))
 
-  sound-form : (budget : ℕ) (s : Statement) (ts rest : PlainTokens) → spec.parse_form inner budget ts ≡ Some (s, rest) → IsStatement s ts rest
+  sound-form : (budget : ℕ) (s : SourceStatement) (ts rest : PlainTokens) → spec.parse_form inner budget ts ≡ Some (s, rest) → IsStatement s ts rest
   unfolding spec.parse_form
   sound-form budget s ts rest h = by (kind ts) refl h where
     by : (at : Kind) → kind ts ≡ at → form_by inner budget at ts ≡ Some (s, rest) → IsStatement s ts rest
@@ -314,7 +314,7 @@ module _ (inner : Parser Statement) (sound : (s : Statement) (ts rest : PlainTok
         rw (is, sym same.0, sym same.1) (emptied p))
     by k.Begin q h =
         and_then-cases (spec.parse_block inner budget ts) _ _ h (λ body us read h1.
-        let same = some-pair (tree.Block (statements body)) s us rest h1 in
+        let same = some-pair (tree.Block (source_statements body)) s us rest h1 in
         let b = sound-block budget body ts us read in
         rw (sym same.0, sym same.1) (grouped b))
     by k.Name q h = sound-assign budget s ts rest q h
@@ -327,7 +327,7 @@ module _ (inner : Parser Statement) (sound : (s : Statement) (ts rest : PlainTok
     by k.Finish q h = sound-finish s ts rest q h
     by _ q h = absurd (cc)
 
-pub sound-statement : (budget : ℕ) (s : Statement) (ts rest : PlainTokens) → parse_statement budget ts ≡ Some (s, rest) → IsStatement s ts rest
+pub sound-statement : (budget : ℕ) (s : SourceStatement) (ts rest : PlainTokens) → parse_statement budget ts ≡ Some (s, rest) → IsStatement s ts rest
 sound-statement zero s ts rest h = absurd (cc)
 sound-statement (suc budget) s ts rest h = sound-form (parse_statement budget) (sound-statement budget) budget s ts rest h
 
@@ -379,7 +379,7 @@ sound-range r ts rest h = elim (if-is (sees k.OpenSquare ts) _ _ (Some (r, rest)
 ]
 
 -- a declaration, before further items
-sound-declaration : (budget : ℕ) (d : Declaration) (ds : List Declaration) (ps : List Process) (ts us rest : PlainTokens) → sees k.Reg ts ≡ true → spec.parse_declaration budget ts ≡ Some (d, us) → IsItems ds ps us rest
+sound-declaration : (budget : ℕ) (d : Declaration) (ds : List Declaration) (ps : List SourceProcess) (ts us rest : PlainTokens) → sees k.Reg ts ≡ true → spec.parse_declaration budget ts ≡ Some (d, us) → IsItems ds ps us rest
     → IsItems (d ∷ ds) ps ts rest
 unfolding spec.parse_declaration
 sound-declaration budget d ds ps ts us rest o h more =
@@ -394,27 +394,27 @@ sound-declaration budget d ds ps ts us rest o h more =
     let names : IsNames ns ws us = rw (sym same.1, n.is_all) n.spells in
     rw (is, sym same.0) (regs q (sound-range r vs ws read) names more))))
 
-sound-process : (budget : ℕ) (b : Bool) (p : Process) (ds : List Declaration) (ps : List Process) (ts us rest : PlainTokens) → repeats_of (kind ts) ≡ Some b → spec.parse_process budget b ts ≡ Some (p, us)
+sound-process : (budget : ℕ) (b : Bool) (p : SourceProcess) (ds : List Declaration) (ps : List SourceProcess) (ts us rest : PlainTokens) → repeats_of (kind ts) ≡ Some b → spec.parse_process budget b ts ≡ Some (p, us)
     → IsItems ds ps us rest → IsItems ds (p ∷ ps) ts rest
 unfolding spec.parse_process
 sound-process budget b p ds ps ts us rest o h more =
     and_then-cases (take ts) _ _ h (λ t vs took h1.
     and_then-cases (parse_statement budget vs) _ _ h1 (λ s ws read h2.
-    let made : Process = record { repeats = b; body = s } in
+    let made : SourceProcess = record { repeats = b; body = s } in
     let same = some-pair made p ws us h2 in
     let is = take-some ts t vs took in
     let q : repeats_of t.kind ≡ Some b = sym (ap (λ x. repeats_of (kind x)) is) ∙ o in
     let d : IsStatement s vs us = rw (sym same.1) (sound-statement budget s vs ws read) in
     rw (is, sym same.0) (proc q d more)))
 
-same_module : (a b : Text) (c d : List Declaration) (e f : List Process) → a ≡ b → c ≡ d → e ≡ f
+same_module : (a b : Text) (c d : List Declaration) (e f : List SourceProcess) → a ≡ b → c ≡ d → e ≡ f
     → ◌≡◌ {A = Module} (record { name = a; declarations = c; processes = e }) (record { name = b; declarations = d; processes = f })
 same_module a b c d e f p q r = rw (p, q, r)
 
 -- items, and the end of the module
 pub record IsModuleRest (m all : Module) (ts rest : PlainTokens) : Type 0 where
   pub declarations : List Declaration
-  pub processes : List Process
+  pub processes : List SourceProcess
   pub is_all : all ≡ record { name = m.name; declarations = m.declarations ++ declarations; processes = m.processes ++ processes }
   pub end : PlainToken
   pub spells : IsItems declarations processes ts (end ∷ rest)

@@ -3,11 +3,11 @@ use Rattle.std.proofs.Common.{◌≡◌, [], ◌∷◌, Bool, true, false, if◌
 use denote.Enum.Bare.{same_true, true_same}
 use Rattle.tokens.specs.declared.token.Kind.{Kind}
 use Rattle.tokens.specs.contracts.token.Kind.{the_type}
-use Rattle.grammar.specs.Cursor.{sees, Outcome, and_then, take, expect}
+use Rattle.grammar.specs.Cursor.{sees, ParseOutcome, parse_and_then, take, expect}
 use Rattle.tokens.specs.Tokens.{PlainToken, PlainTokens, same_kind}
 
 -- where two steps succeed, so does the first, and then the second
-pub and_then-cases : {A B P : Type 0} (o : Outcome A) (f : A → PlainTokens → Outcome B) (x : B × PlainTokens) → and_then o f ≡ Some x
+pub and_then-cases : {A B P : Type 0} (o : ParseOutcome A) (f : A → PlainTokens → ParseOutcome B) (x : B × PlainTokens) → parse_and_then o f ≡ Some x
     → ((a : A) (us : PlainTokens) → o ≡ Some (a, us) → f a us ≡ Some x → P) → P
 and_then-cases None f x h go = absurd (cc)
 and_then-cases (Some p) f x h go = go p.0 p.1 refl h

@@ -4,8 +4,8 @@ use Rattle.tokens.specs.declared.token.Kind.{Kind}
 use Rattle.tokens.specs.declared.token.Kind.TheVariants.{End}
 use Rattle.tokens.specs.Tokens.{PlainToken, PlainTokens, plain_token, same_kind}
 use Rattle.grammar.specs.declared.cursor.Cursor.{Cursor}
-use Rattle.grammar.specs.declared.fault.Fault.{Fault}
-use Rattle.grammar.specs.declared.fault.Fault.TheVariants.{Syntax, Unsized, Deep, Memory}
+use Rattle.grammar.specs.declared.fault.GrammarFault.{GrammarFault}
+use Rattle.grammar.specs.declared.fault.GrammarFault.TheVariants.{Syntax, Unsized, Deep, Memory}
 
 -- The tokens that are left.
 abbrev pub left_of : Cursor → PlainTokens
@@ -28,25 +28,25 @@ done (t ∷ ts) = false
 -- ---- what a step of a parser gives
 
 -- A value and the tokens that are left, or nothing where the tokens don't fit.
-abbrev pub Outcome : Type 0 → Type 0
-Outcome A = Option (A × PlainTokens)
+abbrev pub ParseOutcome : Type 0 → Type 0
+ParseOutcome A = Option (A × PlainTokens)
 
 -- One step after another.
-abbrev pub and_then : {A B : Type 0} → Outcome A → (A → PlainTokens → Outcome B) → Outcome B
-and_then None f = None
-and_then (Some p) f = f p.0 p.1
+abbrev pub parse_and_then : {A B : Type 0} → ParseOutcome A → (A → PlainTokens → ParseOutcome B) → ParseOutcome B
+parse_and_then None f = None
+parse_and_then (Some p) f = f p.0 p.1
 
 -- The step that takes the next token.
-abbrev pub take : PlainTokens → Outcome PlainToken
+abbrev pub take : PlainTokens → ParseOutcome PlainToken
 take [] = None
 take (t ∷ ts) = Some (t, ts)
 
 -- The step that takes a token of a kind.
-unfoldable pub expect : Kind → PlainTokens → Outcome PlainToken
+unfoldable pub expect : Kind → PlainTokens → ParseOutcome PlainToken
 expect wanted ts = if sees wanted ts then take ts else None
 
 -- What a function that parses ensures: the step's outcome, unless a token nests too deep or memory fails.
-abbrev pub Reads : {A B : Type 0} → (A → B) → Option ℕ → Outcome B → Result A Fault → PlainTokens → Type 0
+abbrev pub Reads : {A B : Type 0} → (A → B) → Option ℕ → ParseOutcome B → Result A GrammarFault → PlainTokens → Type 0
 Reads view stop outcome (Ok a) new = outcome ≡ Some (view a, new)
 Reads view stop outcome (Err Syntax) new = outcome ≡ None
 Reads view stop outcome (Err Unsized) new = outcome ≡ None

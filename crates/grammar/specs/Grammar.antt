@@ -28,8 +28,8 @@ use Rattle.model.specs.declared.tree.BinaryOperator.{BinaryOperator}
 use Rattle.model.specs.declared.tree.BinaryOperator.TheVariants as bin
 use Rattle.model.specs.declared.tree.Change.{Change}
 use Rattle.model.specs.declared.tree.Change.TheVariants.{Any, Posedge, Negedge}
-use Rattle.model.specs.Syntax.{Text, Expression, Register, Select, Literal, Concat, Unary, Binary, Conditional, Expressions, Nothing, Also, Statement, Empty, Block, Assign, AssignLater, Delay, Await, If, IfElse, While, Print, Finish, Statements, End, Then, Declaration, Process, Module}
-use Rattle.grammar.specs.Nodes.{Trigger}
+use Rattle.model.specs.Syntax.{Text, Expression, Register, Select, Literal, Concat, Unary, Binary, Conditional, Expressions, Nothing, Also, SourceStatement, Empty, Block, Assign, AssignLater, Delay, Await, If, IfElse, While, Print, Finish, SourceStatements, End, Then, Declaration, SourceProcess, Module}
+use Rattle.grammar.specs.Nodes.{SourceTrigger}
 
 -- The level of a binary operator, from 1 for the loosest, and the operator (5.1.2, table 5-4).
 abbrev pub operator : Kind → Option (ℕ × BinaryOperator)
@@ -122,7 +122,7 @@ change_of k.Negedge = Some Negedge
 change_of _ = None
 
 -- An event: a name, or an edge of one (9.7.2).
-pub data IsTrigger : Trigger → PlainTokens → PlainTokens → Type 0 where
+pub data IsTrigger : SourceTrigger → PlainTokens → PlainTokens → Type 0 where
   any : {t : PlainToken} {rest : PlainTokens} → t.kind ≡ k.Name → IsTrigger (Any, t.text) (t ∷ rest) rest
   edge : {c : Change} {t u : PlainToken} {rest : PlainTokens} → change_of t.kind ≡ Some c → u.kind ≡ k.Name → IsTrigger (c, u.text) (t ∷ u ∷ rest) rest
 
@@ -133,9 +133,9 @@ separates k.Comma = true
 separates _ = false
 
 -- Events, at least one, and the closing parenthesis (A.6.5).
-pub data IsTriggers : List Trigger → PlainTokens → PlainTokens → Type 0 where
-  last_trigger : {e : Trigger} {u : PlainToken} {ts rest : PlainTokens} → IsTrigger e ts (u ∷ rest) → u.kind ≡ k.Close → IsTriggers (e ∷ []) ts rest
-  next_trigger : {e : Trigger} {es : List Trigger} {u : PlainToken} {ts us rest : PlainTokens} → IsTrigger e ts (u ∷ us) → separates u.kind ≡ true → IsTriggers es us rest
+pub data IsTriggers : List SourceTrigger → PlainTokens → PlainTokens → Type 0 where
+  last_trigger : {e : SourceTrigger} {u : PlainToken} {ts rest : PlainTokens} → IsTrigger e ts (u ∷ rest) → u.kind ≡ k.Close → IsTriggers (e ∷ []) ts rest
+  next_trigger : {e : SourceTrigger} {es : List SourceTrigger} {u : PlainToken} {ts us rest : PlainTokens} → IsTrigger e ts (u ∷ us) → separates u.kind ≡ true → IsTriggers es us rest
       → IsTriggers (e ∷ es) ts rest
 
 -- Expressions with a comma before each, and the closing parenthesis (17.1).
@@ -147,25 +147,25 @@ pub data IsArguments : Expressions Text → PlainTokens → PlainTokens → Type
 mutual
   -- A statement: the empty one, a block, a blocking (9.2.1) and a nonblocking assignment (9.2.2), a delay (9.7.1), an event
   -- control (9.7.2), a conditional statement (9.4), a while loop (9.6), $display and $strobe (17.1) and $finish (17.4.1).
-  pub data IsStatement : Statement → PlainTokens → PlainTokens → Type 0 where
+  pub data IsStatement : SourceStatement → PlainTokens → PlainTokens → Type 0 where
     emptied : {t : PlainToken} {rest : PlainTokens} → t.kind ≡ k.Semicolon → IsStatement Empty (t ∷ rest) rest
-    grouped : {ss : Statements} {ts rest : PlainTokens} → IsBeginEnd ss ts rest → IsStatement (Block ss) ts rest
+    grouped : {ss : SourceStatements} {ts rest : PlainTokens} → IsBeginEnd ss ts rest → IsStatement (Block ss) ts rest
     assigned : {d : Option ℕ} {e : Expression Text} {t u v : PlainToken} {ts us rest : PlainTokens}
         → t.kind ≡ k.Name → u.kind ≡ k.Assign → IsDelay d ts us → IsExpression e us (v ∷ rest) → v.kind ≡ k.Semicolon
         → IsStatement (Assign t.text d e) (t ∷ u ∷ ts) rest
     assigned_later : {d : Option ℕ} {e : Expression Text} {t u v : PlainToken} {ts us rest : PlainTokens}
         → t.kind ≡ k.Name → u.kind ≡ k.AtMost → IsDelay d ts us → IsExpression e us (v ∷ rest) → v.kind ≡ k.Semicolon
         → IsStatement (AssignLater t.text d e) (t ∷ u ∷ ts) rest
-    delayed : {s : Statement} {t u : PlainToken} {ts rest : PlainTokens} → t.kind ≡ k.Hash → u.kind ≡ k.Decimal → IsStatement s ts rest → IsStatement (Delay u.value s) (t ∷ u ∷ ts) rest
-    awaited : {es : List Trigger} {s : Statement} {t u : PlainToken} {ts us rest : PlainTokens}
+    delayed : {s : SourceStatement} {t u : PlainToken} {ts rest : PlainTokens} → t.kind ≡ k.Hash → u.kind ≡ k.Decimal → IsStatement s ts rest → IsStatement (Delay u.value s) (t ∷ u ∷ ts) rest
+    awaited : {es : List SourceTrigger} {s : SourceStatement} {t u : PlainToken} {ts us rest : PlainTokens}
         → t.kind ≡ k.At → u.kind ≡ k.Open → IsTriggers es ts us → IsStatement s us rest → IsStatement (Await es s) (t ∷ u ∷ ts) rest
-    branched : {e : Expression Text} {ss : Statements} {t u v : PlainToken} {ts us rest : PlainTokens}
+    branched : {e : Expression Text} {ss : SourceStatements} {t u v : PlainToken} {ts us rest : PlainTokens}
         → t.kind ≡ k.If → u.kind ≡ k.Open → IsExpression e ts (v ∷ us) → v.kind ≡ k.Close → IsBeginEnd ss us rest
         → IsStatement (If e ss) (t ∷ u ∷ ts) rest
-    branched_else : {e : Expression Text} {ss rs : Statements} {t u v w : PlainToken} {ts us vs rest : PlainTokens}
+    branched_else : {e : Expression Text} {ss rs : SourceStatements} {t u v w : PlainToken} {ts us vs rest : PlainTokens}
         → t.kind ≡ k.If → u.kind ≡ k.Open → IsExpression e ts (v ∷ us) → v.kind ≡ k.Close → IsBeginEnd ss us (w ∷ vs) → w.kind ≡ k.Else → IsBeginEnd rs vs rest
         → IsStatement (IfElse e ss rs) (t ∷ u ∷ ts) rest
-    looped : {e : Expression Text} {ss : Statements} {t u v : PlainToken} {ts us rest : PlainTokens}
+    looped : {e : Expression Text} {ss : SourceStatements} {t u v : PlainToken} {ts us rest : PlainTokens}
         → t.kind ≡ k.While → u.kind ≡ k.Open → IsExpression e ts (v ∷ us) → v.kind ≡ k.Close → IsBeginEnd ss us rest
         → IsStatement (While e ss) (t ∷ u ∷ ts) rest
     printed : {task : Task} {es : Expressions Text} {t u v w : PlainToken} {ts rest : PlainTokens}
@@ -174,13 +174,13 @@ mutual
     finished : {t u : PlainToken} {rest : PlainTokens} → t.kind ≡ k.Finish → u.kind ≡ k.Semicolon → IsStatement Finish (t ∷ u ∷ rest) rest
 
   -- Statements between `begin` and `end` (9.8.1).
-  pub data IsBeginEnd : Statements → PlainTokens → PlainTokens → Type 0 where
-    begun : {ss : Statements} {t u : PlainToken} {ts rest : PlainTokens} → t.kind ≡ k.Begin → IsStatements ss ts (u ∷ rest) → u.kind ≡ k.EndBlock → IsBeginEnd ss (t ∷ ts) rest
+  pub data IsBeginEnd : SourceStatements → PlainTokens → PlainTokens → Type 0 where
+    begun : {ss : SourceStatements} {t u : PlainToken} {ts rest : PlainTokens} → t.kind ≡ k.Begin → IsStatements ss ts (u ∷ rest) → u.kind ≡ k.EndBlock → IsBeginEnd ss (t ∷ ts) rest
 
   -- Statements one after another.
-  pub data IsStatements : Statements → PlainTokens → PlainTokens → Type 0 where
+  pub data IsStatements : SourceStatements → PlainTokens → PlainTokens → Type 0 where
     no_more : {ts : PlainTokens} → IsStatements End ts ts
-    one_more : {s : Statement} {ss : Statements} {ts us rest : PlainTokens} → IsStatement s ts us → IsStatements ss us rest → IsStatements (Then s ss) ts rest
+    one_more : {s : SourceStatement} {ss : SourceStatements} {ts us rest : PlainTokens} → IsStatement s ts us → IsStatements ss us rest → IsStatements (Then s ss) ts rest
 
 -- The range of a declaration, two plain decimals, or nothing (4.3, A.2.5).
 pub data IsRange : Option (ℕ × ℕ) → PlainTokens → PlainTokens → Type 0 where
@@ -201,17 +201,17 @@ repeats_of k.Always = Some true
 repeats_of _ = None
 
 -- The declarations and the processes of the items of a module, each in the order of the text (A.1.4).
-pub data IsItems : List Declaration → List Process → PlainTokens → PlainTokens → Type 0 where
+pub data IsItems : List Declaration → List SourceProcess → PlainTokens → PlainTokens → Type 0 where
   no_items : {ts : PlainTokens} → IsItems [] [] ts ts
-  regs : {r : Option (ℕ × ℕ)} {ns : List Text} {ds : List Declaration} {ps : List Process} {t : PlainToken} {ts us vs rest : PlainTokens}
+  regs : {r : Option (ℕ × ℕ)} {ns : List Text} {ds : List Declaration} {ps : List SourceProcess} {t : PlainToken} {ts us vs rest : PlainTokens}
       → t.kind ≡ k.Reg → IsRange r ts us → IsNames ns us vs → IsItems ds ps vs rest
       → IsItems (record { range = r; names = ns } ∷ ds) ps (t ∷ ts) rest
-  proc : {b : Bool} {s : Statement} {ds : List Declaration} {ps : List Process} {t : PlainToken} {ts us rest : PlainTokens}
+  proc : {b : Bool} {s : SourceStatement} {ds : List Declaration} {ps : List SourceProcess} {t : PlainToken} {ts us rest : PlainTokens}
       → repeats_of t.kind ≡ Some b → IsStatement s ts us → IsItems ds ps us rest
       → IsItems ds (record { repeats = b; body = s } ∷ ps) (t ∷ ts) rest
 
 -- A module, which is all there is (12.1, A.1.2).
 pub data IsModule : Module → PlainTokens → Type 0 where
-  spelled : {ds : List Declaration} {ps : List Process} {t u v w : PlainToken} {ts : PlainTokens}
+  spelled : {ds : List Declaration} {ps : List SourceProcess} {t u v w : PlainToken} {ts : PlainTokens}
       → t.kind ≡ k.Module → u.kind ≡ k.Name → v.kind ≡ k.Semicolon → IsItems ds ps ts (w ∷ []) → w.kind ≡ k.EndModule
       → IsModule (record { name = u.text; declarations = ds; processes = ps }) (t ∷ u ∷ v ∷ ts)

@@ -4,27 +4,27 @@ use Rattle.std.specs.declared.vec.Vec.{Vec}
 use Rattle.std.specs.declared.string.String.{String}
 use Rattle.std.specs.declared.alloc.Global.{Global}
 use Rattle.model.specs.declared.tree.Change.{Change}
-use Rattle.model.specs.declared.tree.Event as program_event
-use Rattle.model.specs.declared.tree.Expression as program_expression
-use Rattle.model.specs.declared.tree.Statement as program_statement
-use Rattle.model.specs.Syntax.{Text, Expression, Statement}
-use Rattle.model.specs.SourceTrees.{expression_of, trigger_of, statement_of}
+use Rattle.model.specs.declared.tree.EventExpression as program_event
+use Rattle.model.specs.declared.tree.SourceExpression as program_expression
+use Rattle.model.specs.declared.tree.SourceStatement as program_statement
+use Rattle.model.specs.Syntax.{Text, Expression, SourceStatement}
+use Rattle.model.specs.SourceTrees.{source_expression_of, source_trigger_of, source_statement_of}
 
 -- An event: which change, and of which name.
-abbrev pub Trigger : Type 0
-Trigger = Change × Text
+abbrev pub SourceTrigger : Type 0
+SourceTrigger = Change × Text
 
 -- The plain trees of a vector of expressions.
-abbrev pub expressions_view : Vec program_expression.Expression Global → List (Expression Text)
-expressions_view v = map expression_of v.items
+abbrev pub expressions_view : Vec program_expression.SourceExpression Global → List (Expression Text)
+expressions_view v = map source_expression_of v.items
 
 -- The events of a vector.
-abbrev pub triggers_view : Vec program_event.Event Global → List Trigger
-triggers_view v = map trigger_of v.items
+abbrev pub triggers_view : Vec program_event.EventExpression Global → List SourceTrigger
+triggers_view v = map source_trigger_of v.items
 
 -- The plain trees of a vector of statements.
-abbrev pub statements_view : Vec program_statement.Statement Global → List Statement
-statements_view v = map statement_of v.items
+abbrev pub statements_view : Vec program_statement.SourceStatement Global → List SourceStatement
+statements_view v = map source_statement_of v.items
 
 -- The bytes of each name of a vector.
 abbrev pub names_view : Vec (String Global) Global → List Text

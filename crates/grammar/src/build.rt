@@ -1,128 +1,146 @@
 //! The nodes of a tree, with what each stands for.
 
 ghost use Rattle.std.specs.Prelude.{◌≡◌, string_bytes, IfOk};
-ghost use Rattle.model.specs.SourceTrees.{expression_of, statement_of};
-ghost use Rattle.model.specs.SourceTrees.{expressions, statements};
+ghost use Rattle.model.specs.SourceTrees.{source_expression_of, source_statement_of};
+ghost use Rattle.model.specs.SourceTrees.{source_expressions, source_statements};
 ghost use Rattle.grammar.specs.Nodes.{expressions_view, statements_view, triggers_view};
 ghost use Rattle.model.specs.Syntax as tree;
 
 use logic4::bits::Bits;
-use model::tree::{BinaryOperator, Event, Expression, Statement, Task, UnaryOperator};
+use model::tree::{
+    BinaryOperator, EventExpression, SourceExpression, SourceStatement, Task, UnaryOperator,
+};
 use std::alloc::{AllocError, Global};
 
-pub fn name_of(alloc: Global, name: &str) -> Result<Expression, AllocError>
-    ensures { IfOk result (λ made. expression_of made ≡ tree.Register name.now) }
+pub fn name_of(alloc: Global, name: &str) -> Result<SourceExpression, AllocError>
+    ensures { IfOk result (λ made. source_expression_of made ≡ tree.Register name.now) }
 {
-    Ok(Expression::Name(String::from_str(alloc, name)?))
+    Ok(SourceExpression::Name(String::from_str(alloc, name)?))
 }
 
-pub fn select_of(alloc: Global, name: &str, index: u64) -> Result<Expression, AllocError>
-    ensures { IfOk result (λ made. expression_of made ≡ tree.Select name.now index) }
+pub fn select_of(alloc: Global, name: &str, index: u64) -> Result<SourceExpression, AllocError>
+    ensures { IfOk result (λ made. source_expression_of made ≡ tree.Select name.now index) }
 {
-    Ok(Expression::Select(String::from_str(alloc, name)?, index))
+    Ok(SourceExpression::Select(String::from_str(alloc, name)?, index))
 }
 
-pub fn literal_of(bits: Bits) -> Expression
-    ensures { expression_of result ≡ tree.Literal bits }
+pub fn literal_of(bits: Bits) -> SourceExpression
+    ensures { source_expression_of result ≡ tree.Literal bits }
 {
-    Expression::Literal(bits)
+    SourceExpression::Literal(bits)
 }
 
 pub fn concat_of(
     alloc: Global,
-    first: Expression,
-    others: Vec<Expression>,
-) -> Result<Expression, AllocError>
+    first: SourceExpression,
+    others: Vec<SourceExpression>,
+) -> Result<SourceExpression, AllocError>
     ensures { IfOk result
-        (λ made. expression_of made ≡ tree.Concat (tree.Also (expression_of first) (expressions (expressions_view others)))) }
+        (λ made. source_expression_of made ≡ tree.Concat (tree.Also (source_expression_of first) (source_expressions (expressions_view others)))) }
 {
-    Ok(Expression::Concat(Box::new(alloc, first)?, others))
+    Ok(SourceExpression::Concat(Box::new(alloc, first)?, others))
 }
 
-pub fn unary_of(alloc: Global, op: UnaryOperator, e: Expression) -> Result<Expression, AllocError>
-    ensures { IfOk result (λ made. expression_of made ≡ tree.Unary op (expression_of e)) }
+pub fn unary_of(
+    alloc: Global,
+    op: UnaryOperator,
+    e: SourceExpression,
+) -> Result<SourceExpression, AllocError>
+    ensures { IfOk result (λ made. source_expression_of made ≡ tree.Unary op (source_expression_of e)) }
 {
-    Ok(Expression::Unary(op, Box::new(alloc, e)?))
+    Ok(SourceExpression::Unary(op, Box::new(alloc, e)?))
 }
 
 pub fn binary_of(
     alloc: Global,
     op: BinaryOperator,
-    left: Expression,
-    right: Expression,
-) -> Result<Expression, AllocError>
+    left: SourceExpression,
+    right: SourceExpression,
+) -> Result<SourceExpression, AllocError>
     ensures { IfOk result
-        (λ made. expression_of made ≡ tree.Binary op (expression_of left) (expression_of right)) }
+        (λ made. source_expression_of made ≡ tree.Binary op (source_expression_of left) (source_expression_of right)) }
 {
-    Ok(Expression::Binary(op, Box::new(alloc, left)?, Box::new(alloc, right)?))
+    Ok(SourceExpression::Binary(op, Box::new(alloc, left)?, Box::new(alloc, right)?))
 }
 
 pub fn conditional_of(
     alloc: Global,
-    test: Expression,
-    yes: Expression,
-    no: Expression,
-) -> Result<Expression, AllocError>
+    test: SourceExpression,
+    yes: SourceExpression,
+    no: SourceExpression,
+) -> Result<SourceExpression, AllocError>
     ensures { IfOk result
-        (λ made. expression_of made ≡ tree.Conditional (expression_of test) (expression_of yes) (expression_of no)) }
+        (λ made. source_expression_of made ≡ tree.Conditional (source_expression_of test) (source_expression_of yes) (source_expression_of no)) }
 {
-    Ok(Expression::Conditional(
+    Ok(SourceExpression::Conditional(
         Box::new(alloc, test)?,
         Box::new(alloc, yes)?,
         Box::new(alloc, no)?,
     ))
 }
 
-pub fn block_of(body: Vec<Statement>) -> Statement
-    ensures { statement_of result ≡ tree.Block (statements (statements_view body)) }
+pub fn block_of(body: Vec<SourceStatement>) -> SourceStatement
+    ensures { source_statement_of result ≡ tree.Block (source_statements (statements_view body)) }
 {
-    Statement::Block(body)
+    SourceStatement::Block(body)
 }
 
-pub fn assign_of(name: String, delay: Option<u64>, value: Expression) -> Statement
-    ensures { statement_of result ≡ tree.Assign (string_bytes name) delay (expression_of value) }
+pub fn assign_of(name: String, delay: Option<u64>, value: SourceExpression) -> SourceStatement
+    ensures { source_statement_of result ≡ tree.Assign (string_bytes name) delay (source_expression_of value) }
 {
-    Statement::Assign(name, delay, value)
+    SourceStatement::Assign(name, delay, value)
 }
 
-pub fn assign_later_of(name: String, delay: Option<u64>, value: Expression) -> Statement
-    ensures { statement_of result ≡ tree.AssignLater (string_bytes name) delay (expression_of value) }
+pub fn assign_later_of(name: String, delay: Option<u64>, value: SourceExpression) -> SourceStatement
+    ensures { source_statement_of result ≡ tree.AssignLater (string_bytes name) delay (source_expression_of value) }
 {
-    Statement::AssignLater(name, delay, value)
+    SourceStatement::AssignLater(name, delay, value)
 }
 
-pub fn delay_of(alloc: Global, delay: u64, body: Statement) -> Result<Statement, AllocError>
-    ensures { IfOk result (λ made. statement_of made ≡ tree.Delay delay (statement_of body)) }
+pub fn delay_of(
+    alloc: Global,
+    delay: u64,
+    body: SourceStatement,
+) -> Result<SourceStatement, AllocError>
+    ensures { IfOk result (λ made. source_statement_of made ≡ tree.Delay delay (source_statement_of body)) }
 {
-    Ok(Statement::Delay(delay, Box::new(alloc, body)?))
+    Ok(SourceStatement::Delay(delay, Box::new(alloc, body)?))
 }
 
-pub fn await_of(alloc: Global, events: Vec<Event>, body: Statement) -> Result<Statement, AllocError>
-    ensures { IfOk result (λ made. statement_of made ≡ tree.Await (triggers_view events) (statement_of body)) }
+pub fn await_of(
+    alloc: Global,
+    events: Vec<EventExpression>,
+    body: SourceStatement,
+) -> Result<SourceStatement, AllocError>
+    ensures { IfOk result (λ made. source_statement_of made ≡ tree.Await (triggers_view events) (source_statement_of body)) }
 {
-    Ok(Statement::Await(events, Box::new(alloc, body)?))
+    Ok(SourceStatement::Await(events, Box::new(alloc, body)?))
 }
 
-pub fn if_of(test: Expression, body: Vec<Statement>) -> Statement
-    ensures { statement_of result ≡ tree.If (expression_of test) (statements (statements_view body)) }
+pub fn if_of(test: SourceExpression, body: Vec<SourceStatement>) -> SourceStatement
+    ensures { source_statement_of result ≡ tree.If (source_expression_of test) (source_statements (statements_view body)) }
 {
-    Statement::If(test, body)
+    SourceStatement::If(test, body)
 }
 
-pub fn if_else_of(test: Expression, body: Vec<Statement>, other: Vec<Statement>) -> Statement
-    ensures { statement_of result ≡ tree.IfElse (expression_of test) (statements (statements_view body)) (statements (statements_view other)) }
+pub fn if_else_of(
+    test: SourceExpression,
+    body: Vec<SourceStatement>,
+    other: Vec<SourceStatement>,
+) -> SourceStatement
+    ensures { source_statement_of result ≡ tree.IfElse (source_expression_of test) (source_statements (statements_view body)) (source_statements (statements_view other)) }
 {
-    Statement::IfElse(test, body, other)
+    SourceStatement::IfElse(test, body, other)
 }
 
-pub fn while_of(test: Expression, body: Vec<Statement>) -> Statement
-    ensures { statement_of result ≡ tree.While (expression_of test) (statements (statements_view body)) }
+pub fn while_of(test: SourceExpression, body: Vec<SourceStatement>) -> SourceStatement
+    ensures { source_statement_of result ≡ tree.While (source_expression_of test) (source_statements (statements_view body)) }
 {
-    Statement::While(test, body)
+    SourceStatement::While(test, body)
 }
 
-pub fn print_of(task: Task, format: Vec<u8>, arguments: Vec<Expression>) -> Statement
-    ensures { statement_of result ≡ tree.Print task format.items (expressions (expressions_view arguments)) }
+pub fn print_of(task: Task, format: Vec<u8>, arguments: Vec<SourceExpression>) -> SourceStatement
+    ensures { source_statement_of result ≡ tree.Print task format.items (source_expressions (expressions_view arguments)) }
 {
-    Statement::Print(task, format, arguments)
+    SourceStatement::Print(task, format, arguments)
 }

@@ -4,7 +4,7 @@ ghost use Rattle.std.specs.Prelude.{◌≡◌, map, length};
 ghost use Rattle.tokens.specs.Tokens.{plain_token};
 ghost use Rattle.grammar.specs.Cursor.{left_of, kind, sees, done, take, expect, Reads};
 
-use crate::fault::{Fault, Read};
+use crate::fault::{GrammarFault, Read};
 use tokens::token::{Kind, Token, is_kind};
 
 /// The tokens that are left.
@@ -53,10 +53,10 @@ impl<'t, 'a> Cursor<'t, 'a> {
         ensures { Reads (λ t. plain_token t.now) stop (take (left_of self.old)) result (left_of self.new) }
     {
         if stop == Some(self.left.len()) {
-            return Err(Fault::Deep);
+            return Err(GrammarFault::Deep);
         }
         match self.left {
-            [] => Err(Fault::Syntax),
+            [] => Err(GrammarFault::Syntax),
             [first, rest @ ..] => {
                 self.left = rest;
                 Ok(first)
@@ -70,7 +70,7 @@ impl<'t, 'a> Cursor<'t, 'a> {
         ensures { Reads (λ t. plain_token t.now) stop (expect wanted (left_of self.old)) result (left_of self.new) }
     {
         if !self.sees(wanted) {
-            return Err(Fault::Syntax);
+            return Err(GrammarFault::Syntax);
         }
         self.take(stop)
     }

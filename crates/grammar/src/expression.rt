@@ -2,7 +2,7 @@
 
 ghost use Rattle.std.specs.Prelude.{◌≡◌, ◌≤◌, IfOk, IfSome};
 ghost use Rattle.grammar.specs.Cursor.{left_of, Reads};
-ghost use Rattle.model.specs.SourceTrees.{expression_of};
+ghost use Rattle.model.specs.SourceTrees.{source_expression_of};
 ghost use Rattle.grammar.specs.Nodes.{expressions_view};
 ghost use Rattle.grammar.specs.Grammar as grammar;
 ghost use Rattle.grammar.specs.Reading as spec;
@@ -11,8 +11,8 @@ use crate::build::{
     binary_of, concat_of, conditional_of, literal_of, name_of, select_of, unary_of,
 };
 use crate::cursor::Cursor;
-use crate::fault::{Fault, Read};
-use model::tree::{BinaryOperator, Expression, UnaryOperator};
+use crate::fault::{GrammarFault, Read};
+use model::tree::{BinaryOperator, SourceExpression, UnaryOperator};
 use std::alloc::Global;
 use tokens::token::Kind;
 
@@ -79,8 +79,8 @@ fn continues(level: u8, kind: Kind) -> Option<(u8, BinaryOperator)>
 
 /// Reads `[ decimal ]` after a name.
 #[tactic(auto, unfolding(crate::specs::Reading::parse_select))]
-fn parse_select(rules: Rules, tokens: &mut Cursor<'_, '_>, name: &str) -> Read<Expression>
-    ensures { Reads expression_of rules.stop (spec.parse_select name.now (left_of tokens.old)) result (left_of tokens.new) }
+fn parse_select(rules: Rules, tokens: &mut Cursor<'_, '_>, name: &str) -> Read<SourceExpression>
+    ensures { Reads source_expression_of rules.stop (spec.parse_select name.now (left_of tokens.old)) result (left_of tokens.new) }
 {
     tokens.take(rules.stop)?;
     let index = tokens.expect(rules.stop, Kind::Decimal)?;
@@ -90,8 +90,8 @@ fn parse_select(rules: Rules, tokens: &mut Cursor<'_, '_>, name: &str) -> Read<E
 
 /// Reads a name, and `[ decimal ]` where it follows.
 #[tactic(auto, unfolding(crate::specs::Reading::parse_name))]
-fn parse_name(rules: Rules, tokens: &mut Cursor<'_, '_>) -> Read<Expression>
-    ensures { Reads expression_of rules.stop (spec.parse_name (left_of tokens.old)) result (left_of tokens.new) }
+fn parse_name(rules: Rules, tokens: &mut Cursor<'_, '_>) -> Read<SourceExpression>
+    ensures { Reads source_expression_of rules.stop (spec.parse_name (left_of tokens.old)) result (left_of tokens.new) }
 {
     let token = tokens.take(rules.stop)?;
     if tokens.sees(Kind::OpenSquare) {
@@ -101,12 +101,12 @@ fn parse_name(rules: Rules, tokens: &mut Cursor<'_, '_>) -> Read<Expression>
 }
 
 #[tactic(auto, unfolding(crate::specs::Reading::parse_literal))]
-fn parse_literal(rules: Rules, tokens: &mut Cursor<'_, '_>) -> Read<Expression>
-    ensures { Reads expression_of rules.stop (spec.parse_literal (left_of tokens.old)) result (left_of tokens.new) }
+fn parse_literal(rules: Rules, tokens: &mut Cursor<'_, '_>) -> Read<SourceExpression>
+    ensures { Reads source_expression_of rules.stop (spec.parse_literal (left_of tokens.old)) result (left_of tokens.new) }
 {
     let token = tokens.take(rules.stop)?;
     match token.bits(rules.alloc)? {
-        None => Err(Fault::Syntax),
+        None => Err(GrammarFault::Syntax),
         Some(bits) => Ok(literal_of(bits)),
     }
 }
@@ -118,8 +118,8 @@ pub fn parse_parenthesized(
     rules: Rules,
     tokens: &mut Cursor<'_, '_>,
     budget: usize,
-) -> Read<Expression>
-    ensures { Reads expression_of rules.stop (spec.parse_parenthesized (spec.parse_expression budget) (left_of tokens.old)) result (left_of tokens.new) }
+) -> Read<SourceExpression>
+    ensures { Reads source_expression_of rules.stop (spec.parse_parenthesized (spec.parse_expression budget) (left_of tokens.old)) result (left_of tokens.new) }
 {
     tokens.expect(rules.stop, Kind::Open)?;
     let inner = parse_expression(rules, tokens, budget, 0)?;
@@ -135,8 +135,8 @@ pub fn parse_list(
     tokens: &mut Cursor<'_, '_>,
     budget: usize,
     bracket: Kind,
-    mut found: Vec<Expression>,
-) -> Read<Vec<Expression>>
+    mut found: Vec<SourceExpression>,
+) -> Read<Vec<SourceExpression>>
     ensures { Reads expressions_view rules.stop (spec.parse_list (spec.parse_expression budget) bracket budget (expressions_view found) (left_of tokens.old)) result (left_of tokens.new) }
 {
     for _turn in 0..budget {
@@ -148,14 +148,14 @@ pub fn parse_list(
         let part = parse_expression(rules, tokens, budget, 0)?;
         found.push(part)?;
     }
-    Err(Fault::Syntax)
+    Err(GrammarFault::Syntax)
 }
 
 /// Reads `{`, an expression, and those that follow it.
 #[cycle(expression)]
 #[tactic(auto, unfolding(crate::specs::Reading::parse_concat))]
-fn parse_concat(rules: Rules, tokens: &mut Cursor<'_, '_>, budget: usize) -> Read<Expression>
-    ensures { Reads expression_of rules.stop (spec.parse_concat (spec.parse_expression budget) budget (left_of tokens.old)) result (left_of tokens.new) }
+fn parse_concat(rules: Rules, tokens: &mut Cursor<'_, '_>, budget: usize) -> Read<SourceExpression>
+    ensures { Reads source_expression_of rules.stop (spec.parse_concat (spec.parse_expression budget) budget (left_of tokens.old)) result (left_of tokens.new) }
 {
     tokens.take(rules.stop)?;
     let first = parse_expression(rules, tokens, budget, 0)?;
@@ -166,23 +166,23 @@ fn parse_concat(rules: Rules, tokens: &mut Cursor<'_, '_>, budget: usize) -> Rea
 
 #[cycle(expression)]
 #[tactic(auto, unfolding(crate::specs::Reading::parse_primary))]
-fn parse_primary(rules: Rules, tokens: &mut Cursor<'_, '_>, budget: usize) -> Read<Expression>
-    ensures { Reads expression_of rules.stop (spec.parse_primary (spec.parse_expression budget) budget (left_of tokens.old)) result (left_of tokens.new) }
+fn parse_primary(rules: Rules, tokens: &mut Cursor<'_, '_>, budget: usize) -> Read<SourceExpression>
+    ensures { Reads source_expression_of rules.stop (spec.parse_primary (spec.parse_expression budget) budget (left_of tokens.old)) result (left_of tokens.new) }
 {
     match tokens.kind() {
         Kind::Name => parse_name(rules, tokens),
         Kind::Sized => parse_literal(rules, tokens),
         Kind::OpenCurly => parse_concat(rules, tokens, budget),
         Kind::Open => parse_parenthesized(rules, tokens, budget),
-        Kind::Decimal => Err(Fault::Unsized),
-        _ => Err(Fault::Syntax),
+        Kind::Decimal => Err(GrammarFault::Unsized),
+        _ => Err(GrammarFault::Syntax),
     }
 }
 
 #[cycle(expression)]
 #[tactic(auto, unfolding(crate::specs::Reading::parse_operand))]
-fn parse_operand(rules: Rules, tokens: &mut Cursor<'_, '_>, budget: usize) -> Read<Expression>
-    ensures { Reads expression_of rules.stop (spec.parse_operand (spec.parse_expression budget) budget (left_of tokens.old)) result (left_of tokens.new) }
+fn parse_operand(rules: Rules, tokens: &mut Cursor<'_, '_>, budget: usize) -> Read<SourceExpression>
+    ensures { Reads source_expression_of rules.stop (spec.parse_operand (spec.parse_expression budget) budget (left_of tokens.old)) result (left_of tokens.new) }
 {
     match prefix(tokens.kind()) {
         None => parse_primary(rules, tokens, budget),
@@ -202,9 +202,9 @@ fn parse_operators(
     tokens: &mut Cursor<'_, '_>,
     budget: usize,
     level: u8,
-    mut left: Expression,
-) -> Read<Expression>
-    ensures { Reads expression_of rules.stop (spec.parse_operators (spec.parse_expression budget) budget level (expression_of left) (left_of tokens.old)) result (left_of tokens.new) }
+    mut left: SourceExpression,
+) -> Read<SourceExpression>
+    ensures { Reads source_expression_of rules.stop (spec.parse_operators (spec.parse_expression budget) budget level (source_expression_of left) (left_of tokens.old)) result (left_of tokens.new) }
 {
     for _turn in 0..budget {
         let Some((strength, op)) = continues(level, tokens.kind()) else {
@@ -214,7 +214,7 @@ fn parse_operators(
         let right = parse_expression(rules, tokens, budget, strength + 1)?;
         left = binary_of(rules.alloc, op, left, right)?;
     }
-    Err(Fault::Syntax)
+    Err(GrammarFault::Syntax)
 }
 
 /// Reads what follows the test of a choice.
@@ -224,9 +224,9 @@ fn parse_conditional(
     rules: Rules,
     tokens: &mut Cursor<'_, '_>,
     budget: usize,
-    test: Expression,
-) -> Read<Expression>
-    ensures { Reads expression_of rules.stop (spec.parse_conditional (spec.parse_expression budget) (expression_of test) (left_of tokens.old)) result (left_of tokens.new) }
+    test: SourceExpression,
+) -> Read<SourceExpression>
+    ensures { Reads source_expression_of rules.stop (spec.parse_conditional (spec.parse_expression budget) (source_expression_of test) (left_of tokens.old)) result (left_of tokens.new) }
 {
     tokens.take(rules.stop)?;
     let yes = parse_expression(rules, tokens, budget, 0)?;
@@ -243,11 +243,11 @@ pub fn parse_expression(
     tokens: &mut Cursor<'_, '_>,
     budget: usize,
     level: u8,
-) -> Read<Expression>
-    ensures { Reads expression_of rules.stop (spec.parse_expression budget level (left_of tokens.old)) result (left_of tokens.new) }
+) -> Read<SourceExpression>
+    ensures { Reads source_expression_of rules.stop (spec.parse_expression budget level (left_of tokens.old)) result (left_of tokens.new) }
 {
     if budget == 0 {
-        return Err(Fault::Syntax);
+        return Err(GrammarFault::Syntax);
     }
     let first = parse_operand(rules, tokens, budget - 1)?;
     let left = parse_operators(rules, tokens, budget - 1, level, first)?;

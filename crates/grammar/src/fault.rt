@@ -3,7 +3,7 @@
 use std::alloc::{AllocError, AllocFailed};
 
 #[derive(Clone, Copy, PartialEq, Eq)]
-pub enum Fault {
+pub enum GrammarFault {
     /// The next token fits nowhere.
     Syntax,
     /// The next token is a plain decimal, and a sized literal would go on.
@@ -14,26 +14,26 @@ pub enum Fault {
 }
 
 /// What is read, or why the next token isn't.
-pub type Read<T> = Result<T, Fault>;
+pub type Read<T> = Result<T, GrammarFault>;
 
-impl From<AllocError> for Fault {
-    ghost use Rattle.grammar.specs.declared.fault.Fault.TheVariants as fault;
+impl From<AllocError> for GrammarFault {
+    ghost use Rattle.grammar.specs.declared.fault.GrammarFault.TheVariants as fault;
     ghost use Rattle.std.specs.Prelude.{◌≡◌};
 
     ghost from_gives = { λ _ e. e ≡ fault.Memory };
 
-    fn from(_: AllocError) -> Fault {
-        Fault::Memory
+    fn from(_: AllocError) -> GrammarFault {
+        GrammarFault::Memory
     }
 }
 
-impl<T: Drop> From<AllocFailed<T>> for Fault {
-    ghost use Rattle.grammar.specs.declared.fault.Fault.TheVariants as fault;
+impl<T: Drop> From<AllocFailed<T>> for GrammarFault {
+    ghost use Rattle.grammar.specs.declared.fault.GrammarFault.TheVariants as fault;
     ghost use Rattle.std.specs.Prelude.{◌≡◌};
 
     ghost from_gives = { λ _ e. e ≡ fault.Memory };
 
-    fn from(_: AllocFailed<T>) -> Fault {
-        Fault::Memory
+    fn from(_: AllocFailed<T>) -> GrammarFault {
+        GrammarFault::Memory
     }
 }

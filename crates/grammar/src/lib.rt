@@ -18,5 +18,5 @@ mod strings;
 
 pub use cursor::Cursor;
 pub use expression::Rules;
-pub use fault::Fault;
+pub use fault::GrammarFault;
 pub use module::parse_source;

@@ -2,16 +2,16 @@
 
 ghost use Rattle.std.specs.Prelude.{◌≡◌, ◌∷◌, ◌++◌, [], map};
 ghost use Rattle.grammar.specs.Cursor.{left_of, Reads};
-ghost use Rattle.model.specs.SourceTrees.{declaration_of, process_of, module_of};
+ghost use Rattle.model.specs.SourceTrees.{declaration_of, source_process_of, module_of};
 ghost use Rattle.grammar.specs.Nodes.{names_view};
 ghost use Rattle.grammar.specs.Grammar as grammar;
 ghost use Rattle.grammar.specs.Reading as spec;
 
 use crate::cursor::Cursor;
 use crate::expression::Rules;
-use crate::fault::{Fault, Read};
+use crate::fault::{GrammarFault, Read};
 use crate::statement::parse_statement;
-use model::tree::{Declaration, Module, Process};
+use model::tree::{Declaration, Module, SourceProcess};
 use tokens::token::Kind;
 
 /// Reads `[ decimal : decimal ]`.
@@ -53,7 +53,7 @@ fn parse_names(rules: Rules, tokens: &mut Cursor<'_, '_>, budget: usize) -> Read
         }
         tokens.take(rules.stop)?;
     }
-    Err(Fault::Syntax)
+    Err(GrammarFault::Syntax)
 }
 
 fn repeats_of(kind: Kind) -> Option<bool>
@@ -87,13 +87,13 @@ fn parse_process(
     tokens: &mut Cursor<'_, '_>,
     budget: usize,
     repeats: bool,
-) -> Read<Process>
-    ensures { Reads process_of rules.stop (spec.parse_process budget repeats (left_of tokens.old))
+) -> Read<SourceProcess>
+    ensures { Reads source_process_of rules.stop (spec.parse_process budget repeats (left_of tokens.old))
         result (left_of tokens.new) }
 {
     tokens.take(rules.stop)?;
     let body = parse_statement(rules, tokens, budget)?;
-    Ok(Process { repeats, body })
+    Ok(SourceProcess { repeats, body })
 }
 
 /// Reads an item, and adds it to those found.
@@ -114,7 +114,7 @@ fn parse_item(
         }
         None => {
             if !tokens.sees(Kind::Reg) {
-                return Err(Fault::Syntax);
+                return Err(GrammarFault::Syntax);
             }
             let one = parse_declaration(rules, tokens, budget)?;
             found.regs.push(one)?;
@@ -140,7 +140,7 @@ fn parse_items(
         }
         found = parse_item(rules, tokens, budget, found)?;
     }
-    Err(Fault::Syntax)
+    Err(GrammarFault::Syntax)
 }
 
 /// Reads a module that is all there is.
@@ -160,6 +160,6 @@ pub fn parse_source(rules: Rules, tokens: &mut Cursor<'_, '_>, budget: usize) ->
     if tokens.is_done() {
         Ok(found)
     } else {
-        Err(Fault::Syntax)
+        Err(GrammarFault::Syntax)
     }
 }

@@ -2,7 +2,7 @@
 
 ghost use Rattle.std.specs.Prelude.{◌≡◌, ◌∷◌, ◌++◌, [], map, IfOk};
 ghost use Rattle.grammar.specs.Cursor.{left_of, Reads};
-ghost use Rattle.model.specs.SourceTrees.{expression_of, trigger_of, statement_of};
+ghost use Rattle.model.specs.SourceTrees.{source_expression_of, source_trigger_of, source_statement_of};
 ghost use Rattle.grammar.specs.Nodes.{triggers_view, statements_view};
 ghost use Rattle.grammar.specs.Grammar as grammar;
 ghost use Rattle.grammar.specs.Reading as spec;
@@ -12,9 +12,9 @@ use crate::build::{
 };
 use crate::cursor::Cursor;
 use crate::expression::{Rules, parse_expression, parse_list, parse_parenthesized};
-use crate::fault::{Fault, Read};
+use crate::fault::{GrammarFault, Read};
 use crate::strings::string_text;
-use model::tree::{Change, Event, Expression, Statement, Task};
+use model::tree::{Change, EventExpression, SourceExpression, SourceStatement, Task};
 use std::alloc::{AllocError, Global};
 use tokens::token::Kind;
 
@@ -37,8 +37,8 @@ fn parse_value(
     rules: Rules,
     tokens: &mut Cursor<'_, '_>,
     budget: usize,
-) -> Read<(Option<u64>, Expression)>
-    ensures { Reads (λ p. (p.0, expression_of p.1)) rules.stop (spec.parse_value budget (left_of tokens.old)) result (left_of tokens.new) }
+) -> Read<(Option<u64>, SourceExpression)>
+    ensures { Reads (λ p. (p.0, source_expression_of p.1)) rules.stop (spec.parse_value budget (left_of tokens.old)) result (left_of tokens.new) }
 {
     let found = parse_delay(rules, tokens)?;
     let e = parse_expression(rules, tokens, budget, 0)?;
@@ -48,8 +48,8 @@ fn parse_value(
 
 /// Reads an assignment.
 #[tactic(auto, unfolding(crate::specs::Reading::parse_assign))]
-fn parse_assign(rules: Rules, tokens: &mut Cursor<'_, '_>, budget: usize) -> Read<Statement>
-    ensures { Reads statement_of rules.stop (spec.parse_assign budget (left_of tokens.old)) result (left_of tokens.new) }
+fn parse_assign(rules: Rules, tokens: &mut Cursor<'_, '_>, budget: usize) -> Read<SourceStatement>
+    ensures { Reads source_statement_of rules.stop (spec.parse_assign budget (left_of tokens.old)) result (left_of tokens.new) }
 {
     let name = tokens.take(rules.stop)?;
     if tokens.sees(Kind::AtMost) {
@@ -81,10 +81,10 @@ fn separates(kind: Kind) -> bool
     }
 }
 
-fn event_of(alloc: Global, change: Change, name: &str) -> Result<Event, AllocError>
-    ensures { IfOk result (λ made. trigger_of made ≡ (change, name.now)) }
+fn event_of(alloc: Global, change: Change, name: &str) -> Result<EventExpression, AllocError>
+    ensures { IfOk result (λ made. source_trigger_of made ≡ (change, name.now)) }
 {
-    Ok(Event {
+    Ok(EventExpression {
         change,
         name: String::from_str(alloc, name)?,
     })
@@ -92,8 +92,8 @@ fn event_of(alloc: Global, change: Change, name: &str) -> Result<Event, AllocErr
 
 /// Reads an event.
 #[tactic(auto, unfolding(crate::specs::Reading::parse_event))]
-fn parse_event(rules: Rules, tokens: &mut Cursor<'_, '_>) -> Read<Event>
-    ensures { Reads trigger_of rules.stop (spec.parse_event (left_of tokens.old)) result (left_of tokens.new) }
+fn parse_event(rules: Rules, tokens: &mut Cursor<'_, '_>) -> Read<EventExpression>
+    ensures { Reads source_trigger_of rules.stop (spec.parse_event (left_of tokens.old)) result (left_of tokens.new) }
 {
     match change_of(tokens.kind()) {
         None => {
@@ -110,7 +110,11 @@ fn parse_event(rules: Rules, tokens: &mut Cursor<'_, '_>) -> Read<Event>
 
 /// Reads events with `or` or commas between, and `)`.
 #[tactic(auto, unfolding(crate::specs::Reading::parse_events))]
-fn parse_events(rules: Rules, tokens: &mut Cursor<'_, '_>, budget: usize) -> Read<Vec<Event>>
+fn parse_events(
+    rules: Rules,
+    tokens: &mut Cursor<'_, '_>,
+    budget: usize,
+) -> Read<Vec<EventExpression>>
     ensures { Reads triggers_view rules.stop (spec.parse_events budget [] (left_of tokens.old)) result (left_of tokens.new) }
 {
     let mut found = Vec::new(rules.alloc);
@@ -123,12 +127,16 @@ fn parse_events(rules: Rules, tokens: &mut Cursor<'_, '_>, budget: usize) -> Rea
         }
         tokens.take(rules.stop)?;
     }
-    Err(Fault::Syntax)
+    Err(GrammarFault::Syntax)
 }
 
 /// Reads `@ ( events )`.
 #[tactic(auto, unfolding(crate::specs::Reading::parse_event_control))]
-fn parse_event_control(rules: Rules, tokens: &mut Cursor<'_, '_>, budget: usize) -> Read<Vec<Event>>
+fn parse_event_control(
+    rules: Rules,
+    tokens: &mut Cursor<'_, '_>,
+    budget: usize,
+) -> Read<Vec<EventExpression>>
     ensures { Reads triggers_view rules.stop (spec.parse_event_control budget (left_of tokens.old)) result (left_of tokens.new) }
 {
     tokens.take(rules.stop)?;
@@ -143,8 +151,8 @@ fn parse_print(
     tokens: &mut Cursor<'_, '_>,
     task: Task,
     budget: usize,
-) -> Read<Statement>
-    ensures { Reads statement_of rules.stop
+) -> Read<SourceStatement>
+    ensures { Reads source_statement_of rules.stop
         (spec.parse_print task budget (left_of tokens.old)) result (left_of tokens.new) }
 {
     tokens.take(rules.stop)?;
@@ -161,19 +169,19 @@ fn parse_print(
 
 /// Reads `$finish ;`.
 #[tactic(auto, unfolding(crate::specs::Reading::parse_finish))]
-fn parse_finish(rules: Rules, tokens: &mut Cursor<'_, '_>) -> Read<Statement>
-    ensures { Reads statement_of rules.stop (spec.parse_finish (left_of tokens.old)) result (left_of tokens.new) }
+fn parse_finish(rules: Rules, tokens: &mut Cursor<'_, '_>) -> Read<SourceStatement>
+    ensures { Reads source_statement_of rules.stop (spec.parse_finish (left_of tokens.old)) result (left_of tokens.new) }
 {
     tokens.take(rules.stop)?;
     tokens.expect(rules.stop, Kind::Semicolon)?;
-    Ok(Statement::Finish)
+    Ok(SourceStatement::Finish)
 }
 
 /// Reads `# decimal` and a statement.
 #[cycle(statement)]
 #[tactic(auto, unfolding(crate::specs::Reading::parse_delayed))]
-fn parse_delayed(rules: Rules, tokens: &mut Cursor<'_, '_>, budget: usize) -> Read<Statement>
-    ensures { Reads statement_of rules.stop (spec.parse_delayed (spec.parse_statement budget) (left_of tokens.old)) result (left_of tokens.new) }
+fn parse_delayed(rules: Rules, tokens: &mut Cursor<'_, '_>, budget: usize) -> Read<SourceStatement>
+    ensures { Reads source_statement_of rules.stop (spec.parse_delayed (spec.parse_statement budget) (left_of tokens.old)) result (left_of tokens.new) }
 {
     tokens.take(rules.stop)?;
     let found = tokens.expect(rules.stop, Kind::Decimal)?;
@@ -184,8 +192,8 @@ fn parse_delayed(rules: Rules, tokens: &mut Cursor<'_, '_>, budget: usize) -> Re
 /// Reads `@ ( events )` and a statement.
 #[cycle(statement)]
 #[tactic(auto, unfolding(crate::specs::Reading::parse_awaited))]
-fn parse_awaited(rules: Rules, tokens: &mut Cursor<'_, '_>, budget: usize) -> Read<Statement>
-    ensures { Reads statement_of rules.stop (spec.parse_awaited (spec.parse_statement budget) budget (left_of tokens.old)) result (left_of tokens.new) }
+fn parse_awaited(rules: Rules, tokens: &mut Cursor<'_, '_>, budget: usize) -> Read<SourceStatement>
+    ensures { Reads source_statement_of rules.stop (spec.parse_awaited (spec.parse_statement budget) budget (left_of tokens.old)) result (left_of tokens.new) }
 {
     let found = parse_event_control(rules, tokens, budget)?;
     let body = parse_statement(rules, tokens, budget)?;
@@ -195,7 +203,11 @@ fn parse_awaited(rules: Rules, tokens: &mut Cursor<'_, '_>, budget: usize) -> Re
 /// Reads a block, and answers its statements.
 #[cycle(statement)]
 #[tactic(auto, unfolding(crate::specs::Reading::parse_block, crate::specs::Reading::parse_statements))]
-fn parse_block(rules: Rules, tokens: &mut Cursor<'_, '_>, budget: usize) -> Read<Vec<Statement>>
+fn parse_block(
+    rules: Rules,
+    tokens: &mut Cursor<'_, '_>,
+    budget: usize,
+) -> Read<Vec<SourceStatement>>
     ensures { Reads statements_view rules.stop (spec.parse_block (spec.parse_statement budget) budget (left_of tokens.old)) result (left_of tokens.new) }
 {
     tokens.expect(rules.stop, Kind::Begin)?;
@@ -207,7 +219,7 @@ fn parse_block(rules: Rules, tokens: &mut Cursor<'_, '_>, budget: usize) -> Read
         }
         found.push(parse_statement(rules, tokens, budget)?)?;
     }
-    Err(Fault::Syntax)
+    Err(GrammarFault::Syntax)
 }
 
 /// Reads `else block` where it comes next.
@@ -217,10 +229,10 @@ fn parse_else(
     rules: Rules,
     tokens: &mut Cursor<'_, '_>,
     budget: usize,
-    test: Expression,
-    body: Vec<Statement>,
-) -> Read<Statement>
-    ensures { Reads statement_of rules.stop (spec.parse_else (spec.parse_statement budget) budget (expression_of test) (statements_view body) (left_of tokens.old)) result (left_of tokens.new) }
+    test: SourceExpression,
+    body: Vec<SourceStatement>,
+) -> Read<SourceStatement>
+    ensures { Reads source_statement_of rules.stop (spec.parse_else (spec.parse_statement budget) budget (source_expression_of test) (statements_view body) (left_of tokens.old)) result (left_of tokens.new) }
 {
     if !tokens.sees(Kind::Else) {
         return Ok(if_of(test, body));
@@ -237,8 +249,8 @@ fn parse_guarded(
     rules: Rules,
     tokens: &mut Cursor<'_, '_>,
     budget: usize,
-) -> Read<(Expression, Vec<Statement>)>
-    ensures { Reads (λ p. (expression_of p.0, statements_view p.1)) rules.stop (spec.parse_guarded (spec.parse_statement budget) budget (left_of tokens.old)) result (left_of tokens.new) }
+) -> Read<(SourceExpression, Vec<SourceStatement>)>
+    ensures { Reads (λ p. (source_expression_of p.0, statements_view p.1)) rules.stop (spec.parse_guarded (spec.parse_statement budget) budget (left_of tokens.old)) result (left_of tokens.new) }
 {
     tokens.take(rules.stop)?;
     let test = parse_parenthesized(rules, tokens, budget)?;
@@ -249,8 +261,8 @@ fn parse_guarded(
 /// Reads `if ( expression ) block`, and `else block` where it follows.
 #[cycle(statement)]
 #[tactic(auto, unfolding(crate::specs::Reading::parse_if))]
-fn parse_if(rules: Rules, tokens: &mut Cursor<'_, '_>, budget: usize) -> Read<Statement>
-    ensures { Reads statement_of rules.stop (spec.parse_if (spec.parse_statement budget) budget (left_of tokens.old)) result (left_of tokens.new) }
+fn parse_if(rules: Rules, tokens: &mut Cursor<'_, '_>, budget: usize) -> Read<SourceStatement>
+    ensures { Reads source_statement_of rules.stop (spec.parse_if (spec.parse_statement budget) budget (left_of tokens.old)) result (left_of tokens.new) }
 {
     let found = parse_guarded(rules, tokens, budget)?;
     parse_else(rules, tokens, budget, found.0, found.1)
@@ -259,8 +271,8 @@ fn parse_if(rules: Rules, tokens: &mut Cursor<'_, '_>, budget: usize) -> Read<St
 /// Reads `while ( expression ) block`.
 #[cycle(statement)]
 #[tactic(auto, unfolding(crate::specs::Reading::parse_while))]
-fn parse_while(rules: Rules, tokens: &mut Cursor<'_, '_>, budget: usize) -> Read<Statement>
-    ensures { Reads statement_of rules.stop (spec.parse_while (spec.parse_statement budget) budget (left_of tokens.old)) result (left_of tokens.new) }
+fn parse_while(rules: Rules, tokens: &mut Cursor<'_, '_>, budget: usize) -> Read<SourceStatement>
+    ensures { Reads source_statement_of rules.stop (spec.parse_while (spec.parse_statement budget) budget (left_of tokens.old)) result (left_of tokens.new) }
 {
     let found = parse_guarded(rules, tokens, budget)?;
     Ok(while_of(found.0, found.1))
@@ -268,13 +280,13 @@ fn parse_while(rules: Rules, tokens: &mut Cursor<'_, '_>, budget: usize) -> Read
 
 #[cycle(statement)]
 #[tactic(auto, unfolding(crate::specs::Reading::parse_form))]
-fn parse_form(rules: Rules, tokens: &mut Cursor<'_, '_>, budget: usize) -> Read<Statement>
-    ensures { Reads statement_of rules.stop (spec.parse_form (spec.parse_statement budget) budget (left_of tokens.old)) result (left_of tokens.new) }
+fn parse_form(rules: Rules, tokens: &mut Cursor<'_, '_>, budget: usize) -> Read<SourceStatement>
+    ensures { Reads source_statement_of rules.stop (spec.parse_form (spec.parse_statement budget) budget (left_of tokens.old)) result (left_of tokens.new) }
 {
     match tokens.kind() {
         Kind::Semicolon => {
             tokens.take(rules.stop)?;
-            Ok(Statement::Empty)
+            Ok(SourceStatement::Empty)
         }
         Kind::Begin => {
             let found = parse_block(rules, tokens, budget)?;
@@ -288,16 +300,20 @@ fn parse_form(rules: Rules, tokens: &mut Cursor<'_, '_>, budget: usize) -> Read<
         Kind::Display => parse_print(rules, tokens, Task::Display, budget),
         Kind::Strobe => parse_print(rules, tokens, Task::Strobe, budget),
         Kind::Finish => parse_finish(rules, tokens),
-        _ => Err(Fault::Syntax),
+        _ => Err(GrammarFault::Syntax),
     }
 }
 
 #[cycle(statement)]
-pub fn parse_statement(rules: Rules, tokens: &mut Cursor<'_, '_>, budget: usize) -> Read<Statement>
-    ensures { Reads statement_of rules.stop (spec.parse_statement budget (left_of tokens.old)) result (left_of tokens.new) }
+pub fn parse_statement(
+    rules: Rules,
+    tokens: &mut Cursor<'_, '_>,
+    budget: usize,
+) -> Read<SourceStatement>
+    ensures { Reads source_statement_of rules.stop (spec.parse_statement budget (left_of tokens.old)) result (left_of tokens.new) }
 {
     if budget == 0 {
-        return Err(Fault::Syntax);
+        return Err(GrammarFault::Syntax);
     }
     parse_form(rules, tokens, budget - 1)
 }

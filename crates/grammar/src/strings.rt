@@ -6,7 +6,7 @@ ghost use Rattle.tokens.specs.Lexing as lexing;
 use std::alloc::{AllocError, Global};
 
 fn escaped(b: u8) -> u8
-    ensures { result ≡ lexing.escaped b }
+    ensures { result ≡ lexing.unescaped b }
 {
     if b == b'n' {
         return b'\n';
@@ -16,7 +16,7 @@ fn escaped(b: u8) -> u8
 
 /// Adds what a byte of a string adds to its text, after a `\` or not.
 fn show(found: &mut Vec<u8>, after: bool, b: u8) -> Result<(), AllocError>
-    ensures { IfOk result (λ _. found.new.items ≡ found.old.items ++ lexing.shown after b) }
+    ensures { IfOk result (λ _. found.new.items ≡ found.old.items ++ lexing.string_byte_text after b) }
 {
     if after {
         found.push(escaped(b))?;

@@ -3,8 +3,8 @@ use Rattle.std.proofs.Common.{◌≡◌, ◌==◌, ℕ, zero, suc, ◌+◌, ◌-
 use Rattle.std.proofs.Math.Seq.{take-append_seam, drop-append_seam}
 use Rattle.tokens.specs.Tokens.{PlainToken, PlainTokens}
 use Rattle.tokens.specs.ByteClasses.{is_space}
-use Rattle.tokens.specs.Literals.{Worth, worth_of}
-use Rattle.tokens.specs.Lexing.{IsNext, is_skipped, kind_of, reading, Cut, ended, next}
+use Rattle.tokens.specs.Literals.{LiteralValue, literal_value_of}
+use Rattle.tokens.specs.Lexing.{IsNext, is_skipped, kind_of, tokens_of_piece, Cut, ended, next}
 use Rattle.tokens.specs.Lengths.{comment_len, piece_len}
 use Rattle.tokens.proofs.Longest.{long, next_is, no_next}
 use Rattle.tokens.proofs.Steps.{if-is, or-true, same_byte}
@@ -63,8 +63,8 @@ front_is (b ∷ bs) n e some = skip_is b bs (first b bs n e some) ∙ e
       ])
     ]
 
-pub reading_skipped : (piece : List ℕ) → is_skipped piece ≡ true → reading piece ≡ Some []
-unfolding reading
+pub reading_skipped : (piece : List ℕ) → is_skipped piece ≡ true → tokens_of_piece piece ≡ Some []
+unfolding tokens_of_piece
 reading_skipped piece h = rw h refl
 
 pub skips_more : (text left rest : List ℕ) (n : ℕ) → n ≡ skip_len left → 0 < n → n ≤ length left → rest ≡ drop n left
@@ -91,11 +91,11 @@ not_empty p r n same = let a = long n.is_piece in omega (arith, ap length same, 
 some_same : (us vs : PlainTokens) → Some us ≡ Some vs → us ≡ vs
 some_same us vs h = cc
 
-cut_one : {a : List ℕ} {ts : PlainTokens} (p r : List ℕ) → Cut a ts → a ≡ p ++ r → IsNext p r → reading p ≡ Some [] → Cut r ts
+cut_one : {a : List ℕ} {ts : PlainTokens} (p r : List ℕ) → Cut a ts → a ≡ p ++ r → IsNext p r → tokens_of_piece p ≡ Some [] → Cut r ts
 cut_one p r ended same m k = absurd (not_empty p r m same)
 cut_one p r (next {piece = q} {rest = t} {us = us} {ts = ts} n h d) same m k =
     let w = next_once q t p r n m same in
-    let u : us ≡ [] = some_same us [] (sym h ∙ ap reading w.0 ∙ k) in
+    let u : us ≡ [] = some_same us [] (sym h ∙ ap tokens_of_piece w.0 ∙ k) in
     let e : us ++ ts ≡ ts = ap (λ v. v ++ ts) u in
     subst (λ v. Cut r v) (sym e) (subst (λ v. Cut v ts) w.1 d)
 
@@ -121,15 +121,15 @@ pub record First (left : List ℕ) (t : PlainToken) (ts : PlainTokens) : Type 0 
   pub rest : List ℕ
   pub whole : left ≡ t.text ++ rest
   pub is_next : IsNext t.text rest
-  pub reads : reading t.text ≡ Some (t ∷ [])
+  pub reads : tokens_of_piece t.text ≡ Some (t ∷ [])
   pub cut : Cut rest ts
 
-read_one : (piece : List ℕ) (o : Option Worth) (us : PlainTokens) → worth_of piece ≡ o → is_skipped piece ≡ false → reading piece ≡ Some us → (t : PlainToken) × (us ≡ t ∷ []) × (t.text ≡ piece)
-unfolding reading
-read_one piece None us is shown h = absurd (let e : reading piece ≡ None = rw (shown, is) refl in let x = sym e ∙ h in cc)
+read_one : (piece : List ℕ) (o : Option LiteralValue) (us : PlainTokens) → literal_value_of piece ≡ o → is_skipped piece ≡ false → tokens_of_piece piece ≡ Some us → (t : PlainToken) × (us ≡ t ∷ []) × (t.text ≡ piece)
+unfolding tokens_of_piece
+read_one piece None us is shown h = absurd (let e : tokens_of_piece piece ≡ None = rw (shown, is) refl in let x = sym e ∙ h in cc)
 read_one piece (Some w) us is shown h =
     let t : PlainToken = record { kind = kind_of piece; text = piece; value = w.0; bits = w.1 } in
-    let e : reading piece ≡ Some (t ∷ []) = rw (shown, is) refl in
+    let e : tokens_of_piece piece ≡ Some (t ∷ []) = rw (shown, is) refl in
     (t, some_same us (t ∷ []) (sym h ∙ e), refl)
 
 not_skipped : (left p r : List ℕ) → skip_len left ≡ 0 → IsNext p r → left ≡ p ++ r → (b : Bool) → is_skipped p ≡ b → is_skipped p ≡ false
@@ -142,17 +142,17 @@ not_skipped left (b ∷ bs) r none n same true is =
 first_is : {a : List ℕ} {us : PlainTokens} (t : PlainToken) (ts : PlainTokens) → skip_len a ≡ 0 → Cut a us → us ≡ t ∷ ts → First a t ts
 first_is t ts none ended same = absurd (cc)
 first_is t ts none (next {piece = p} {rest = r} {us = us} {ts = vs} n h d) same =
-    let one = read_one p (worth_of p) us refl (not_skipped (p ++ r) p r none n refl (is_skipped p) refl) h in
+    let one = read_one p (literal_value_of p) us refl (not_skipped (p ++ r) p r none n refl (is_skipped p) refl) h in
     let e : one.0 ∷ vs ≡ t ∷ ts = sym (ap (λ x. x ++ vs) one.1) ∙ same in
     let head : one.0 ≡ t = cc in
     let tail : vs ≡ ts = cc in
     let p_is : p ≡ t.text = sym one.2 ∙ ap (λ x. x.text) head in
-    let read : reading p ≡ Some (t ∷ []) = h ∙ ap Some (one.1 ∙ ap (λ x. x ∷ []) head) in
+    let read : tokens_of_piece p ≡ Some (t ∷ []) = h ∙ ap Some (one.1 ∙ ap (λ x. x ∷ []) head) in
     record {
       rest = r;
       whole = ap (λ x. x ++ r) p_is;
       is_next = subst (λ x. IsNext x r) p_is n;
-      reads = subst (λ x. reading x ≡ Some (t ∷ [])) p_is read;
+      reads = subst (λ x. tokens_of_piece x ≡ Some (t ∷ [])) p_is read;
       cut = subst (λ x. Cut r x) tail d;
     }
 

@@ -3,7 +3,7 @@ use Rattle.std.specs.Prelude.{◌≡◌, ℕ, ◌+◌, ◌-◌, min, List, [], �
 use Rattle.tokens.specs.declared.token.Kind.{Kind}
 use Rattle.tokens.specs.declared.token.Kind.TheVariants as k
 use Rattle.locations.specs.declared.location.Location.{Location}
-use Rattle.locations.specs.declared.location.Process.{Process}
+use Rattle.locations.specs.declared.location.ProcessLocation.{ProcessLocation}
 use Rattle.locations.specs.TextLines.{newlines, last_line, columns_of, most}
 use Rattle.locations.specs.Spots.{PlainSpot, AreSpots}
 
@@ -39,16 +39,16 @@ is_always k.Always = true
 is_always kind = false
 
 -- The process that a token begins, else none.
-abbrev pub process_in : List ℕ → PlainSpot → List Process
+abbrev pub process_in : List ℕ → PlainSpot → List ProcessLocation
 process_in source s = if is_process s.token.kind then record { always = is_always s.token.kind; location = location_of source s.byte } ∷ [] else []
 
 -- The processes that tokens begin.
-abbrev pub process_list : List ℕ → List PlainSpot → List Process
+abbrev pub process_list : List ℕ → List PlainSpot → List ProcessLocation
 process_list source [] = []
 process_list source (s ∷ ss) = process_in source s ++ process_list source ss
 
 -- The processes of a source, in order.
-pub record AreProcesses (source : List ℕ) (processes : List Process) : Type 0 where
+pub record AreProcesses (source : List ℕ) (processes : List ProcessLocation) : Type 0 where
   pub spots : List PlainSpot
   pub are_spots : AreSpots source 0 spots
   pub stand : processes ≡ process_list source spots

@@ -9,14 +9,14 @@ newlines [] = 0
 newlines (b ∷ bs) = if b == 10 then suc (newlines bs) else newlines bs
 
 -- What is behind a newline, or the line so far.
-abbrev pub chosen : Bool → List ℕ → List ℕ → List ℕ
-chosen true rest line = rest
-chosen false rest line = line
+abbrev pub line_so_far : Bool → List ℕ → List ℕ → List ℕ
+line_so_far true rest line = rest
+line_so_far false rest line = line
 
 -- What stands behind the last newline of a text, and a given line where it has none.
 abbrev pub last_line_or : List ℕ → List ℕ → List ℕ
 last_line_or line [] = line
-last_line_or line (b ∷ bs) = last_line_or (chosen (b == 10) bs line) bs
+last_line_or line (b ∷ bs) = last_line_or (line_so_far (b == 10) bs line) bs
 
 -- What stands behind the last newline of a text; all of it where there is none.
 abbrev pub last_line : List ℕ → List ℕ

@@ -13,6 +13,6 @@ mod spot;
 
 pub use lines::last_line;
 pub use location::{
-    Location, Process, before, is_process, location_of_byte, location_of_token, processes,
+    Location, ProcessLocation, before, is_process, location_of_byte, location_of_token, processes,
 };
 pub use spot::{Spot, behind_skipped, spots};

@@ -21,7 +21,7 @@ pub fn newlines(text: &[u8]) -> usize
 }
 
 fn chosen<'a>(newline: bool, rest: &'a [u8], line: &'a [u8]) -> &'a [u8]
-    ensures { result.now ≡ spec.chosen newline rest.now line.now }
+    ensures { result.now ≡ spec.line_so_far newline rest.now line.now }
 {
     if newline { rest } else { line }
 }

@@ -22,7 +22,7 @@ pub struct Location {
 
 /// A process of a source: whether it begins with `always` or with `initial`, and where that word stands.
 #[derive(Clone, Copy)]
-pub struct Process {
+pub struct ProcessLocation {
     pub always: bool,
     pub location: Location,
 }
@@ -99,11 +99,15 @@ fn is_always(kind: Kind) -> bool
     }
 }
 
-fn add_process(found: &mut Vec<Process>, source: &[u8], spot: &Spot<'_>) -> Result<(), AllocError>
+fn add_process(
+    found: &mut Vec<ProcessLocation>,
+    source: &[u8],
+    spot: &Spot<'_>,
+) -> Result<(), AllocError>
     ensures { OnOk result (found.new.items ≡ found.old.items ++ process_in source.now (plain_spot spot.now)) }
 {
     if is_process(spot.token.kind) {
-        found.push(Process {
+        found.push(ProcessLocation {
             always: is_always(spot.token.kind),
             location: location_of_byte(source, spot.byte),
         })?;
@@ -116,7 +120,7 @@ fn add_process(found: &mut Vec<Process>, source: &[u8], spot: &Spot<'_>) -> Resu
 /// # Errors
 ///
 /// Why the source isn't cut into tokens.
-pub fn processes(alloc: Global, source: &[u8]) -> Result<Vec<Process>, CutFault>
+pub fn processes(alloc: Global, source: &[u8]) -> Result<Vec<ProcessLocation>, CutFault>
     ensures found { IfOk result (λ found. AreProcesses source.now found.items) }
     ensures fault { IfErr result (IsUncut source.now) }
 {

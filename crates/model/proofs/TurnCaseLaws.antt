@@ -13,7 +13,7 @@ use Rattle.model.specs.Syntax.{Expression, registers_of, all_registers_of}
 use Rattle.model.specs.Design.{Design, Statement, Empty, Assign, AssignAfter, AssignLater, Delay, Await, If, While, Print, Finish, Statements, size, statement_at, process_at}
 use Rattle.model.specs.Expressions.{Store, own_value, assigned_value}
 use Rattle.model.specs.Turns.{At, Set, Remainder, Wait, Ended, OnChange, NonblockingAssignment, Turn, Going, Over, begun, contains, with_uses, counted, goes_on, stops, delayed, parts, whole, own_values, line_text, where_true, condition_truth, after_statement, next, and_then, turn_within, IsTurn}
-use Rattle.model.specs.TurnCases.{all_but, first_uses, over, with_step, with_write, with_later, with_line, with_strobe, HasTurn, nothing, assigned, left_over, assigned_after, assigned_later, delay, event, chosen, other, again, past, displayed, strobed, finished, ended, restarted, TurnByCasesIsExact, ShortTurnByCasesIsExact, TurnByCasesIsUnique, UsedUpIsWholeAgain}
+use Rattle.model.specs.TurnCases.{all_but, first_uses, over_at_once, with_step, with_write, with_later, with_line, with_strobe, HasTurn, nothing, assigned, left_over, assigned_after, assigned_later, delay, event, chosen, other, again, past, displayed, strobed, finished, ended, restarted, TurnByCasesIsExact, ShortTurnByCasesIsExact, TurnByCasesIsUnique, UsedUpIsWholeAgain}
 use Rattle.model.proofs.TurnLaws.{turn_unique, short_turn_found, short_turn_is}
 
 -- filters
@@ -143,7 +143,7 @@ unfolding continued
 continued_strobe g left place turn = rw (append_assoc g.strobes (place ∷ []) turn.strobes) refl
 
 -- a turn that is over now
-stopped : (g : Going) (left : Remainder) (wait : Wait) (finish : Bool) → stops g wait finish left ≡ Over (continued g (over left wait finish))
+stopped : (g : Going) (left : Remainder) (wait : Wait) (finish : Bool) → stops g wait finish left ≡ Over (continued g (over_at_once left wait finish))
 unfolding continued unmet
 stopped g left wait finish =
     let count : g.count + 0 ≡ g.count = omega arith in
@@ -168,11 +168,11 @@ Found : Design → ℕ → ℕ → Remainder → Going → Turn → Type 0
 Found design p now left g turn = (t : Turn) × HasTurn design p now left g.values t × (turn ≡ continued g t)
 
 -- the turn that a statement ends
-ends_with : (g : Going) (rs : List ℕ) (left : Remainder) (wait : Wait) (finish : Bool) (others : Going → Option Turn) (turn : Turn) → and_then (stops (counted rs g) wait finish left) others ≡ Some turn → turn ≡ continued g (with_step rs (over left wait finish))
+ends_with : (g : Going) (rs : List ℕ) (left : Remainder) (wait : Wait) (finish : Bool) (others : Going → Option Turn) (turn : Turn) → and_then (stops (counted rs g) wait finish left) others ≡ Some turn → turn ≡ continued g (with_step rs (over_at_once left wait finish))
 ends_with g rs left wait finish others turn e =
-    let is : Over (continued (counted rs g) (over left wait finish)) ≡ stops (counted rs g) wait finish left = sym (stopped (counted rs g) left wait finish) in
-    let same : turn ≡ continued (counted rs g) (over left wait finish) = cc in
-    same ∙ continued_step g rs (over left wait finish)
+    let is : Over (continued (counted rs g) (over_at_once left wait finish)) ≡ stops (counted rs g) wait finish left = sym (stopped (counted rs g) left wait finish) in
+    let same : turn ≡ continued (counted rs g) (over_at_once left wait finish) = cc in
+    same ∙ continued_step g rs (over_at_once left wait finish)
 
 false_not_true : False ≢ True
 false_not_true e = cc
@@ -218,7 +218,7 @@ statement_found k design p now g place (Assign r x) rest turn at later e =
       same ∙ continued_write h rest (slice_set g.values r v) r v t ∙ continued_step g (registers_of x) (with_write r v t),
     )
 statement_found k design p now g place (AssignAfter r d x) rest turn at later e = (
-  with_step (registers_of x) (over (Set r (assigned_value design.widths g.values r x) ∷ rest) (delayed now d) false),
+  with_step (registers_of x) (over_at_once (Set r (assigned_value design.widths g.values r x) ∷ rest) (delayed now d) false),
   assigned_after place r d x rest g.values at,
   ends_with g (registers_of x) (Set r (assigned_value design.widths g.values r x) ∷ rest) (delayed now d) false (turn_within k design p now) turn e,
 )
@@ -231,12 +231,12 @@ statement_found k design p now g place (AssignLater r d x) rest turn at later e 
       same ∙ continued_later h rest l t ∙ continued_step g (registers_of x) (with_later l t),
     )
 statement_found k design p now g place (Delay d body) rest turn at later e = (
-  with_step [] (over (parts (place + 1) body ++ rest) (delayed now d) false),
+  with_step [] (over_at_once (parts (place + 1) body ++ rest) (delayed now d) false),
   delay place d body rest g.values at,
   ends_with g [] (parts (place + 1) body ++ rest) (delayed now d) false (turn_within k design p now) turn e,
 )
 statement_found k design p now g place (Await triggers body) rest turn at later e = (
-  with_step [] (over (parts (place + 1) body ++ rest) (OnChange triggers) false),
+  with_step [] (over_at_once (parts (place + 1) body ++ rest) (OnChange triggers) false),
   event place triggers body rest g.values at,
   ends_with g [] (parts (place + 1) body ++ rest) (OnChange triggers) false (turn_within k design p now) turn e,
 )
@@ -260,7 +260,7 @@ statement_found k design p now g place (Print Strobe format arguments) rest turn
       same ∙ continued_strobe h rest place t ∙ continued_step g [] (with_strobe place t),
     )
 statement_found k design p now g place Finish rest turn at later e = (
-  with_step [] (over rest Ended true),
+  with_step [] (over_at_once rest Ended true),
   finished place rest g.values at,
   ends_with g [] rest Ended true (turn_within k design p now) turn e,
 )
@@ -271,9 +271,9 @@ end_found k design p now g turn true is later e =
     let (t, d, same) = later (record (counted [] g) { left = whole design p }) e in
     (with_step [] t, restarted g.values t is d, same ∙ continued_step g [] t)
 end_found k design p now g turn false is later e =
-    let over_is : Over (continued g (over [] Ended false)) ≡ stops g Ended false [] = sym (stopped g [] Ended false) in
-    let same : turn ≡ continued g (over [] Ended false) = cc in
-    (over [] Ended false, ended g.values is, same)
+    let over_is : Over (continued g (over_at_once [] Ended false)) ≡ stops g Ended false [] = sym (stopped g [] Ended false) in
+    let same : turn ≡ continued g (over_at_once [] Ended false) = cc in
+    (over_at_once [] Ended false, ended g.values is, same)
 
 next_found : (k : ℕ) (design : Design) (p now : ℕ) (g : Going) (left : Remainder) (turn : Turn) → ((h : Going) → turn_within k design p now h ≡ Some turn → Found design p now h.left h turn) → and_then (next design p now g left) (turn_within k design p now) ≡ Some turn → Found design p now left g turn
 unfolding Found continued
@@ -306,9 +306,9 @@ unfolding Leads turn_within
 leads_on design p now h g t turn (k, e) same = (suc k, e ∙ ap (λ x. Some x) same)
 
 -- a statement leads to the end that it makes
-leads_off : (g : Going) (rs : List ℕ) (left : Remainder) (wait : Wait) (finish : Bool) (others : Going → Option Turn) → and_then (stops (counted rs g) wait finish left) others ≡ Some (continued g (with_step rs (over left wait finish)))
+leads_off : (g : Going) (rs : List ℕ) (left : Remainder) (wait : Wait) (finish : Bool) (others : Going → Option Turn) → and_then (stops (counted rs g) wait finish left) others ≡ Some (continued g (with_step rs (over_at_once left wait finish)))
 leads_off g rs left wait finish others =
-    ap (λ n. and_then n others) (stopped (counted rs g) left wait finish) ∙ ap (λ x. Some x) (continued_step g rs (over left wait finish))
+    ap (λ n. and_then n others) (stopped (counted rs g) left wait finish) ∙ ap (λ x. Some x) (continued_step g rs (over_at_once left wait finish))
 
 -- the second, where a condition isn't true
 where_not_true : (t : Truth) (first second : Remainder) → t ≢ True → where_true t first second ≡ second

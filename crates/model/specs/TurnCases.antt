@@ -21,8 +21,8 @@ first_uses [] later = later
 first_uses (r ∷ rs) later = r ∷ all_but r (first_uses rs later)
 
 -- the turn that is over at once, with this left, in this wait
-abbrev pub over : Remainder → Wait → Bool → Turn
-over left wait finish =
+abbrev pub over_at_once : Remainder → Wait → Bool → Turn
+over_at_once left wait finish =
     record { uses = []; writes = []; nbas = []; lines = []; strobes = []; rest = left; wait = wait; finish = finish; count = 0 }
 
 -- the turn with one more counted step before it, in which these registers are read
@@ -65,7 +65,7 @@ pub data HasTurn (design : Design) (p now : ℕ) : Remainder → Store → Turn 
   -- `r = #d e;` computes e and ends the turn for d; the assignment is left over (9.7.7).
   assigned_after : (place r d : ℕ) (e : Expression ℕ) (rest : Remainder) (store : Store)
       → statement_at design place ≡ AssignAfter r d e
-      → HasTurn design p now (At place ∷ rest) store (with_step (registers_of e) (over (Set r (assigned_value design.widths store r e) ∷ rest) (delayed now d) false))
+      → HasTurn design p now (At place ∷ rest) store (with_step (registers_of e) (over_at_once (Set r (assigned_value design.widths store r e) ∷ rest) (delayed now d) false))
   -- `r <= #d e;` computes e, and its update is due d later (9.2.2).
   assigned_later : (place r d : ℕ) (e : Expression ℕ) (rest : Remainder) (store : Store) (turn : Turn)
       → statement_at design place ≡ AssignLater r d e
@@ -75,11 +75,11 @@ pub data HasTurn (design : Design) (p now : ℕ) : Remainder → Store → Turn 
   -- `#d s` ends the turn for d, and s is left (9.7.1).
   delay : (place d : ℕ) (body : Statements) (rest : Remainder) (store : Store)
       → statement_at design place ≡ Delay d body
-      → HasTurn design p now (At place ∷ rest) store (with_step [] (over (parts (place + 1) body ++ rest) (delayed now d) false))
+      → HasTurn design p now (At place ∷ rest) store (with_step [] (over_at_once (parts (place + 1) body ++ rest) (delayed now d) false))
   -- `@(..) s` ends the turn up to such a change, and s is left (9.7.2).
   event : (place : ℕ) (triggers : List Trigger) (body : Statements) (rest : Remainder) (store : Store)
       → statement_at design place ≡ Await triggers body
-      → HasTurn design p now (At place ∷ rest) store (with_step [] (over (parts (place + 1) body ++ rest) (OnChange triggers) false))
+      → HasTurn design p now (At place ∷ rest) store (with_step [] (over_at_once (parts (place + 1) body ++ rest) (OnChange triggers) false))
   -- `if (c) .. else ..` goes on with its first block where c is true (9.4).
   chosen : (place : ℕ) (c : Expression ℕ) (body otherwise : Statements) (rest : Remainder) (store : Store) (turn : Turn)
       → statement_at design place ≡ If c body otherwise → truth (own_value design.widths store c) ≡ True
@@ -114,11 +114,11 @@ pub data HasTurn (design : Design) (p now : ℕ) : Remainder → Store → Turn 
   -- `$finish;` ends the turn and the run (17.4.1).
   finished : (place : ℕ) (rest : Remainder) (store : Store)
       → statement_at design place ≡ Finish
-      → HasTurn design p now (At place ∷ rest) store (with_step [] (over rest Ended true))
+      → HasTurn design p now (At place ∷ rest) store (with_step [] (over_at_once rest Ended true))
   -- Where nothing is left of an initial construct, it is over for good; that is no counted step (9.9.1).
   ended : (store : Store)
       → (process_at design p).repeats ≡ false
-      → HasTurn design p now [] store (over [] Ended false)
+      → HasTurn design p now [] store (over_at_once [] Ended false)
   -- Where nothing is left of an always construct, its body begins again in the same turn (9.9.2).
   restarted : (store : Store) (turn : Turn)
       → (process_at design p).repeats ≡ true

@@ -2,12 +2,12 @@
 use Rattle.std.proofs.Common.{◌≡◌, ℕ, List, [], Vec, Result, Ok, Err, IfOk, inr}
 use Rattle.tokens.specs.declared.cut.CutFault.{CutFault}
 use Rattle.tokens.specs.declared.cut.CutFault.TheVariants.{Memory}
-use Rattle.locations.specs.declared.location.Process.{Process}
+use Rattle.locations.specs.declared.location.ProcessLocation.{ProcessLocation}
 use Rattle.locations.specs.Spots.{IsUncut}
 use Rattle.naming.specs.Begins.{AreProcessesOf}
 
 -- no processes are known of such a source
-pub no_processes : {A E : Type 0} (r : Result (Vec Process A) E) (source : List ℕ) (fault : CutFault) → IsUncut source fault → IfOk r (λ found. found.items ≡ [])
+pub no_processes : {A E : Type 0} (r : Result (Vec ProcessLocation A) E) (source : List ℕ) (fault : CutFault) → IsUncut source fault → IfOk r (λ found. found.items ≡ [])
     → IfOk r (λ found. fault ≡ Memory → ⊥) → IfOk r (λ found. AreProcessesOf source found.items)
 no_processes (Ok found) source fault uncut empty known = inr (empty, record { fault = fault; is_uncut = uncut; known = known })
 no_processes (Err e) source fault uncut empty known = tt

@@ -5,27 +5,27 @@ use Rattle.model.specs.declared.entry.Entry.{Entry}
 use Rattle.model.specs.declared.end.End.{End}
 use Rattle.design.specs.Compiled.{Compiled}
 use Rattle.explore.specs.declared.Shown.{Shown}
-use Rattle.seeded.specs.declared.run.SeededRun.{SeededRun}
-use Rattle.conflicts.specs.declared.told.Race as found_race
-use Rattle.conflicts.specs.declared.told.Bound.{Bound}
-use Rattle.conflicts.specs.declared.told.Found.{Found}
-use Rattle.conflicts.specs.declared.told.Tries.{Tries}
-use Rattle.deeds.specs.declared.role.Role as found_role
+use Rattle.runs.specs.declared.run.RunRecord.{RunRecord}
+use Rattle.races.specs.declared.told.Race as found_race
+use Rattle.races.specs.declared.told.Bound.{Bound}
+use Rattle.races.specs.declared.told.Found.{Found}
+use Rattle.races.specs.declared.told.RaceBounds.{RaceBounds}
+use Rattle.accesses.specs.declared.role.Role as found_role
 use Rattle.verdict.specs.VerdictLines.{IsFirstDifference, HaveSameLines}
-use Rattle.verdict.specs.declared.race.Race.{Race}
-use Rattle.verdict.specs.declared.race.Role.{Role}
-use Rattle.verdict.specs.declared.race.Run.{Run}
+use Rattle.verdict.specs.declared.race.RaceDescription.{RaceDescription}
+use Rattle.verdict.specs.declared.race.RoleDescription.{RoleDescription}
+use Rattle.verdict.specs.declared.race.RunDescription.{RunDescription}
 use Rattle.verdict.specs.RaceLines.{prefix_of, race_text}
 use Rattle.verdict.specs.CutLines.{cut_text}
-use Rattle.locations.specs.declared.location.Process.{Process}
+use Rattle.locations.specs.declared.location.ProcessLocation.{ProcessLocation}
 use Rattle.naming.specs.Begins.{AreProcessesOf, begin_of}
-use Rattle.naming.specs.RaceWords.{cut_of, word_of, IsSiteTold}
+use Rattle.naming.specs.RaceWords.{cut_of, access_word, IsSiteTold}
 
 -- a process is told by its number, where it begins among these, and what it does in words
-pub record IsRoleTold (begins : List Process) (role : found_role.Role) (told : Role) : Type 0 where
+pub record IsRoleTold (begins : List ProcessLocation) (role : found_role.Role) (told : RoleDescription) : Type 0 where
   pub number : told.number ≡ role.process
   pub begin : told.begins ≡ begin_of begins role.process
-  pub does : told.does.now ≡ word_of role.does
+  pub does : told.does.now ≡ access_word role.does
 
 -- the first line in which two texts differ, or none where they have the same lines
 abbrev pub IsDifferenceTold : List ℕ → List ℕ → Option ℕ → List ℕ → List ℕ → Type 0
@@ -33,20 +33,20 @@ IsDifferenceTold one other (Some number) first second = IsFirstDifference one ot
 IsDifferenceTold one other None first second = HaveSameLines one other
 
 -- the journal beside a text is that of a run
-abbrev pub HasJournal : SeededRun → Shown Entry End → Type 0
+abbrev pub HasJournal : RunRecord → Shown Entry End → Type 0
 HasJournal run s = s.moves.items ≡ run.journal.items
 
 -- A journal is told by a number, from 1, where the one with that number is that of the run. None is told where none of them is.
-abbrev pub IsJournalTold : List (Shown Entry End) → SeededRun → Option ℕ → Type 0
+abbrev pub IsJournalTold : List (Shown Entry End) → RunRecord → Option ℕ → Type 0
 IsJournalTold shown run (Some number) = (s : Shown Entry End) × (place : ℕ) × (number ≡ place + 1) × (slice_get shown place ≡ Some s) × HasJournal run s
 IsJournalTold shown run None = All (λ s. HasJournal run s → ⊥) shown
 
 -- one of the two runs of a race
-abbrev pub IsRunTold : List (Shown Entry End) → SeededRun → Run → Type 0
+abbrev pub IsRunTold : List (Shown Entry End) → RunRecord → RunDescription → Type 0
 IsRunTold shown run told = IsJournalTold shown run told.journal
 
 -- A race is told with a number: for what, when, by whom, and by the two runs.
-pub record IsRaceTold (begins : List Process) (code : Compiled) (shown : List (Shown Entry End)) (prefix : Option (List ℕ)) (original : SeededRun) (number : ℕ) (race : found_race.Race) (told : Race) : Type 0 where
+pub record IsRaceTold (begins : List ProcessLocation) (code : Compiled) (shown : List (Shown Entry End)) (prefix : Option (List ℕ)) (original : RunRecord) (number : ℕ) (race : found_race.Race) (told : RaceDescription) : Type 0 where
   pub number_is : told.number ≡ number
   pub site : IsSiteTold code race.site told.site
   pub time_is : told.time ≡ race.time
@@ -58,7 +58,7 @@ pub record IsRaceTold (begins : List Process) (code : Compiled) (shown : List (S
   pub other : IsRunTold shown race.exchanged told.exchanged
 
 -- so each race is told, with numbers from one on
-abbrev pub AreRacesTold : List Process → Compiled → List (Shown Entry End) → Option (List ℕ) → SeededRun → ℕ → List found_race.Race → List Race → Type 0
+abbrev pub AreRacesTold : List ProcessLocation → Compiled → List (Shown Entry End) → Option (List ℕ) → RunRecord → ℕ → List found_race.Race → List RaceDescription → Type 0
 AreRacesTold begins code shown prefix original number [] [] = Unit {0}
 AreRacesTold begins code shown prefix original number (r ∷ rs) [] = ⊥
 AreRacesTold begins code shown prefix original number [] (t ∷ ts) = ⊥
@@ -66,32 +66,32 @@ AreRacesTold begins code shown prefix original number (r ∷ rs) (t ∷ ts) =
     IsRaceTold begins code shown prefix original number r t × AreRacesTold begins code shown prefix original (number + 1) rs ts
 
 -- the lines on races
-abbrev pub races_text : List Race → List ℕ
+abbrev pub races_text : List RaceDescription → List ℕ
 races_text [] = []
 races_text (t ∷ ts) = race_text t ++ races_text ts
 
 -- the line on a list that was cut, and none where it wasn't
-abbrev pub end_text : Tries → Option Bound → List ℕ
-end_text tries (Some bound) = cut_text (cut_of tries bound)
-end_text tries None = []
+abbrev pub list_end_text : RaceBounds → Option Bound → List ℕ
+list_end_text race_bounds (Some bound) = cut_text (cut_of race_bounds bound)
+list_end_text race_bounds None = []
 
 -- What was found in the design of a source is told in these lines: its races, one after another, each process by where it begins, and by what their list
 -- was cut, if it was.
-pub record TellsRaces (source : List ℕ) (code : Compiled) (shown : List (Shown Entry End)) (prefix : Option (List ℕ)) (tries : Tries) (found : Found) (lines : List ℕ) : Type 0 where
-  pub begins : List Process
+pub record TellsRaces (source : List ℕ) (code : Compiled) (shown : List (Shown Entry End)) (prefix : Option (List ℕ)) (race_bounds : RaceBounds) (found : Found) (lines : List ℕ) : Type 0 where
+  pub begins : List ProcessLocation
   pub of_source : AreProcessesOf source begins
-  pub told : List Race
+  pub told : List RaceDescription
   pub are_told : AreRacesTold begins code shown prefix found.original 1 found.races.items told
-  pub lines_is : lines ≡ races_text told ++ end_text tries found.cut
+  pub lines_is : lines ≡ races_text told ++ list_end_text race_bounds found.cut
 
 -- a text has grown by lines that tell what was found
-pub record TellsBehind (source : List ℕ) (code : Compiled) (shown : List (Shown Entry End)) (prefix : Option (List ℕ)) (tries : Tries) (found : Found) (old new : List ℕ) : Type 0 where
+pub record TellsBehind (source : List ℕ) (code : Compiled) (shown : List (Shown Entry End)) (prefix : Option (List ℕ)) (race_bounds : RaceBounds) (found : Found) (old new : List ℕ) : Type 0 where
   pub lines : List ℕ
-  pub tells : TellsRaces source code shown prefix tries found lines
+  pub tells : TellsRaces source code shown prefix race_bounds found lines
   pub new_is : new ≡ old ++ lines
 
 -- a text has grown by lines that tell these races
-pub record TellsEach (begins : List Process) (code : Compiled) (shown : List (Shown Entry End)) (prefix : Option (List ℕ)) (original : SeededRun) (races : List found_race.Race) (old new : List ℕ) : Type 0 where
-  pub told : List Race
+pub record TellsEach (begins : List ProcessLocation) (code : Compiled) (shown : List (Shown Entry End)) (prefix : Option (List ℕ)) (original : RunRecord) (races : List found_race.Race) (old new : List ℕ) : Type 0 where
+  pub told : List RaceDescription
   pub are_told : AreRacesTold begins code shown prefix original 1 races told
   pub new_is : new ≡ old ++ races_text told

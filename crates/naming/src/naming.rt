@@ -2,27 +2,30 @@
 ghost use Rattle.std.specs.Prelude.{◌≡◌, ◌≢◌, ◌↔◌, ◌++◌, [], IfOk, IsTrue, OnOk, option_map, string_bytes};
 ghost use Rattle.tokens.specs.declared.cut.CutFault.TheVariants as faults;
 ghost use Rattle.naming.specs.Begins.{AreProcessesOf, begin_of};
-ghost use Rattle.naming.specs.Naming.{AreRacesTold, HasJournal, IsDifferenceTold, IsJournalTold, IsRaceTold, IsRoleTold, TellsBehind, TellsEach, end_text};
+ghost use Rattle.naming.specs.Naming.{AreRacesTold, HasJournal, IsDifferenceTold, IsJournalTold, IsRaceTold, IsRoleTold, TellsBehind, TellsEach, list_end_text};
 
 use crate::words::{cut_of, site_of, word_of};
-use conflicts::{Bound, Found, Tries};
 use design::Design;
 use explore::Shown;
 use locations::processes;
 use model::end::End;
 use model::entry::Entry;
-use seeded::run::SeededRun;
+use races::{Bound, Found, RaceBounds};
+use runs::run::RunRecord;
 use std::alloc::{AllocError, Global};
 use tokens::cut::CutFault;
-use verdict::{Process, Race, Role, Run, first_difference, push_cut, push_race};
+use verdict::{
+    ProcessDescription, RaceDescription, RoleDescription, RunDescription, first_difference,
+    push_cut, push_race,
+};
 
 /// What races are named by: the source, its design, the bounds within which they were looked for, and the texts that are known, of which
 /// the journals are saved at paths that begin with a prefix, where one is given.
 #[derive(Clone, Copy)]
-pub struct Names<'a> {
+pub struct RaceNames<'a> {
     pub source: &'a [u8],
     pub design: &'a Design,
-    pub tries: Tries,
+    pub race_bounds: RaceBounds,
     pub prefix: Option<&'a str>,
     pub shown: &'a [Shown<Entry, End>],
 }
@@ -39,28 +42,32 @@ struct Lines<'a> {
 pub fn push_races<'a>(
     alloc: Global,
     text: &mut Vec<u8>,
-    names: &Names<'a>,
+    names: &RaceNames<'a>,
     found: &'a Found,
 ) -> Result<(), AllocError>
-    ensures { OnOk result (TellsBehind names.entry.now.source.now names.entry.now.design.now names.entry.now.shown.now (option_map (λ path. path.now) names.entry.now.prefix) names.entry.now.tries found.entry.now text.old.items text.new.items) }
+    ensures { OnOk result (TellsBehind names.entry.now.source.now names.entry.now.design.now names.entry.now.shown.now (option_map (λ path. path.now) names.entry.now.prefix) names.entry.now.race_bounds found.entry.now text.old.items text.new.items) }
 {
     let processes = processes_of(alloc, names.source)?;
     push_each(text, names, &processes, found)?;
-    push_end(text, names.tries, found.cut)
+    push_end(text, names.race_bounds, found.cut)
 }
 
 /// By what the list of races was cut, if it was.
-fn push_end(text: &mut Vec<u8>, tries: Tries, cut: Option<Bound>) -> Result<(), AllocError>
-    ensures { OnOk result (text.new.items ≡ text.old.items ++ end_text tries cut) }
+fn push_end(
+    text: &mut Vec<u8>,
+    race_bounds: RaceBounds,
+    cut: Option<Bound>,
+) -> Result<(), AllocError>
+    ensures { OnOk result (text.new.items ≡ text.old.items ++ list_end_text race_bounds cut) }
 {
     match cut {
-        Some(bound) => push_cut(text, cut_of(tries, bound)),
+        Some(bound) => push_cut(text, cut_of(race_bounds, bound)),
         None => Ok(()),
     }
 }
 
 /// The processes of a source; none where it isn't cut into tokens.
-fn processes_of(alloc: Global, source: &[u8]) -> Result<Vec<locations::Process>, AllocError>
+fn processes_of(alloc: Global, source: &[u8]) -> Result<Vec<locations::ProcessLocation>, AllocError>
     ensures { IfOk result (λ found. AreProcessesOf source.now found.items) }
 {
     match processes(alloc, source) {
@@ -69,7 +76,10 @@ fn processes_of(alloc: Global, source: &[u8]) -> Result<Vec<locations::Process>,
     }
 }
 
-fn without_processes(alloc: Global, fault: CutFault) -> Result<Vec<locations::Process>, AllocError>
+fn without_processes(
+    alloc: Global,
+    fault: CutFault,
+) -> Result<Vec<locations::ProcessLocation>, AllocError>
     ensures empty { IfOk result (λ found. found.items ≡ []) }
     ensures known { IfOk result (λ _. fault ≢ faults.Memory) }
 {
@@ -82,8 +92,8 @@ fn without_processes(alloc: Global, fault: CutFault) -> Result<Vec<locations::Pr
 
 fn push_each<'a>(
     text: &mut Vec<u8>,
-    names: &Names<'a>,
-    processes: &[locations::Process],
+    names: &RaceNames<'a>,
+    processes: &[locations::ProcessLocation],
     found: &'a Found,
 ) -> Result<(), AllocError>
     ensures { OnOk result (TellsEach processes.now names.entry.now.design.now names.entry.now.shown.now (option_map (λ path. path.now) names.entry.now.prefix) found.entry.now.original found.entry.now.races.items text.old.items text.new.items) }
@@ -97,16 +107,16 @@ fn push_each<'a>(
 
 /// A race, as it is told.
 fn told_race<'a>(
-    names: &Names<'a>,
-    processes: &[locations::Process],
-    original: &'a SeededRun,
-    race: &'a conflicts::Race,
+    names: &RaceNames<'a>,
+    processes: &[locations::ProcessLocation],
+    original: &'a RunRecord,
+    race: &'a races::Race,
     number: usize,
-) -> Race<'a>
+) -> RaceDescription<'a>
     ensures { IsRaceTold processes.now names.entry.now.design.now names.entry.now.shown.now (option_map (λ path. path.now) names.entry.now.prefix) original.entry.now number race.entry.now result }
 {
     let lines = lines_of(original, &race.exchanged);
-    Race {
+    RaceDescription {
         number,
         site: site_of(names.design, race.site),
         time: race.time,
@@ -114,18 +124,18 @@ fn told_race<'a>(
         second: role_of(processes, race.second),
         prefix: names.prefix,
         line: lines.number,
-        original: Run {
+        original: RunDescription {
             journal: journal_of(names.shown, original),
             line: lines.one,
         },
-        exchanged: Run {
+        exchanged: RunDescription {
             journal: journal_of(names.shown, &race.exchanged),
             line: lines.other,
         },
     }
 }
 
-fn lines_of<'a>(one: &'a SeededRun, other: &'a SeededRun) -> Lines<'a>
+fn lines_of<'a>(one: &'a RunRecord, other: &'a RunRecord) -> Lines<'a>
     ensures { IsDifferenceTold (string_bytes one.entry.now.lines) (string_bytes other.entry.now.lines) result.number result.one.now result.other.now }
 {
     match first_difference(
@@ -145,10 +155,13 @@ fn lines_of<'a>(one: &'a SeededRun, other: &'a SeededRun) -> Lines<'a>
     }
 }
 
-fn role_of(processes: &[locations::Process], role: deeds::Role) -> Role<'static>
+fn role_of(
+    processes: &[locations::ProcessLocation],
+    role: accesses::Role,
+) -> RoleDescription<'static>
     ensures { IsRoleTold processes.now role result }
 {
-    Role {
+    RoleDescription {
         number: role.process,
         begins: begin_of(processes, role.process),
         does: word_of(role.does),
@@ -156,11 +169,11 @@ fn role_of(processes: &[locations::Process], role: deeds::Role) -> Role<'static>
 }
 
 /// Where the process with a number begins, if that is known.
-fn begin_of(processes: &[locations::Process], number: u32) -> Option<Process>
+fn begin_of(processes: &[locations::ProcessLocation], number: u32) -> Option<ProcessDescription>
     ensures { result ≡ begin_of processes.now number }
 {
     match processes.get(number as usize) {
-        Some(process) => Some(Process {
+        Some(process) => Some(ProcessDescription {
             always: process.always,
             line: process.location.line,
         }),
@@ -191,14 +204,14 @@ fn are_same(one: &[Entry], other: &[Entry]) -> bool
 }
 
 /// Whether the journal beside a text is that of a run.
-fn is_journal(shown: &Shown<Entry, End>, run: &SeededRun) -> bool
+fn is_journal(shown: &Shown<Entry, End>, run: &RunRecord) -> bool
     ensures { IsTrue result ↔ HasJournal run.now shown.now }
 {
     are_same(shown.moves.as_slice(), run.journal.as_slice())
 }
 
 /// The number of the journal that is that of a run, from 1.
-fn journal_of(shown: &[Shown<Entry, End>], run: &SeededRun) -> Option<usize>
+fn journal_of(shown: &[Shown<Entry, End>], run: &RunRecord) -> Option<usize>
     ensures { IsJournalTold shown.now run.now result }
 {
     for (place, one) in shown.iter().enumerate() {

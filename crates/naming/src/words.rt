@@ -1,32 +1,32 @@
 //! The words in which a race is told.
 ghost use Rattle.std.specs.Prelude.{◌≡◌};
-ghost use Rattle.deeds.specs.declared.role.Site.TheVariants as sites;
-ghost use Rattle.naming.specs.RaceWords.{cut_of, word_of, IsSiteTold};
+ghost use Rattle.accesses.specs.declared.role.Site.TheVariants as sites;
+ghost use Rattle.naming.specs.RaceWords.{cut_of, access_word, IsSiteTold};
 
-use conflicts::{Bound, Tries};
-use deeds::Does;
+use accesses::Does;
 use design::{Design, RegId};
-use verdict::{Cut, Site};
+use races::{Bound, RaceBounds};
+use verdict::{ListCut, SiteDescription};
 
 /// The most entries between two changes of the regions that are compared with one another.
 const MOST_STEPS: u64 = 1024;
 
 /// By what a list of races was cut, with the bound that was met.
-pub(crate) fn cut_of(tries: Tries, bound: Bound) -> Cut
-    ensures { result ≡ cut_of tries bound }
+pub(crate) fn cut_of(race_bounds: RaceBounds, bound: Bound) -> ListCut
+    ensures { result ≡ cut_of race_bounds bound }
 {
     match bound {
-        Bound::Races => Cut::Races(tries.races as u64),
-        Bound::Pairs => Cut::Runs(tries.pairs as u64),
-        Bound::Entries => Cut::Entries(tries.entries),
-        Bound::Steps => Cut::Steps(MOST_STEPS),
-        Bound::Memory => Cut::Memory,
+        Bound::Races => ListCut::Races(race_bounds.races as u64),
+        Bound::Pairs => ListCut::Runs(race_bounds.pairs as u64),
+        Bound::Entries => ListCut::Entries(race_bounds.entries),
+        Bound::Steps => ListCut::Steps(MOST_STEPS),
+        Bound::Memory => ListCut::Memory,
     }
 }
 
 /// What an entry does, in words.
 pub(crate) fn word_of(does: Does) -> &'static str
-    ensures { result.now ≡ word_of does }
+    ensures { result.now ≡ access_word does }
 {
     match does {
         Does::Writes => "writes it",
@@ -42,24 +42,24 @@ pub(crate) fn word_of(does: Does) -> &'static str
 }
 
 /// For what two entries race, with a register by its name.
-pub(crate) fn site_of<'a>(design: &'a Design, site: deeds::Site) -> Site<'a>
+pub(crate) fn site_of<'a>(design: &'a Design, site: accesses::Site) -> SiteDescription<'a>
     ensures { IsSiteTold design.entry.now site result }
 {
     match site {
-        deeds::Site::Register(register) => named(design, register),
-        deeds::Site::Printing => Site::Printing,
-        deeds::Site::Strobing => Site::Strobing,
-        deeds::Site::Finishing => Site::Finishing,
+        accesses::Site::Register(register) => named(design, register),
+        accesses::Site::Printing => SiteDescription::Printing,
+        accesses::Site::Strobing => SiteDescription::Strobing,
+        accesses::Site::Finishing => SiteDescription::Finishing,
     }
 }
 
-fn named(design: &Design, register: RegId) -> Site<'_>
+fn named(design: &Design, register: RegId) -> SiteDescription<'_>
     ensures { IsSiteTold design.entry.now (sites.Register register) result }
 {
     let _ = design.registers();
     if register < design.registers() {
-        Site::Register(design.name(register))
+        SiteDescription::Register(design.name(register))
     } else {
-        Site::Register("?")
+        SiteDescription::Register("?")
     }
 }

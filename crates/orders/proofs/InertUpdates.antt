@@ -18,7 +18,7 @@ use Rattle.model.specs.States.{Action, Evaluate, Event, Continuation, State, wit
 use Rattle.model.specs.Runs.{Effect, action_in, has_any, has_earlier_update, EndsIn, is_quiet, is_idle, IsPastLimit, HasLongTurn, silent, joined, step, run_from}
 use Rattle.model.specs.Steps.{IsPermitted}
 use Rattle.model.proofs.StepLaws.{step_is_exact}
-use Rattle.orders.specs.Alike.{AreAlike, Rises, updates_in}
+use Rattle.orders.specs.Alike.{AreAlike, EventsRise, updates_in}
 use Rattle.orders.specs.Apart.{of_register, AlikeButUpdates, AreAlikeButOrder, given, all_given, wakes_any, WakesNone}
 use Rattle.orders.specs.Inert.{AreUpdates, IsInert, settled, InertUpdatesAreTaken, InertOrderIsForgotten}
 use Rattle.orders.specs.SearchLaws.{EndsHere}
@@ -60,12 +60,12 @@ goes_on design limits s x xs n end is going short few memory ends =
 
 -- the first update is taken
 
-no_evaluation : (n p from to : ℕ) (es : List Event) → Rises from es to → AreUpdates es → action_in es n ≡ Some (Evaluate p) → ⊥
+no_evaluation : (n p from to : ℕ) (es : List Event) → EventsRise from es to → AreUpdates es → action_in es n ≡ Some (Evaluate p) → ⊥
 no_evaluation n p from to es rises none is =
     omega (arith, evaluations-taken n p from to (Evaluate p) es rises is, none p, own_evaluation p)
 
 -- only the first one may be
-is_first : (n k r q to : ℕ) (v w : Vector) (es : List Event) (b : Bool) → (n == k) ≡ b → Rises (n + 1) es to → (if b then Some (Action.Update r v) else action_in es k) ≡ Some (Action.Update q w)
+is_first : (n k r q to : ℕ) (v w : Vector) (es : List Event) (b : Bool) → (n == k) ≡ b → EventsRise (n + 1) es to → (if b then Some (Action.Update r v) else action_in es k) ≡ Some (Action.Update q w)
     → (nat_lt n k || has_earlier_update es k) ≡ false → (k ≡ n) × ◌≡◌ {A = Action} (Action.Update q w) (Action.Update r v)
 is_first n k r q to v w es true is rises at_k first =
     let both : Action.Update q w ≡ Action.Update r v = cc in
@@ -76,14 +76,14 @@ is_first n k r q to v w es false is rises at_k first =
     let bad : (true || has_earlier_update es k) ≡ false = rw less at first in
     cc
 
-updated_first : (s : State) (n r to : ℕ) (v : Vector) (es : List Event) → Rises (n + 1) es to → wakes_any s.store (r, v) s.processes ≡ false
+updated_first : (s : State) (n r to : ℕ) (v : Vector) (es : List Event) → EventsRise (n + 1) es to → wakes_any s.store (r, v) s.processes ≡ false
     → updated (record s { active = (n, Action.Update r v) ∷ es }) n r v ≡ record s { active = es; store = given s.store (r, v) }
 updated_first s n r to v es rises quiet =
     let left : without n es ≡ es = absent n (n + 1) to es rises (omega arith) in
     let own : (n == n) ≡ true = eq-eqb n n refl in
     rw (own, left) (change_quiet (record s { active = es }) (r, v) quiet)
 
-first_step : (design : Design) (s : State) (n r to : ℕ) (v : Vector) (es : List Event) (entry : Entry) (f : Effect) → Rises 0 ((n, Action.Update r v) ∷ es) to → AreUpdates ((n, Action.Update r v) ∷ es) → wakes_any s.store (r, v) s.processes ≡ false
+first_step : (design : Design) (s : State) (n r to : ℕ) (v : Vector) (es : List Event) (entry : Entry) (f : Effect) → EventsRise 0 ((n, Action.Update r v) ∷ es) to → AreUpdates ((n, Action.Update r v) ∷ es) → wakes_any s.store (r, v) s.processes ≡ false
     → IsPermitted design (record s { active = (n, Action.Update r v) ∷ es }) entry f → (f.lines ≡ []) × (f.state ≡ record s { active = es; store = given s.store (r, v) })
 first_step design s n r to v es (Entry.Turn k) f rises none quiet (p, turn, at_k, exact, short, same) =
     absurd (no_evaluation k p 0 to ((n, Action.Update r v) ∷ es) rises none at_k)
@@ -130,16 +130,16 @@ not_an_update p n es none = omega (arith, none p, own_evaluation p)
 less_updates : (n r : ℕ) (v : Vector) (es : List Event) → AreUpdates ((n, Action.Update r v) ∷ es) → AreUpdates es
 less_updates n r v es none p = omega (arith, none p)
 
-no_long : (design : Design) (s : State) (p to : ℕ) → Rises 0 s.active to → AreUpdates s.active → HasLongTurn design s p → ⊥
+no_long : (design : Design) (s : State) (p to : ℕ) → EventsRise 0 s.active to → AreUpdates s.active → HasLongTurn design s p → ⊥
 no_long design s p to rises none (n, at_n, long) = no_evaluation n p 0 to s.active rises none at_n
 
-step_first : (design : Design) (s : State) (e f : Effect) (n r to : ℕ) (v : Vector) (es : List Event) (entry : Entry) → e.state ≡ record s { active = (n, Action.Update r v) ∷ es } → Rises 0 ((n, Action.Update r v) ∷ es) to → AreUpdates ((n, Action.Update r v) ∷ es) → wakes_any s.store (r, v) s.processes ≡ false
+step_first : (design : Design) (s : State) (e f : Effect) (n r to : ℕ) (v : Vector) (es : List Event) (entry : Entry) → e.state ≡ record s { active = (n, Action.Update r v) ∷ es } → EventsRise 0 ((n, Action.Update r v) ∷ es) to → AreUpdates ((n, Action.Update r v) ∷ es) → wakes_any s.store (r, v) s.processes ≡ false
     → step design e.state entry ≡ Some f → (f.lines ≡ []) × (f.state ≡ record s { active = es; store = given s.store (r, v) })
 step_first design s e f n r to v es entry state rises none quiet at_f =
     let at : step design (record s { active = (n, Action.Update r v) ∷ es }) entry ≡ Some f = ap (λ x. step design x entry) (sym state) ∙ at_f in
     first_step design s n r to v es entry f rises none quiet ((step_is_exact design (record s { active = (n, Action.Update r v) ∷ es }) entry f).0 at).1
 
-taken_all : (design : Design) (limits : Limits) (to : ℕ) (es : List Event) (s : State) (e g : Effect) (entries : List Entry) (end : End) → e.state ≡ record s { active = es } → Rises 0 es to → AreUpdates es → WakesNone s.store (updates_in es) s.processes → s.finished ≡ false
+taken_all : (design : Design) (limits : Limits) (to : ℕ) (es : List Event) (s : State) (e g : Effect) (entries : List Entry) (end : End) → e.state ≡ record s { active = es } → EventsRise 0 es to → AreUpdates es → WakesNone s.store (updates_in es) s.processes → s.finished ≡ false
     → run_from design e entries ≡ Some g → EndsHere design limits g end → Passes design e entries (record s { active = []; store = all_given s.store (updates_in es) })
 taken_all design limits to [] s e g entries end state rises none quiet going is ends = ([], entries, e, refl, refl, refl, state)
 taken_all design limits to ((n, Evaluate p) ∷ es) s e g entries end state rises none quiet going is ends = absurd (not_an_update p n es none)

@@ -20,7 +20,7 @@ use Rattle.model.specs.States.{Action, Evaluate, Event, State, start, turned}
 use Rattle.model.specs.Runs.{Effect, silent, joined, step, action_in, turn_of, HasLongTurn}
 use Rattle.model.proofs.StepLaws.{step_is_exact}
 use Rattle.orders.specs.Alike.{transition_of}
-use Rattle.orders.specs.SearchLaws.{EndsHere, IsReached, Visited, FollowsEachTransition, Shows, IsComplete}
+use Rattle.orders.specs.SearchLaws.{EndsHere, IsReachable, IsAmongVisited, FollowsEachTransition, Shows, IsComplete}
 use Rattle.orders.proofs.AlikeStates.{alike_states-same}
 use Rattle.orders.proofs.InertUpdates.{goes_on}
 use Rattle.orders.proofs.SearchLaws.{each_transition_covers}
@@ -94,12 +94,12 @@ found m p n es a there = found_if m p n es a (m == n) refl there
 -- what an entry does from a node is followed
 abbrev Followed : Effect → Entry → Type 0
 Followed e entry =
-    (other : Entry) × (g : Effect) × (transition_of e.state other ≡ transition_of e.state entry) × (step race e.state other ≡ Some g) × Visited nodes (joined e g)
+    (other : Entry) × (g : Effect) × (transition_of e.state other ≡ transition_of e.state entry) × (step race e.state other ≡ Some g) × IsAmongVisited nodes (joined e g)
 
-follows_turn : (e g : Effect) (n m : ℕ) → n ≡ m → step race e.state (Entry.Turn m) ≡ Some g → Visited nodes (joined e g) → Followed e (Entry.Turn n)
+follows_turn : (e g : Effect) (n m : ℕ) → n ≡ m → step race e.state (Entry.Turn m) ≡ Some g → IsAmongVisited nodes (joined e g) → Followed e (Entry.Turn n)
 follows_turn e g n m same at_g visited = (Entry.Turn m, g, ap (λ k. transition_of e.state (Entry.Turn k)) (sym same), at_g, visited)
 
-visited_at : (v : Effect) → Contains nodes v → Visited nodes v
+visited_at : (v : Effect) → Contains nodes v → IsAmongVisited nodes v
 visited_at v there = (v, there, (refl, alike_states-same v.state))
 
 pub no_update : (m p n r : ℕ) (v : Vector) (es : List Event) → (action_in es n ≡ Some (Action.Update r v) → ⊥) → action_in ((m, Evaluate p) ∷ es) n ≡ Some (Action.Update r v) → ⊥
@@ -252,10 +252,10 @@ each_node P a b c d f e there =
     All-contains P nodes e
     (All-from_recursion P nodes (a, (b, (c, (d, (f, tt)))))) there
 
-reaches : (e : Effect) → Contains nodes e → IsReached race e
+reaches : (e : Effect) → Contains nodes e → IsReachable race e
 unfolding turn_within
 reaches =
-    each_node (IsReached race) ([], refl) (Entry.Turn 0 ∷ [], refl) (Entry.Turn 1 ∷ [], refl) (Entry.Turn 0 ∷ Entry.Turn 1 ∷ [], refl)
+    each_node (IsReachable race) ([], refl) (Entry.Turn 0 ∷ [], refl) (Entry.Turn 1 ∷ [], refl) (Entry.Turn 0 ∷ Entry.Turn 1 ∷ [], refl)
     (Entry.Turn 1 ∷ Entry.Turn 0 ∷ [], refl)
 
 follows : (e : Effect) → Contains nodes e → FollowsEachTransition race limits nodes e

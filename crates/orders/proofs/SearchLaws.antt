@@ -12,7 +12,7 @@ use Rattle.model.specs.States.{start}
 use Rattle.model.specs.Runs.{Effect, silent, joined, step, run_from, IsTimely, AreTimely}
 use Rattle.model.proofs.RunLaws.{run_from-append}
 use Rattle.orders.specs.Alike.{Alike, IsInOrder}
-use Rattle.orders.specs.SearchLaws.{IsOneNode, OneNodeGoesOn, EndsHere, IsReached, Visited, EachTransitionCovers, Shows, IsComplete, CompleteShowsAll}
+use Rattle.orders.specs.SearchLaws.{IsOneNode, OneNodeGoesOn, EndsHere, IsReachable, IsAmongVisited, EachTransitionCovers, Shows, IsComplete, CompleteShowsAll}
 use Rattle.orders.proofs.StatesInOrder.{step_keeps_order, run_from_in_order, start_is_in_order, run_is_in_order}
 use Rattle.orders.proofs.AlikeStates.{alike_states-same, alike_states-trans}
 use Rattle.orders.proofs.AlikeSteps.{alike_states_step_alike, transition_has_one_outcome}
@@ -45,11 +45,11 @@ one_node_goes_on design limits e f g (entry ∷ entries) i j (lines, alike) is t
     (one_node_goes_on design limits (joined e x) (joined f y) g entries (step_keeps_order design e.state entry x i at_x) (step_keeps_order design f.state other y j at_y) node later (All-tail (IsTimely limits) entry entries timely)))
 
 -- a node that is followed by each of its transitions is covered
-pub visited_too : (nodes : List Effect) (e f : Effect) → IsOneNode e f → Visited nodes f → Visited nodes e
+pub visited_too : (nodes : List Effect) (e f : Effect) → IsOneNode e f → IsAmongVisited nodes f → IsAmongVisited nodes e
 visited_too nodes e f (lines, alike) (v, there, (lines', alike')) =
     (v, there, (lines ∙ lines', alike_states-trans e.state f.state v.state alike alike'))
 
-pub reached_in_order : (design : Design) (e : Effect) → IsReached design e → IsInOrder e.state
+pub reached_in_order : (design : Design) (e : Effect) → IsReachable design e → IsInOrder e.state
 reached_in_order design e (journal, is) = run_is_in_order design journal e is
 
 pub each_transition_covers : EachTransitionCovers

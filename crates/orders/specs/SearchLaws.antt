@@ -35,12 +35,12 @@ EndsHere design limits e end =
     (end ≢ Stopped Entries) × (end ≢ Stopped Memory) × EndsIn design limits 0 e.state end
 
 -- an effect is what comes of a lawful journal
-abbrev pub IsReached : Design → Effect → Type 0
-IsReached design e = (journal : List Entry) × (run design journal ≡ Some e)
+abbrev pub IsReachable : Design → Effect → Type 0
+IsReachable design e = (journal : List Entry) × (run design journal ≡ Some e)
 
 -- a node is among those that were visited
-abbrev pub Visited : List Effect → Effect → Type 0
-Visited nodes e = (f : Effect) × Contains nodes f × IsOneNode e f
+abbrev pub IsAmongVisited : List Effect → Effect → Type 0
+IsAmongVisited nodes e = (f : Effect) × Contains nodes f × IsOneNode e f
 
 -- The nodes cover the runs from one of them: whichever way a run goes on from it in time to an end, it comes to one of
 -- the nodes on the way, by one entry or more.
@@ -48,18 +48,18 @@ abbrev pub Covers : Design → Limits → List Effect → Effect → Type 0
 Covers design limits nodes e =
     (entry : Entry) (entries : List Entry) (g : Effect) (end : End) → run_from design e (entry ∷ entries) ≡ Some g
     → AreTimely limits (entry ∷ entries) → EndsHere design limits g end
-    → (before : List Entry) × (after : List Entry) × (f : Effect) × (before ≢ []) × (before ++ after ≡ entry ∷ entries) × (run_from design e before ≡ Some f) × Visited nodes f
+    → (before : List Entry) × (after : List Entry) × (f : Effect) × (before ≢ []) × (before ++ after ≡ entry ∷ entries) × (run_from design e before ≡ Some f) × IsAmongVisited nodes f
 
 -- A node is followed by each of its transitions: whatever entry leads on from it in time, one of the same transition leads to a node.
 abbrev pub FollowsEachTransition : Design → Limits → List Effect → Effect → Type 0
 FollowsEachTransition design limits nodes e =
     (entry : Entry) (f : Effect) → step design e.state entry ≡ Some f → IsTimely limits entry
-    → (other : Entry) × (g : Effect) × (transition_of e.state other ≡ transition_of e.state entry) × (step design e.state other ≡ Some g) × Visited nodes (joined e g)
+    → (other : Entry) × (g : Effect) × (transition_of e.state other ≡ transition_of e.state entry) × (step design e.state other ≡ Some g) × IsAmongVisited nodes (joined e g)
 
 -- a node that is followed by each of its transitions is covered
 abbrev pub EachTransitionCovers : Type 0
 EachTransitionCovers =
-    (design : Design) (limits : Limits) (nodes : List Effect) (e : Effect) → IsReached design e → FollowsEachTransition design limits nodes e
+    (design : Design) (limits : Limits) (nodes : List Effect) (e : Effect) → IsReachable design e → FollowsEachTransition design limits nodes e
     → Covers design limits nodes e
 
 -- what is shown has lines and an end
@@ -71,8 +71,8 @@ Shows shown lines end = Contains shown (lines, end)
 abbrev pub IsComplete : Design → Limits → List Effect → List (List ℕ × End) → Type 0
 IsComplete design limits nodes shown =
     record {
-      begun : Visited nodes (silent (start design));
-      reached : (e : Effect) → Contains nodes e → IsReached design e;
+      begun : IsAmongVisited nodes (silent (start design));
+      reached : (e : Effect) → Contains nodes e → IsReachable design e;
       covered : (e : Effect) → Contains nodes e → Covers design limits nodes e;
       ends : (e : Effect) (end : End) → Contains nodes e → EndsHere design limits e end → Shows shown e.lines end;
     }

@@ -8,11 +8,11 @@ use Rattle.logic4.specs.declared.digit.Truth.TheVariants.{False, True, Unknown}
 use Rattle.logic4.specs.Operators.{truth}
 use Rattle.model.specs.declared.tree.Change.TheVariants.{Any}
 use Rattle.model.specs.Syntax.{Expression, registers_of}
-use Rattle.model.specs.Design.{Design, Process, Statement, Empty, Assign, AssignAfter, AssignLater, Delay, Await, If, While, Print, Finish, Statements, End, Then, Trigger, inside, all_of, size, statements_of, statement_at, process_at, first_place}
+use Rattle.model.specs.Design.{Design, Process, Statement, Empty, Assign, AssignAfter, AssignLater, Delay, Await, If, While, Print, Finish, Statements, End, Then, Trigger, inside, all_of, size, all_statements, statement_at, process_at, first_place}
 use Rattle.model.specs.Expressions.{Store, own_value, assigned_value}
 use Rattle.model.specs.Turns.{At, Remainder, Wait, OnChange, contains, parts, whole, most_steps, short_turn, IsShort}
 use Rattle.model.specs.Turns as turns
-use Rattle.model.specs.TurnCases.{all_but, first_uses, over, with_step, with_write, HasTurn, nothing, assigned, event, chosen, other, restarted}
+use Rattle.model.specs.TurnCases.{all_but, first_uses, over_at_once, with_step, with_write, HasTurn, nothing, assigned, event, chosen, other, restarted}
 use Rattle.model.proofs.PlaceLaws.{Stands, statement_there, stands_others, stands_awaited, stands_chosen}
 use Rattle.model.proofs.TurnCaseLaws.{short_turn_by_cases_is_exact}
 use Rattle.orders.specs.Apart.{written_by}
@@ -343,13 +343,13 @@ repeats_not x same is =
     cc
 
 pub body_at : (ps : List Process) (p : ℕ) (x : Process) → slice_index_or ps p (record { repeats = false; body = End }) ≡ x → x.repeats ≡ true
-    → (others : List Statement) × (drop (length (statements_of (take p ps))) (statements_of ps) ≡ all_of x.body ++ others)
+    → (others : List Statement) × (drop (length (all_statements (take p ps))) (all_statements ps) ≡ all_of x.body ++ others)
 body_at [] p x is repeats = absurd (repeats_not x is repeats)
-body_at (y ∷ ps) zero x is repeats = (statements_of ps, ap (λ (z : Process). all_of z.body ++ statements_of ps) is)
+body_at (y ∷ ps) zero x is repeats = (all_statements ps, ap (λ (z : Process). all_of z.body ++ all_statements ps) is)
 body_at (y ∷ ps) (suc p) x is repeats =
     let (others, at) = body_at ps p x is repeats in
-    let sum : length (all_of y.body ++ statements_of (take p ps)) ≡ length (all_of y.body) + length (statements_of (take p ps)) = length-append (all_of y.body) (statements_of (take p ps)) in
-    (others, ap (λ n. drop n (all_of y.body ++ statements_of ps)) sum ∙ drop_past (all_of y.body) (statements_of ps) (length (statements_of (take p ps))) ∙ at)
+    let sum : length (all_of y.body ++ all_statements (take p ps)) ≡ length (all_of y.body) + length (all_statements (take p ps)) = length-append (all_of y.body) (all_statements (take p ps)) in
+    (others, ap (λ n. drop n (all_of y.body ++ all_statements ps)) sum ∙ drop_past (all_of y.body) (all_statements ps) (length (all_statements (take p ps))) ∙ at)
 
 pub no_more : {A : Type 0} → (xs : List A) → xs ++ [] ≡ xs
 no_more [] = refl
@@ -361,7 +361,7 @@ waits_again : (design : Design) (p now : ℕ) (inputs : List ℕ) (body : Statem
 waits_again design p now inputs body h stands store =
     let ts : List Trigger = map (λ r. (Any, r)) inputs in
     let at : ℕ = first_place design p in
-    let t : turns.Turn = with_step [] (over (parts (at + 1) body ++ []) (OnChange ts) false) in
+    let t : turns.Turn = with_step [] (over_at_once (parts (at + 1) body ++ []) (OnChange ts) false) in
     let waits : HasTurn design p now (At at ∷ []) store t = event at ts body [] store (statement_there design at (Await ts body) End stands) in
     let body_is : whole design p ≡ At at ∷ [] = ap (λ (x : Process). parts at x.body) h.process in
     let repeats : (process_at design p).repeats ≡ true = ap (λ (x : Process). x.repeats) h.process in (

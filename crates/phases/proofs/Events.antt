@@ -10,7 +10,7 @@ use Rattle.model.specs.Laws.{evaluates, evaluations_in}
 use Rattle.orders.specs.Alike.{IsInOrder, updates_in}
 use Rattle.orders.specs.Apart.{all_given}
 use Rattle.orders.proofs.EventLists.{evaluations-taken, own_evaluation}
-use Rattle.phases.specs.Phase.{Block, IsBlock, continuation_of, waits_for}
+use Rattle.phases.specs.Phase.{Block, IsBlock, continuation_of, waits_for_register}
 use Rattle.phases.proofs.Changes.{woke, awake, one_where, Changed, changed}
 use Rattle.phases.proofs.Members.{Standing, stands_changed, unmoved}
 
@@ -82,13 +82,13 @@ one_unmoved s f r v q c is =
     none : (n : ℕ) → n + one_where false ≡ n
     none n = omega arith
 
-pub all_unmoved : (s : State) (ws : List (ℕ × Vector)) (q : ℕ) → ((r : ℕ) → contains (map (λ (w : ℕ × Vector). w.0) ws) r ≡ true → waits_for (continuation_of s q) r ≡ false) → Unmoved s q (change_all s ws)
+pub all_unmoved : (s : State) (ws : List (ℕ × Vector)) (q : ℕ) → ((r : ℕ) → contains (map (λ (w : ℕ × Vector). w.0) ws) r ≡ true → waits_for_register (continuation_of s q) r ≡ false) → Unmoved s q (change_all s ws)
 all_unmoved s [] q h = (refl, refl)
 all_unmoved s (w ∷ ws) q h =
     let f : State = change s w.0 w.1 in
-    let first : waits_for (continuation_of s q) w.0 ≡ false = h w.0 (or_left (w.0 == w.0) (contains (map (λ (w : ℕ × Vector). w.0) ws) w.0) (eq-eqb w.0 w.0 refl)) in
+    let first : waits_for_register (continuation_of s q) w.0 ≡ false = h w.0 (or_left (w.0 == w.0) (contains (map (λ (w : ℕ × Vector). w.0) ws) w.0) (eq-eqb w.0 w.0 refl)) in
     let (continuation, evaluations) = one_unmoved s f w.0 w.1 q (changed s w.0 w.1) (unmoved s w.0 w.1 q first) in
-    let (continuation', evaluations') = all_unmoved f ws q (λ r is. ap (λ x. waits_for x r) continuation ∙ h r (or_right (w.0 == r) (contains (map (λ (w : ℕ × Vector). w.0) ws) r) is)) in
+    let (continuation', evaluations') = all_unmoved f ws q (λ r is. ap (λ x. waits_for_register x r) continuation ∙ h r (or_right (w.0 == r) (contains (map (λ (w : ℕ × Vector). w.0) ws) r) is)) in
     (continuation' ∙ continuation, evaluations' ∙ evaluations)
 
 -- taking an event

@@ -24,7 +24,7 @@ use Rattle.orders.proofs.StatesInOrder.{run_from_in_order, step_keeps_order}
 use Rattle.orders.proofs.SearchLaws.{then_some, visited_too, reached_in_order, rest_of}
 use Rattle.orders.proofs.InertUpdates.{no_end}
 use Rattle.orders.proofs.FlatRuns.{flat_turns_are_one_node, takes_all}
-use Rattle.phases.specs.Phase.{Block, IsConsistent, waits_for, updated_in, IsOutput, IsPhase, EndsPhase, FlatPhaseCovers}
+use Rattle.phases.specs.Phase.{Block, IsConsistent, waits_for_register, updated_in, IsOutput, IsPhase, EndsPhase, FlatPhaseCovers}
 use Rattle.phases.proofs.Members.{Standing}
 use Rattle.phases.proofs.PhaseRuns.{phase_runs, AlikeButActive, ends_alike, passes, none_in}
 
@@ -112,7 +112,7 @@ phase_alike design members block rank s t h phase =
       single = phase.single;
       updates = λ r there p member. phase.updates r (sym (same_updated s t r h) ∙ there) p member;
       order = phase.order;
-      others = λ q r outside touched. ap (λ xs. waits_for (slice_index_or xs q (record { remainder = []; triggers = [] })) r) (sym h.processes) ∙ phase.others q r outside (before r touched);
+      others = λ q r outside touched. ap (λ xs. waits_for_register (slice_index_or xs q (record { remainder = []; triggers = [] })) r) (sym h.processes) ∙ phase.others q r outside (before r touched);
     }
   where
     before : (r : ℕ) → contains (updated_in t) r ≡ true ⊎ IsOutput members block r → contains (updated_in s) r ≡ true ⊎ IsOutput members block r

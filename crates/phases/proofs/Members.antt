@@ -18,13 +18,13 @@ use Rattle.model.specs.States.{State, edge_matches, wakes, is_woken}
 use Rattle.orders.specs.Apart.{AgreeOn, given, all_given}
 use Rattle.orders.proofs.TurnFrame.{turn_has_frame}
 use Rattle.orders.proofs.Stores.{same_store, length_given, given_other, length_all, all_other}
-use Rattle.phases.specs.Phase.{Block, triggers, IsBlock, continuation_of, IsConsistent, IsPending, HasSettled, waits_for}
+use Rattle.phases.specs.Phase.{Block, triggers, IsBlock, continuation_of, IsConsistent, IsTurnPending, HasSettled, waits_for_register}
 use Rattle.phases.proofs.Values.{written_same}
 use Rattle.phases.proofs.Changes.{woke, awake, one_where, Changed}
 
 -- a member of a phase is pending, or settled
 abbrev pub Standing : Design → State → ℕ → Block → Type 0
-Standing design s p b = IsPending s p b ⊎ HasSettled design s p b
+Standing design s p b = IsTurnPending s p b ⊎ HasSettled design s p b
 
 -- what agrees on the inputs, and has the outputs that were consistent, is consistent
 
@@ -149,6 +149,6 @@ no_wake (t ∷ ts) r old new h =
     let (first, others) = neither (t.1 == r) (list_any (λ (t : Trigger). t.1 == r) ts) h in
     rw first (no_wake ts r old new others)
 
-pub unmoved : (s : State) (r : ℕ) (v : Vector) (q : ℕ) → waits_for (continuation_of s q) r ≡ false → woke s r v q ≡ false
+pub unmoved : (s : State) (r : ℕ) (v : Vector) (q : ℕ) → waits_for_register (continuation_of s q) r ≡ false → woke s r v q ≡ false
 unmoved s r v q h =
     ap (λ x. not (same_vector (value_of s.store r) v) && x) (no_wake (continuation_of s q).triggers r (value_of s.store r) v h) ∙ and_none (not (same_vector (value_of s.store r) v))

@@ -27,7 +27,7 @@ use Rattle.orders.proofs.TurnFrame.{turn_has_frame}
 use Rattle.orders.proofs.Stores.{append-none, same_store, stores_same}
 use Rattle.orders.proofs.SearchLaws.{then_some, visited_too, reached_in_order}
 use Rattle.orders.proofs.InertUpdates.{goes_on}
-use Rattle.phases.specs.Phase.{Block, continuation_of, IsPending, HasSettled, IsOutput, IsPhase, TakesEvent, EndsPhase, PhaseEndsInOneNode, PhaseCovers}
+use Rattle.phases.specs.Phase.{Block, continuation_of, IsTurnPending, HasSettled, IsOutput, IsPhase, TakesEvent, EndsPhase, PhaseEndsInOneNode, PhaseCovers}
 use Rattle.phases.proofs.Values.{written_same}
 use Rattle.phases.proofs.Members.{Standing}
 use Rattle.phases.proofs.PhaseSteps.{Stays, phase_steps}
@@ -261,7 +261,7 @@ no_long design members block rank s p order phase (n, at, long) =
     let member : contains members p ≡ true = phase.inside p active in
     short p member (phase.stands p member) active long
   where
-    found : (p : ℕ) → contains members p ≡ true → IsPending s p (block p) → turn_of design s p ≡ None → ⊥
+    found : (p : ℕ) → contains members p ≡ true → IsTurnPending s p (block p) → turn_of design s p ≡ None → ⊥
     found p member (one, continuation) long =
         let (t, at_t, c) = (phase.blocks p member).turns s.store s.time in
         let is : turn_of design s p ≡ Some t = ap (λ (x : Continuation). short_turn design p x.remainder s.store s.time) continuation ∙ at_t in

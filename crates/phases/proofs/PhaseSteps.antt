@@ -22,7 +22,7 @@ use Rattle.orders.specs.Flat.{IsActive}
 use Rattle.orders.proofs.EventLists.{updates_left, update_taken}
 use Rattle.orders.proofs.TurnFrame.{turn_has_frame}
 use Rattle.orders.proofs.Stores.{length_given, length_all, all_other}
-use Rattle.phases.specs.Phase.{Block, triggers, Computes, IsBlock, IsConsistent, IsPending, HasSettled, waits_for, updated_in, IsOutput, IsPhase, TakesEvent}
+use Rattle.phases.specs.Phase.{Block, triggers, ComputesOutputs, IsBlock, IsConsistent, IsTurnPending, HasSettled, waits_for_register, updated_in, IsOutput, IsPhase, TakesEvent}
 use Rattle.phases.proofs.Values.{all_both, written_again}
 use Rattle.phases.proofs.Changes.{Changed, changed}
 use Rattle.phases.proofs.Members.{Standing, stands_changed, unmoved}
@@ -67,7 +67,7 @@ phase_after design members block rank s f phase stays fewer stands =
       single = phase.single;
       updates = λ r is p member. phase.updates r (fewer r is) p member;
       order = phase.order;
-      others = λ q r not_one touched. ap (λ x. waits_for x r) (stays.others q not_one).0 ∙ phase.others q r not_one (still r touched);
+      others = λ q r not_one touched. ap (λ x. waits_for_register x r) (stays.others q not_one).0 ∙ phase.others q r not_one (still r touched);
     }
   where
     still : (r : ℕ) → contains (updated_in f) r ≡ true ⊎ IsOutput members block r → contains (updated_in s) r ≡ true ⊎ IsOutput members block r
@@ -76,12 +76,12 @@ phase_after design members block rank s f phase stays fewer stands =
 
 -- a member's turn
 
-turn_leaves : (s : State) (n p : ℕ) (t : turns.Turn) (b : Block) → Computes b t → turned s n p t ≡ with_continuation p t (change_all (taking n s) t.writes)
+turn_leaves : (s : State) (n p : ℕ) (t : turns.Turn) (b : Block) → ComputesOutputs b t → turned s n p t ≡ with_continuation p t (change_all (taking n s) t.writes)
 turn_leaves s n p t b c =
     ap (λ w. with_continuation p t (schedule_wait p w (schedule_all (change_all (taking n s) t.writes) t.nbas))) c.wait
     ∙ ap (λ ls. with_continuation p t (schedule_all (change_all (taking n s) t.writes) ls)) c.nbas
 
-not_written : (b : Block) (t : turns.Turn) (r : ℕ) (is : Bool) → contains (written_by t) r ≡ is → Computes b t → contains b.outputs r ≡ false → contains (written_by t) r ≡ false
+not_written : (b : Block) (t : turns.Turn) (r : ℕ) (is : Bool) → contains (written_by t) r ≡ is → ComputesOutputs b t → contains b.outputs r ≡ false → contains (written_by t) r ≡ false
 not_written b t r true is c none =
     let bad : contains b.outputs r ≡ true = c.writes r is in
     cc
@@ -94,7 +94,7 @@ no_output design p b r true is block input =
 no_output design p b r false is block input = is
 
 -- its own block is settled behind it
-own_consistent : (design : Design) (s f : State) (p : ℕ) (b : Block) (t : turns.Turn) → IsBlock design p b → short_turn design p b.rest s.store s.time ≡ Some t → Computes b t
+own_consistent : (design : Design) (s f : State) (p : ℕ) (b : Block) (t : turns.Turn) → IsBlock design p b → short_turn design p b.rest s.store s.time ≡ Some t → ComputesOutputs b t
     → f.time ≡ s.time → f.store ≡ all_given s.store t.writes → IsConsistent design f p b
 own_consistent design s f p b t block at c time store turn is =
     let len : length s.store ≡ length f.store = sym (ap length store ∙ length_all s.store t.writes) in
@@ -109,11 +109,11 @@ own_consistent design s f p b t block at c time store turn is =
     subst (λ (x : turns.Turn). all_given f.store x.writes ≡ f.store) same again
 
 settled_after : (design : Design) (s : State) (n p : ℕ) (b : Block) (t : turns.Turn) → IsInOrder s → action_in s.active n ≡ Some (Evaluate p) → p < length s.processes → IsBlock design p b
-    → IsPending s p b → short_turn design p b.rest s.store s.time ≡ Some t → Computes b t → HasSettled design (with_continuation p t (change_all (taking n s) t.writes)) p b
+    → IsTurnPending s p b → short_turn design p b.rest s.store s.time ≡ Some t → ComputesOutputs b t → HasSettled design (with_continuation p t (change_all (taking n s) t.writes)) p b
 settled_after design s n p b t order at exists block (one, continuation) is c =
     let x : State = change_all (taking n s) t.writes in
     let all : AllChanged (taking n s) t.writes x = all_changed (taking n s) t.writes in
-    let still : Unmoved (taking n s) p x = all_unmoved (taking n s) t.writes p (λ r wrote. ap (λ y. waits_for y r) continuation) in
+    let still : Unmoved (taking n s) p x = all_unmoved (taking n s) t.writes p (λ r wrote. ap (λ y. waits_for_register y r) continuation) in
     let own : evaluations_in p s.active ≡ 1 + evaluations_in p (without n s.active) = taken_own s n p order at in
     let inside : p < length x.processes = rw all.count exists in
     let new : Continuation = record { remainder = t.rest; triggers = triggers_of t.wait } in
@@ -129,7 +129,7 @@ with_other design x p q t b other (inl (evaluations, continuation)) =
 with_other design x p q t b other (inr (evaluations, continuation, consistent)) =
     inr (evaluations, get_or-set_other x.processes p q (record { remainder = t.rest; triggers = triggers_of t.wait }) (record { remainder = []; triggers = [] }) other ∙ continuation, consistent)
 
-no_value : (members : List ℕ) (block : ℕ → Block) (p r : ℕ) (t : turns.Turn) (is : Bool) → contains (written_by t) r ≡ is → contains members p ≡ true → Computes (block p) t
+no_value : (members : List ℕ) (block : ℕ → Block) (p r : ℕ) (t : turns.Turn) (is : Bool) → contains (written_by t) r ≡ is → contains members p ≡ true → ComputesOutputs (block p) t
     → (IsOutput members block r → ⊥) → contains (written_by t) r ≡ false
 no_value members block p r t true is member c none = absurd (none (p, member, c.writes r is))
 no_value members block p r t false is member c none = is
@@ -147,7 +147,7 @@ unequal p q is same =
     cc
 
 turn_stays : (design : Design) (members : List ℕ) (block : ℕ → Block) (rank : ℕ → ℕ) (s : State) (n p : ℕ) (t : turns.Turn) → IsInOrder s → IsPhase design s members block rank
-    → action_in s.active n ≡ Some (Evaluate p) → contains members p ≡ true → Computes (block p) t → Stays members block s (with_continuation p t (change_all (taking n s) t.writes))
+    → action_in s.active n ≡ Some (Evaluate p) → contains members p ≡ true → ComputesOutputs (block p) t → Stays members block s (with_continuation p t (change_all (taking n s) t.writes))
 turn_stays design members block rank s n p t order phase at member c =
     let x : State = change_all (taking n s) t.writes in
     let all : AllChanged (taking n s) t.writes x = all_changed (taking n s) t.writes in
@@ -184,8 +184,8 @@ turn_stays design members block rank s n p t order phase at member c =
     length_continuation (x ∷ ps) (suc p) y = ap suc (length_continuation ps p y)
 
 stands_turned : (design : Design) (members : List ℕ) (block : ℕ → Block) (rank : ℕ → ℕ) (s : State) (n p q : ℕ) (t : turns.Turn) (is : Bool) → (p == q) ≡ is → IsInOrder s
-    → IsPhase design s members block rank → action_in s.active n ≡ Some (Evaluate p) → contains members p ≡ true → contains members q ≡ true → IsPending s p (block p)
-    → short_turn design p (block p).rest s.store s.time ≡ Some t → Computes (block p) t → Standing design (with_continuation p t (change_all (taking n s) t.writes)) q (block q)
+    → IsPhase design s members block rank → action_in s.active n ≡ Some (Evaluate p) → contains members p ≡ true → contains members q ≡ true → IsTurnPending s p (block p)
+    → short_turn design p (block p).rest s.store s.time ≡ Some t → ComputesOutputs (block p) t → Standing design (with_continuation p t (change_all (taking n s) t.writes)) q (block q)
 stands_turned design members block rank s n p q t true is order phase at member member' pending at_t c =
     let same : p ≡ q = eqb-true p q is in
     subst (λ k. Standing design (with_continuation p t (change_all (taking n s) t.writes)) k (block k)) same
@@ -202,7 +202,7 @@ stands_turned design members block rank s n p q t false is order phase at member
 abbrev pub Steps : Design → List ℕ → (ℕ → Block) → (ℕ → ℕ) → State → Effect → Type 0
 Steps design members block rank s f = (f.lines ≡ []) × IsPhase design f.state members block rank × Stays members block s f.state
 
-pending_one : (design : Design) (s : State) (p : ℕ) (b : Block) → 1 ≤ evaluations_in p s.active → Standing design s p b → IsPending s p b
+pending_one : (design : Design) (s : State) (p : ℕ) (b : Block) → 1 ≤ evaluations_in p s.active → Standing design s p b → IsTurnPending s p b
 pending_one design s p b active (inl h) = h
 pending_one design s p b active (inr (none, continuation, consistent)) = absurd (omega (arith, active, none))
 
@@ -212,7 +212,7 @@ turn_steps design members block rank s n p turn order phase at is =
     let own : evaluations_in p s.active ≡ 1 + evaluations_in p (without n s.active) = taken_own s n p order at in
     let active : 1 ≤ evaluations_in p s.active = omega (arith, own) in
     let member : contains members p ≡ true = phase.inside p active in
-    let pending : IsPending s p (block p) = pending_one design s p (block p) active (phase.stands p member) in
+    let pending : IsTurnPending s p (block p) = pending_one design s p (block p) active (phase.stands p member) in
     let (t, at_t, c) = (phase.blocks p member).turns s.store s.time in
     let found : turn_of design s p ≡ Some t = ap (λ (x : Continuation). short_turn design p x.remainder s.store s.time) pending.1 ∙ at_t in
     let both : Some t ≡ Some turn = sym found ∙ is in

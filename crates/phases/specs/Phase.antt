@@ -15,7 +15,7 @@ use Rattle.model.specs.Laws.{evaluations_in}
 use Rattle.orders.specs.Alike.{IsInOrder, updates_in}
 use Rattle.orders.specs.Apart.{all_given, written_by}
 use Rattle.orders.specs.Flat.{IsActive, IsFlat}
-use Rattle.orders.specs.SearchLaws.{IsOneNode, IsReached, Visited, Covers}
+use Rattle.orders.specs.SearchLaws.{IsOneNode, IsReachable, IsAmongVisited, Covers}
 
 -- A block of combinational logic, as in `always @(a or b) y = a & b;`: what its process has left to run while it waits, the
 -- registers that it waits for, and the registers that it gives values.
@@ -30,8 +30,8 @@ triggers block = map (λ r. (Any, r)) block.inputs
 
 -- A turn computes a block: it reads no register but the inputs before it writes it, writes the outputs, each of them, and
 -- nothing else, does nothing besides, and waits again as before.
-abbrev pub Computes : Block → turns.Turn → Type 0
-Computes block turn =
+abbrev pub ComputesOutputs : Block → turns.Turn → Type 0
+ComputesOutputs block turn =
     record {
       reads : (r : ℕ) → contains turn.uses r ≡ true → contains block.inputs r ≡ true;
       writes : (r : ℕ) → contains (written_by turn) r ≡ true → contains block.outputs r ≡ true;
@@ -49,7 +49,7 @@ Computes block turn =
 abbrev pub IsBlock : Design → ℕ → Block → Type 0
 IsBlock design p block =
     record {
-      turns : (store : Store) (now : ℕ) → (turn : turns.Turn) × (short_turn design p block.rest store now ≡ Some turn) × Computes block turn;
+      turns : (store : Store) (now : ℕ) → (turn : turns.Turn) × (short_turn design p block.rest store now ≡ Some turn) × ComputesOutputs block turn;
       apart : (r : ℕ) → contains block.outputs r ≡ true → contains block.inputs r ≡ false;
     }
 
@@ -63,8 +63,8 @@ IsConsistent design s p block =
     (turn : turns.Turn) → short_turn design p block.rest s.store s.time ≡ Some turn → all_given s.store turn.writes ≡ s.store
 
 -- the turn of a block is still to come
-abbrev pub IsPending : State → ℕ → Block → Type 0
-IsPending s p block = (evaluations_in p s.active ≡ 1) × (continuation_of s p ≡ record { remainder = block.rest; triggers = [] })
+abbrev pub IsTurnPending : State → ℕ → Block → Type 0
+IsTurnPending s p block = (evaluations_in p s.active ≡ 1) × (continuation_of s p ≡ record { remainder = block.rest; triggers = [] })
 
 -- a block waits, and its turn would leave every value as it is
 abbrev pub HasSettled : Design → State → ℕ → Block → Type 0
@@ -73,8 +73,8 @@ HasSettled design s p block =
     × IsConsistent design s p block
 
 -- whether a process waits for a change of a register, of whatever kind
-abbrev pub waits_for : Continuation → ℕ → Bool
-waits_for x r = list_any (λ (t : Trigger). t.1 == r) x.triggers
+abbrev pub waits_for_register : Continuation → ℕ → Bool
+waits_for_register x r = list_any (λ (t : Trigger). t.1 == r) x.triggers
 
 -- the registers of the active updates
 abbrev pub updated_in : State → List ℕ
@@ -94,14 +94,14 @@ IsPhase design s members block rank =
       inside : (p : ℕ) → IsActive s p → contains members p ≡ true;
       exist : (p : ℕ) → contains members p ≡ true → p < length s.processes;
       blocks : (p : ℕ) → contains members p ≡ true → IsBlock design p (block p);
-      stands : (p : ℕ) → contains members p ≡ true → IsPending s p (block p) ⊎ HasSettled design s p (block p);
+      stands : (p : ℕ) → contains members p ≡ true → IsTurnPending s p (block p) ⊎ HasSettled design s p (block p);
       single : (p q r : ℕ) → contains members p ≡ true → contains members q ≡ true → p ≢ q → contains (block p).outputs r ≡ true
           → contains (block q).outputs r ≡ false;
       updates : (r : ℕ) → contains (updated_in s) r ≡ true → (p : ℕ) → contains members p ≡ true → contains (block p).outputs r ≡ false;
       order : (p q r : ℕ) → contains members p ≡ true → contains members q ≡ true → contains (block p).outputs r ≡ true
           → contains (block q).inputs r ≡ true → rank p < rank q;
       others : (q r : ℕ) → contains members q ≡ false → contains (updated_in s) r ≡ true ⊎ IsOutput members block r
-          → waits_for (continuation_of s q) r ≡ false;
+          → waits_for_register (continuation_of s q) r ≡ false;
     }
 
 -- an entry takes an event, and changes no region
@@ -129,14 +129,14 @@ PhaseEndsInOneNode =
 abbrev pub PhaseCovers : Type 0
 PhaseCovers =
     (design : Design) (limits : Limits) (nodes : List Effect) (members : List ℕ) (block : ℕ → Block) (rank : ℕ → ℕ) (e f : Effect)
-    (entries : List Entry) → IsReached design e → IsPhase design e.state members block rank → entries ≢ []
-    → EndsPhase design e entries f → Visited nodes f → Covers design limits nodes e
+    (entries : List Entry) → IsReachable design e → IsPhase design e.state members block rank → entries ≢ []
+    → EndsPhase design e entries f → IsAmongVisited nodes f → Covers design limits nodes e
 
 -- Where the turns of a flat state, taken in any order, lead to nonblocking updates, and these, once they are activated, to a phase, one
 -- way through all of it is enough: the node at the end of the phase covers the runs from the flat state.
 abbrev pub FlatPhaseCovers : Type 0
 FlatPhaseCovers =
     (design : Design) (limits : Limits) (nodes : List Effect) (members : List ℕ) (block : ℕ → Block) (rank : ℕ → ℕ) (turn : ℕ → turns.Turn)
-    (e c d f : Effect) (turns entries : List Entry) → IsReached design e → IsFlat design e.state turn → length turns ≡ length e.state.active
+    (e c d f : Effect) (turns entries : List Entry) → IsReachable design e → IsFlat design e.state turn → length turns ≡ length e.state.active
     → run_from design e turns ≡ Some c → run_from design c (ActivateNba ∷ []) ≡ Some d → IsPhase design d.state members block rank
-    → EndsPhase design d entries f → Visited nodes f → Covers design limits nodes e
+    → EndsPhase design d entries f → IsAmongVisited nodes f → Covers design limits nodes e

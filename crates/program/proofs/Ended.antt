@@ -4,7 +4,7 @@ use Rattle.std.specs.Io.KnownBytes.{Appends, Keeps}
 use Rattle.model.specs.declared.entry.Entry.{Entry}
 use Rattle.model.specs.declared.end.End.{End}
 use Rattle.explore.specs.declared.Shown.{Shown}
-use Rattle.arguments.specs.declared.options.Options.{Options}
+use Rattle.arguments.specs.declared.run_options.RunOptions.{RunOptions}
 use Rattle.clap.specs.Words.{Text, first_of}
 use Rattle.program.specs.declared.fault.Stop.{Stop}
 use Rattle.program.specs.declared.running.LeftByRun.{LeftByRun}
@@ -16,27 +16,27 @@ use Rattle.arguments.specs.declared.request.RunRequest.{RunRequest}
 use Rattle.arguments.proofs.SecondWord.{unlike}
 use Rattle.arguments.specs.declared.request.RacesRequest.{RacesRequest}
 use Rattle.arguments.specs.declared.request.WavesRequest.{WavesRequest}
-use Rattle.arguments.specs.declared.extent.Extent.{Extent}
-use Rattle.program.specs.declared.finding.Finding.{Finding}
-use Rattle.program.specs.declared.fault.Fault.{Fault}
-use Rattle.program.specs.declared.fault.Fault.TheVariants as faults
+use Rattle.arguments.specs.declared.search_options.SearchOptions.{SearchOptions}
+use Rattle.program.specs.declared.finding.SearchFinding.{SearchFinding}
+use Rattle.program.specs.declared.fault.CommandFault.{CommandFault}
+use Rattle.program.specs.declared.fault.CommandFault.TheVariants as faults
 use Rattle.program.specs.Findings.{journals_of}
 use Rattle.design.specs.Compiled.{Compiled}
 use Rattle.arguments.specs.Options.{CanRun, CanSearch}
 use Rattle.program.specs.declared.ending.Ending.{Ending}
 use Rattle.program.specs.declared.ending.Ending.TheVariants as ending
-use Rattle.program.specs.declared.finding.Finding.TheVariants as finding
+use Rattle.program.specs.declared.finding.SearchFinding.TheVariants as finding
 use Rattle.program.specs.Program.{IsNoRequestStatus, ended_status, ending_of, finding_status, help_text, right_text, status_of, stop_of, stop_status, version_text}
 use Rattle.program.specs.Printed.{AsksCheckOf, HasBegun, HasEnded, HasLeft, HasPrintedBy, HasRefused, HasRun, HasSavedSome, HasSearched, HasChecked, HasDumped, HasExplainedPart, HasShown, HasWaves, IsDone, IsLeft, IsLeftByRun, IsRight, IsUnprinted, IsWrong, begun, checked, helped, interrupted, ran, searched, untouched, versioned}
-use Rattle.program.specs.StandardError.{HasExplainedTold, IsEndTold, IsTold, IsUnfinished, IsWanting, nothing, of_fault, of_source, of_stop}
+use Rattle.program.specs.StandardError.{HasExplainedTold, IsEndTold, IsReported, IsUnfinished, IsWanting, nothing, of_fault, of_source, of_stop}
 use Rattle.program.proofs.Statuses.{not_of_fault, not_of_stop}
 use Rattle.journal.specs.declared.counted.Counted.{Counted}
-use Rattle.files.specs.Saved.{AddsFile, IsOpened, SavesAllWhereAsked, KeepsFiles, KeepsHeld, Made, SavesSomeWhereAsked, SavesWhereAsked}
-use Rattle.arguments.specs.CommandWords.{AreWrong, Asks, Begins, AsksRaces, AsksRun, AsksWaves, IsNoRequest, extent_of, options_of, races_rows, run_rows}
+use Rattle.files.specs.Saved.{AddsFile, IsOpened, SavesAllWhereAsked, KeepsFiles, KeepsHeld, MadeFile, SavesSomeWhereAsked, SavesWhereAsked}
+use Rattle.arguments.specs.CommandWords.{AreWrong, Asks, Begins, AsksRaces, AsksRun, AsksWaves, IsNoRequest, search_options_of, options_of, races_rows, run_rows}
 
 -- files
 
-pub kept : (files : Option (List Made)) → KeepsFiles files files
+pub kept : (files : Option (List MadeFile)) → KeepsFiles files files
 kept None = tt
 kept (Some fs) = refl
 
@@ -45,21 +45,21 @@ pub held_on : (a b : Option (List ℕ → List ℕ)) (path : List ℕ) (left : O
 held_on None b path left h k = tt
 held_on (Some holds) b path left h k = subst (λ (o : Option (List ℕ → List ℕ)). IsOpened o path left) h k
 
-pub kept_on : (a b c : Option (List Made)) → KeepsFiles a b → KeepsFiles b c → KeepsFiles a c
+pub kept_on : (a b c : Option (List MadeFile)) → KeepsFiles a b → KeepsFiles b c → KeepsFiles a c
 kept_on None b c h k = tt
-kept_on (Some fs) b c h k = subst (λ (o : Option (List Made)). KeepsFiles o c) h k
+kept_on (Some fs) b c h k = subst (λ (o : Option (List MadeFile)). KeepsFiles o c) h k
 
-pub added_on : (a b c : Option (List Made)) (file : Made) → KeepsFiles a b → AddsFile b c file → AddsFile a c file
+pub added_on : (a b c : Option (List MadeFile)) (file : MadeFile) → KeepsFiles a b → AddsFile b c file → AddsFile a c file
 added_on None b c file h k = tt
-added_on (Some fs) b c file h k = subst (λ (o : Option (List Made)). AddsFile o c file) h k
+added_on (Some fs) b c file h k = subst (λ (o : Option (List MadeFile)). AddsFile o c file) h k
 
-pub saved_on : (a b c : Option (List Made)) (path : Option (List ℕ)) (entries : List Entry) → KeepsFiles a b
+pub saved_on : (a b c : Option (List MadeFile)) (path : Option (List ℕ)) (entries : List Entry) → KeepsFiles a b
     → SavesWhereAsked b c path entries → SavesWhereAsked a c path entries
 saved_on a b c None entries h k = kept_on a b c h k
 saved_on a b c (Some p) entries h k = added_on a b c _ h k
 
 -- what was printed and saved is what the run left
-pub printed_by : (holding : Option (List ℕ → List ℕ)) (file : List ℕ) (seed : Option ℕ) (options : Options) (path : Option (List ℕ)) (old new : Option (List ℕ)) (files files' : Option (List Made)) (left : LeftByRun) (told : Option Stop)
+pub printed_by : (holding : Option (List ℕ → List ℕ)) (file : List ℕ) (seed : Option ℕ) (options : RunOptions) (path : Option (List ℕ)) (old new : Option (List ℕ)) (files files' : Option (List MadeFile)) (left : LeftByRun) (told : Option Stop)
     → IsLeftByRun holding file seed options left → Appends old new (string_bytes left.lines) → SavesWhereAsked files files' path left.journal.items → told ≡ stop_of left.end
     → HasPrintedBy holding file seed options path old new files files' told
 printed_by holding file None options path old new files files' left told made lines saved end = record {
@@ -77,15 +77,15 @@ printed_by holding file (Some seed) options path old new files files' left told 
   end = end ∙ ap stop_of made.end;
 }
 
-pub all_saved_on : (a b c : Option (List Made)) (prefix : Option (List ℕ)) (journals : List (List Entry)) → KeepsFiles a b
+pub all_saved_on : (a b c : Option (List MadeFile)) (prefix : Option (List ℕ)) (journals : List (List Entry)) → KeepsFiles a b
     → SavesAllWhereAsked b c prefix journals → SavesAllWhereAsked a c prefix journals
 all_saved_on a b c None journals h k = kept_on a b c h k
 all_saved_on None b c (Some p) journals h k = tt
-all_saved_on (Some fs) b c (Some p) journals h k = subst (λ (o : Option (List Made)). SavesAllWhereAsked o c (Some p) journals) h k
+all_saved_on (Some fs) b c (Some p) journals h k = subst (λ (o : Option (List MadeFile)). SavesAllWhereAsked o c (Some p) journals) h k
 
 -- requests
 
-pub run_of_words : (holding : Option (List ℕ → List ℕ)) (words : List Text) (run : RunRequest) (old new : Option (List ℕ)) (files files' : Option (List Made)) (told : Option Stop)
+pub run_of_words : (holding : Option (List ℕ → List ℕ)) (words : List Text) (run : RunRequest) (old new : Option (List ℕ)) (files files' : Option (List MadeFile)) (told : Option Stop)
     → AsksRun words run → HasPrintedBy holding run.file.now run.seed run.options (option_map (λ path. path.now) run.journal) old new files files' told
     → HasRun holding words old new files files' told
 run_of_words holding words run old new files files' told asks h = record {
@@ -95,33 +95,33 @@ run_of_words holding words run old new files files' told asks h = record {
   is_file = asks.is_run.file;
   printed = subst (λ (seed : Option ℕ). HasPrintedBy holding run.file.now seed (options_of (run_rows (drop 1 words))) (first_of (codes "journal") (run_rows (drop 1 words))) old new files files' told) asks.is_run.seed
       (subst (λ (path : Option (List ℕ)). HasPrintedBy holding run.file.now run.seed (options_of (run_rows (drop 1 words))) path old new files files' told) (sym asks.is_run.journal)
-      (subst (λ (options : Options). HasPrintedBy holding run.file.now run.seed options (option_map (λ path. path.now) run.journal) old new files files' told) asks.is_run.options h));
+      (subst (λ (options : RunOptions). HasPrintedBy holding run.file.now run.seed options (option_map (λ path. path.now) run.journal) old new files files' told) asks.is_run.options h));
 }
 
-pub search_of_words : (holding : Option (List ℕ → List ℕ)) (words : List Text) (races : RacesRequest) (old new : Option (List ℕ)) (files files' : Option (List Made)) (found : Finding)
-    → AsksRaces words races → HasShown holding races.file.now races.extent (option_map (λ path. path.now) races.journals) old new files files' found
+pub search_of_words : (holding : Option (List ℕ → List ℕ)) (words : List Text) (races : RacesRequest) (old new : Option (List ℕ)) (files files' : Option (List MadeFile)) (found : SearchFinding)
+    → AsksRaces words races → HasShown holding races.file.now races.search_options (option_map (λ path. path.now) races.journals) old new files files' found
     → HasSearched holding words old new files files' found
 search_of_words holding words races old new files files' found asks h = record {
   begins = asks.begins;
-  can_search = subst CanSearch asks.is_races.extent asks.is_races.in_range;
+  can_search = subst CanSearch asks.is_races.search_options asks.is_races.in_range;
   file = races.file.now;
   is_file = asks.is_races.file;
-  shown = subst (λ (path : Option (List ℕ)). HasShown holding races.file.now (extent_of (races_rows (drop 1 words))) path old new files files' found) (sym asks.is_races.journals)
-      (subst (λ (extent : Extent). HasShown holding races.file.now extent (option_map (λ path. path.now) races.journals) old new files files' found) asks.is_races.extent h);
+  shown = subst (λ (path : Option (List ℕ)). HasShown holding races.file.now (search_options_of (races_rows (drop 1 words))) path old new files files' found) (sym asks.is_races.journals)
+      (subst (λ (search_options : SearchOptions). HasShown holding races.file.now search_options (option_map (λ path. path.now) races.journals) old new files files' found) asks.is_races.search_options h);
 }
 
-pub some_saved_on : (a b c : Option (List Made)) (prefix : Option (List ℕ)) (journals : List (List Entry)) → KeepsFiles a b
+pub some_saved_on : (a b c : Option (List MadeFile)) (prefix : Option (List ℕ)) (journals : List (List Entry)) → KeepsFiles a b
     → SavesSomeWhereAsked b c prefix journals → SavesSomeWhereAsked a c prefix journals
 some_saved_on a b c None journals h k = kept_on a b c h k
 some_saved_on None b c (Some p) journals h (count, k) = (count, tt)
-some_saved_on (Some fs) b c (Some p) journals h k = subst (λ (o : Option (List Made)). SavesSomeWhereAsked o c (Some p) journals) h k
+some_saved_on (Some fs) b c (Some p) journals h k = subst (λ (o : Option (List MadeFile)). SavesSomeWhereAsked o c (Some p) journals) h k
 
 -- what a search left behind its races, where the files were the same before it
-more_on : (design : Compiled) (extent : Extent) (prefix : Option (List ℕ)) (known : List (Shown Entry End)) (first : List ℕ) (old new : Option (List ℕ)) (a b c : Option (List Made)) → KeepsFiles a b
-    → (Appends old new first × KeepsFiles b c) ⊎ HasSavedSome design extent prefix known first old new b c
-    → (Appends old new first × KeepsFiles a c) ⊎ HasSavedSome design extent prefix known first old new a c
-more_on design extent prefix known first old new a b c h (inl (p, s)) = inl (p, kept_on a b c h s)
-more_on design extent prefix known first old new a b c h (inr m) = inr (record {
+more_on : (design : Compiled) (search_options : SearchOptions) (prefix : Option (List ℕ)) (known : List (Shown Entry End)) (first : List ℕ) (old new : Option (List ℕ)) (a b c : Option (List MadeFile)) → KeepsFiles a b
+    → (Appends old new first × KeepsFiles b c) ⊎ HasSavedSome design search_options prefix known first old new b c
+    → (Appends old new first × KeepsFiles a c) ⊎ HasSavedSome design search_options prefix known first old new a c
+more_on design search_options prefix known first old new a b c h (inl (p, s)) = inl (p, kept_on a b c h s)
+more_on design search_options prefix known first old new a b c h (inr m) = inr (record {
   last = m.last;
   has_found = m.has_found;
   printed = m.printed;
@@ -129,10 +129,10 @@ more_on design extent prefix known first old new a b c h (inr m) = inr (record {
 })
 
 -- what a search left, where the files were the same before it
-left_on : (holding : Option (List ℕ → List ℕ)) (file : List ℕ) (extent : Extent) (prefix : Option (List ℕ)) (old new : Option (List ℕ)) (a b c : Option (List Made)) → KeepsFiles a b
-    → HasLeft holding file extent prefix old new b c → HasLeft holding file extent prefix old new a c
-left_on holding file extent prefix old new a b c h (inl (k, s)) = inl (k, kept_on a b c h s)
-left_on holding file extent prefix old new a b c h (inr begins) = inr (record {
+left_on : (holding : Option (List ℕ → List ℕ)) (file : List ℕ) (search_options : SearchOptions) (prefix : Option (List ℕ)) (old new : Option (List ℕ)) (a b c : Option (List MadeFile)) → KeepsFiles a b
+    → HasLeft holding file search_options prefix old new b c → HasLeft holding file search_options prefix old new a c
+left_on holding file search_options prefix old new a b c h (inl (k, s)) = inl (k, kept_on a b c h s)
+left_on holding file search_options prefix old new a b c h (inr begins) = inr (record {
   source = begins.source;
   held = begins.held;
   design = begins.design;
@@ -140,18 +140,18 @@ left_on holding file extent prefix old new a b c h (inr begins) = inr (record {
   known = begins.known;
   first = begins.first;
   is_first = begins.is_first;
-  left = more_on begins.design extent prefix begins.known begins.first old new a b c h begins.left;
+  left = more_on begins.design search_options prefix begins.known begins.first old new a b c h begins.left;
 })
 
-pub search_left_on : (holding : Option (List ℕ → List ℕ)) (file : List ℕ) (extent : Extent) (prefix : Option (List ℕ)) (old new : Option (List ℕ)) (a b c : Option (List Made)) (r : Result Finding Fault) → KeepsFiles a b
-    → IfErr r (λ f. status_of f ≡ 6 → HasLeft holding file extent prefix old new b c) → IfErr r (λ f. status_of f ≡ 6 → HasLeft holding file extent prefix old new a c)
-search_left_on holding file extent prefix old new a b c (Ok found) h k = tt
-search_left_on holding file extent prefix old new a b c (Err f) h k = λ six. left_on holding file extent prefix old new a b c h (k six)
+pub search_left_on : (holding : Option (List ℕ → List ℕ)) (file : List ℕ) (search_options : SearchOptions) (prefix : Option (List ℕ)) (old new : Option (List ℕ)) (a b c : Option (List MadeFile)) (r : Result SearchFinding CommandFault) → KeepsFiles a b
+    → IfErr r (λ f. status_of f ≡ 6 → HasLeft holding file search_options prefix old new b c) → IfErr r (λ f. status_of f ≡ 6 → HasLeft holding file search_options prefix old new a c)
+search_left_on holding file search_options prefix old new a b c (Ok found) h k = tt
+search_left_on holding file search_options prefix old new a b c (Err f) h k = λ six. left_on holding file search_options prefix old new a b c h (k six)
 
 -- what a search shows, where the files were the same before it
-pub shown_on : (holding : Option (List ℕ → List ℕ)) (file : List ℕ) (extent : Extent) (prefix : Option (List ℕ)) (old new : Option (List ℕ)) (a b c : Option (List Made)) (r : Result Finding Fault) → KeepsFiles a b
-    → IfOk r (HasShown holding file extent prefix old new b c) → IfOk r (HasShown holding file extent prefix old new a c)
-shown_on holding file extent prefix old new a b c (Ok found) h k = record {
+pub shown_on : (holding : Option (List ℕ → List ℕ)) (file : List ℕ) (search_options : SearchOptions) (prefix : Option (List ℕ)) (old new : Option (List ℕ)) (a b c : Option (List MadeFile)) (r : Result SearchFinding CommandFault) → KeepsFiles a b
+    → IfOk r (HasShown holding file search_options prefix old new b c) → IfOk r (HasShown holding file search_options prefix old new a c)
+shown_on holding file search_options prefix old new a b c (Ok found) h k = record {
   source = k.source;
   held = k.held;
   design = k.design;
@@ -165,10 +165,10 @@ shown_on holding file extent prefix old new a b c (Ok found) h k = record {
   saved = all_saved_on a b c prefix (journals_of k.has_found.shown k.has_found.endless) h k.saved;
   finding = k.finding;
 }
-shown_on holding file extent prefix old new a b c (Err fault) h k = tt
+shown_on holding file search_options prefix old new a b c (Err fault) h k = tt
 
 -- faults of output and of memory are none of a source
-pub output_kept : (K : Type 0) (r : Result Finding Fault) → IfErr r (λ f. (status_of f ≡ 1) ⊎ (status_of f ≡ 6))
+pub output_kept : (K : Type 0) (r : Result SearchFinding CommandFault) → IfErr r (λ f. (status_of f ≡ 1) ⊎ (status_of f ≡ 6))
     → IfErr r (λ f. (status_of f ≡ 3) ⊎ (status_of f ≡ 5) → K)
 output_kept K (Ok found) h = tt
 output_kept K (Err fault) h = λ e. absurd (neither (status_of fault) h e)
@@ -181,7 +181,7 @@ output_kept K (Err fault) h = λ e. absurd (neither (status_of fault) h e)
 
 -- refusals
 
-pub refused_done : (holding : Option (List ℕ → List ℕ)) (words : List Text) (r : NoRequest) (n : ℕ) (old new : Option (List ℕ)) (files : Option (List Made)) → IsNoRequest words r
+pub refused_done : (holding : Option (List ℕ → List ℕ)) (words : List Text) (r : NoRequest) (n : ℕ) (old new : Option (List ℕ)) (files : Option (List MadeFile)) → IsNoRequest words r
     → IsNoRequestStatus r n → (n ≡ 0 → Appends old new (help_text r)) → n ≡ 0 → IsDone holding words old new files files
 refused_done holding words (no_request.Help text) n old new files is status shown e = helped is (help_text (no_request.Help text)) (shown e) (kept files)
 refused_done holding words (no_request.Usage text) n old new files is status shown e = absurd (clash (sym status ∙ e))
@@ -227,7 +227,7 @@ not_of_no_request r n k is h e = wrong_one (is_no_request_status k) (subst (λ (
 
 -- what a status tells of how a command ended
 
-pub done_by_status : (holding : Option (List ℕ → List ℕ)) (words : List Text) (old new : Option (List ℕ)) (files files' : Option (List Made)) (ended : Result Ending Fault)
+pub done_by_status : (holding : Option (List ℕ → List ℕ)) (words : List Text) (old new : Option (List ℕ)) (files files' : Option (List MadeFile)) (ended : Result Ending CommandFault)
     → IfOk ended (HasEnded holding words old new files files') → ended_status ended ≡ 0 → IsDone holding words old new files files'
 done_by_status holding words old new files files' (Ok ending.Done) h e = h
 done_by_status holding words old new files files' (Ok (ending.Stopped s)) h e = absurd (not_of_stop s 0 refl e)
@@ -238,7 +238,7 @@ done_by_status holding words old new files files' (Ok (ending.Found finding.Seve
 done_by_status holding words old new files files' (Ok (ending.Wrong text)) h e = cc
 done_by_status holding words old new files files' (Err f) h e = absurd (not_of_fault f 0 refl e)
 
-pub right_by_status : (ended : Result Ending Fault) → ended_status ended ≡ 2 → ⊥
+pub right_by_status : (ended : Result Ending CommandFault) → ended_status ended ≡ 2 → ⊥
 right_by_status (Ok ending.Done) e = cc
 right_by_status (Ok (ending.Stopped s)) e = not_of_stop s 2 refl e
 right_by_status (Ok (ending.Found finding.One)) e = cc
@@ -248,7 +248,7 @@ right_by_status (Ok (ending.Found finding.Several)) e = cc
 right_by_status (Ok (ending.Wrong text)) e = cc
 right_by_status (Err f) e = not_of_fault f 2 refl e
 
-pub refused_by_status : (holding : Option (List ℕ → List ℕ)) (words : List Text) (old new : Option (List ℕ)) (files files' : Option (List Made)) (ended : Result Ending Fault)
+pub refused_by_status : (holding : Option (List ℕ → List ℕ)) (words : List Text) (old new : Option (List ℕ)) (files files' : Option (List MadeFile)) (ended : Result Ending CommandFault)
     → IfOk ended (HasEnded holding words old new files files') → IfErr ended (λ f. (status_of f ≡ 1) ⊎ (status_of f ≡ 6)) → ended_status ended ≡ 3
     → HasRefused holding words old new files files'
 refused_by_status holding words old new files files' (Ok ending.Done) h k e = cc
@@ -261,7 +261,7 @@ refused_by_status holding words old new files files' (Ok (ending.Wrong text)) h 
 refused_by_status holding words old new files files' (Err f) h (inl one) e = absurd (omega (arith, one, e))
 refused_by_status holding words old new files files' (Err f) h (inr six) e = absurd (omega (arith, six, e))
 
-pub faulty_by_status : {E : Type 0} (holding : Option (List ℕ → List ℕ)) (words : List Text) (old new : Option (List ℕ)) (contents : E → Option (List ℕ)) (err err' : Counted E) (ended : Result Ending Fault)
+pub faulty_by_status : {E : Type 0} (holding : Option (List ℕ → List ℕ)) (words : List Text) (old new : Option (List ℕ)) (contents : E → Option (List ℕ)) (err err' : Counted E) (ended : Result Ending CommandFault)
     → IfErr ended (λ f. status_of f ≡ 5 → HasExplainedPart holding words old new f) → IsEndTold contents err err' ended → ended_status ended ≡ 5
     → HasExplainedTold holding words old new contents err err'
 faulty_by_status holding words old new contents err err' (Ok ending.Done) h t e = cc
@@ -273,8 +273,8 @@ faulty_by_status holding words old new contents err err' (Ok (ending.Found findi
 faulty_by_status holding words old new contents err err' (Ok (ending.Wrong text)) h t e = cc
 faulty_by_status holding words old new contents err err' (Err f) h t e = record { fault = f; explained = h e; told = t }
 
-pub stopped_by_status : {E : Type 0} (holding : Option (List ℕ → List ℕ)) (words : List Text) (old new : Option (List ℕ)) (files files' : Option (List Made)) (contents : E → Option (List ℕ))
-    (err err' : Counted E) (ended : Result Ending Fault) → IfOk ended (HasEnded holding words old new files files') → IsEndTold contents err err' ended
+pub stopped_by_status : {E : Type 0} (holding : Option (List ℕ → List ℕ)) (words : List Text) (old new : Option (List ℕ)) (files files' : Option (List MadeFile)) (contents : E → Option (List ℕ))
+    (err err' : Counted E) (ended : Result Ending CommandFault) → IfOk ended (HasEnded holding words old new files files') → IsEndTold contents err err' ended
     → ended_status ended ≡ 4 → IsUnfinished holding words old new files files' contents err err'
 stopped_by_status holding words old new files files' contents err err' (Ok ending.Done) h t e = cc
 stopped_by_status holding words old new files files' contents err err' (Ok (ending.Stopped s)) h t e = inl (record { stop = s; status_is = e; has_run = h; told = t })
@@ -285,8 +285,8 @@ stopped_by_status holding words old new files files' contents err err' (Ok (endi
 stopped_by_status holding words old new files files' contents err err' (Ok (ending.Wrong text)) h t e = cc
 stopped_by_status holding words old new files files' contents err err' (Err f) h t e = absurd (not_of_fault f 4 refl e)
 
-pub wanting_by_status : {E : Type 0} (holding : Option (List ℕ → List ℕ)) (words : List Text) (old new : Option (List ℕ)) (files files' : Option (List Made)) (contents : E → Option (List ℕ))
-    (err err' : Counted E) (ended : Result Ending Fault) → IfOk ended (HasEnded holding words old new files files') → IfErr ended (λ f. status_of f ≡ 6 → IsLeft holding words old new files files')
+pub wanting_by_status : {E : Type 0} (holding : Option (List ℕ → List ℕ)) (words : List Text) (old new : Option (List ℕ)) (files files' : Option (List MadeFile)) (contents : E → Option (List ℕ))
+    (err err' : Counted E) (ended : Result Ending CommandFault) → IfOk ended (HasEnded holding words old new files files') → IfErr ended (λ f. status_of f ≡ 6 → IsLeft holding words old new files files')
     → IsEndTold contents err err' ended → ended_status ended ≡ 6 → IsWanting holding words old new files files' contents err err'
 wanting_by_status holding words old new files files' contents err err' (Ok ending.Done) h k t e = cc
 wanting_by_status holding words old new files files' contents err err' (Ok (ending.Stopped s)) h k t e = inl (inl (record { stop = s; status_is = e; has_run = h; told = t }))
@@ -298,7 +298,7 @@ wanting_by_status holding words old new files files' contents err err' (Ok (endi
 wanting_by_status holding words old new files files' contents err err' (Err f) h k t e = inr (k e)
 
 -- the only end with that status
-is_found_several : (ended : Result Ending Fault) → ended_status ended ≡ 7 → ended ≡ Ok (ending.Found finding.Several)
+is_found_several : (ended : Result Ending CommandFault) → ended_status ended ≡ 7 → ended ≡ Ok (ending.Found finding.Several)
 is_found_several (Ok ending.Done) e = cc
 is_found_several (Ok (ending.Stopped s)) e = absurd (not_of_stop s 7 refl e)
 is_found_several (Ok (ending.Found finding.One)) e = cc
@@ -308,10 +308,10 @@ is_found_several (Ok (ending.Found finding.Several)) e = refl
 is_found_several (Ok (ending.Wrong text)) e = cc
 is_found_several (Err f) e = absurd (not_of_fault f 7 refl e)
 
-pub several_by_status : (holding : Option (List ℕ → List ℕ)) (words : List Text) (old new : Option (List ℕ)) (files files' : Option (List Made)) (ended : Result Ending Fault)
+pub several_by_status : (holding : Option (List ℕ → List ℕ)) (words : List Text) (old new : Option (List ℕ)) (files files' : Option (List MadeFile)) (ended : Result Ending CommandFault)
     → IfOk ended (HasEnded holding words old new files files') → ended_status ended ≡ 7 → HasSearched holding words old new files files' finding.Several
 several_by_status holding words old new files files' ended h e =
-    subst (λ (r : Result Ending Fault). IfOk r (HasEnded holding words old new files files')) (is_found_several ended e) h
+    subst (λ (r : Result Ending CommandFault). IfOk r (HasEnded holding words old new files files')) (is_found_several ended e) h
 
 -- statuses 2, 3 and 5
 abbrev pub IsSourceStatus : ℕ → Type 0
@@ -322,7 +322,7 @@ no_stop s (inl e) = not_of_stop s 2 refl e
 no_stop s (inr (inl e)) = not_of_stop s 3 refl e
 no_stop s (inr (inr e)) = not_of_stop s 5 refl e
 
-no_finding : (found : Finding) → IsSourceStatus (finding_status found) → ⊥
+no_finding : (found : SearchFinding) → IsSourceStatus (finding_status found) → ⊥
 no_finding finding.One (inl e) = cc
 no_finding finding.One (inr (inl e)) = cc
 no_finding finding.One (inr (inr e)) = cc
@@ -345,7 +345,7 @@ not_one : (n : ℕ) → (n ≡ 3) ⊎ (n ≡ 5) → n ≢ 1
 not_one n (inl e) one = omega (arith, e, one)
 not_one n (inr e) one = omega (arith, e, one)
 
-of_source_or_journal : (f : Fault) → IsSourceStatus (status_of f) → (status_of f ≡ 3) ⊎ (status_of f ≡ 5)
+of_source_or_journal : (f : CommandFault) → IsSourceStatus (status_of f) → (status_of f ≡ 3) ⊎ (status_of f ≡ 5)
 of_source_or_journal f (inl e) = absurd (not_of_fault f 2 refl e)
 of_source_or_journal f (inr h) = h
 
@@ -354,7 +354,7 @@ source_status words n (inl e) = inl e
 source_status words n (inr (inl e)) = inr (inl e)
 source_status words n (inr (inr (e, other))) = inr (inr e)
 
-pub nothing_by_status : (holding : Option (List ℕ → List ℕ)) (words : List Text) (old new : Option (List ℕ)) (files files' : Option (List Made)) (ended : Result Ending Fault)
+pub nothing_by_status : (holding : Option (List ℕ → List ℕ)) (words : List Text) (old new : Option (List ℕ)) (files files' : Option (List MadeFile)) (ended : Result Ending CommandFault)
     → IfOk ended (HasEnded holding words old new files files') → IfErr ended (λ f. IsUnprinted words (status_of f) → Keeps old new)
     → IsUnprinted words (ended_status ended) → Keeps old new
 nothing_by_status holding words old new files files' (Ok ending.Done) h k e = absurd (no_zero (source_status words 0 e))
@@ -363,7 +363,7 @@ nothing_by_status holding words old new files files' (Ok (ending.Found found)) h
 nothing_by_status holding words old new files files' (Ok (ending.Wrong text)) h k e = h.unprinted
 nothing_by_status holding words old new files files' (Err f) h k e = k e
 
-pub unsaved_by_status : (holding : Option (List ℕ → List ℕ)) (words : List Text) (old new : Option (List ℕ)) (files files' : Option (List Made)) (ended : Result Ending Fault)
+pub unsaved_by_status : (holding : Option (List ℕ → List ℕ)) (words : List Text) (old new : Option (List ℕ)) (files files' : Option (List MadeFile)) (ended : Result Ending CommandFault)
     → IfOk ended (HasEnded holding words old new files files') → IfErr ended (λ f. (status_of f ≡ 3) ⊎ (status_of f ≡ 5) → KeepsFiles files files')
     → IsSourceStatus (ended_status ended) → KeepsFiles files files'
 unsaved_by_status holding words old new files files' (Ok ending.Done) h k e = absurd (no_zero e)
@@ -372,7 +372,7 @@ unsaved_by_status holding words old new files files' (Ok (ending.Found found)) h
 unsaved_by_status holding words old new files files' (Ok (ending.Wrong text)) h k e = h.unsaved
 unsaved_by_status holding words old new files files' (Err f) h k e = k (of_source_or_journal f e)
 
-pub silent_by_status : {E : Type 0} (contents : E → Option (List ℕ)) (err err' : Counted E) (ended : Result Ending Fault) → IsEndTold contents err err' ended
+pub silent_by_status : {E : Type 0} (contents : E → Option (List ℕ)) (err err' : Counted E) (ended : Result Ending CommandFault) → IsEndTold contents err err' ended
     → (ended_status ended ≡ 0) ⊎ (ended_status ended ≡ 7) → err' ≡ err
 silent_by_status contents err err' (Ok ending.Done) t e = t
 silent_by_status contents err err' (Ok (ending.Stopped s)) t (inl e) = absurd (not_of_stop s 0 refl e)
@@ -387,8 +387,8 @@ silent_by_status contents err err' (Ok (ending.Wrong text)) t (inr e) = cc
 silent_by_status contents err err' (Err f) t (inl e) = absurd (not_of_fault f 0 refl e)
 silent_by_status contents err err' (Err f) t (inr e) = absurd (not_of_fault f 7 refl e)
 
-pub told_by_status : {E : Type 0} (holding : Option (List ℕ → List ℕ)) (contents : E → Option (List ℕ)) (err err' : Counted E) (words : List Text) (old new : Option (List ℕ)) (files files' : Option (List Made)) (ended : Result Ending Fault)
-    → IfOk ended (HasEnded holding words old new files files') → IsEndTold contents err err' ended → IsTold contents err err' words (ended_status ended)
+pub told_by_status : {E : Type 0} (holding : Option (List ℕ → List ℕ)) (contents : E → Option (List ℕ)) (err err' : Counted E) (words : List Text) (old new : Option (List ℕ)) (files files' : Option (List MadeFile)) (ended : Result Ending CommandFault)
+    → IfOk ended (HasEnded holding words old new files files') → IsEndTold contents err err' ended → IsReported contents err err' words (ended_status ended)
 told_by_status holding contents err err' words old new files files' (Ok ending.Done) h t = nothing (inl refl) t
 told_by_status holding contents err err' words old new files files' (Ok (ending.Stopped s)) h t = of_stop s refl t
 told_by_status holding contents err err' words old new files files' (Ok (ending.Found finding.One)) h t = nothing (inl refl) t
@@ -405,13 +405,13 @@ output_same (Some xs) = refl
 
 -- requests, performed
 
-pub run_performed : (holding : Option (List ℕ → List ℕ)) (words : List Text) (run : RunRequest) (old new : Option (List ℕ)) (files files' : Option (List Made)) (told : Option Stop)
+pub run_performed : (holding : Option (List ℕ → List ℕ)) (words : List Text) (run : RunRequest) (old new : Option (List ℕ)) (files files' : Option (List MadeFile)) (told : Option Stop)
     → AsksRun words run → HasPrintedBy holding run.file.now run.seed run.options (option_map (λ path. path.now) run.journal) old new files files' told
     → HasEnded holding words old new files files' (ending_of told)
 run_performed holding words run old new files files' None asks h = ran (run_of_words holding words run old new files files' None asks h)
 run_performed holding words run old new files files' (Some s) asks h = run_of_words holding words run old new files files' (Some s) asks h
 
-pub version_performed : (holding : Option (List ℕ → List ℕ)) (words : List Text) (old new : Option (List ℕ)) (files : Option (List Made)) (r : Result Ending Fault) → Begins words (codes "--version")
+pub version_performed : (holding : Option (List ℕ → List ℕ)) (words : List Text) (old new : Option (List ℕ)) (files : Option (List MadeFile)) (r : Result Ending CommandFault) → Begins words (codes "--version")
     → OnOk r (Appends old new version_text) → IfOk r (λ e. e ≡ ending.Done) → IfOk r (HasEnded holding words old new files files)
 version_performed holding words old new files (Ok ending.Done) begins shown is = versioned begins shown (kept files)
 version_performed holding words old new files (Ok (ending.Stopped s)) begins shown is = cc
@@ -425,11 +425,11 @@ if_err P (Ok x) h = tt
 if_err P (Err e) h = h e
 
 -- a fault at whose status nothing is printed is none of files or output, and one of a source or of a journal
-pub unless_one : (K : Type 0) (words : List Text) (r : Result Ending Fault) → IfErr r (λ f. status_of f ≢ 1 → K) → IfErr r (λ f. IsUnprinted words (status_of f) → K)
+pub unless_one : (K : Type 0) (words : List Text) (r : Result Ending CommandFault) → IfErr r (λ f. status_of f ≢ 1 → K) → IfErr r (λ f. IsUnprinted words (status_of f) → K)
 unless_one K words (Ok e) h = tt
 unless_one K words (Err f) h = λ e. h (not_one (status_of f) (of_source_or_journal f (source_status words (status_of f) e)))
 
-pub if_read : (K : Type 0) (words : List Text) (r : Result Ending Fault) → IfErr r (λ f. (status_of f ≡ 3) ⊎ (status_of f ≡ 5) → K)
+pub if_read : (K : Type 0) (words : List Text) (r : Result Ending CommandFault) → IfErr r (λ f. (status_of f ≡ 3) ⊎ (status_of f ≡ 5) → K)
     → IfErr r (λ f. IsUnprinted words (status_of f) → K)
 if_read K words (Ok e) h = tt
 if_read K words (Err f) h = λ e. h (of_source_or_journal f (source_status words (status_of f) e))
@@ -439,39 +439,39 @@ if_read K words (Err f) h = λ e. h (of_source_or_journal f (source_status words
 six_not_one : (n : ℕ) → n ≡ 6 → n ≢ 1
 six_not_one n six one = omega (arith, six, one)
 
-pub left_unless_one : (holding : Option (List ℕ → List ℕ)) (words : List Text) (old new : Option (List ℕ)) (files files' : Option (List Made)) (r : Result Ending Fault) → IfErr r (λ f. status_of f ≢ 1 → Keeps old new)
+pub left_unless_one : (holding : Option (List ℕ → List ℕ)) (words : List Text) (old new : Option (List ℕ)) (files files' : Option (List MadeFile)) (r : Result Ending CommandFault) → IfErr r (λ f. status_of f ≢ 1 → Keeps old new)
     → IfErr r (λ f. status_of f ≢ 1 → KeepsFiles files files') → IfErr r (λ f. status_of f ≡ 6 → IsLeft holding words old new files files')
 left_unless_one holding words old new files files' (Ok e) h k = tt
 left_unless_one holding words old new files files' (Err f) h k = λ six. untouched (h (six_not_one (status_of f) six)) (k (six_not_one (status_of f) six))
 
 -- what holds at any fault holds at one of these statuses
-pub at_any_fault : (P : Type 0) (r : Result Ending Fault) → OnErr r P → IfErr r (λ f. (status_of f ≡ 3) ⊎ (status_of f ≡ 5) → P)
+pub at_any_fault : (P : Type 0) (r : Result Ending CommandFault) → OnErr r P → IfErr r (λ f. (status_of f ≡ 3) ⊎ (status_of f ≡ 5) → P)
 at_any_fault P (Ok e) h = tt
 at_any_fault P (Err f) h = λ source. h
 
-pub left_of_dump : (holding : Option (List ℕ → List ℕ)) (words : List Text) (known : Option (List ℕ)) (files files' : Option (List Made)) (r : Result Ending Fault) → OnErr r (KeepsFiles files files')
+pub left_of_dump : (holding : Option (List ℕ → List ℕ)) (words : List Text) (known : Option (List ℕ)) (files files' : Option (List MadeFile)) (r : Result Ending CommandFault) → OnErr r (KeepsFiles files files')
     → IfErr r (λ f. status_of f ≡ 6 → IsLeft holding words known known files files')
 left_of_dump holding words known files files' (Ok e) h = tt
 left_of_dump holding words known files files' (Err f) h = λ six. untouched (output_same known) h
 
-pub left_of_telling : (holding : Option (List ℕ → List ℕ)) (words : List Text) (old new : Option (List ℕ)) (files files' : Option (List Made)) (r : Result Ending Fault) → Begins words (codes "explain") → KeepsFiles files files'
+pub left_of_telling : (holding : Option (List ℕ → List ℕ)) (words : List Text) (old new : Option (List ℕ)) (files files' : Option (List MadeFile)) (r : Result Ending CommandFault) → Begins words (codes "explain") → KeepsFiles files files'
     → IfErr r (λ f. status_of f ≡ 6 → IsLeft holding words old new files files')
 left_of_telling holding words old new files files' (Ok e) begins k = tt
 left_of_telling holding words old new files files' (Err f) begins k = λ six. interrupted begins k
 
-pub left_of_search : (holding : Option (List ℕ → List ℕ)) (words : List Text) (races : RacesRequest) (old new : Option (List ℕ)) (files files' : Option (List Made)) → AsksRaces words races
-    → HasLeft holding races.file.now races.extent (option_map (λ path. path.now) races.journals) old new files files' → IsLeft holding words old new files files'
+pub left_of_search : (holding : Option (List ℕ → List ℕ)) (words : List Text) (races : RacesRequest) (old new : Option (List ℕ)) (files files' : Option (List MadeFile)) → AsksRaces words races
+    → HasLeft holding races.file.now races.search_options (option_map (λ path. path.now) races.journals) old new files files' → IsLeft holding words old new files files'
 left_of_search holding words races old new files files' asks (inl (k, s)) = untouched k s
 left_of_search holding words races old new files files' asks (inr h) = begun (record {
   begins = asks.begins;
   file = races.file.now;
   is_file = asks.is_races.file;
-  begun = subst (λ (path : Option (List ℕ)). HasBegun holding races.file.now (extent_of (races_rows (drop 1 words))) path old new files files') (sym asks.is_races.journals)
-      (subst (λ (extent : Extent). HasBegun holding races.file.now extent (option_map (λ path. path.now) races.journals) old new files files') asks.is_races.extent h);
+  begun = subst (λ (path : Option (List ℕ)). HasBegun holding races.file.now (search_options_of (races_rows (drop 1 words))) path old new files files') (sym asks.is_races.journals)
+      (subst (λ (search_options : SearchOptions). HasBegun holding races.file.now search_options (option_map (λ path. path.now) races.journals) old new files files') asks.is_races.search_options h);
 })
 
 -- a journal is told up to its fault
-pub unless_told : (K : Type 0) (words : List Text) (r : Result Ending Fault) → Begins words (codes "explain") → IfErr r (λ f. status_of f ≡ 3 → K)
+pub unless_told : (K : Type 0) (words : List Text) (r : Result Ending CommandFault) → Begins words (codes "explain") → IfErr r (λ f. status_of f ≡ 3 → K)
     → IfErr r (λ f. IsUnprinted words (status_of f) → K)
 unless_told K words (Ok e) begins h = tt
 unless_told K words (Err f) begins h = go
@@ -481,11 +481,11 @@ unless_told K words (Err f) begins h = go
     go (inr (inl e)) = h e
     go (inr (inr (e, other))) = absurd (other begins)
 
-pub one_only : (K : Type 0) (r : Result Ending Fault) → IfErr r (λ f. status_of f ≡ 1) → IfErr r (λ f. status_of f ≢ 1 → K)
+pub one_only : (K : Type 0) (r : Result Ending CommandFault) → IfErr r (λ f. status_of f ≡ 1) → IfErr r (λ f. status_of f ≢ 1 → K)
 one_only K (Ok e) h = tt
 one_only K (Err f) h = λ other. absurd (other h)
 
-pub check_performed : (holding : Option (List ℕ → List ℕ)) (words : List Text) (path : List ℕ) (old new : Option (List ℕ)) (files files' : Option (List Made)) (r : Result Ending Fault)
+pub check_performed : (holding : Option (List ℕ → List ℕ)) (words : List Text) (path : List ℕ) (old new : Option (List ℕ)) (files files' : Option (List MadeFile)) (r : Result Ending CommandFault)
     → AsksCheckOf words path → IsRight holding path → KeepsFiles files files' → OnOk r (Appends old new (right_text path)) → IfOk r (λ e. e ≡ ending.Done)
     → IfOk r (HasEnded holding words old new files files')
 check_performed holding words path old new files files' (Ok ending.Done) asks right keeps shown is = checked (record {
@@ -501,7 +501,7 @@ check_performed holding words path old new files files' (Ok (ending.Found found)
 check_performed holding words path old new files files' (Ok (ending.Wrong text)) asks right keeps shown is = cc
 check_performed holding words path old new files files' (Err f) asks right keeps shown is = tt
 
-pub waves_performed : (holding : Option (List ℕ → List ℕ)) (words : List Text) (waves : WavesRequest) (known : Option (List ℕ)) (files files' : Option (List Made)) → AsksWaves words waves
+pub waves_performed : (holding : Option (List ℕ → List ℕ)) (words : List Text) (waves : WavesRequest) (known : Option (List ℕ)) (files files' : Option (List MadeFile)) → AsksWaves words waves
     → HasDumped holding waves.file.now waves.journal.now waves.out.now files files' → HasWaves holding words known known files files'
 waves_performed holding words waves known files files' asks h = record {
   begins = asks.begins;

@@ -7,12 +7,12 @@ use Rattle.arguments.specs.CommandWords.{AsksExplain, explain_rows, number_given
 use Rattle.explain.specs.declared.failure.ExplainFault.{ExplainFault}
 use Rattle.explain.specs.declared.failure.ExplainFault.TheVariants as explaining
 use Rattle.explain.specs.declared.telling.Window.{Window}
-use Rattle.explain.specs.Explained.{IfReplay, IsLawfulText, UnlessBegun}
+use Rattle.explain.specs.Explained.{IfExplainReplay, IsLawfulJournalText, UnlessExplainBegun}
 use Rattle.explain.specs.ExplainedText.{ExplainsText, ExplainsTextFault, window_of}
-use Rattle.program.specs.declared.fault.Fault.{Fault}
-use Rattle.program.specs.Printed.{HasExplained, HasExplainedPart, HasExplainedSome, HasTold, window_in}
+use Rattle.program.specs.declared.fault.CommandFault.{CommandFault}
+use Rattle.program.specs.Printed.{HasExplained, HasExplainedPart, HasExplainedSome, HasExplainedByWords, window_in}
 use Rattle.program.specs.Program.{explain_fault, status_of}
-use Rattle.files.specs.Saved.{IsHeld, IsOpened, KeepsFiles, Made}
+use Rattle.files.specs.Saved.{IsHeld, IsOpened, KeepsFiles, MadeFile}
 
 -- what was written, and then sent off
 pub appends_kept : (a b c : Option (List ℕ)) (xs : List ℕ) → Appends a b xs → Keeps b c → Appends a c xs
@@ -41,12 +41,12 @@ told_on source window left a b c h k = record {
   };
 }
 
-pub explained_by : (holding : Option (List ℕ → List ℕ)) (file journal : List ℕ) (source : List ℕ) (window : Window) (left a b c : Option (List ℕ)) → IsHeld holding file source → IsOpened holding journal left → IsLawfulText source left → ExplainsText source window left a b → Keeps b c → HasExplained holding file journal window a c
+pub explained_by : (holding : Option (List ℕ → List ℕ)) (file journal : List ℕ) (source : List ℕ) (window : Window) (left a b c : Option (List ℕ)) → IsHeld holding file source → IsOpened holding journal left → IsLawfulJournalText source left → ExplainsText source window left a b → Keeps b c → HasExplained holding file journal window a c
 explained_by holding file journal source window left a b c held opened lawful h k = record { source = source; held = held; left = left; opened = opened; lawful = lawful; explains = told_on source window left a b c h k }
 
 -- no journal was read, or one was told up to its fault
-pub refused_of : (holding : Option (List ℕ → List ℕ)) (file journal : List ℕ) (source : List ℕ) (window : Window) (left a b : Option (List ℕ)) (f : ExplainFault) → IsHeld holding file source → IsOpened holding journal left → UnlessBegun {X = Unit {0}} (Err f) (Keeps a b)
-    → IfReplay {X = Unit {0}} (Err f) (ExplainsTextFault source window left a b) → status_of (explain_fault f) ≡ 5 → HasExplainedSome holding file journal window a b (explain_fault f)
+pub refused_of : (holding : Option (List ℕ → List ℕ)) (file journal : List ℕ) (source : List ℕ) (window : Window) (left a b : Option (List ℕ)) (f : ExplainFault) → IsHeld holding file source → IsOpened holding journal left → UnlessExplainBegun {X = Unit {0}} (Err f) (Keeps a b)
+    → IfExplainReplay {X = Unit {0}} (Err f) (ExplainsTextFault source window left a b) → status_of (explain_fault f) ≡ 5 → HasExplainedSome holding file journal window a b (explain_fault f)
 refused_of holding file journal source window left a b (explaining.Source f) held opened h t e = inl h
 refused_of holding file journal source window left a b (explaining.Read f) held opened h t e = inl h
 refused_of holding file journal source window left a b (explaining.Replay f) held opened h t e = inr (f, refl, record { source = source; held = held; left = left; opened = opened; explains = t })
@@ -59,8 +59,8 @@ window_asked words explain asks =
     ap (λ (from : ℕ). window_of from explain.to) asks.is_explain.from
     ∙ ap (window_of (unwrap_or (number_given (codes "from") (explain_rows (drop 1 words))) 1)) asks.is_explain.to
 
-pub told_performed : (holding : Option (List ℕ → List ℕ)) (words : List Text) (explain : ExplainRequest) (old new : Option (List ℕ)) (files files' : Option (List Made)) → AsksExplain words explain
-    → HasExplained holding explain.file.now explain.journal.now (window_of explain.from explain.to) old new → KeepsFiles files files' → HasTold holding words old new files files'
+pub told_performed : (holding : Option (List ℕ → List ℕ)) (words : List Text) (explain : ExplainRequest) (old new : Option (List ℕ)) (files files' : Option (List MadeFile)) → AsksExplain words explain
+    → HasExplained holding explain.file.now explain.journal.now (window_of explain.from explain.to) old new → KeepsFiles files files' → HasExplainedByWords holding words old new files files'
 told_performed holding words explain old new files files' asks h k = record {
   begins = asks.begins;
   file = explain.file.now;
@@ -71,7 +71,7 @@ told_performed holding words explain old new files files' asks h k = record {
   unsaved = k;
 }
 
-pub refused_performed : (holding : Option (List ℕ → List ℕ)) (words : List Text) (explain : ExplainRequest) (old new : Option (List ℕ)) (f : Fault) → AsksExplain words explain
+pub refused_performed : (holding : Option (List ℕ → List ℕ)) (words : List Text) (explain : ExplainRequest) (old new : Option (List ℕ)) (f : CommandFault) → AsksExplain words explain
     → (status_of f ≡ 5 → HasExplainedSome holding explain.file.now explain.journal.now (window_of explain.from explain.to) old new f) → status_of f ≡ 5 → HasExplainedPart holding words old new f
 refused_performed holding words explain old new f asks h e = record {
   file = explain.file.now;

@@ -13,18 +13,18 @@ use Rattle.explore.specs.Grown.{Extends}
 use Rattle.explore.specs.Search.{AreDistinct, IsShown}
 use Rattle.explore.proofs.Complete.{Any-extends}
 use Rattle.explore.proofs.Growing.{length-extends}
-use Rattle.seeded.specs.SeededRun.{IsRun}
-use Rattle.seeded.specs.Samples.{IsWhole}
-use Rattle.seeded.specs.declared.run.SeededRun.{SeededRun}
-use Rattle.conflicts.specs.declared.told.Found.{Found}
-use Rattle.conflicts.specs.declared.told.Race.{Race}
-use Rattle.conflicts.specs.declared.told.Tries.{Tries}
-use Rattle.arguments.specs.declared.extent.Extent.{Extent}
-use Rattle.program.specs.Findings.{AreKnown, AreRaces, IsKnown, IsLawful, IsOf, limits_in}
+use Rattle.runs.specs.RunRecords.{IsRun}
+use Rattle.runs.specs.Compared.{IsWhole}
+use Rattle.runs.specs.declared.run.RunRecord.{RunRecord}
+use Rattle.races.specs.declared.told.Found.{Found}
+use Rattle.races.specs.declared.told.Race.{Race}
+use Rattle.races.specs.declared.told.RaceBounds.{RaceBounds}
+use Rattle.arguments.specs.declared.search_options.SearchOptions.{SearchOptions}
+use Rattle.program.specs.Findings.{AreKnown, AreRaces, IsKnown, IsLawfulShown, IsShownRun, limits_in}
 use Rattle.program.proofs.Few.{no_longer}
 
 -- the text of a run that came to its end is that of a lawful journal
-pub run_lawful : (code : Compiled) (limits : Limits) (r : SeededRun) (s : Shown Entry End) → IsWhole r → IsOf r s → IsRun code limits r → IsLawful code limits s
+pub run_lawful : (code : Compiled) (limits : Limits) (r : RunRecord) (s : Shown Entry End) → IsWhole r → IsShownRun r s → IsRun code limits r → IsLawfulShown code limits s
 run_lawful code limits r s whole same is =
     let ended : Ends (design_of code) limits s.moves.items s.end =
     subst (λ (e : End). Ends (design_of code) limits s.moves.items e) (sym same.1) (subst (λ (j : List Entry). Ends (design_of code) limits j r.end) (sym same.2) is.ends) in (
@@ -52,7 +52,7 @@ few_shown others ss distinct there =
     (λ i j d lt within s one other. distinct i j d lt within (sym one.0 ∙ other.0) (sym one.1 ∙ other.1)) there
 
 -- what is known of a run stays so where more is known
-pub known_more : (most : ℕ) (shown shown' : List (Shown Entry End)) (r : SeededRun) → Extends shown shown' → length shown' ≤ most → IsKnown most shown r → IsKnown most shown' r
+pub known_more : (most : ℕ) (shown shown' : List (Shown Entry End)) (r : RunRecord) → Extends shown shown' → length shown' ≤ most → IsKnown most shown r → IsKnown most shown' r
 known_more most shown shown' r more few known whole = of_one (known whole)
   where
     of_one : IsShown shown (string_bytes r.lines) r.end ⊎ (length shown ≡ most) → IsShown shown' (string_bytes r.lines) r.end ⊎ (length shown' ≡ most)
@@ -60,7 +60,7 @@ known_more most shown shown' r more few known whole = of_one (known whole)
     of_one (inr full) = inr (omega (arith, few, full, length-extends shown shown' more))
 
 -- a text that was added is known of its run, or as many are there as may be
-pub known_added : (there : Bool) (most : ℕ) (shown : List (Shown Entry End)) (r : SeededRun) (s : Shown Entry End) → IsOf r s → (IsTrue there → IsShown shown s.text.items s.end) → (there ≡ false → length shown ≡ most)
+pub known_added : (there : Bool) (most : ℕ) (shown : List (Shown Entry End)) (r : RunRecord) (s : Shown Entry End) → IsShownRun r s → (IsTrue there → IsShown shown s.text.items s.end) → (there ≡ false → length shown ≡ most)
     → IsKnown most shown r
 known_added true most shown r s same is full whole =
     inl (subst (λ (t : List ℕ). IsShown shown t r.end) same.0 (subst (λ (e : End). IsShown shown s.text.items e) same.1 (is refl)))
@@ -79,17 +79,17 @@ known_each most shown shown' races i item more few at within before now k d lt =
         (subst (λ (r : Race). IsKnown most shown' r.exchanged) (at ∙ get_or_default races i item d within) now)
 
 -- the second run of each race is one of the design
-pub races_run : (code : Compiled) (limits : Limits) (tries : Tries) (found : Found) → AreRaces code limits tries found → All (λ (race : Race). IsRun code limits race.exchanged) found.races.items
-races_run code limits tries found races k d lt = (races.races k d lt).exchanged
+pub races_run : (code : Compiled) (limits : Limits) (race_bounds : RaceBounds) (found : Found) → AreRaces code limits race_bounds found → All (λ (race : Race). IsRun code limits race.exchanged) found.races.items
+races_run code limits race_bounds found races k d lt = (races.races k d lt).exchanged
 
 -- what is known of the first run and of the second runs, and then of others
-pub all_known : (code : Compiled) (extent : Extent) (found : Found) (a b c : List (Shown Entry End)) → extent.samples ≡ None → All (IsLawful code (limits_in extent)) c → AllPairs AreDistinct c → length c ≤ extent.max_texts
-    → length b ≤ extent.max_texts → Extends a b → Extends b c → IsKnown extent.max_texts a found.original → All (λ (race : Race). IsKnown extent.max_texts b race.exchanged) found.races.items → AreKnown code extent found c
-all_known code extent found a b c none lawful distinct few few_b more more' first others = record {
+pub all_known : (code : Compiled) (search_options : SearchOptions) (found : Found) (a b c : List (Shown Entry End)) → search_options.samples ≡ None → All (IsLawfulShown code (limits_in search_options)) c → AllPairs AreDistinct c → length c ≤ search_options.max_texts
+    → length b ≤ search_options.max_texts → Extends a b → Extends b c → IsKnown search_options.max_texts a found.original → All (λ (race : Race). IsKnown search_options.max_texts b race.exchanged) found.races.items → AreKnown code search_options found c
+all_known code search_options found a b c none lawful distinct few few_b more more' first others = record {
   lawful = lawful;
   distinct = distinct;
   few = few;
   none = subst (λ (o : Option ℕ). IfSome o (λ asked. c ≡ [])) (sym none) tt;
-  first = λ all. known_more extent.max_texts b c found.original more' few (known_more extent.max_texts a b found.original more few_b first);
-  others = λ all k d lt. known_more extent.max_texts b c (get_or found.races.items k d).exchanged more' few (others k d lt);
+  first = λ all. known_more search_options.max_texts b c found.original more' few (known_more search_options.max_texts a b found.original more few_b first);
+  others = λ all k d lt. known_more search_options.max_texts b c (get_or found.races.items k d).exchanged more' few (others k d lt);
 }

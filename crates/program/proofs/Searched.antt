@@ -11,20 +11,20 @@ use Rattle.explore.specs.declared.stopped.Stopped.TheVariants as stopped
 use Rattle.explore.specs.Grown.{Extends}
 use Rattle.explore.specs.Search.{AreDistinct, IsShown}
 use Rattle.walks.specs.JournalsInTime.{AreAllTexts, IsLawfulText}
-use Rattle.races.specs.DesignRuns as orders
-use Rattle.conflicts.specs.declared.told.Found.{Found}
-use Rattle.conflicts.specs.declared.told.Tries.{Tries}
+use Rattle.lawful.specs.DesignRuns as orders
+use Rattle.races.specs.declared.told.Found.{Found}
+use Rattle.races.specs.declared.told.RaceBounds.{RaceBounds}
 use Rattle.naming.specs.Naming.{TellsBehind, TellsRaces}
 use Rattle.verdict.specs.declared.claim.Claim.{Claim}
 use Rattle.verdict.specs.declared.claim.Claim.TheVariants.{Every, SoFar, Sampled}
-use Rattle.verdict.specs.declared.claim.Met.TheVariants.{States, Texts, Entries, Megabytes, Memory}
+use Rattle.verdict.specs.declared.claim.SearchStop.TheVariants.{States, Texts, Entries, Megabytes, Memory}
 use Rattle.std.specs.Io.KnownBytes.{Appends, Keeps}
 use Rattle.frontend.specs.Sources.{IsDesignOf}
-use Rattle.files.specs.Saved.{IsHeld, KeepsFiles, Made, SavesAllWhereAsked, SavesSomeWhereAsked}
-use Rattle.arguments.specs.declared.extent.Extent.{Extent}
-use Rattle.program.specs.declared.finding.Finding.{Finding}
-use Rattle.program.specs.declared.fault.Fault.{Fault}
-use Rattle.program.specs.Findings.{AreFound, AreOfSeeds, IsFound, IsLawful, IsWithin, OnEvery, OnSampled, claim_of, endless_number, finding_of, journals_of, limits_in, some_journal, stop_of, unless_stopped}
+use Rattle.files.specs.Saved.{IsHeld, KeepsFiles, MadeFile, SavesAllWhereAsked, SavesSomeWhereAsked}
+use Rattle.arguments.specs.declared.search_options.SearchOptions.{SearchOptions}
+use Rattle.program.specs.declared.finding.SearchFinding.{SearchFinding}
+use Rattle.program.specs.declared.fault.CommandFault.{CommandFault}
+use Rattle.program.specs.Findings.{AreFound, AreOfSeeds, IsFound, IsLawfulShown, IsClaimWithin, OnEvery, OnSampled, claim_of, endless_number, finding_of, journals_of, limits_in, some_journal, search_stop_of, unless_stopped}
 use Rattle.program.specs.Printed.{HasFound, HasLeft, HasSavedSome, HasShown, IsToldFirst, IsToldLast}
 use Rattle.program.specs.Program.{status_of}
 use Rattle.program.proofs.Knowing.{few_shown}
@@ -33,56 +33,56 @@ use Rattle.program.proofs.Explained.{appends_kept}
 
 -- what is claimed of a search that stopped for this, or didn't
 
-claim_sound : (extent : Extent) (s : Option Stopped) (nodes : ℕ) (endless : Option ℕ) (code : Compiled) (limits : Limits) (ss : List (Shown Entry End)) → All (IsLawful code limits) ss
-    → All (IsFound (claim_of extent s nodes endless) code limits) ss
-claim_sound extent None nodes endless code limits ss h = h
-claim_sound extent (Some stopped.Nodes) nodes endless code limits ss h = h
-claim_sound extent (Some stopped.Shown) nodes endless code limits ss h = h
-claim_sound extent (Some stopped.Unfollowed) nodes endless code limits ss h = h
-claim_sound extent (Some stopped.Bytes) nodes endless code limits ss h = h
-claim_sound extent (Some stopped.Memory) nodes endless code limits ss h = h
+claim_sound : (search_options : SearchOptions) (s : Option Stopped) (nodes : ℕ) (endless : Option ℕ) (code : Compiled) (limits : Limits) (ss : List (Shown Entry End)) → All (IsLawfulShown code limits) ss
+    → All (IsFound (claim_of search_options s nodes endless) code limits) ss
+claim_sound search_options None nodes endless code limits ss h = h
+claim_sound search_options (Some stopped.Nodes) nodes endless code limits ss h = h
+claim_sound search_options (Some stopped.Shown) nodes endless code limits ss h = h
+claim_sound search_options (Some stopped.Unfollowed) nodes endless code limits ss h = h
+claim_sound search_options (Some stopped.Bytes) nodes endless code limits ss h = h
+claim_sound search_options (Some stopped.Memory) nodes endless code limits ss h = h
 
-claim_within : (extent : Extent) (s : Option Stopped) (nodes : ℕ) (endless : Option ℕ) (count : ℕ) → extent.samples ≡ None → nodes ≤ extent.max_states
-    → (s ≡ Some stopped.Shown → extent.max_texts ≤ count) → IsWithin extent count (claim_of extent s nodes endless)
-claim_within extent None nodes endless count none few full = (none, few)
-claim_within extent (Some stopped.Nodes) nodes endless count none few full = (none, refl)
-claim_within extent (Some stopped.Shown) nodes endless count none few full = (none, refl, full refl)
-claim_within extent (Some stopped.Unfollowed) nodes endless count none few full = (none, refl)
-claim_within extent (Some stopped.Bytes) nodes endless count none few full = (none, refl)
-claim_within extent (Some stopped.Memory) nodes endless count none few full = none
+claim_within : (search_options : SearchOptions) (s : Option Stopped) (nodes : ℕ) (endless : Option ℕ) (count : ℕ) → search_options.samples ≡ None → nodes ≤ search_options.max_states
+    → (s ≡ Some stopped.Shown → search_options.max_texts ≤ count) → IsClaimWithin search_options count (claim_of search_options s nodes endless)
+claim_within search_options None nodes endless count none few full = (none, few)
+claim_within search_options (Some stopped.Nodes) nodes endless count none few full = (none, refl)
+claim_within search_options (Some stopped.Shown) nodes endless count none few full = (none, refl, full refl)
+claim_within search_options (Some stopped.Unfollowed) nodes endless count none few full = (none, refl)
+claim_within search_options (Some stopped.Bytes) nodes endless count none few full = (none, refl)
+claim_within search_options (Some stopped.Memory) nodes endless count none few full = none
 
-claim_all : (P : Type 0) (extent : Extent) (s : Option Stopped) (nodes : ℕ) (endless : Option ℕ) → (s ≡ None → P) → OnEvery (claim_of extent s nodes endless) P
-claim_all P extent None nodes endless h = h refl
-claim_all P extent (Some stopped.Nodes) nodes endless h = tt
-claim_all P extent (Some stopped.Shown) nodes endless h = tt
-claim_all P extent (Some stopped.Unfollowed) nodes endless h = tt
-claim_all P extent (Some stopped.Bytes) nodes endless h = tt
-claim_all P extent (Some stopped.Memory) nodes endless h = tt
+claim_all : (P : Type 0) (search_options : SearchOptions) (s : Option Stopped) (nodes : ℕ) (endless : Option ℕ) → (s ≡ None → P) → OnEvery (claim_of search_options s nodes endless) P
+claim_all P search_options None nodes endless h = h refl
+claim_all P search_options (Some stopped.Nodes) nodes endless h = tt
+claim_all P search_options (Some stopped.Shown) nodes endless h = tt
+claim_all P search_options (Some stopped.Unfollowed) nodes endless h = tt
+claim_all P search_options (Some stopped.Bytes) nodes endless h = tt
+claim_all P search_options (Some stopped.Memory) nodes endless h = tt
 
 -- no random orders were tried
-claim_seeds : (P : ℕ → Type 0) (extent : Extent) (s : Option Stopped) (nodes : ℕ) (endless : Option ℕ) → OnSampled (claim_of extent s nodes endless) P
-claim_seeds P extent None nodes endless = tt
-claim_seeds P extent (Some stopped.Nodes) nodes endless = tt
-claim_seeds P extent (Some stopped.Shown) nodes endless = tt
-claim_seeds P extent (Some stopped.Unfollowed) nodes endless = tt
-claim_seeds P extent (Some stopped.Bytes) nodes endless = tt
-claim_seeds P extent (Some stopped.Memory) nodes endless = tt
+claim_seeds : (P : ℕ → Type 0) (search_options : SearchOptions) (s : Option Stopped) (nodes : ℕ) (endless : Option ℕ) → OnSampled (claim_of search_options s nodes endless) P
+claim_seeds P search_options None nodes endless = tt
+claim_seeds P search_options (Some stopped.Nodes) nodes endless = tt
+claim_seeds P search_options (Some stopped.Shown) nodes endless = tt
+claim_seeds P search_options (Some stopped.Unfollowed) nodes endless = tt
+claim_seeds P search_options (Some stopped.Bytes) nodes endless = tt
+claim_seeds P search_options (Some stopped.Memory) nodes endless = tt
 
 -- the journal of a run that comes to no end, and its number, where the search wasn't stopped
-claim_number : {J : Type 0} (items : J → List Entry) (extent : Extent) (s : Option Stopped) (nodes count : ℕ) (found told : Option J) (number : Option ℕ) → told ≡ unless_stopped s found
-    → number ≡ option_map (λ j. count + 1) told → endless_number (claim_of extent s nodes number) ≡ option_map (λ j. count + 1) (option_map items told)
-claim_number items extent None nodes count found None number is counted = counted
-claim_number items extent None nodes count found (Some j) number is counted = counted
-claim_number items extent (Some stopped.Nodes) nodes count found None number is counted = refl
-claim_number items extent (Some stopped.Nodes) nodes count found (Some j) number is counted = cc
-claim_number items extent (Some stopped.Shown) nodes count found None number is counted = refl
-claim_number items extent (Some stopped.Shown) nodes count found (Some j) number is counted = cc
-claim_number items extent (Some stopped.Unfollowed) nodes count found None number is counted = refl
-claim_number items extent (Some stopped.Bytes) nodes count found None number is counted = refl
-claim_number items extent (Some stopped.Unfollowed) nodes count found (Some j) number is counted = cc
-claim_number items extent (Some stopped.Bytes) nodes count found (Some j) number is counted = cc
-claim_number items extent (Some stopped.Memory) nodes count found None number is counted = refl
-claim_number items extent (Some stopped.Memory) nodes count found (Some j) number is counted = cc
+claim_number : {J : Type 0} (items : J → List Entry) (search_options : SearchOptions) (s : Option Stopped) (nodes count : ℕ) (found told : Option J) (number : Option ℕ) → told ≡ unless_stopped s found
+    → number ≡ option_map (λ j. count + 1) told → endless_number (claim_of search_options s nodes number) ≡ option_map (λ j. count + 1) (option_map items told)
+claim_number items search_options None nodes count found None number is counted = counted
+claim_number items search_options None nodes count found (Some j) number is counted = counted
+claim_number items search_options (Some stopped.Nodes) nodes count found None number is counted = refl
+claim_number items search_options (Some stopped.Nodes) nodes count found (Some j) number is counted = cc
+claim_number items search_options (Some stopped.Shown) nodes count found None number is counted = refl
+claim_number items search_options (Some stopped.Shown) nodes count found (Some j) number is counted = cc
+claim_number items search_options (Some stopped.Unfollowed) nodes count found None number is counted = refl
+claim_number items search_options (Some stopped.Bytes) nodes count found None number is counted = refl
+claim_number items search_options (Some stopped.Unfollowed) nodes count found (Some j) number is counted = cc
+claim_number items search_options (Some stopped.Bytes) nodes count found (Some j) number is counted = cc
+claim_number items search_options (Some stopped.Memory) nodes count found None number is counted = refl
+claim_number items search_options (Some stopped.Memory) nodes count found (Some j) number is counted = cc
 
 told_never : {J : Type 0} (items : J → List Entry) (P : List Entry → Type 0) (s : Option Stopped) (found told : Option J) → told ≡ unless_stopped s found → IfSome found (λ j. P (items j))
     → IfSome (option_map items told) P
@@ -94,14 +94,14 @@ told_never items P None (Some k) (Some j) is h =
 told_never items P (Some s) found (Some j) is h = cc
 
 -- a search wasn't stopped, and each of its texts was put behind those that are known
-not_stopped : {E : Type 0} (s : Option Stopped) (added : Result Bool E) → stop_of s added ≡ None → (s ≡ None) × (added ≡ Ok true)
+not_stopped : {E : Type 0} (s : Option Stopped) (added : Result Bool E) → search_stop_of s added ≡ None → (s ≡ None) × (added ≡ Ok true)
 not_stopped s (Ok true) h = (h, refl)
 not_stopped None (Ok false) h = cc
 not_stopped (Some s) (Ok false) h = cc
 not_stopped s (Err e) h = cc
 
 -- where the most texts are why a search stopped, as many are shown: each of as many was put there, or one was left out
-shown_full : {E : Type 0} (s : Option Stopped) (added : Result Bool E) (most : ℕ) (others ss : List (Shown Entry End)) → stop_of s added ≡ Some stopped.Shown → (s ≡ Some stopped.Shown → length others ≡ most)
+shown_full : {E : Type 0} (s : Option Stopped) (added : Result Bool E) (most : ℕ) (others ss : List (Shown Entry End)) → search_stop_of s added ≡ Some stopped.Shown → (s ≡ Some stopped.Shown → length others ≡ most)
     → AllPairs AreDistinct others → IfOk added (λ all. IsTrue all → All (λ o. IsShown ss o.text.items o.end) others) → IfOk added (λ all. all ≡ false → length ss ≡ most) → most ≤ length ss
 shown_full s (Ok true) most others ss stops found distinct there full = omega (arith, found stops, few_shown others ss distinct (there refl))
 shown_full s (Ok false) most others ss stops found distinct there full = omega (arith, full refl)
@@ -124,31 +124,31 @@ all_there design limits others ss all there journal text end lines timely ends s
         (subst (λ (x : Shown Entry End). IsShown ss x.text.items x.end) at (there k s lt)))
 
 lawful_within : (code : Compiled) (limits : Limits) (ss : List (Shown Entry End)) → All (λ s. IsLawfulText (design_of code) limits s.moves.items s.text.items s.end) ss
-    → All (λ s. orders.IsWithin limits s.moves.items) ss → All (IsLawful code limits) ss
+    → All (λ s. orders.IsWithinLimits limits s.moves.items) ss → All (IsLawfulShown code limits) ss
 lawful_within code limits ss sound within k d lt = (sound k d lt, within k d lt)
 
 -- what a search found is put behind texts that are known
-pub searched_found : {J E : Type 0} (items : J → List Entry) (code : Compiled) (extent : Extent) (s t : Option Stopped) (nodes : ℕ) (found told : Option J) (number : Option ℕ) (claim : Claim) (added : Result Bool E) (known others ss : List (Shown Entry End))
-    → extent.samples ≡ None → nodes ≤ extent.max_states → claim ≡ claim_of extent t nodes number → t ≡ stop_of s added → told ≡ unless_stopped t found → number ≡ option_map (λ j. length ss + 1) told
-    → All (λ o. IsLawfulText (design_of code) (limits_in extent) o.moves.items o.text.items o.end) others → All (λ o. orders.IsWithin (limits_in extent) o.moves.items) others
-    → AllPairs AreDistinct others → (s ≡ Some stopped.Shown → length others ≡ extent.max_texts) → (s ≡ None → AreAllTexts (design_of code) (limits_in extent) (IsShown others)) → IfSome found (λ j. orders.IsEndlessJournal (design_of code) (limits_in extent) (items j))
-    → All (IsLawful code (limits_in extent)) known → ((c : Compiled) (l : Limits) → All (IsLawful c l) others → All (IsLawful c l) known → All (IsLawful c l) ss)
-    → IfOk added (λ all. IsTrue all → All (λ o. IsShown ss o.text.items o.end) others) → IfOk added (λ all. all ≡ false → length ss ≡ extent.max_texts) → AllPairs AreDistinct ss → length ss ≤ extent.max_texts
-    → AreFound code extent claim ss (option_map items told)
-searched_found items code extent s t nodes found told number claim added known others ss none few claimed stops tells counted sound within apart most all never lawful more there full distinct short =
-    subst (λ (c : Claim). AreFound code extent c ss (option_map items told)) (sym claimed) (record {
-      sound = claim_sound extent t nodes number code (limits_in extent) ss (more code (limits_in extent) (lawful_within code (limits_in extent) others sound within) lawful);
+pub searched_found : {J E : Type 0} (items : J → List Entry) (code : Compiled) (search_options : SearchOptions) (s t : Option Stopped) (nodes : ℕ) (found told : Option J) (number : Option ℕ) (claim : Claim) (added : Result Bool E) (known others ss : List (Shown Entry End))
+    → search_options.samples ≡ None → nodes ≤ search_options.max_states → claim ≡ claim_of search_options t nodes number → t ≡ search_stop_of s added → told ≡ unless_stopped t found → number ≡ option_map (λ j. length ss + 1) told
+    → All (λ o. IsLawfulText (design_of code) (limits_in search_options) o.moves.items o.text.items o.end) others → All (λ o. orders.IsWithinLimits (limits_in search_options) o.moves.items) others
+    → AllPairs AreDistinct others → (s ≡ Some stopped.Shown → length others ≡ search_options.max_texts) → (s ≡ None → AreAllTexts (design_of code) (limits_in search_options) (IsShown others)) → IfSome found (λ j. orders.IsEndlessJournal (design_of code) (limits_in search_options) (items j))
+    → All (IsLawfulShown code (limits_in search_options)) known → ((c : Compiled) (l : Limits) → All (IsLawfulShown c l) others → All (IsLawfulShown c l) known → All (IsLawfulShown c l) ss)
+    → IfOk added (λ all. IsTrue all → All (λ o. IsShown ss o.text.items o.end) others) → IfOk added (λ all. all ≡ false → length ss ≡ search_options.max_texts) → AllPairs AreDistinct ss → length ss ≤ search_options.max_texts
+    → AreFound code search_options claim ss (option_map items told)
+searched_found items code search_options s t nodes found told number claim added known others ss none few claimed stops tells counted sound within apart most all never lawful more there full distinct short =
+    subst (λ (c : Claim). AreFound code search_options c ss (option_map items told)) (sym claimed) (record {
+      sound = claim_sound search_options t nodes number code (limits_in search_options) ss (more code (limits_in search_options) (lawful_within code (limits_in search_options) others sound within) lawful);
       distinct = distinct;
       few = short;
-      within = claim_within extent t nodes number (length ss) none few (λ is. shown_full s added extent.max_texts others ss (sym stops ∙ is) most apart there full);
-      all = claim_all (AreAllTexts (design_of code) (limits_in extent) (IsShown ss)) extent t nodes number (λ is. every (not_stopped s added (sym stops ∙ is)));
-      never = told_never items (orders.IsEndlessJournal (design_of code) (limits_in extent)) t found told tells never;
-      seeds = claim_seeds (AreOfSeeds code (limits_in extent) extent.seed ss) extent t nodes number;
-      numbered = claim_number items extent t nodes (length ss) found told number tells counted;
+      within = claim_within search_options t nodes number (length ss) none few (λ is. shown_full s added search_options.max_texts others ss (sym stops ∙ is) most apart there full);
+      all = claim_all (AreAllTexts (design_of code) (limits_in search_options) (IsShown ss)) search_options t nodes number (λ is. every (not_stopped s added (sym stops ∙ is)));
+      never = told_never items (orders.IsEndlessJournal (design_of code) (limits_in search_options)) t found told tells never;
+      seeds = claim_seeds (AreOfSeeds code (limits_in search_options) search_options.seed ss) search_options t nodes number;
+      numbered = claim_number items search_options t nodes (length ss) found told number tells counted;
     })
   where
-    every : (s ≡ None) × (added ≡ Ok true) → AreAllTexts (design_of code) (limits_in extent) (IsShown ss)
-    every (is, put) = all_there code (limits_in extent) others ss (all is) (added_all added (All (λ o. IsShown ss o.text.items o.end) others) put there)
+    every : (s ≡ None) × (added ≡ Ok true) → AreAllTexts (design_of code) (limits_in search_options) (IsShown ss)
+    every (is, put) = all_there code (limits_in search_options) others ss (all is) (added_all added (All (λ o. IsShown ss o.text.items o.end) others) put there)
 
 -- the journals of texts and of one run more
 
@@ -173,16 +173,16 @@ pub journals_alone : (ss : List (Shown Entry End)) → map (λ s. s.moves.items)
 journals_alone ss = sym (none_behind (map (λ s. s.moves.items) ss))
 
 -- lines that tell races behind a text that is empty
-pub tells_alone : (source : List ℕ) (code : Compiled) (shown : List (Shown Entry End)) (prefix : Option (List ℕ)) (tries : Tries) (found : Found) (begun lines : List ℕ) → begun ≡ []
-    → TellsBehind source code shown prefix tries found begun lines → TellsRaces source code shown prefix tries found lines
-tells_alone source code shown prefix tries found begun lines empty h = subst (TellsRaces source code shown prefix tries found) (sym (h.new_is ∙ ap (λ l. l ++ h.lines) empty)) h.tells
+pub tells_alone : (source : List ℕ) (code : Compiled) (shown : List (Shown Entry End)) (prefix : Option (List ℕ)) (race_bounds : RaceBounds) (found : Found) (begun lines : List ℕ) → begun ≡ []
+    → TellsBehind source code shown prefix race_bounds found begun lines → TellsRaces source code shown prefix race_bounds found lines
+tells_alone source code shown prefix race_bounds found begun lines empty h = subst (TellsRaces source code shown prefix race_bounds found) (sym (h.new_is ∙ ap (λ l. l ++ h.lines) empty)) h.tells
 
 -- a search that was told first and last, with the journals of what was found
-pub search_shown : (holding : Option (List ℕ → List ℕ)) (file : List ℕ) (source : List ℕ) (code : Compiled) (extent : Extent) (prefix : Option (List ℕ)) (known : List (Shown Entry End)) (claim : Claim) (shown : List (Shown Entry End)) (endless : Option (List Entry)) (a b c : Option (List ℕ))
-    (files tried files' : Option (List Made)) (last : List ℕ) (found : Finding) → IsHeld holding file source → IsDesignOf source code → ((first : List ℕ) × IsToldFirst source code extent prefix known first × Appends a b first)
-    → AreFound code extent claim shown endless → Extends known shown → IsToldLast extent prefix claim shown last → Appends b c last → KeepsFiles files tried → SavesAllWhereAsked tried files' prefix (journals_of shown endless)
-    → found ≡ finding_of claim (length shown) → HasShown holding file extent prefix a c files files' found
-search_shown holding file source code extent prefix known claim shown endless a b c files tried files' last found held is_design (first, is_first, begins) are_found grown is_last ends kept saved is = record {
+pub search_shown : (holding : Option (List ℕ → List ℕ)) (file : List ℕ) (source : List ℕ) (code : Compiled) (search_options : SearchOptions) (prefix : Option (List ℕ)) (known : List (Shown Entry End)) (claim : Claim) (shown : List (Shown Entry End)) (endless : Option (List Entry)) (a b c : Option (List ℕ))
+    (files tried files' : Option (List MadeFile)) (last : List ℕ) (found : SearchFinding) → IsHeld holding file source → IsDesignOf source code → ((first : List ℕ) × IsToldFirst source code search_options prefix known first × Appends a b first)
+    → AreFound code search_options claim shown endless → Extends known shown → IsToldLast search_options prefix claim shown last → Appends b c last → KeepsFiles files tried → SavesAllWhereAsked tried files' prefix (journals_of shown endless)
+    → found ≡ finding_of claim (length shown) → HasShown holding file search_options prefix a c files files' found
+search_shown holding file source code search_options prefix known claim shown endless a b c files tried files' last found held is_design (first, is_first, begins) are_found grown is_last ends kept saved is = record {
   source = source;
   held = held;
   design = code;
@@ -198,9 +198,9 @@ search_shown holding file source code extent prefix known claim shown endless a 
 }
 
 -- a search that was told first, and didn't come further
-pub search_begun : (holding : Option (List ℕ → List ℕ)) (file : List ℕ) (source : List ℕ) (code : Compiled) (extent : Extent) (prefix : Option (List ℕ)) (known : List (Shown Entry End)) (a b : Option (List ℕ)) (files files' : Option (List Made)) → IsHeld holding file source → IsDesignOf source code
-    → ((first : List ℕ) × IsToldFirst source code extent prefix known first × Appends a b first) → KeepsFiles files files' → HasLeft holding file extent prefix a b files files'
-search_begun holding file source code extent prefix known a b files files' held is_design (first, is_first, begins) kept = inr (record {
+pub search_begun : (holding : Option (List ℕ → List ℕ)) (file : List ℕ) (source : List ℕ) (code : Compiled) (search_options : SearchOptions) (prefix : Option (List ℕ)) (known : List (Shown Entry End)) (a b : Option (List ℕ)) (files files' : Option (List MadeFile)) → IsHeld holding file source → IsDesignOf source code
+    → ((first : List ℕ) × IsToldFirst source code search_options prefix known first × Appends a b first) → KeepsFiles files files' → HasLeft holding file search_options prefix a b files files'
+search_begun holding file source code search_options prefix known a b files files' held is_design (first, is_first, begins) kept = inr (record {
   source = source;
   held = held;
   design = code;
@@ -212,11 +212,11 @@ search_begun holding file source code extent prefix known a b files files' held 
 })
 
 -- a search that was told first and last, and whose journals may not all have been saved
-pub search_left : (holding : Option (List ℕ → List ℕ)) (file : List ℕ) (source : List ℕ) (code : Compiled) (extent : Extent) (prefix : Option (List ℕ)) (known : List (Shown Entry End)) (claim : Claim) (shown : List (Shown Entry End)) (endless : Option (List Entry)) (a b c : Option (List ℕ))
-    (files tried files' : Option (List Made)) (last : List ℕ) → IsHeld holding file source → IsDesignOf source code → ((first : List ℕ) × IsToldFirst source code extent prefix known first × Appends a b first)
-    → AreFound code extent claim shown endless → Extends known shown → IsToldLast extent prefix claim shown last → KeepsFiles files tried
-    → (Keeps b c × KeepsFiles tried files') ⊎ (Appends b c last × SavesSomeWhereAsked tried files' prefix (journals_of shown endless)) → HasLeft holding file extent prefix a c files files'
-search_left holding file source code extent prefix known claim shown endless a b c files tried files' last held is_design (first, is_first, begins) are_found grown is_last kept (inl (same, saved)) = inr (record {
+pub search_left : (holding : Option (List ℕ → List ℕ)) (file : List ℕ) (source : List ℕ) (code : Compiled) (search_options : SearchOptions) (prefix : Option (List ℕ)) (known : List (Shown Entry End)) (claim : Claim) (shown : List (Shown Entry End)) (endless : Option (List Entry)) (a b c : Option (List ℕ))
+    (files tried files' : Option (List MadeFile)) (last : List ℕ) → IsHeld holding file source → IsDesignOf source code → ((first : List ℕ) × IsToldFirst source code search_options prefix known first × Appends a b first)
+    → AreFound code search_options claim shown endless → Extends known shown → IsToldLast search_options prefix claim shown last → KeepsFiles files tried
+    → (Keeps b c × KeepsFiles tried files') ⊎ (Appends b c last × SavesSomeWhereAsked tried files' prefix (journals_of shown endless)) → HasLeft holding file search_options prefix a c files files'
+search_left holding file source code search_options prefix known claim shown endless a b c files tried files' last held is_design (first, is_first, begins) are_found grown is_last kept (inl (same, saved)) = inr (record {
   source = source;
   held = held;
   design = code;
@@ -226,7 +226,7 @@ search_left holding file source code extent prefix known claim shown endless a b
   is_first = is_first;
   left = inl (appends_kept a b c first begins same, kept_on files tried files' kept saved);
 })
-search_left holding file source code extent prefix known claim shown endless a b c files tried files' last held is_design (first, is_first, begins) are_found grown is_last kept (inr (ends, saved)) = inr (record {
+search_left holding file source code search_options prefix known claim shown endless a b c files tried files' last held is_design (first, is_first, begins) are_found grown is_last kept (inr (ends, saved)) = inr (record {
   source = source;
   held = held;
   design = code;
@@ -243,20 +243,20 @@ search_left holding file source code extent prefix known claim shown endless a b
 })
 
 -- what is left where a search ended for want of memory behind its races
-pub texts_left : (holding : Option (List ℕ → List ℕ)) (file : List ℕ) (source : List ℕ) (code : Compiled) (extent : Extent) (prefix : Option (List ℕ)) (known : List (Shown Entry End)) (claim : Claim) (shown : List (Shown Entry End)) (endless : Option (List Entry)) (a b c : Option (List ℕ))
-    (files tried files' : Option (List Made)) (last : List ℕ) (r : Result Finding Fault) → IsHeld holding file source → IsDesignOf source code → ((first : List ℕ) × IsToldFirst source code extent prefix known first × Appends a b first)
-    → AreFound code extent claim shown endless → Extends known shown → IsToldLast extent prefix claim shown last → KeepsFiles files tried
+pub texts_left : (holding : Option (List ℕ → List ℕ)) (file : List ℕ) (source : List ℕ) (code : Compiled) (search_options : SearchOptions) (prefix : Option (List ℕ)) (known : List (Shown Entry End)) (claim : Claim) (shown : List (Shown Entry End)) (endless : Option (List Entry)) (a b c : Option (List ℕ))
+    (files tried files' : Option (List MadeFile)) (last : List ℕ) (r : Result SearchFinding CommandFault) → IsHeld holding file source → IsDesignOf source code → ((first : List ℕ) × IsToldFirst source code search_options prefix known first × Appends a b first)
+    → AreFound code search_options claim shown endless → Extends known shown → IsToldLast search_options prefix claim shown last → KeepsFiles files tried
     → IfErr r (λ f. status_of f ≡ 6 → (Keeps b c × KeepsFiles tried files') ⊎ (Appends b c last × SavesSomeWhereAsked tried files' prefix (journals_of shown endless)))
-    → IfErr r (λ f. status_of f ≡ 6 → HasLeft holding file extent prefix a c files files')
-texts_left holding file source code extent prefix known claim shown endless a b c files tried files' last (Ok found) held is_design first are_found grown is_last kept h = tt
-texts_left holding file source code extent prefix known claim shown endless a b c files tried files' last (Err f) held is_design first are_found grown is_last kept h =
-    λ six. search_left holding file source code extent prefix known claim shown endless a b c files tried files' last held is_design first are_found grown is_last kept (h six)
+    → IfErr r (λ f. status_of f ≡ 6 → HasLeft holding file search_options prefix a c files files')
+texts_left holding file source code search_options prefix known claim shown endless a b c files tried files' last (Ok found) held is_design first are_found grown is_last kept h = tt
+texts_left holding file source code search_options prefix known claim shown endless a b c files tried files' last (Err f) held is_design first are_found grown is_last kept h =
+    λ six. search_left holding file source code search_options prefix known claim shown endless a b c files tried files' last held is_design first are_found grown is_last kept (h six)
 
 -- what was told, where that went well
-pub texts_shown : (holding : Option (List ℕ → List ℕ)) (file : List ℕ) (source : List ℕ) (code : Compiled) (extent : Extent) (prefix : Option (List ℕ)) (known : List (Shown Entry End)) (claim : Claim) (shown : List (Shown Entry End)) (endless : Option (List Entry)) (a b c : Option (List ℕ))
-    (files tried files' : Option (List Made)) (last : List ℕ) (r : Result Finding Fault) → IsHeld holding file source → IsDesignOf source code → ((first : List ℕ) × IsToldFirst source code extent prefix known first × Appends a b first)
-    → AreFound code extent claim shown endless → Extends known shown → IsToldLast extent prefix claim shown last → KeepsFiles files tried → OnOk r (Appends b c last)
-    → OnOk r (SavesAllWhereAsked tried files' prefix (journals_of shown endless)) → IfOk r (λ found. found ≡ finding_of claim (length shown)) → IfOk r (HasShown holding file extent prefix a c files files')
-texts_shown holding file source code extent prefix known claim shown endless a b c files tried files' last (Ok found) held is_design first are_found grown is_last kept ends saved is =
-    search_shown holding file source code extent prefix known claim shown endless a b c files tried files' last found held is_design first are_found grown is_last ends kept saved is
-texts_shown holding file source code extent prefix known claim shown endless a b c files tried files' last (Err f) held is_design first are_found grown is_last kept ends saved is = tt
+pub texts_shown : (holding : Option (List ℕ → List ℕ)) (file : List ℕ) (source : List ℕ) (code : Compiled) (search_options : SearchOptions) (prefix : Option (List ℕ)) (known : List (Shown Entry End)) (claim : Claim) (shown : List (Shown Entry End)) (endless : Option (List Entry)) (a b c : Option (List ℕ))
+    (files tried files' : Option (List MadeFile)) (last : List ℕ) (r : Result SearchFinding CommandFault) → IsHeld holding file source → IsDesignOf source code → ((first : List ℕ) × IsToldFirst source code search_options prefix known first × Appends a b first)
+    → AreFound code search_options claim shown endless → Extends known shown → IsToldLast search_options prefix claim shown last → KeepsFiles files tried → OnOk r (Appends b c last)
+    → OnOk r (SavesAllWhereAsked tried files' prefix (journals_of shown endless)) → IfOk r (λ found. found ≡ finding_of claim (length shown)) → IfOk r (HasShown holding file search_options prefix a c files files')
+texts_shown holding file source code search_options prefix known claim shown endless a b c files tried files' last (Ok found) held is_design first are_found grown is_last kept ends saved is =
+    search_shown holding file source code search_options prefix known claim shown endless a b c files tried files' last found held is_design first are_found grown is_last ends kept saved is
+texts_shown holding file source code search_options prefix known claim shown endless a b c files tried files' last (Err f) held is_design first are_found grown is_last kept ends saved is = tt

@@ -2,9 +2,9 @@
 use Rattle.std.proofs.Common.{◌≡◌, ◌≤◌, ◌==◌, ◌||◌, refl, subst, ℕ, Bool, true, false, Result, Ok, Err, arith}
 use Rattle.program.specs.declared.ending.Ending.{Ending}
 use Rattle.program.specs.declared.ending.Ending.TheVariants as ending
-use Rattle.program.specs.declared.finding.Finding.TheVariants as finding
-use Rattle.program.specs.declared.fault.Fault.{Fault}
-use Rattle.program.specs.declared.fault.Fault.TheVariants as fault
+use Rattle.program.specs.declared.finding.SearchFinding.TheVariants as finding
+use Rattle.program.specs.declared.fault.CommandFault.{CommandFault}
+use Rattle.program.specs.declared.fault.CommandFault.TheVariants as fault
 use Rattle.files.specs.declared.fault.FileFault.{FileFault}
 use Rattle.files.specs.declared.fault.FileFault.TheVariants as file
 use Rattle.files.specs.FileStatuses.{file_status}
@@ -61,7 +61,7 @@ file_has (file.CannotRead p) = refl
 file_has file.CannotWrite = refl
 file_has file.Memory = refl
 
-pub fault_has : (f : Fault) → is_fault_status (status_of f) ≡ true
+pub fault_has : (f : CommandFault) → is_fault_status (status_of f) ≡ true
 fault_has (fault.Files f) = file_has f
 fault_has fault.Memory = refl
 fault_has (fault.Source f) = source_has f
@@ -73,7 +73,7 @@ stop_has stop.Memory = refl
 stop_has s = refl
 
 -- a status that no fault has
-pub not_of_fault : (f : Fault) (n : ℕ) → is_fault_status n ≡ false → status_of f ≡ n → ⊥
+pub not_of_fault : (f : CommandFault) (n : ℕ) → is_fault_status n ≡ false → status_of f ≡ n → ⊥
 not_of_fault f n h e = clash (is_fault_status n) (subst (λ (k : ℕ). is_fault_status k ≡ true) e (fault_has f)) h
 
 -- a status that no stop has
@@ -108,14 +108,14 @@ file_few (file.CannotRead p) = omega arith
 file_few file.CannotWrite = omega arith
 file_few file.Memory = omega arith
 
-fault_few : (f : Fault) → status_of f ≤ 7
+fault_few : (f : CommandFault) → status_of f ≤ 7
 fault_few (fault.Files f) = file_few f
 fault_few fault.Memory = omega arith
 fault_few (fault.Source f) = source_few f
 fault_few (fault.Simulate f) = omega arith
 fault_few (fault.Replay f) = replay_few f
 
-pub at_most_seven : (ended : Result Ending Fault) → ended_status ended ≤ 7
+pub at_most_seven : (ended : Result Ending CommandFault) → ended_status ended ≤ 7
 at_most_seven (Ok ending.Done) = omega arith
 at_most_seven (Ok (ending.Stopped stop.Memory)) = omega arith
 at_most_seven (Ok (ending.Stopped s)) = omega arith

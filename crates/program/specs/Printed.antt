@@ -3,7 +3,7 @@ use Rattle.std.specs.Prelude.{◌≡◌, ◌⊎◌, ◌++◌, ℕ, Bool, List, O
 use Rattle.std.specs.Io.KnownBytes.{Appends, Keeps}
 use Rattle.design.specs.Compiled.{Compiled, design_of}
 use Rattle.model.specs.Syntax.{Module}
-use Rattle.explain.specs.Explained.{IsLawfulText}
+use Rattle.explain.specs.Explained.{IsLawfulJournalText}
 use Rattle.explain.specs.ExplainedText.{ExplainsText, ExplainsTextFault, window_of}
 use Rattle.explain.specs.declared.failure.ExplainFault.TheVariants as explaining
 use Rattle.explain.specs.declared.telling.Window.{Window}
@@ -15,29 +15,29 @@ use Rattle.waves.specs.declared.wave.Wave.{Wave}
 use Rattle.frontend.specs.Sources.{IsDesignOf, IsSourceFault}
 use Rattle.frontend.specs.declared.source.SourceFault.{SourceFault}
 use Rattle.commitgate.specs.Closing.{ClosedView}
-use Rattle.eventpool.specs.Pools.{Counts}
+use Rattle.eventpool.specs.Pools.{PoolCounts}
 use Rattle.simulate.specs.Outcomes.{IsOutcome}
 use Rattle.model.specs.declared.end.Limits.{Limits}
-use Rattle.arguments.specs.declared.options.Options.{Options}
+use Rattle.arguments.specs.declared.run_options.RunOptions.{RunOptions}
 use Rattle.replay.specs.ReplayBytes.{AreRead, Prints}
-use Rattle.seeded.specs.SeededRun as seeded
+use Rattle.runs.specs.RunRecords as recorded
 use Rattle.seeded.specs.Seeds.{FollowsSeed}
-use Rattle.seeded.specs.declared.run.SeededRun.{SeededRun}
+use Rattle.runs.specs.declared.run.RunRecord.{RunRecord}
 use Rattle.model.specs.declared.entry.Entry.{Entry}
 use Rattle.model.specs.declared.end.End.{End}
 use Rattle.model.specs.declared.end.Limits.{Limits}
 use Rattle.explore.specs.declared.Shown.{Shown}
 use Rattle.explore.specs.Grown.{Extends}
-use Rattle.conflicts.specs.declared.told.Found.{Found}
-use Rattle.conflicts.specs.declared.told.Tries.{Tries}
+use Rattle.races.specs.declared.told.Found.{Found}
+use Rattle.races.specs.declared.told.RaceBounds.{RaceBounds}
 use Rattle.verdict.specs.declared.claim.Claim.{Claim}
 use Rattle.verdict.specs.Verdicts.{verdict_text}
 use Rattle.naming.specs.Naming.{TellsRaces}
-use Rattle.arguments.specs.declared.extent.Extent.{Extent}
-use Rattle.program.specs.declared.finding.Finding.{Finding}
-use Rattle.program.specs.declared.finding.Finding.TheVariants as finding
+use Rattle.arguments.specs.declared.search_options.SearchOptions.{SearchOptions}
+use Rattle.program.specs.declared.finding.SearchFinding.{SearchFinding}
+use Rattle.program.specs.declared.finding.SearchFinding.TheVariants as finding
 use Rattle.program.specs.Findings.{AreFound, AreKnown, AreRaces, HaveSomeEnds, finding_of, first_text, journals_of, limits_in}
-use Rattle.program.specs.declared.fault.Fault.{Fault}
+use Rattle.program.specs.declared.fault.CommandFault.{CommandFault}
 use Rattle.program.specs.declared.fault.Stop.{Stop}
 use Rattle.program.specs.declared.running.LeftByRun.{LeftByRun}
 use Rattle.clap.specs.Words.{Row, Text, first_of}
@@ -45,72 +45,72 @@ use Rattle.arguments.specs.Options.{CanRun, CanSearch}
 use Rattle.program.specs.declared.ending.Ending.{Ending}
 use Rattle.program.specs.declared.ending.Ending.TheVariants as ending
 use Rattle.program.specs.Program.{explain_fault, right_text, source_status_of, stop_of, version_text}
-use Rattle.files.specs.Saved.{AddsFile, IsHeld, IsOpened, Made, KeepsFiles, SavesAllWhereAsked, SavesSomeWhereAsked, SavesWhereAsked}
-use Rattle.arguments.specs.CommandWords.{AsksHelp, Begins, check_rows, explain_rows, extent_of, number_given, options_of, races_rows, replay_rows, run_rows, waves_rows}
+use Rattle.files.specs.Saved.{AddsFile, IsHeld, IsOpened, MadeFile, KeepsFiles, SavesAllWhereAsked, SavesSomeWhereAsked, SavesWhereAsked}
+use Rattle.arguments.specs.CommandWords.{AsksHelp, Begins, check_rows, explain_rows, search_options_of, number_given, options_of, races_rows, replay_rows, run_rows, waves_rows}
 
 -- the limits of a run
-abbrev pub limits_of : Options → Limits
-limits_of options = record { until = options.until; max_entries = options.max_entries }
+abbrev pub run_limits_of : RunOptions → Limits
+run_limits_of options = record { until = options.until; max_entries = options.max_entries }
 
 -- the source in a file, where it is known what files hold, describes this design
 abbrev pub IsDesignIn : Option (List ℕ → List ℕ) → List ℕ → Compiled → Type 0
 IsDesignIn holding file design = (source : List ℕ) × IsHeld holding file source × IsDesignOf source design
 
 -- a run, by these options, of the design that the source in a file describes, with its tickets and the evaluations of its workers
-pub record IsRun (holding : Option (List ℕ → List ℕ)) (file : List ℕ) (options : Options) (closed : ClosedView) : Type 0 where
+pub record IsRunByOptions (holding : Option (List ℕ → List ℕ)) (file : List ℕ) (options : RunOptions) (closed : ClosedView) : Type 0 where
   pub design : Compiled
   pub is_design : IsDesignIn holding file design
-  pub tally : Counts
+  pub tally : PoolCounts
   pub evaluations : List ℕ
-  pub is_outcome : IsOutcome design (limits_of options) options.workers closed tally evaluations
+  pub is_outcome : IsOutcome design (run_limits_of options) options.workers closed tally evaluations
 
 -- Output grew by the lines of a run of a file with these options, the same run's journal was saved where a path is given, and this
 -- is told of its end.
-pub record HasPrinted (holding : Option (List ℕ → List ℕ)) (file : List ℕ) (options : Options) (path : Option (List ℕ)) (old new : Option (List ℕ)) (files files' : Option (List Made)) (told : Option Stop) : Type 0 where
+pub record HasPrinted (holding : Option (List ℕ → List ℕ)) (file : List ℕ) (options : RunOptions) (path : Option (List ℕ)) (old new : Option (List ℕ)) (files files' : Option (List MadeFile)) (told : Option Stop) : Type 0 where
   pub closed : ClosedView
-  pub is_run : IsRun holding file options closed
+  pub is_run : IsRunByOptions holding file options closed
   pub lines : Appends old new closed.lines
   pub saved : SavesWhereAsked files files' path closed.entries
   pub end : told ≡ stop_of closed.end
 
 -- the run of this seed, with these options, of the design that the source in a file describes
-pub record IsSeeded (holding : Option (List ℕ → List ℕ)) (file : List ℕ) (options : Options) (seed : ℕ) (run : SeededRun) : Type 0 where
+pub record IsSeeded (holding : Option (List ℕ → List ℕ)) (file : List ℕ) (options : RunOptions) (seed : ℕ) (run : RunRecord) : Type 0 where
   pub design : Compiled
   pub is_design : IsDesignIn holding file design
-  pub is_run : seeded.IsRun design (limits_of options) run
+  pub is_run : recorded.IsRun design (run_limits_of options) run
   pub follows : FollowsSeed design seed run
 
 -- Output grew by the lines of such a run, its journal was saved where a path is given, and this is told of its end.
-pub record HasPrintedSeeded (holding : Option (List ℕ → List ℕ)) (file : List ℕ) (options : Options) (seed : ℕ) (path : Option (List ℕ)) (old new : Option (List ℕ)) (files files' : Option (List Made)) (told : Option Stop) : Type 0 where
-  pub run : SeededRun
+pub record HasPrintedSeeded (holding : Option (List ℕ → List ℕ)) (file : List ℕ) (options : RunOptions) (seed : ℕ) (path : Option (List ℕ)) (old new : Option (List ℕ)) (files files' : Option (List MadeFile)) (told : Option Stop) : Type 0 where
+  pub run : RunRecord
   pub is_run : IsSeeded holding file options seed run
   pub lines : Appends old new (string_bytes run.lines)
   pub saved : SavesWhereAsked files files' path run.journal.items
   pub end : told ≡ stop_of run.end
 
 -- what a run of a file on workers leaves that has these options
-pub record IsLeftOnWorkers (holding : Option (List ℕ → List ℕ)) (file : List ℕ) (options : Options) (left : LeftByRun) : Type 0 where
+pub record IsLeftOnWorkers (holding : Option (List ℕ → List ℕ)) (file : List ℕ) (options : RunOptions) (left : LeftByRun) : Type 0 where
   pub closed : ClosedView
-  pub is_run : IsRun holding file options closed
+  pub is_run : IsRunByOptions holding file options closed
   pub journal : left.journal.items ≡ closed.entries
   pub lines : string_bytes left.lines ≡ closed.lines
   pub end : left.end ≡ closed.end
 
 -- what the run of a file by this seed leaves that has these options
-pub record IsLeftBySeed (holding : Option (List ℕ → List ℕ)) (file : List ℕ) (options : Options) (seed : ℕ) (left : LeftByRun) : Type 0 where
-  pub run : SeededRun
+pub record IsLeftBySeed (holding : Option (List ℕ → List ℕ)) (file : List ℕ) (options : RunOptions) (seed : ℕ) (left : LeftByRun) : Type 0 where
+  pub run : RunRecord
   pub is_run : IsSeeded holding file options seed run
   pub journal : left.journal.items ≡ run.journal.items
   pub lines : string_bytes left.lines ≡ string_bytes run.lines
   pub end : left.end ≡ run.end
 
 -- what a run leaves, by a seed where one is given and else on workers
-abbrev pub IsLeftByRun : Option (List ℕ → List ℕ) → List ℕ → Option ℕ → Options → LeftByRun → Type 0
+abbrev pub IsLeftByRun : Option (List ℕ → List ℕ) → List ℕ → Option ℕ → RunOptions → LeftByRun → Type 0
 IsLeftByRun holding file None options left = IsLeftOnWorkers holding file options left
 IsLeftByRun holding file (Some seed) options left = IsLeftBySeed holding file options seed left
 
 -- so it is where a seed is given, and else the run was one on workers
-abbrev pub HasPrintedBy : Option (List ℕ → List ℕ) → List ℕ → Option ℕ → Options → Option (List ℕ) → Option (List ℕ) → Option (List ℕ) → Option (List Made) → Option (List Made) → Option Stop → Type 0
+abbrev pub HasPrintedBy : Option (List ℕ → List ℕ) → List ℕ → Option ℕ → RunOptions → Option (List ℕ) → Option (List ℕ) → Option (List ℕ) → Option (List MadeFile) → Option (List MadeFile) → Option Stop → Type 0
 HasPrintedBy holding file None options path old new files files' told = HasPrinted holding file options path old new files files' told
 HasPrintedBy holding file (Some seed) options path old new files files' told = HasPrintedSeeded holding file options seed path old new files files' told
 
@@ -124,7 +124,7 @@ NamesJournal rows journal = first_of (codes "JOURNAL") rows ≡ Some journal
 
 -- The words ask for a run. Output and files are as a run of their FILE leaves them that has the options of these words, is by their seed if
 -- they give one, and saves its journal in the OUT of these words, if they give one, and this is told of its end.
-pub record HasRun (holding : Option (List ℕ → List ℕ)) (words : List Text) (old new : Option (List ℕ)) (files files' : Option (List Made)) (told : Option Stop) : Type 0 where
+pub record HasRun (holding : Option (List ℕ → List ℕ)) (words : List Text) (old new : Option (List ℕ)) (files files' : Option (List MadeFile)) (told : Option Stop) : Type 0 where
   pub begins : Begins words (codes "run")
   pub can_run : CanRun (options_of (run_rows (drop 1 words)))
   pub file : List ℕ
@@ -132,87 +132,87 @@ pub record HasRun (holding : Option (List ℕ → List ℕ)) (words : List Text)
   pub printed : HasPrintedBy holding file (number_given (codes "seed") (run_rows (drop 1 words))) (options_of (run_rows (drop 1 words))) (first_of (codes "journal") (run_rows (drop 1 words))) old new files files' told
 
 -- What is told before a search: the races that were found in the design of a source, with the numbers of journals of texts that are known from then on.
-pub record IsToldFirst (source : List ℕ) (design : Compiled) (extent : Extent) (prefix : Option (List ℕ)) (known : List (Shown Entry End)) (first : List ℕ) : Type 0 where
-  pub tries : Tries
+pub record IsToldFirst (source : List ℕ) (design : Compiled) (search_options : SearchOptions) (prefix : Option (List ℕ)) (known : List (Shown Entry End)) (first : List ℕ) : Type 0 where
+  pub race_bounds : RaceBounds
   pub found : Found
-  pub are_races : AreRaces design (limits_in extent) tries found
-  pub are_known : AreKnown design extent found known
-  pub tells : TellsRaces source design known prefix tries found first
+  pub are_races : AreRaces design (limits_in search_options) race_bounds found
+  pub are_known : AreKnown design search_options found known
+  pub tells : TellsRaces source design known prefix race_bounds found first
 
 -- What is said of texts behind a search: what they are, and whether their ends tell them apart too.
-pub record IsToldLast (extent : Extent) (prefix : Option (List ℕ)) (claim : Claim) (shown : List (Shown Entry End)) (last : List ℕ) : Type 0 where
+pub record IsToldLast (search_options : SearchOptions) (prefix : Option (List ℕ)) (claim : Claim) (shown : List (Shown Entry End)) (last : List ℕ) : Type 0 where
   pub ends : Bool
   pub apart : HaveSomeEnds shown ends
-  pub text_is : last ≡ verdict_text claim extent.until (length shown) ends (first_text shown) prefix
+  pub text_is : last ≡ verdict_text claim search_options.until (length shown) ends (first_text shown) prefix
 
 -- What is said of a search, after races were told and these texts were known: texts were found, with those that were known before all others, and this is said of them.
-pub record HasFound (design : Compiled) (extent : Extent) (prefix : Option (List ℕ)) (known : List (Shown Entry End)) (last : List ℕ) : Type 0 where
+pub record HasFound (design : Compiled) (search_options : SearchOptions) (prefix : Option (List ℕ)) (known : List (Shown Entry End)) (last : List ℕ) : Type 0 where
   pub claim : Claim
   pub shown : List (Shown Entry End)
   pub endless : Option (List Entry)
-  pub are_found : AreFound design extent claim shown endless
+  pub are_found : AreFound design search_options claim shown endless
   pub grown : Extends known shown
-  pub is_last : IsToldLast extent prefix claim shown last
+  pub is_last : IsToldLast search_options prefix claim shown last
 
 -- Of the design that the source in a file describes races were told, and then what was found of its texts, so far as this says. Output grew by both, the journals of the texts, and of a run that comes to no
 -- end, were saved where a prefix is given, and this is what it has come to.
-pub record HasShown (holding : Option (List ℕ → List ℕ)) (file : List ℕ) (extent : Extent) (prefix : Option (List ℕ)) (old new : Option (List ℕ)) (files files' : Option (List Made)) (found : Finding) : Type 0 where
+pub record HasShown (holding : Option (List ℕ → List ℕ)) (file : List ℕ) (search_options : SearchOptions) (prefix : Option (List ℕ)) (old new : Option (List ℕ)) (files files' : Option (List MadeFile)) (found : SearchFinding) : Type 0 where
   pub source : List ℕ
   pub held : IsHeld holding file source
   pub design : Compiled
   pub is_design : IsDesignOf source design
   pub known : List (Shown Entry End)
   pub first : List ℕ
-  pub is_first : IsToldFirst source design extent prefix known first
+  pub is_first : IsToldFirst source design search_options prefix known first
   pub last : List ℕ
-  pub has_found : HasFound design extent prefix known last
+  pub has_found : HasFound design search_options prefix known last
   pub printed : Appends old new (first ++ last)
   pub saved : SavesAllWhereAsked files files' prefix (journals_of has_found.shown has_found.endless)
   pub finding : found ≡ finding_of has_found.claim (length has_found.shown)
 
 -- The words ask for a search for races. Output and files are as a search of their FILE leaves them that goes as far as these words say and
 -- saves journals at paths that begin with the PREFIX of these words, if they give one, and this was found.
-pub record HasSearched (holding : Option (List ℕ → List ℕ)) (words : List Text) (old new : Option (List ℕ)) (files files' : Option (List Made)) (found : Finding) : Type 0 where
+pub record HasSearched (holding : Option (List ℕ → List ℕ)) (words : List Text) (old new : Option (List ℕ)) (files files' : Option (List MadeFile)) (found : SearchFinding) : Type 0 where
   pub begins : Begins words (codes "races")
-  pub can_search : CanSearch (extent_of (races_rows (drop 1 words)))
+  pub can_search : CanSearch (search_options_of (races_rows (drop 1 words)))
   pub file : List ℕ
   pub is_file : NamesFile (races_rows (drop 1 words)) file
-  pub shown : HasShown holding file (extent_of (races_rows (drop 1 words))) (first_of (codes "journals") (races_rows (drop 1 words))) old new files files' found
+  pub shown : HasShown holding file (search_options_of (races_rows (drop 1 words))) (first_of (codes "journals") (races_rows (drop 1 words))) old new files files' found
 
 -- output and files are as they were
-abbrev pub AreUntouched : Option (List ℕ) → Option (List ℕ) → Option (List Made) → Option (List Made) → Type 0
+abbrev pub AreUntouched : Option (List ℕ) → Option (List ℕ) → Option (List MadeFile) → Option (List MadeFile) → Type 0
 AreUntouched old new files files' = Keeps old new × KeepsFiles files files'
 
 -- Behind races that were told output grew by what is said of a search, and of its journals a beginning was saved where a prefix is given, and else none.
-pub record HasSavedSome (design : Compiled) (extent : Extent) (prefix : Option (List ℕ)) (known : List (Shown Entry End)) (first : List ℕ) (old new : Option (List ℕ)) (files files' : Option (List Made)) : Type 0 where
+pub record HasSavedSome (design : Compiled) (search_options : SearchOptions) (prefix : Option (List ℕ)) (known : List (Shown Entry End)) (first : List ℕ) (old new : Option (List ℕ)) (files files' : Option (List MadeFile)) : Type 0 where
   pub last : List ℕ
-  pub has_found : HasFound design extent prefix known last
+  pub has_found : HasFound design search_options prefix known last
   pub printed : Appends old new (first ++ last)
   pub saved : SavesSomeWhereAsked files files' prefix (journals_of has_found.shown has_found.endless)
 
 -- A search of the design that the source in a file describes didn't come to its end: output grew by the races and by nothing else, and the files are as they
 -- were; or it grew by all that is said of it, and the files by journals of what was found.
-pub record HasBegun (holding : Option (List ℕ → List ℕ)) (file : List ℕ) (extent : Extent) (prefix : Option (List ℕ)) (old new : Option (List ℕ)) (files files' : Option (List Made)) : Type 0 where
+pub record HasBegun (holding : Option (List ℕ → List ℕ)) (file : List ℕ) (search_options : SearchOptions) (prefix : Option (List ℕ)) (old new : Option (List ℕ)) (files files' : Option (List MadeFile)) : Type 0 where
   pub source : List ℕ
   pub held : IsHeld holding file source
   pub design : Compiled
   pub is_design : IsDesignOf source design
   pub known : List (Shown Entry End)
   pub first : List ℕ
-  pub is_first : IsToldFirst source design extent prefix known first
-  pub left : (Appends old new first × KeepsFiles files files') ⊎ HasSavedSome design extent prefix known first old new files files'
+  pub is_first : IsToldFirst source design search_options prefix known first
+  pub left : (Appends old new first × KeepsFiles files files') ⊎ HasSavedSome design search_options prefix known first old new files files'
 
 -- a search left nothing, or came so far
-abbrev pub HasLeft : Option (List ℕ → List ℕ) → List ℕ → Extent → Option (List ℕ) → Option (List ℕ) → Option (List ℕ) → Option (List Made) → Option (List Made) → Type 0
-HasLeft holding file extent prefix old new files files' = AreUntouched old new files files' ⊎ HasBegun holding file extent prefix old new files files'
+abbrev pub HasLeft : Option (List ℕ → List ℕ) → List ℕ → SearchOptions → Option (List ℕ) → Option (List ℕ) → Option (List ℕ) → Option (List MadeFile) → Option (List MadeFile) → Type 0
+HasLeft holding file search_options prefix old new files files' = AreUntouched old new files files' ⊎ HasBegun holding file search_options prefix old new files files'
 
 -- The words ask for a search for races. Output and files are as a search of their FILE leaves them that goes as far as these words say, saves journals at paths that begin with the
 -- PREFIX of these words, if they give one, and didn't come to its end.
-pub record HasBegunSearch (holding : Option (List ℕ → List ℕ)) (words : List Text) (old new : Option (List ℕ)) (files files' : Option (List Made)) : Type 0 where
+pub record HasBegunSearch (holding : Option (List ℕ → List ℕ)) (words : List Text) (old new : Option (List ℕ)) (files files' : Option (List MadeFile)) : Type 0 where
   pub begins : Begins words (codes "races")
   pub file : List ℕ
   pub is_file : NamesFile (races_rows (drop 1 words)) file
-  pub begun : HasBegun holding file (extent_of (races_rows (drop 1 words))) (first_of (codes "journals") (races_rows (drop 1 words))) old new files files'
+  pub begun : HasBegun holding file (search_options_of (races_rows (drop 1 words))) (first_of (codes "journals") (races_rows (drop 1 words))) old new files files'
 
 -- output grew by the lines of a journal that is lawful for the design that the source in a file describes, and what is in
 -- the journal's file, where that is known, is the text of this journal
@@ -239,7 +239,7 @@ pub record HasExplained (holding : Option (List ℕ → List ℕ)) (file journal
   pub held : IsHeld holding file source
   pub left : Option (List ℕ)
   pub opened : IsOpened holding journal left
-  pub lawful : IsLawfulText source left
+  pub lawful : IsLawfulJournalText source left
   pub explains : ExplainsText source window left old new
 
 -- So it is of a journal up to its first entry that isn't taken, and output grew by why it isn't.
@@ -251,7 +251,7 @@ pub record HasExplainedFault (holding : Option (List ℕ → List ℕ)) (file jo
   pub explains : ExplainsTextFault source window left old new fault
 
 -- no journal was read, and output is as it was; or one was told up to its fault, and this is that fault
-abbrev pub HasExplainedSome : Option (List ℕ → List ℕ) → List ℕ → List ℕ → Window → Option (List ℕ) → Option (List ℕ) → Fault → Type 0
+abbrev pub HasExplainedSome : Option (List ℕ → List ℕ) → List ℕ → List ℕ → Window → Option (List ℕ) → Option (List ℕ) → CommandFault → Type 0
 HasExplainedSome holding file journal window old new f =
     Keeps old new ⊎ ((fault : ReplayFault) × (f ≡ explain_fault (explaining.Replay fault)) × HasExplainedFault holding file journal window old new fault)
 
@@ -261,7 +261,7 @@ window_in words =
     window_of (unwrap_or (number_given (codes "from") (explain_rows (drop 1 words))) 1) (number_given (codes "to") (explain_rows (drop 1 words)))
 
 -- The words name a FILE and a JOURNAL, and no journal was read, or theirs was told on theirs, in the window of these words, up to its fault, and this is that fault.
-pub record HasExplainedPart (holding : Option (List ℕ → List ℕ)) (words : List Text) (old new : Option (List ℕ)) (fault : Fault) : Type 0 where
+pub record HasExplainedPart (holding : Option (List ℕ → List ℕ)) (words : List Text) (old new : Option (List ℕ)) (fault : CommandFault) : Type 0 where
   pub file : List ℕ
   pub is_file : NamesFile (explain_rows (drop 1 words)) file
   pub journal : List ℕ
@@ -269,7 +269,7 @@ pub record HasExplainedPart (holding : Option (List ℕ → List ℕ)) (words : 
   pub some : HasExplainedSome holding file journal (window_in words) old new fault
 
 -- The words ask to be told their JOURNAL on their FILE, and it was told in the window of these words.
-pub record HasTold (holding : Option (List ℕ → List ℕ)) (words : List Text) (old new : Option (List ℕ)) (files files' : Option (List Made)) : Type 0 where
+pub record HasExplainedByWords (holding : Option (List ℕ → List ℕ)) (words : List Text) (old new : Option (List ℕ)) (files files' : Option (List MadeFile)) : Type 0 where
   pub begins : Begins words (codes "explain")
   pub file : List ℕ
   pub is_file : NamesFile (explain_rows (drop 1 words)) file
@@ -289,7 +289,7 @@ pub record IsDumpOf (source : List ℕ) (design : Compiled) (journal : List Entr
 
 -- The dump of a journal, which is lawful for the design that the source in a file describes and whose text is in the journal's file, where
 -- that is known, was put at a path, and no other file was made.
-pub record HasDumped (holding : Option (List ℕ → List ℕ)) (file journal_file : List ℕ) (path : List ℕ) (files files' : Option (List Made)) : Type 0 where
+pub record HasDumped (holding : Option (List ℕ → List ℕ)) (file journal_file : List ℕ) (path : List ℕ) (files files' : Option (List MadeFile)) : Type 0 where
   pub source : List ℕ
   pub held : IsHeld holding file source
   pub left : Option (List ℕ)
@@ -302,7 +302,7 @@ pub record HasDumped (holding : Option (List ℕ → List ℕ)) (file journal_fi
   pub saved : AddsFile files files' (record { path = path; bytes = text })
 
 -- The words ask for a value change dump of their JOURNAL on their FILE, which was put at the OUT of these words, and nothing was left on output.
-pub record HasWaves (holding : Option (List ℕ → List ℕ)) (words : List Text) (old new : Option (List ℕ)) (files files' : Option (List Made)) : Type 0 where
+pub record HasWaves (holding : Option (List ℕ → List ℕ)) (words : List Text) (old new : Option (List ℕ)) (files files' : Option (List MadeFile)) : Type 0 where
   pub begins : Begins words (codes "waves")
   pub path : List ℕ
   pub out : first_of (codes "out") (waves_rows (drop 1 words)) ≡ Some path
@@ -339,7 +339,7 @@ pub record AsksCheckOf (words : List Text) (path : List ℕ) : Type 0 where
   pub file : first_of (codes "FILE") (check_rows (drop 1 words)) ≡ Some path
 
 -- The words ask for a check of their FILE, which is right, and output grew by a line that says so of it.
-pub record HasConfirmed (holding : Option (List ℕ → List ℕ)) (words : List Text) (old new : Option (List ℕ)) (files files' : Option (List Made)) : Type 0 where
+pub record HasConfirmed (holding : Option (List ℕ → List ℕ)) (words : List Text) (old new : Option (List ℕ)) (files files' : Option (List MadeFile)) : Type 0 where
   pub begins : Begins words (codes "check")
   pub path : List ℕ
   pub is_right : IsRight holding path
@@ -352,7 +352,7 @@ pub record HasConfirmed (holding : Option (List ℕ → List ℕ)) (words : List
 -- for races, which found one text and no other possible one; or for a check of a source, which is right; or for a value change
 -- dump, which stands in its place; or to be told a journal,
 -- which is lawful.
-pub data IsDone (holding : Option (List ℕ → List ℕ)) (words : List Text) (old new : Option (List ℕ)) (files files' : Option (List Made)) : Type 0 where
+pub data IsDone (holding : Option (List ℕ → List ℕ)) (words : List Text) (old new : Option (List ℕ)) (files files' : Option (List MadeFile)) : Type 0 where
   helped : AsksHelp words → (text : List ℕ) → Appends old new text → KeepsFiles files files' → IsDone holding words old new files files'
   versioned : Begins words (codes "--version") → Appends old new version_text → KeepsFiles files files' → IsDone holding words old new files files'
   ran : HasRun holding words old new files files' None → IsDone holding words old new files files'
@@ -360,10 +360,10 @@ pub data IsDone (holding : Option (List ℕ → List ℕ)) (words : List Text) (
   searched : HasSearched holding words old new files files' finding.One → IsDone holding words old new files files'
   checked : HasConfirmed holding words old new files files' → IsDone holding words old new files files'
   dumped : HasWaves holding words old new files files' → IsDone holding words old new files files'
-  explained : HasTold holding words old new files files' → IsDone holding words old new files files'
+  explained : HasExplainedByWords holding words old new files files' → IsDone holding words old new files files'
 
 -- The words ask for a check of their FILE, which is wrong, and nothing was left on output.
-pub record HasRefused (holding : Option (List ℕ → List ℕ)) (words : List Text) (old new : Option (List ℕ)) (files files' : Option (List Made)) : Type 0 where
+pub record HasRefused (holding : Option (List ℕ → List ℕ)) (words : List Text) (old new : Option (List ℕ)) (files files' : Option (List MadeFile)) : Type 0 where
   pub begins : Begins words (codes "check")
   pub file : List ℕ
   pub is_file : NamesFile (check_rows (drop 1 words)) file
@@ -372,7 +372,7 @@ pub record HasRefused (holding : Option (List ℕ → List ℕ)) (words : List T
   pub unsaved : KeepsFiles files files'
 
 -- What a command that ended so has done.
-abbrev pub HasEnded : Option (List ℕ → List ℕ) → List Text → Option (List ℕ) → Option (List ℕ) → Option (List Made) → Option (List Made) → Ending → Type 0
+abbrev pub HasEnded : Option (List ℕ → List ℕ) → List Text → Option (List ℕ) → Option (List ℕ) → Option (List MadeFile) → Option (List MadeFile) → Ending → Type 0
 HasEnded holding words old new files files' ending.Done = IsDone holding words old new files files'
 HasEnded holding words old new files files' (ending.Stopped stop) = HasRun holding words old new files files' (Some stop)
 HasEnded holding words old new files files' (ending.Found found) = HasSearched holding words old new files files' found
@@ -380,7 +380,7 @@ HasEnded holding words old new files files' (ending.Wrong text) = HasRefused hol
 
 -- What is left where memory was refused, or a worker couldn't be started, before anything was done: output and files as they were; or of a search, what it left before
 -- its end; or where the words ask to be told a journal, the files as they were.
-pub data IsLeft (holding : Option (List ℕ → List ℕ)) (words : List Text) (old new : Option (List ℕ)) (files files' : Option (List Made)) : Type 0 where
+pub data IsLeft (holding : Option (List ℕ → List ℕ)) (words : List Text) (old new : Option (List ℕ)) (files files' : Option (List MadeFile)) : Type 0 where
   untouched : Keeps old new → KeepsFiles files files' → IsLeft holding words old new files files'
   begun : HasBegunSearch holding words old new files files' → IsLeft holding words old new files files'
   interrupted : Begins words (codes "explain") → KeepsFiles files files' → IsLeft holding words old new files files'

@@ -6,12 +6,12 @@ use Rattle.model.specs.declared.end.Why.{Why}
 use Rattle.model.specs.declared.end.Why.TheVariants as why
 use Rattle.arguments.specs.declared.request.NoRequest.{NoRequest}
 use Rattle.arguments.specs.declared.request.NoRequest.TheVariants as no_request
-use Rattle.program.specs.declared.fault.Fault.{Fault}
-use Rattle.program.specs.declared.fault.Fault.TheVariants as fault
+use Rattle.program.specs.declared.fault.CommandFault.{CommandFault}
+use Rattle.program.specs.declared.fault.CommandFault.TheVariants as fault
 use Rattle.program.specs.declared.ending.Ending.{Ending}
 use Rattle.program.specs.declared.ending.Ending.TheVariants as ending
-use Rattle.program.specs.declared.finding.Finding.{Finding}
-use Rattle.program.specs.declared.finding.Finding.TheVariants as finding
+use Rattle.program.specs.declared.finding.SearchFinding.{SearchFinding}
+use Rattle.program.specs.declared.finding.SearchFinding.TheVariants as finding
 use Rattle.program.specs.declared.fault.Stop.{Stop}
 use Rattle.program.specs.declared.fault.Stop.TheVariants as stop
 use Rattle.files.specs.FileStatuses.{file_status}
@@ -61,7 +61,7 @@ replay_status_of (replaying.Replay f) = cause_status_of f.cause
 replay_status_of replaying.CannotWrite = 1
 
 -- 1 files and output, 3 a source, 5 a journal, 6 memory or a worker that couldn't be started
-abbrev pub status_of : Fault → ℕ
+abbrev pub status_of : CommandFault → ℕ
 status_of (fault.Files f) = file_status f
 status_of fault.Memory = 6
 status_of (fault.Source f) = source_status_of f
@@ -69,7 +69,7 @@ status_of (fault.Simulate f) = simulate_status_of f
 status_of (fault.Replay f) = replay_status_of f
 
 -- a fault of a journal that is told in words: that of a replay, where a replay has it
-abbrev pub explain_fault : ExplainFault → Fault
+abbrev pub explain_fault : ExplainFault → CommandFault
 explain_fault (explaining.Source f) = fault.Replay (replaying.Source f)
 explain_fault (explaining.Read f) = fault.Replay (replaying.Read f)
 explain_fault (explaining.Replay f) = fault.Replay (replaying.Replay f)
@@ -108,7 +108,7 @@ ending_of (Some s) = ending.Stopped s
 ending_of None = ending.Done
 
 -- 0 for one text and no other, 4 where others may be possible, 6 where memory was refused to the search, 7 for several texts
-abbrev pub finding_status : Finding → ℕ
+abbrev pub finding_status : SearchFinding → ℕ
 finding_status finding.One = 0
 finding_status finding.Unfinished = 4
 finding_status finding.Memory = 6
@@ -122,7 +122,7 @@ ending_status (ending.Found f) = finding_status f
 ending_status (ending.Wrong text) = 3
 
 -- a command that came to its end, or that met a fault
-abbrev pub ended_status : Result Ending Fault → ℕ
+abbrev pub ended_status : Result Ending CommandFault → ℕ
 ended_status (Ok e) = ending_status e
 ended_status (Err f) = status_of f
 

@@ -1,6 +1,6 @@
 -- The line on standard error of each fault and of each stop.
 use Rattle.std.specs.Prelude.{ℕ, List, [], codes, decimal, string_bytes}
-use Rattle.telling.specs.FaultLines.{line, shown_path}
+use Rattle.telling.specs.FaultLines.{program_line, shown_path}
 use Rattle.files.specs.declared.fault.FileFault.{FileFault}
 use Rattle.files.specs.declared.fault.FileFault.TheVariants as file
 use Rattle.vparse.specs.declared.parser.ParseFault.{ParseFault}
@@ -16,36 +16,36 @@ use Rattle.journal.specs.declared.fault.ReadFault.TheVariants as reading
 use Rattle.explain.specs.ExplainedEnd.{code_text}
 use Rattle.replay.specs.declared.fault.BytesFault.{BytesFault}
 use Rattle.replay.specs.declared.fault.BytesFault.TheVariants as replaying
-use Rattle.program.specs.declared.fault.Fault.{Fault}
-use Rattle.program.specs.declared.fault.Fault.TheVariants as fault
+use Rattle.program.specs.declared.fault.CommandFault.{CommandFault}
+use Rattle.program.specs.declared.fault.CommandFault.TheVariants as fault
 use Rattle.program.specs.declared.fault.Stop.{Stop}
 use Rattle.program.specs.declared.fault.Stop.TheVariants as stop
 
 -- words of the command line that can't be read
 abbrev pub unread_line : List ℕ
-unread_line = line (codes "a word of the command line isn't UTF-8") [] []
+unread_line = program_line (codes "a word of the command program_line isn't UTF-8") [] []
 
 -- a text that is no module: bytes are counted from 0 and tokens from 1
 abbrev pub parse_line : ParseFault → List ℕ
-parse_line (parsing.Byte place) = line (codes "P1 byte not allowed at ") (decimal place) []
-parse_line (parsing.Syntax token) = line (codes "P2 syntax at token ") (decimal token) []
-parse_line (parsing.Literal place) = line (codes "P3 literal at ") (decimal place) []
-parse_line (parsing.Deep token) = line (codes "P4 nesting at token ") (decimal token) []
-parse_line (parsing.Unsized token) = line (codes "P5 unsized number at token ") (decimal token) []
-parse_line parsing.Memory = line (codes "P6 memory") [] []
+parse_line (parsing.Byte place) = program_line (codes "P1 byte not allowed at ") (decimal place) []
+parse_line (parsing.Syntax token) = program_line (codes "P2 syntax at token ") (decimal token) []
+parse_line (parsing.Literal place) = program_line (codes "P3 literal at ") (decimal place) []
+parse_line (parsing.Deep token) = program_line (codes "P4 nesting at token ") (decimal token) []
+parse_line (parsing.Unsized token) = program_line (codes "P5 unsized number at token ") (decimal token) []
+parse_line parsing.Memory = program_line (codes "P6 memory") [] []
 
 -- a module with a fault
 abbrev pub module_line : ElabFault → List ℕ
-module_line (elaboration.Undeclared name) = line (codes "E1 undeclared ") (string_bytes name) []
-module_line (elaboration.DeclaredTwice name) = line (codes "E2 declared twice ") (string_bytes name) []
-module_line (elaboration.BadRange name) = line (codes "E3 range of ") (string_bytes name) []
-module_line elaboration.TooManyRegisters = line (codes "E4 more than 1024 registers") [] []
-module_line elaboration.TooManyProcesses = line (codes "E5 more than 256 processes") [] []
-module_line elaboration.BadFormat = line (codes "E6 format and arguments") [] []
-module_line elaboration.WideConcat = line (codes "E7 concatenation over 128 bits") [] []
-module_line (elaboration.BadIndex name) = line (codes "E8 bit index of ") (string_bytes name) []
-module_line elaboration.LongDelay = line (codes "E9 delay over 4294967295") [] []
-module_line elaboration.Memory = line (codes "E10 memory") [] []
+module_line (elaboration.Undeclared name) = program_line (codes "E1 undeclared ") (string_bytes name) []
+module_line (elaboration.DeclaredTwice name) = program_line (codes "E2 declared twice ") (string_bytes name) []
+module_line (elaboration.BadRange name) = program_line (codes "E3 range of ") (string_bytes name) []
+module_line elaboration.TooManyRegisters = program_line (codes "E4 more than 1024 registers") [] []
+module_line elaboration.TooManyProcesses = program_line (codes "E5 more than 256 processes") [] []
+module_line elaboration.BadFormat = program_line (codes "E6 format and arguments") [] []
+module_line elaboration.WideConcat = program_line (codes "E7 concatenation over 128 bits") [] []
+module_line (elaboration.BadIndex name) = program_line (codes "E8 bit index of ") (string_bytes name) []
+module_line elaboration.LongDelay = program_line (codes "E9 delay over 4294967295") [] []
+module_line elaboration.Memory = program_line (codes "E10 memory") [] []
 
 abbrev pub source_line : SourceFault → List ℕ
 source_line (source.Parse f) = parse_line f
@@ -53,44 +53,44 @@ source_line (source.Elaborate f) = module_line f
 
 -- no memory for the workers, or no worker
 abbrev pub simulate_line : SimFault → List ℕ
-simulate_line simulation.Memory = line (codes "memory") [] []
-simulate_line simulation.NoWorker = line (codes "cannot start worker") [] []
+simulate_line simulation.Memory = program_line (codes "memory") [] []
+simulate_line simulation.NoWorker = program_line (codes "cannot start worker") [] []
 
 -- a journal that isn't read: lines are counted from 1
 abbrev pub read_line : ReadFault → List ℕ
-read_line reading.Header = line (codes "Q1 journal header") [] []
-read_line (reading.Line number) = line (codes "Q2 journal line ") (decimal number) []
-read_line reading.Cut = line (codes "Q3 journal ends without newline") [] []
-read_line reading.Read = line (codes "Q4 journal read error") [] []
-read_line reading.Memory = line (codes "Q5 memory") [] []
-read_line (reading.Count number) = line (codes "Q6 journal count at line ") (decimal number) []
-read_line reading.Uncounted = line (codes "Q7 journal cut") [] []
+read_line reading.Header = program_line (codes "Q1 journal header") [] []
+read_line (reading.Line number) = program_line (codes "Q2 journal program_line ") (decimal number) []
+read_line reading.Cut = program_line (codes "Q3 journal ends without newline") [] []
+read_line reading.Read = program_line (codes "Q4 journal read error") [] []
+read_line reading.Memory = program_line (codes "Q5 memory") [] []
+read_line (reading.Count number) = program_line (codes "Q6 journal count at program_line ") (decimal number) []
+read_line reading.Uncounted = program_line (codes "Q7 journal cut") [] []
 
 -- a replay: entries are counted from 1
 abbrev pub replay_line : BytesFault → List ℕ
 replay_line (replaying.Source f) = source_line f
 replay_line (replaying.Read f) = read_line f
-replay_line (replaying.Replay f) = line (codes "entry ") (decimal f.entry) (code_text f.cause)
-replay_line replaying.CannotWrite = line (codes "cannot write") [] []
+replay_line (replaying.Replay f) = program_line (codes "entry ") (decimal f.entry) (code_text f.cause)
+replay_line replaying.CannotWrite = program_line (codes "cannot write") [] []
 
 -- a file that isn't read, whose path is shown with its control characters escaped, or a file or output that isn't written
 abbrev pub file_line : FileFault → List ℕ
-file_line (file.CannotRead path) = line (codes "cannot read ") (shown_path path.now) []
-file_line file.CannotWrite = line (codes "cannot write") [] []
-file_line file.Memory = line (codes "memory") [] []
+file_line (file.CannotRead path) = program_line (codes "cannot read ") (shown_path path.now) []
+file_line file.CannotWrite = program_line (codes "cannot write") [] []
+file_line file.Memory = program_line (codes "memory") [] []
 
 -- the line of a fault
-abbrev pub fault_line : Fault → List ℕ
+abbrev pub fault_line : CommandFault → List ℕ
 fault_line (fault.Files f) = file_line f
-fault_line fault.Memory = line (codes "memory") [] []
+fault_line fault.Memory = program_line (codes "memory") [] []
 fault_line (fault.Source f) = source_line f
 fault_line (fault.Simulate f) = simulate_line f
 fault_line (fault.Replay f) = replay_line f
 
 -- the line of a stop: processes are counted from 0
 abbrev pub stop_line : Stop → List ℕ
-stop_line stop.Until = line (codes "stopped: until") [] []
-stop_line stop.Entries = line (codes "stopped: entries") [] []
-stop_line (stop.TooLong process) = line (codes "stopped: process ") (decimal process) (codes " too long")
-stop_line stop.Time = line (codes "stopped: time") [] []
-stop_line stop.Memory = line (codes "stopped: memory") [] []
+stop_line stop.Until = program_line (codes "stopped: until") [] []
+stop_line stop.Entries = program_line (codes "stopped: entries") [] []
+stop_line (stop.TooLong process) = program_line (codes "stopped: process ") (decimal process) (codes " too long")
+stop_line stop.Time = program_line (codes "stopped: time") [] []
+stop_line stop.Memory = program_line (codes "stopped: memory") [] []

@@ -6,18 +6,18 @@ use Rattle.clap.specs.Words.{Text}
 use Rattle.arguments.specs.CommandWords.{AreWrong, Begins}
 use Rattle.program.specs.declared.ending.Ending.{Ending}
 use Rattle.program.specs.declared.ending.Ending.TheVariants as ending
-use Rattle.program.specs.declared.fault.Fault.{Fault}
-use Rattle.program.specs.declared.fault.Fault.TheVariants as fault
+use Rattle.program.specs.declared.fault.CommandFault.{CommandFault}
+use Rattle.program.specs.declared.fault.CommandFault.TheVariants as fault
 use Rattle.program.specs.declared.fault.Stop.{Stop}
 use Rattle.program.specs.ProgramLines.{fault_line, stop_line}
-use Rattle.program.specs.declared.finding.Finding.{Finding}
-use Rattle.program.specs.declared.finding.Finding.TheVariants as finding
+use Rattle.program.specs.declared.finding.SearchFinding.{SearchFinding}
+use Rattle.program.specs.declared.finding.SearchFinding.TheVariants as finding
 use Rattle.program.specs.Printed.{HasExplainedPart, HasRun, HasSearched, IsLeft}
 use Rattle.program.specs.Program.{status_of, stop_status}
-use Rattle.files.specs.Saved.{Made}
+use Rattle.files.specs.Saved.{MadeFile}
 
 -- nothing of what a search has come to, unless memory was refused to it
-abbrev pub IsFindingTold : {E : Type 0} → (E → Option (List ℕ)) → Counted E → Counted E → Finding → Type 0
+abbrev pub IsFindingTold : {E : Type 0} → (E → Option (List ℕ)) → Counted E → Counted E → SearchFinding → Type 0
 IsFindingTold contents old new finding.One = new ≡ old
 IsFindingTold contents old new finding.Unfinished = new ≡ old
 IsFindingTold contents old new finding.Memory = Tells contents old new (fault_line fault.Memory)
@@ -31,43 +31,43 @@ IsEndingTold contents old new (ending.Found f) = IsFindingTold contents old new 
 IsEndingTold contents old new (ending.Wrong text) = Tells contents old new (string_bytes text)
 
 -- so it is of a command that came to its end, and of another the line of its fault
-abbrev pub IsEndTold : {E : Type 0} → (E → Option (List ℕ)) → Counted E → Counted E → Result Ending Fault → Type 0
+abbrev pub IsEndTold : {E : Type 0} → (E → Option (List ℕ)) → Counted E → Counted E → Result Ending CommandFault → Type 0
 IsEndTold contents old new (Ok e) = IsEndingTold contents old new e
 IsEndTold contents old new (Err f) = Tells contents old new (fault_line f)
 
 -- What is told at a status: the line of a fault that has it, or of a stop; at 2 a text of wrong words, its control characters escaped;
 -- at 3, of a check, what is wrong with a source; and nothing at 0 and 7, and at 4 where a search met a limit.
-pub data IsTold {E : Type 0} (contents : E → Option (List ℕ)) (old new : Counted E) (words : List Text) (status : ℕ) : Type 0 where
-  of_fault : (f : Fault) → status ≡ status_of f → Tells contents old new (fault_line f) → IsTold contents old new words status
-  of_stop : (s : Stop) → status ≡ stop_status s → Tells contents old new (stop_line s) → IsTold contents old new words status
-  of_words : AreWrong words → status ≡ 2 → (text : List ℕ) → Tells contents old new (shown_lines text) → IsTold contents old new words status
-  of_source : Begins words (codes "check") → status ≡ 3 → (text : List ℕ) → Tells contents old new text → IsTold contents old new words status
-  nothing : (status ≡ 0) ⊎ ((status ≡ 4) ⊎ (status ≡ 7)) → new ≡ old → IsTold contents old new words status
+pub data IsReported {E : Type 0} (contents : E → Option (List ℕ)) (old new : Counted E) (words : List Text) (status : ℕ) : Type 0 where
+  of_fault : (f : CommandFault) → status ≡ status_of f → Tells contents old new (fault_line f) → IsReported contents old new words status
+  of_stop : (s : Stop) → status ≡ stop_status s → Tells contents old new (stop_line s) → IsReported contents old new words status
+  of_words : AreWrong words → status ≡ 2 → (text : List ℕ) → Tells contents old new (shown_lines text) → IsReported contents old new words status
+  of_source : Begins words (codes "check") → status ≡ 3 → (text : List ℕ) → Tells contents old new text → IsReported contents old new words status
+  nothing : (status ≡ 0) ⊎ ((status ≡ 4) ⊎ (status ≡ 7)) → new ≡ old → IsReported contents old new words status
 
 -- a run was stopped, its stop has this status, and the line of its stop was told
-pub record HasStopped {E : Type 0} (holding : Option (List ℕ → List ℕ)) (words : List Text) (old new : Option (List ℕ)) (files files' : Option (List Made)) (contents : E → Option (List ℕ)) (err err' : Counted E) (status : ℕ) : Type 0 where
+pub record HasStopped {E : Type 0} (holding : Option (List ℕ → List ℕ)) (words : List Text) (old new : Option (List ℕ)) (files files' : Option (List MadeFile)) (contents : E → Option (List ℕ)) (err err' : Counted E) (status : ℕ) : Type 0 where
   pub stop : Stop
   pub status_is : stop_status stop ≡ status
   pub has_run : HasRun holding words old new files files' (Some stop)
   pub told : Tells contents err err' (stop_line stop)
 
 -- so it is, or a search met a limit and found no second text, and nothing was told
-abbrev pub IsUnfinished : {E : Type 0} → Option (List ℕ → List ℕ) → List Text → Option (List ℕ) → Option (List ℕ) → Option (List Made) → Option (List Made) → (E → Option (List ℕ)) → Counted E → Counted E → Type 0
+abbrev pub IsUnfinished : {E : Type 0} → Option (List ℕ → List ℕ) → List Text → Option (List ℕ) → Option (List ℕ) → Option (List MadeFile) → Option (List MadeFile) → (E → Option (List ℕ)) → Counted E → Counted E → Type 0
 IsUnfinished holding words old new files files' contents err err' =
     HasStopped holding words old new files files' contents err err' 4 ⊎ (HasSearched holding words old new files files' finding.Unfinished × (err' ≡ err))
 
 -- memory was refused to a search that found no second text, and the line of that was told
-pub record HasSearchedInVain {E : Type 0} (holding : Option (List ℕ → List ℕ)) (words : List Text) (old new : Option (List ℕ)) (files files' : Option (List Made)) (contents : E → Option (List ℕ)) (err err' : Counted E) : Type 0 where
+pub record HasSearchedInVain {E : Type 0} (holding : Option (List ℕ → List ℕ)) (words : List Text) (old new : Option (List ℕ)) (files files' : Option (List MadeFile)) (contents : E → Option (List ℕ)) (err err' : Counted E) : Type 0 where
   pub has_searched : HasSearched holding words old new files files' finding.Memory
   pub told : Tells contents err err' (fault_line fault.Memory)
 
 -- a run was stopped for want of memory, or so was a search, and the line of that was told; or a command didn't come so far
-abbrev pub IsWanting : {E : Type 0} → Option (List ℕ → List ℕ) → List Text → Option (List ℕ) → Option (List ℕ) → Option (List Made) → Option (List Made) → (E → Option (List ℕ)) → Counted E → Counted E → Type 0
+abbrev pub IsWanting : {E : Type 0} → Option (List ℕ → List ℕ) → List Text → Option (List ℕ) → Option (List ℕ) → Option (List MadeFile) → Option (List MadeFile) → (E → Option (List ℕ)) → Counted E → Counted E → Type 0
 IsWanting holding words old new files files' contents err err' =
     (HasStopped holding words old new files files' contents err err' 6 ⊎ HasSearchedInVain holding words old new files files' contents err err') ⊎ IsLeft holding words old new files files'
 
 -- no journal was read, or one was told up to its fault, and the line of this very fault was told
 pub record HasExplainedTold {E : Type 0} (holding : Option (List ℕ → List ℕ)) (words : List Text) (old new : Option (List ℕ)) (contents : E → Option (List ℕ)) (err err' : Counted E) : Type 0 where
-  pub fault : Fault
+  pub fault : CommandFault
   pub explained : HasExplainedPart holding words old new fault
   pub told : Tells contents err err' (fault_line fault)

@@ -5,7 +5,7 @@ ghost use Rattle.program.specs.Program.{status_of};
 ghost use Rattle.program.specs.Printed.{HasChecked};
 ghost use Rattle.files.specs.Saved.{IsHeld, KeepsFiles};
 
-use crate::fault::{Fault, source_status};
+use crate::fault::{CommandFault, source_status};
 use diagnosis::diagnose::diagnose;
 use diagnosis::render::render;
 use files::{Files, read_file};
@@ -16,7 +16,7 @@ pub fn check<'a, F: Files>(
     alloc: Global,
     file: &'a str,
     files: &mut F,
-) -> Result<Option<String>, Fault<'a>>
+) -> Result<Option<String>, CommandFault<'a>>
     ensures checked { IfOk result (HasChecked (F.held files.old) file.now) }
     ensures kept { KeepsFiles (F.made files.old) (F.made files.new) }
     ensures fault { IfErr result (λ fault. (status_of fault ≡ 1) ⊎ (status_of fault ≡ 6)) }
@@ -26,7 +26,11 @@ pub fn check<'a, F: Files>(
 }
 
 /// What is wrong with a source.
-fn check_source(alloc: Global, file: &str, source: &[u8]) -> Result<Option<String>, Fault<'static>>
+fn check_source(
+    alloc: Global,
+    file: &str,
+    source: &[u8],
+) -> Result<Option<String>, CommandFault<'static>>
     ensures checked { (holding : Option (List ℕ → List ℕ)) (path : List ℕ) → IsHeld holding path source.now → IfOk result (HasChecked holding path) }
     ensures fault { IfErr result (λ fault. status_of fault ≡ 6) }
 {
@@ -37,6 +41,6 @@ fn check_source(alloc: Global, file: &str, source: &[u8]) -> Result<Option<Strin
             let text = render(alloc, file, source, &diagnosis)?;
             Ok(Some(text))
         }
-        Some(_) => Err(Fault::Memory),
+        Some(_) => Err(CommandFault::Memory),
     }
 }

@@ -6,8 +6,8 @@ ghost use Rattle.program.specs.ProgramLines.{fault_line};
 ghost use Rattle.program.specs.Program.{ending_status, ended_status, ending_of, status_of};
 ghost use Rattle.program.specs.StandardError.{IsEndTold, IsEndingTold, IsFindingTold};
 
-use crate::fault::{Fault, Stop};
-use crate::finding::Finding;
+use crate::fault::{CommandFault, Stop};
+use crate::finding::SearchFinding;
 use crate::lines::{fault_line, stop_line};
 use journal::Counted;
 use std::io::Write;
@@ -19,7 +19,7 @@ use telling::{tell, tell_text};
 pub enum Ending {
     Done,
     Stopped(Stop),
-    Found(Finding),
+    Found(SearchFinding),
     Wrong(String),
 }
 
@@ -48,7 +48,7 @@ impl Ending {
 }
 
 /// Tells what is to be told of how a command ended, and answers the status.
-pub fn finish<E: Write>(ended: Result<Ending, Fault<'_>>, err: &mut Counted<E>) -> u8
+pub fn finish<E: Write>(ended: Result<Ending, CommandFault<'_>>, err: &mut Counted<E>) -> u8
     ensures status { result ≡ ended_status ended.entry }
     ensures told { IsEndTold E.contents err.old err.new ended.entry }
 {
@@ -73,17 +73,17 @@ fn tell_ending<E: Write>(ending: &Ending, err: &mut Counted<E>)
 }
 
 /// Tells that memory was refused to a search, where it has come to that.
-fn tell_finding<E: Write>(found: Finding, err: &mut Counted<E>)
+fn tell_finding<E: Write>(found: SearchFinding, err: &mut Counted<E>)
     ensures { IsFindingTold E.contents err.old err.new found }
 {
     match found {
-        Finding::Memory => tell(err, &fault_line(&Fault::Memory)),
-        Finding::One | Finding::Unfinished | Finding::Several => {}
+        SearchFinding::Memory => tell(err, &fault_line(&CommandFault::Memory)),
+        SearchFinding::One | SearchFinding::Unfinished | SearchFinding::Several => {}
     }
 }
 
 /// Tells a fault, and answers its status.
-pub fn tell_fault<E: Write>(fault: Fault<'_>, err: &mut Counted<E>) -> u8
+pub fn tell_fault<E: Write>(fault: CommandFault<'_>, err: &mut Counted<E>) -> u8
     ensures status { result ≡ status_of fault.entry }
     ensures told { Tells E.contents err.old err.new (fault_line fault.entry) }
 {

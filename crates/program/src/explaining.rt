@@ -8,7 +8,7 @@ ghost use Rattle.explain.specs.ExplainedText.{window_of};
 ghost use Rattle.program.specs.Printed.{HasExplained, HasExplainedSome};
 ghost use Rattle.program.specs.Program.{explain_fault, status_of};
 
-use crate::fault::Fault;
+use crate::fault::CommandFault;
 use arguments::ExplainRequest;
 use explain::{ExplainFault, Window, explain};
 use files::{Files, open_file, read_file, send_off};
@@ -24,7 +24,7 @@ pub fn explain_journal<'a, F: Files, O: Write>(
     request: &ExplainRequest<'a>,
     files: &mut F,
     out: &mut O,
-) -> Result<(), Fault<'a>>
+) -> Result<(), CommandFault<'a>>
     ensures explained { OnOk result (HasExplained (F.held files.old) request.now.file.now request.now.journal.now (window_of request.now.from request.now.to) (O.contents out.old) (O.contents out.new)) }
     ensures refused { IfErr result (λ fault. status_of fault ≡ 5 → HasExplainedSome (F.held files.old) request.now.file.now request.now.journal.now (window_of request.now.from request.now.to) (O.contents out.old) (O.contents out.new) fault) }
     ensures nothing { IfErr result (λ fault. status_of fault ≡ 3 → Keeps (O.contents out.old) (O.contents out.new)) }
@@ -50,7 +50,7 @@ fn explain_bytes<R: Read, O: Write, P: Progress>(
     window: Window,
     out: &mut O,
     progress: &P,
-) -> Result<(), Fault<'static>>
+) -> Result<(), CommandFault<'static>>
     ensures explained { (holding : Option (List ℕ → List ℕ)) (file journal_file : List ℕ) → IsHeld holding file source.now → IsOpened holding journal_file (R.remaining (held journal.old)) → OnOk result (HasExplained holding file journal_file window (O.contents out.old) (O.contents out.new)) }
     ensures refused { (holding : Option (List ℕ → List ℕ)) (file journal_file : List ℕ) → IsHeld holding file source.now → IsOpened holding journal_file (R.remaining (held journal.old)) → IfErr result (λ fault. status_of fault ≡ 5 → HasExplainedSome holding file journal_file window (O.contents out.old) (O.contents out.new) fault) }
     ensures nothing { IfErr result (λ fault. status_of fault ≡ 3 → Keeps (O.contents out.old) (O.contents out.new)) }
@@ -67,14 +67,14 @@ fn explain_bytes<R: Read, O: Write, P: Progress>(
 }
 
 /// A fault of a journal that was told, as one of the program: that of a replay, where a replay has it.
-fn told_fault(fault: ExplainFault) -> Fault<'static>
+fn told_fault(fault: ExplainFault) -> CommandFault<'static>
     ensures { result ≡ explain_fault fault }
 {
     match fault {
-        ExplainFault::Source(fault) => Fault::Replay(BytesFault::Source(fault)),
-        ExplainFault::Read(fault) => Fault::Replay(BytesFault::Read(fault)),
-        ExplainFault::Replay(fault) => Fault::Replay(BytesFault::Replay(fault)),
-        ExplainFault::CannotWrite => Fault::Replay(BytesFault::CannotWrite),
-        ExplainFault::Memory => Fault::Memory,
+        ExplainFault::Source(fault) => CommandFault::Replay(BytesFault::Source(fault)),
+        ExplainFault::Read(fault) => CommandFault::Replay(BytesFault::Read(fault)),
+        ExplainFault::Replay(fault) => CommandFault::Replay(BytesFault::Replay(fault)),
+        ExplainFault::CannotWrite => CommandFault::Replay(BytesFault::CannotWrite),
+        ExplainFault::Memory => CommandFault::Memory,
     }
 }

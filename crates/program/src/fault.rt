@@ -15,7 +15,7 @@ use vparse::ParseFault;
 
 /// A fault of files or output, want of memory, or a fault of a layer.
 #[derive(Drop)]
-pub enum Fault<'a> {
+pub enum CommandFault<'a> {
     Files(FileFault<'a>),
     Memory,
     Source(SourceFault),
@@ -23,33 +23,33 @@ pub enum Fault<'a> {
     Replay(BytesFault),
 }
 
-impl<'a> From<FileFault<'a>> for Fault<'a> {
-    ghost use Rattle.program.specs.declared.fault.Fault.TheVariants.{Files};
+impl<'a> From<FileFault<'a>> for CommandFault<'a> {
+    ghost use Rattle.program.specs.declared.fault.CommandFault.TheVariants.{Files};
 
     ghost from_gives = { λ files fault. fault ≡ Files files };
 
     fn from(files: FileFault<'a>) -> Self {
-        Fault::Files(files)
+        CommandFault::Files(files)
     }
 }
 
-impl From<AllocError> for Fault<'_> {
-    ghost use Rattle.program.specs.declared.fault.Fault.TheVariants.{Memory};
+impl From<AllocError> for CommandFault<'_> {
+    ghost use Rattle.program.specs.declared.fault.CommandFault.TheVariants.{Memory};
 
     ghost from_gives = { λ _ fault. fault ≡ Memory };
 
     fn from(_refused: AllocError) -> Self {
-        Fault::Memory
+        CommandFault::Memory
     }
 }
 
-impl From<SourceFault> for Fault<'_> {
-    ghost use Rattle.program.specs.declared.fault.Fault.TheVariants.{Source};
+impl From<SourceFault> for CommandFault<'_> {
+    ghost use Rattle.program.specs.declared.fault.CommandFault.TheVariants.{Source};
 
     ghost from_gives = { λ found fault. fault ≡ Source found };
 
     fn from(found: SourceFault) -> Self {
-        Fault::Source(found)
+        CommandFault::Source(found)
     }
 }
 
@@ -100,18 +100,18 @@ impl Stop {
     }
 }
 
-impl Fault<'_> {
+impl CommandFault<'_> {
     /// The exit status: 1 for files and output, 3 for a source, 5 for a journal, and 6 for memory or
     /// a worker that couldn't be started.
     pub fn status(&self) -> u8
         ensures { result ≡ status_of self.now }
     {
         match self {
-            Fault::Files(fault) => fault.status(),
-            Fault::Memory => 6,
-            Fault::Source(fault) => source_status(fault),
-            Fault::Simulate(fault) => simulate_status(fault),
-            Fault::Replay(fault) => replay_status(fault),
+            CommandFault::Files(fault) => fault.status(),
+            CommandFault::Memory => 6,
+            CommandFault::Source(fault) => source_status(fault),
+            CommandFault::Simulate(fault) => simulate_status(fault),
+            CommandFault::Replay(fault) => replay_status(fault),
         }
     }
 }

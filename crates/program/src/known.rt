@@ -7,20 +7,20 @@ ghost use Rattle.model.specs.declared.end.Limits.{Limits};
 ghost use Rattle.design.specs.Compiled.{Compiled};
 ghost use Rattle.explore.specs.Grown.{Extends};
 ghost use Rattle.explore.specs.Search.{AreDistinct, Differs, IsShown};
-ghost use Rattle.seeded.specs.SeededRun.{IsRun};
+ghost use Rattle.runs.specs.RunRecords.{IsRun};
 ghost use Rattle.arguments.specs.Options.{CanSearch};
-ghost use Rattle.conflicts.specs.declared.told.Tries.{Tries};
-ghost use Rattle.program.specs.Findings.{AreKnown, AreRaces, IsKnown, IsLawful, IsOf, limits_in};
+ghost use Rattle.races.specs.declared.told.RaceBounds.{RaceBounds};
+ghost use Rattle.program.specs.Findings.{AreKnown, AreRaces, IsKnown, IsLawfulShown, IsShownRun, limits_in};
 
-use arguments::Extent;
-use conflicts::{Found, Race};
+use arguments::SearchOptions;
 use design::Design;
 use explore::Shown;
 use model::end::{End, Limits};
 use model::entry::Entry;
 use progress::Progress;
-use seeded::compared::is_whole;
-use seeded::run::SeededRun;
+use races::{Found, Race};
+use runs::compared::is_whole;
+use runs::run::RunRecord;
 use seeded::samples::{SampleBounds, Seeds, sample};
 use std::alloc::{AllocError, Global};
 
@@ -65,7 +65,7 @@ pub fn add(
     ensures few { length shown.new.items ≤ most }
     ensures distinct { AllPairs AreDistinct shown.new.items }
     ensures grows { Extends shown.old.items shown.new.items }
-    ensures lawful { (code : Compiled) (limits : Limits) → IsLawful code limits one → All (IsLawful code limits) shown.old.items → All (IsLawful code limits) shown.new.items }
+    ensures lawful { (code : Compiled) (limits : Limits) → IsLawfulShown code limits one → All (IsLawfulShown code limits) shown.old.items → All (IsLawfulShown code limits) shown.new.items }
     ensures there { IfOk result (λ there. IsTrue there → IsShown shown.new.items one.text.items one.end) }
     ensures full { IfOk result (λ there. there ≡ false → length shown.new.items ≡ most) }
 {
@@ -91,7 +91,7 @@ pub fn add_all(
     ensures few { length shown.new.items ≤ most }
     ensures distinct { AllPairs AreDistinct shown.new.items }
     ensures grows { Extends shown.old.items shown.new.items }
-    ensures lawful { (code : Compiled) (limits : Limits) → All (IsLawful code limits) others.items → All (IsLawful code limits) shown.old.items → All (IsLawful code limits) shown.new.items }
+    ensures lawful { (code : Compiled) (limits : Limits) → All (IsLawfulShown code limits) others.items → All (IsLawfulShown code limits) shown.old.items → All (IsLawfulShown code limits) shown.new.items }
     ensures there { IfOk result (λ all. IsTrue all → All (λ s. IsShown shown.new.items s.text.items s.end) others.items) }
     ensures full { IfOk result (λ all. all ≡ false → length shown.new.items ≡ most) }
 {
@@ -105,8 +105,8 @@ pub fn add_all(
 }
 
 /// The text, the end and the journal of a run, once more.
-fn copy_of(alloc: Global, run: &SeededRun) -> Result<Shown<Entry, End>, AllocError>
-    ensures { IfOk result (IsOf run.now) }
+fn copy_of(alloc: Global, run: &RunRecord) -> Result<Shown<Entry, End>, AllocError>
+    ensures { IfOk result (IsShownRun run.now) }
 {
     let mut text = Vec::new(alloc);
     text.extend_from_slice(run.lines.as_str().as_bytes())?;
@@ -123,7 +123,7 @@ fn copy_of(alloc: Global, run: &SeededRun) -> Result<Shown<Entry, End>, AllocErr
 fn add_run(
     alloc: Global,
     shown: &mut Vec<Shown<Entry, End>>,
-    run: &SeededRun,
+    run: &RunRecord,
     most: usize,
 ) -> Result<(), AllocError>
     requires few { length shown.old.items ≤ most }
@@ -131,7 +131,7 @@ fn add_run(
     ensures few { OnOk result (length shown.new.items ≤ most) }
     ensures distinct { OnOk result (AllPairs AreDistinct shown.new.items) }
     ensures grows { OnOk result (Extends shown.old.items shown.new.items) }
-    ensures lawful { OnOk result ((code : Compiled) (limits : Limits) → IsRun code limits run.now → All (IsLawful code limits) shown.old.items → All (IsLawful code limits) shown.new.items) }
+    ensures lawful { OnOk result ((code : Compiled) (limits : Limits) → IsRun code limits run.now → All (IsLawfulShown code limits) shown.old.items → All (IsLawfulShown code limits) shown.new.items) }
     ensures known { OnOk result (IsKnown most shown.new.items run.now) }
 {
     if !is_whole(run) {
@@ -146,7 +146,7 @@ fn add_run(
 fn add_runs(
     alloc: Global,
     shown: &mut Vec<Shown<Entry, End>>,
-    runs: &[SeededRun],
+    runs: &[RunRecord],
     most: usize,
 ) -> Result<(), AllocError>
     requires few { length shown.old.items ≤ most }
@@ -154,7 +154,7 @@ fn add_runs(
     ensures few { OnOk result (length shown.new.items ≤ most) }
     ensures distinct { OnOk result (AllPairs AreDistinct shown.new.items) }
     ensures grows { OnOk result (Extends shown.old.items shown.new.items) }
-    ensures lawful { OnOk result ((code : Compiled) (limits : Limits) → All (IsRun code limits) runs.now → All (IsLawful code limits) shown.old.items → All (IsLawful code limits) shown.new.items) }
+    ensures lawful { OnOk result ((code : Compiled) (limits : Limits) → All (IsRun code limits) runs.now → All (IsLawfulShown code limits) shown.old.items → All (IsLawfulShown code limits) shown.new.items) }
 {
     for run in runs.iter() {
         add_run(alloc, shown, run, most)?;
@@ -174,7 +174,7 @@ fn add_races(
     ensures few { OnOk result (length shown.new.items ≤ most) }
     ensures distinct { OnOk result (AllPairs AreDistinct shown.new.items) }
     ensures grows { OnOk result (Extends shown.old.items shown.new.items) }
-    ensures lawful { OnOk result ((code : Compiled) (limits : Limits) → All (λ race. IsRun code limits race.exchanged) races.now → All (IsLawful code limits) shown.old.items → All (IsLawful code limits) shown.new.items) }
+    ensures lawful { OnOk result ((code : Compiled) (limits : Limits) → All (λ race. IsRun code limits race.exchanged) races.now → All (IsLawfulShown code limits) shown.old.items → All (IsLawfulShown code limits) shown.new.items) }
     ensures known { OnOk result (All (λ race. IsKnown most shown.new.items race.exchanged) races.now) }
 {
     for race in races.iter() {
@@ -187,37 +187,37 @@ fn add_races(
 pub fn known_texts<P: Progress>(
     alloc: Global,
     design: &Design,
-    extent: Extent,
+    search_options: SearchOptions,
     found: &Found,
     progress: &P,
 ) -> Result<Vec<Shown<Entry, End>>, AllocError>
-    requires can { CanSearch extent }
-    requires races { (tries : Tries) × AreRaces design.now (limits_in extent) tries found.now }
-    ensures { IfOk result (λ known. AreKnown design.now extent found.now known.items) }
+    requires can { CanSearch search_options }
+    requires races { (race_bounds : RaceBounds) × AreRaces design.now (limits_in search_options) race_bounds found.now }
+    ensures { IfOk result (λ known. AreKnown design.now search_options found.now known.items) }
 {
-    match extent.samples {
+    match search_options.samples {
         Some(_) => Ok(Vec::new(alloc)),
-        None => known_first(alloc, design, extent, found, progress),
+        None => known_first(alloc, design, search_options, found, progress),
     }
 }
 
 fn known_first<P: Progress>(
     alloc: Global,
     design: &Design,
-    extent: Extent,
+    search_options: SearchOptions,
     found: &Found,
     progress: &P,
 ) -> Result<Vec<Shown<Entry, End>>, AllocError>
-    requires can { CanSearch extent }
-    requires all { extent.samples ≡ None }
-    requires races { (tries : Tries) × AreRaces design.now (limits_in extent) tries found.now }
-    ensures { IfOk result (λ known. AreKnown design.now extent found.now known.items) }
+    requires can { CanSearch search_options }
+    requires all { search_options.samples ≡ None }
+    requires races { (race_bounds : RaceBounds) × AreRaces design.now (limits_in search_options) race_bounds found.now }
+    ensures { IfOk result (λ known. AreKnown design.now search_options found.now known.items) }
 {
-    let most = extent.max_texts as usize;
+    let most = search_options.max_texts as usize;
     let mut known = Vec::new(alloc);
     add_run(alloc, &mut known, &found.original, most)?;
     add_races(alloc, &mut known, found.races.as_slice(), most)?;
-    let others = random_orders(alloc, design, extent, few_orders(found), progress);
+    let others = random_orders(alloc, design, search_options, few_orders(found), progress);
     add_runs(alloc, &mut known, others.as_slice(), most)?;
     Ok(known)
 }
@@ -236,19 +236,19 @@ fn few_orders(found: &Found) -> u32 {
 fn random_orders<P: Progress>(
     alloc: Global,
     design: &Design,
-    extent: Extent,
+    search_options: SearchOptions,
     count: u32,
     progress: &P,
-) -> Vec<SeededRun>
-    requires { CanSearch extent }
-    ensures { All (IsRun design.now (limits_in extent)) result.items }
+) -> Vec<RunRecord>
+    requires { CanSearch search_options }
+    ensures { All (IsRun design.now (limits_in search_options)) result.items }
 {
     let limits = Limits {
-        until: extent.until,
-        max_entries: extent.max_entries,
+        until: search_options.until,
+        max_entries: search_options.max_entries,
     };
     let seeds = Seeds {
-        first: extent.seed,
+        first: search_options.seed,
         count,
     };
     let bounds = SampleBounds {

@@ -4,7 +4,7 @@ ghost use Rattle.std.specs.Prelude.{◌≡◌};
 ghost use Rattle.telling.specs.FaultLines.{line_of};
 ghost use Rattle.program.specs.ProgramLines.{fault_line, file_line, stop_line, source_line, parse_line, module_line, simulate_line, replay_line, read_line};
 
-use crate::fault::{Fault, Stop};
+use crate::fault::{CommandFault, Stop};
 use elaborate::ElabFault;
 use explain::cause_code;
 use files::FileFault;
@@ -12,54 +12,54 @@ use frontend::SourceFault;
 use journal::ReadFault;
 use replay::BytesFault;
 use simulate::SimFault;
-use telling::{Line, Subject};
+use telling::{Subject, SubjectLine};
 use vparse::ParseFault;
 
 /// The line of a fault.
-pub fn fault_line<'a>(fault: &'a Fault<'_>) -> Line<'a>
+pub fn fault_line<'a>(fault: &'a CommandFault<'_>) -> SubjectLine<'a>
     ensures { line_of result ≡ fault_line fault.now }
 {
     match fault {
-        Fault::Files(fault) => file_line(fault),
-        Fault::Memory => Line::plain("memory"),
-        Fault::Source(fault) => source_line(fault),
-        Fault::Simulate(fault) => simulate_line(fault),
-        Fault::Replay(fault) => replay_line(fault),
+        CommandFault::Files(fault) => file_line(fault),
+        CommandFault::Memory => SubjectLine::plain("memory"),
+        CommandFault::Source(fault) => source_line(fault),
+        CommandFault::Simulate(fault) => simulate_line(fault),
+        CommandFault::Replay(fault) => replay_line(fault),
     }
 }
 
 /// The line of a stop.
-pub fn stop_line(stop: Stop) -> Line<'static>
+pub fn stop_line(stop: Stop) -> SubjectLine<'static>
     ensures { line_of result ≡ stop_line stop }
 {
     match stop {
-        Stop::Until => Line::plain("stopped: until"),
-        Stop::Entries => Line::plain("stopped: entries"),
-        Stop::TooLong(process) => Line {
+        Stop::Until => SubjectLine::plain("stopped: until"),
+        Stop::Entries => SubjectLine::plain("stopped: entries"),
+        Stop::TooLong(process) => SubjectLine {
             head: "stopped: process ",
             subject: Subject::Number(process as u64),
             tail: " too long",
         },
-        Stop::Time => Line::plain("stopped: time"),
-        Stop::Memory => Line::plain("stopped: memory"),
+        Stop::Time => SubjectLine::plain("stopped: time"),
+        Stop::Memory => SubjectLine::plain("stopped: memory"),
     }
 }
 
-fn file_line<'a>(fault: &FileFault<'a>) -> Line<'a>
+fn file_line<'a>(fault: &FileFault<'a>) -> SubjectLine<'a>
     ensures { line_of result ≡ file_line fault.now }
 {
     match fault {
-        FileFault::CannotRead(path) => Line {
+        FileFault::CannotRead(path) => SubjectLine {
             head: "cannot read ",
             subject: Subject::Path(path),
             tail: "",
         },
-        FileFault::CannotWrite => Line::plain("cannot write"),
-        FileFault::Memory => Line::plain("memory"),
+        FileFault::CannotWrite => SubjectLine::plain("cannot write"),
+        FileFault::Memory => SubjectLine::plain("memory"),
     }
 }
 
-fn source_line(fault: &SourceFault) -> Line<'_>
+fn source_line(fault: &SourceFault) -> SubjectLine<'_>
     ensures { line_of result ≡ source_line fault.now }
 {
     match fault {
@@ -68,70 +68,73 @@ fn source_line(fault: &SourceFault) -> Line<'_>
     }
 }
 
-fn parse_line(fault: ParseFault) -> Line<'static>
+fn parse_line(fault: ParseFault) -> SubjectLine<'static>
     ensures { line_of result ≡ parse_line fault }
 {
     match fault {
-        ParseFault::Byte(place) => Line::numbered("P1 byte not allowed at ", place as u64),
-        ParseFault::Syntax(token) => Line::numbered("P2 syntax at token ", token as u64),
-        ParseFault::Literal(place) => Line::numbered("P3 literal at ", place as u64),
-        ParseFault::Deep(token) => Line::numbered("P4 nesting at token ", token as u64),
-        ParseFault::Unsized(token) => Line::numbered("P5 unsized number at token ", token as u64),
-        ParseFault::Memory => Line::plain("P6 memory"),
+        ParseFault::Byte(place) => SubjectLine::numbered("P1 byte not allowed at ", place as u64),
+        ParseFault::Syntax(token) => SubjectLine::numbered("P2 syntax at token ", token as u64),
+        ParseFault::Literal(place) => SubjectLine::numbered("P3 literal at ", place as u64),
+        ParseFault::Deep(token) => SubjectLine::numbered("P4 nesting at token ", token as u64),
+        ParseFault::Unsized(token) => SubjectLine::numbered(
+            "P5 unsized number at token ",
+            token as u64,
+        ),
+        ParseFault::Memory => SubjectLine::plain("P6 memory"),
     }
 }
 
-fn module_line(fault: &ElabFault) -> Line<'_>
+fn module_line(fault: &ElabFault) -> SubjectLine<'_>
     ensures { line_of result ≡ module_line fault.now }
 {
     match fault {
-        ElabFault::Undeclared(name) => Line::named("E1 undeclared ", name.as_str()),
-        ElabFault::DeclaredTwice(name) => Line::named("E2 declared twice ", name.as_str()),
-        ElabFault::BadRange(name) => Line::named("E3 range of ", name.as_str()),
-        ElabFault::TooManyRegisters => Line::plain("E4 more than 1024 registers"),
-        ElabFault::TooManyProcesses => Line::plain("E5 more than 256 processes"),
-        ElabFault::BadFormat => Line::plain("E6 format and arguments"),
-        ElabFault::WideConcat => Line::plain("E7 concatenation over 128 bits"),
-        ElabFault::BadIndex(name) => Line::named("E8 bit index of ", name.as_str()),
-        ElabFault::LongDelay => Line::plain("E9 delay over 4294967295"),
-        ElabFault::Memory => Line::plain("E10 memory"),
+        ElabFault::Undeclared(name) => SubjectLine::named("E1 undeclared ", name.as_str()),
+        ElabFault::DeclaredTwice(name) => SubjectLine::named("E2 declared twice ", name.as_str()),
+        ElabFault::BadRange(name) => SubjectLine::named("E3 range of ", name.as_str()),
+        ElabFault::TooManyRegisters => SubjectLine::plain("E4 more than 1024 registers"),
+        ElabFault::TooManyProcesses => SubjectLine::plain("E5 more than 256 processes"),
+        ElabFault::BadFormat => SubjectLine::plain("E6 format and arguments"),
+        ElabFault::WideConcat => SubjectLine::plain("E7 concatenation over 128 bits"),
+        ElabFault::BadIndex(name) => SubjectLine::named("E8 bit index of ", name.as_str()),
+        ElabFault::LongDelay => SubjectLine::plain("E9 delay over 4294967295"),
+        ElabFault::Memory => SubjectLine::plain("E10 memory"),
     }
 }
 
-fn simulate_line(fault: &SimFault) -> Line<'static>
+fn simulate_line(fault: &SimFault) -> SubjectLine<'static>
     ensures { line_of result ≡ simulate_line fault.now }
 {
     match fault {
-        SimFault::Memory => Line::plain("memory"),
-        SimFault::NoWorker => Line::plain("cannot start worker"),
+        SimFault::Memory => SubjectLine::plain("memory"),
+        SimFault::NoWorker => SubjectLine::plain("cannot start worker"),
     }
 }
 
-fn replay_line(fault: &BytesFault) -> Line<'_>
+fn replay_line(fault: &BytesFault) -> SubjectLine<'_>
     ensures { line_of result ≡ replay_line fault.now }
 {
     match fault {
         BytesFault::Source(fault) => source_line(fault),
         BytesFault::Read(fault) => read_line(*fault),
-        BytesFault::Replay(fault) => Line {
+        BytesFault::Replay(fault) => SubjectLine {
             head: "entry ",
             subject: Subject::Number(fault.entry),
             tail: cause_code(fault.cause),
         },
-        BytesFault::CannotWrite => Line::plain("cannot write"),
+        BytesFault::CannotWrite => SubjectLine::plain("cannot write"),
     }
 }
 
-fn read_line(fault: ReadFault) -> Line<'static>
+fn read_line(fault: ReadFault) -> SubjectLine<'static>
     ensures { line_of result ≡ read_line fault }
 {
     match fault {
-        ReadFault::Header => Line::plain("Q1 journal header"),
-        ReadFault::Line(number) => Line::numbered("Q2 journal line ", number),
-        ReadFault::Cut => Line::plain("Q3 journal ends without newline"),
-        ReadFault::Read => Line::plain("Q4 journal read error"),
-        ReadFault::Memory => Line::plain("Q5 memory"),
-        ReadFault::Count(number) => Line::numbered("Q6 journal count at line ", number),
-        ReadFault::Uncounted => Line::plain("Q7 journal cut"),
+        ReadFault::Header => SubjectLine::plain("Q1 journal header"),
+        ReadFault::Line(number) => SubjectLine::numbered("Q2 journal line ", number),
+        ReadFault::Cut => SubjectLine::plain("Q3 journal ends without newline"),
+        ReadFault::Read => SubjectLine::plain("Q4 journal read error"),
+        ReadFault::Memory => SubjectLine::plain("Q5 memory"),
+        ReadFault::Count(number) => SubjectLine::numbered("Q6 journal count at line ", number),
+        ReadFault::Uncounted => SubjectLine::plain("Q7 journal cut"),
     }
 }

@@ -10,20 +10,20 @@ ghost use Rattle.clap.specs.Words.{Text};
 ghost use Rattle.std.specs.Io.KnownBytes.{Appends, Keeps};
 ghost use Rattle.journal.specs.Counted.{held};
 ghost use Rattle.arguments.specs.CommandWords.{AreWrong, Asks, AsksExplain, AsksRaces, AsksRun, Begins, IsNoRequest, texts_of};
-ghost use Rattle.program.specs.declared.finding.Finding.TheVariants as finding;
+ghost use Rattle.program.specs.declared.finding.SearchFinding.TheVariants as finding;
 ghost use Rattle.program.specs.Printed.{AsksCheckOf, HasEnded, HasExplainedPart, HasRefused, HasSearched, IsDone, IsLeft, IsUnprinted};
 ghost use Rattle.program.specs.Program.{IsNoRequestStatus, ended_status, help_text, right_text, status_of, version_text};
 ghost use Rattle.files.specs.Saved.{KeepsFiles};
-ghost use Rattle.program.specs.StandardError.{HasExplainedTold, IsTold, IsUnfinished, IsWanting};
+ghost use Rattle.program.specs.StandardError.{HasExplainedTold, IsReported, IsUnfinished, IsWanting};
 ghost use Rattle.program.specs.declared.ending.Ending.TheVariants as Ending;
-ghost use Rattle.program.specs.declared.fault.Fault.TheVariants.{Memory};
+ghost use Rattle.program.specs.declared.fault.CommandFault.TheVariants.{Memory};
 ghost use Rattle.program.specs.ProgramLines.{fault_line, unread_line};
 ghost use Rattle.telling.specs.FaultLines.{Tells};
 
 use crate::checking::check;
 use crate::ending::{Ending, finish, tell_fault};
 use crate::explaining::explain_journal;
-use crate::fault::Fault;
+use crate::fault::CommandFault;
 use crate::replaying::replay_journal;
 use crate::running::run;
 use crate::searching::search_races;
@@ -38,7 +38,7 @@ use std::io;
 use std::io::{ErrorKind, Write};
 use std::sync::Wait;
 use std::thread::Threads;
-use telling::{Line, show_path, tell, tell_lines};
+use telling::{SubjectLine, show_path, tell, tell_lines};
 
 /// The whole program; it answers the exit status. The first word is the program's name.
 pub fn command<R: Threads + Wait + Sync, F: Files, O: Write, E: Write>(
@@ -60,7 +60,7 @@ pub fn command<R: Threads + Wait + Sync, F: Files, O: Write, E: Write>(
     ensures nothing { IsUnprinted (texts_of words.now) result → Keeps (O.contents (held out.old)) (O.contents (held out.new)) }
     ensures unsaved { (result ≡ 2) ⊎ ((result ≡ 3) ⊎ (result ≡ 5)) → KeepsFiles (F.made files.old) (F.made files.new) }
     ensures silent { (result ≡ 0) ⊎ (result ≡ 7) → err.new ≡ err.old }
-    ensures told { IsTold E.contents err.old err.new (texts_of words.now) result }
+    ensures told { IsReported E.contents err.old err.new (texts_of words.now) result }
 {
     match read_request(alloc, words) {
         Ok(request) => {
@@ -78,7 +78,7 @@ fn perform<'a, R: Threads + Wait + Sync, F: Files, O: Write>(
     request: &Request<'a>,
     files: &mut F,
     out: &mut Counted<O>,
-) -> Result<Ending, Fault<'a>>
+) -> Result<Ending, CommandFault<'a>>
     ensures ended { (words : List Text) → Asks words request.now → IfOk result (HasEnded (F.held files.old) words (O.contents (held out.old)) (O.contents (held out.new)) (F.made files.old) (F.made files.new)) }
     ensures checked { (words : List Text) → Asks words request.now → Begins words (codes "check") → IfErr result (λ fault. (status_of fault ≡ 1) ⊎ (status_of fault ≡ 6)) }
     ensures refused { (words : List Text) → Asks words request.now → Begins words (codes "explain") → IfErr result (λ fault. status_of fault ≡ 5 → HasExplainedPart (F.held files.old) words (O.contents (held out.old)) (O.contents (held out.new)) fault) }
@@ -103,7 +103,7 @@ fn perform_run<'a, R: Threads + Wait + Sync, F: Files, O: Write>(
     request: &RunRequest<'a>,
     files: &mut F,
     out: &mut O,
-) -> Result<Ending, Fault<'a>>
+) -> Result<Ending, CommandFault<'a>>
     ensures nothing { IfErr result (λ fault. status_of fault ≢ 1 → Keeps (O.contents out.old) (O.contents out.new)) }
     ensures unsaved { IfErr result (λ fault. status_of fault ≢ 1 → KeepsFiles (F.made files.old) (F.made files.new)) }
     ensures ended { (words : List Text) → AsksRun words request.now → IfOk result (HasEnded (F.held files.old) words (O.contents out.old) (O.contents out.new) (F.made files.old) (F.made files.new)) }
@@ -119,7 +119,7 @@ fn perform_races<'a, F: Files, O: Write>(
     request: &RacesRequest<'a>,
     files: &mut F,
     out: &mut O,
-) -> Result<Ending, Fault<'a>>
+) -> Result<Ending, CommandFault<'a>>
     ensures ended { (words : List Text) → AsksRaces words request.now → IfOk result (HasEnded (F.held files.old) words (O.contents out.old) (O.contents out.new) (F.made files.old) (F.made files.new)) }
     ensures nothing { IfErr result (λ fault. (status_of fault ≡ 3) ⊎ (status_of fault ≡ 5) → Keeps (O.contents out.old) (O.contents out.new)) }
     ensures unsaved { IfErr result (λ fault. (status_of fault ≡ 3) ⊎ (status_of fault ≡ 5) → KeepsFiles (F.made files.old) (F.made files.new)) }
@@ -136,7 +136,7 @@ fn perform_check<'a, F: Files, O: Write>(
     file: &'a str,
     files: &mut F,
     out: &mut Counted<O>,
-) -> Result<Ending, Fault<'a>>
+) -> Result<Ending, CommandFault<'a>>
     ensures fault { IfErr result (λ fault. (status_of fault ≡ 1) ⊎ (status_of fault ≡ 6)) }
     ensures nothing { IfErr result (λ fault. status_of fault ≢ 1 → Keeps (O.contents (held out.old)) (O.contents (held out.new))) }
     ensures unsaved { KeepsFiles (F.made files.old) (F.made files.new) }
@@ -150,13 +150,13 @@ fn perform_check<'a, F: Files, O: Write>(
 }
 
 /// Shows that a source is right.
-fn show_right<O: Write>(path: &str, out: &mut Counted<O>) -> Result<Ending, Fault<'static>>
+fn show_right<O: Write>(path: &str, out: &mut Counted<O>) -> Result<Ending, CommandFault<'static>>
     ensures shown { OnOk result (Appends (O.contents (held out.old)) (O.contents (held out.new)) (right_text path.now)) }
     ensures done { IfOk result (λ ending. ending ≡ Ending.Done) }
     ensures fault { IfErr result (λ fault. status_of fault ≡ 1) }
 {
     if !show_path(out, path, ": no fault\n") {
-        return Err(Fault::Files(FileFault::CannotWrite));
+        return Err(CommandFault::Files(FileFault::CannotWrite));
     }
     send_off(out)?;
     Ok(Ending::Done)
@@ -167,7 +167,7 @@ fn perform_explain<'a, F: Files, O: Write>(
     request: &ExplainRequest<'a>,
     files: &mut F,
     out: &mut Counted<O>,
-) -> Result<Ending, Fault<'a>>
+) -> Result<Ending, CommandFault<'a>>
     ensures nothing { IfErr result (λ fault. status_of fault ≡ 3 → Keeps (O.contents (held out.old)) (O.contents (held out.new))) }
     ensures unsaved { KeepsFiles (F.made files.old) (F.made files.new) }
     ensures refused { (words : List Text) → AsksExplain words request.now → IfErr result (λ fault. status_of fault ≡ 5 → HasExplainedPart (F.held files.old) words (O.contents (held out.old)) (O.contents (held out.new)) fault) }
@@ -180,7 +180,7 @@ fn perform_explain<'a, F: Files, O: Write>(
 }
 
 /// Shows the version.
-fn perform_version<O: Write>(out: &mut O) -> Result<Ending, Fault<'static>>
+fn perform_version<O: Write>(out: &mut O) -> Result<Ending, CommandFault<'static>>
     ensures shown { OnOk result (Appends (O.contents out.old) (O.contents out.new) version_text) }
     ensures done { IfOk result (λ ending. ending ≡ Ending.Done) }
     ensures fault { IfErr result (λ fault. status_of fault ≡ 1) }
@@ -198,9 +198,12 @@ pub fn without_words<E: Write>(error: &io::Error, err: &mut Counted<E>) -> u8
     ensures memory { result ≡ 6 → Tells E.contents err.old err.new (fault_line Memory) }
 {
     match error.kind() {
-        ErrorKind::OutOfMemory => tell_fault(Fault::Memory, err),
+        ErrorKind::OutOfMemory => tell_fault(CommandFault::Memory, err),
         _ => {
-            tell(err, &Line::plain("a word of the command line isn't UTF-8"));
+            tell(
+                err,
+                &SubjectLine::plain("a word of the command line isn't UTF-8"),
+            );
             2
         }
     }
@@ -214,17 +217,17 @@ fn refuse<O: Write, E: Write>(no_request: NoRequest, out: &mut O, err: &mut Coun
     ensures nothing { (result ≡ 2) ⊎ ((result ≡ 3) ⊎ (result ≡ 5)) → Keeps (O.contents out.old) (O.contents out.new) }
     ensures wanting { result ≡ 6 → Keeps (O.contents out.old) (O.contents out.new) }
     ensures silent { (result ≡ 0) ⊎ (result ≡ 7) → err.new ≡ err.old }
-    ensures told { (words : List Text) → IsNoRequest words no_request → IsTold E.contents err.old err.new words result }
+    ensures told { (words : List Text) → IsNoRequest words no_request → IsReported E.contents err.old err.new words result }
 {
     match no_request {
         NoRequest::Help(text) => match show(out, text.as_str()) {
             Ok(()) => 0,
-            Err(fault) => tell_fault(Fault::Files(fault), err),
+            Err(fault) => tell_fault(CommandFault::Files(fault), err),
         },
         NoRequest::Usage(text) => {
             tell_lines(err, text.as_str());
             2
         }
-        NoRequest::Memory => tell_fault(Fault::Memory, err),
+        NoRequest::Memory => tell_fault(CommandFault::Memory, err),
     }
 }

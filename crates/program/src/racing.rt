@@ -8,22 +8,22 @@ ghost use Rattle.program.specs.Findings.{AreKnown, AreRaces, limits_in};
 ghost use Rattle.program.specs.Printed.{IsToldFirst};
 ghost use Rattle.program.specs.Program.{status_of};
 
-use crate::fault::Fault;
+use crate::fault::CommandFault;
 use crate::known::known_texts;
 use arguments::RacesRequest;
-use conflicts::{Found, Tries, find_races};
 use design::Design;
 use explore::Shown;
 use files::show_bytes;
 use model::end::{End, Limits};
 use model::entry::Entry;
-use naming::{Names, push_races};
+use naming::{RaceNames, push_races};
 use progress::Progress;
+use races::{Found, RaceBounds, find_races};
 use std::alloc::{AllocError, Global};
 use std::io::Write;
 
 /// How many second runs are made to name races, how many races are named at most, and how many entries these runs have together.
-const TRIES: Tries = Tries {
+const RACE_BOUNDS: RaceBounds = RaceBounds {
     pairs: 1000,
     races: 64,
     entries: 20_000_000,
@@ -37,22 +37,22 @@ pub fn tell_races<O: Write, P: Progress>(
     request: &RacesRequest<'_>,
     out: &mut O,
     progress: &P,
-) -> Result<Vec<Shown<Entry, End>>, Fault<'static>>
-    ensures told { IfOk result (λ known. (first : List ℕ) × IsToldFirst source.now design.now request.now.extent (option_map (λ path. path.now) request.now.journals) known.items first × Appends (O.contents out.old) (O.contents out.new) first) }
+) -> Result<Vec<Shown<Entry, End>>, CommandFault<'static>>
+    ensures told { IfOk result (λ known. (first : List ℕ) × IsToldFirst source.now design.now request.now.search_options (option_map (λ path. path.now) request.now.journals) known.items first × Appends (O.contents out.old) (O.contents out.new) first) }
     ensures fault { IfErr result (λ fault. (status_of fault ≡ 1) ⊎ (status_of fault ≡ 6)) }
     ensures untold { IfErr result (λ fault. status_of fault ≡ 6 → Keeps (O.contents out.old) (O.contents out.new)) }
 {
     let limits = Limits {
-        until: request.extent.until,
-        max_entries: request.extent.max_entries,
+        until: request.search_options.until,
+        max_entries: request.search_options.max_entries,
     };
-    let tries = TRIES;
-    let found = races_of(alloc, design, limits, tries, progress);
-    let known = known_texts(alloc, design, request.extent, &found, progress)?;
-    let names = Names {
+    let race_bounds = RACE_BOUNDS;
+    let found = races_of(alloc, design, limits, race_bounds, progress);
+    let known = known_texts(alloc, design, request.search_options, &found, progress)?;
+    let names = RaceNames {
         source,
         design,
-        tries,
+        race_bounds,
         prefix: request.journals,
         shown: known.as_slice(),
     };
@@ -66,20 +66,24 @@ fn races_of<P: Progress>(
     alloc: Global,
     design: &Design,
     limits: Limits,
-    tries: Tries,
+    race_bounds: RaceBounds,
     progress: &P,
 ) -> Found
     requires { IfSome limits.until (λ until. until ≤ last_time) }
-    ensures { AreRaces design.now limits tries result }
+    ensures { AreRaces design.now limits race_bounds result }
 {
-    let found = find_races(alloc, design, limits, tries, progress);
+    let found = find_races(alloc, design, limits, race_bounds, progress);
     progress.end();
     found
 }
 
 /// The lines on races that were found.
-fn race_lines<'a>(alloc: Global, names: &Names<'a>, found: &'a Found) -> Result<Vec<u8>, AllocError>
-    ensures { IfOk result (λ lines. TellsRaces names.entry.now.source.now names.entry.now.design.now names.entry.now.shown.now (option_map (λ path. path.now) names.entry.now.prefix) names.entry.now.tries found.entry.now lines.items) }
+fn race_lines<'a>(
+    alloc: Global,
+    names: &RaceNames<'a>,
+    found: &'a Found,
+) -> Result<Vec<u8>, AllocError>
+    ensures { IfOk result (λ lines. TellsRaces names.entry.now.source.now names.entry.now.design.now names.entry.now.shown.now (option_map (λ path. path.now) names.entry.now.prefix) names.entry.now.race_bounds found.entry.now lines.items) }
 {
     let mut lines = Vec::new(alloc);
     push_races(alloc, &mut lines, names, found)?;

@@ -11,7 +11,7 @@ ghost use Rattle.program.specs.Printed.{HasEnded, HasReplayed};
 ghost use Rattle.files.specs.Saved.{KeepsFiles};
 
 use crate::ending::Ending;
-use crate::fault::Fault;
+use crate::fault::CommandFault;
 use arguments::ReplayRequest;
 use files::{Files, open_file, read_file, send_off};
 use journal::Counted;
@@ -26,7 +26,7 @@ pub fn replay_journal<'a, F: Files, O: Write>(
     request: &ReplayRequest<'a>,
     files: &mut F,
     out: &mut Counted<O>,
-) -> Result<Ending, Fault<'a>>
+) -> Result<Ending, CommandFault<'a>>
     ensures printed { OnOk result (HasReplayed (F.held files.old) request.now.file.now request.now.journal.now (O.contents (held out.old)) (O.contents (held out.new))) }
     ensures nothing { IfErr result (λ fault. status_of fault ≢ 1 → Keeps (O.contents (held out.old)) (O.contents (held out.new))) }
     ensures unsaved { KeepsFiles (F.made files.old) (F.made files.new) }
@@ -39,7 +39,7 @@ pub fn replay_journal<'a, F: Files, O: Write>(
     progress.end();
     match replayed {
         Ok(()) => {}
-        Err(fault) => return Err(Fault::Replay(fault)),
+        Err(fault) => return Err(CommandFault::Replay(fault)),
     }
     send_off(out)?;
     Ok(Ending::Done)

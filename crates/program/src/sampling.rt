@@ -1,17 +1,17 @@
 //! Random lawful orders in place of the search of all of them.
 
 ghost use Rattle.std.specs.Prelude.{◌≡◌, IfOk, Some, option_map};
-ghost use Rattle.program.specs.Findings.{AreFound, AreOf, IsOf};
+ghost use Rattle.program.specs.Findings.{AreFound, AreOf, IsShownRun};
 ghost use Rattle.arguments.specs.Options.{CanSearch};
 
-use crate::texts::Texts;
-use arguments::Extent;
+use crate::texts::FoundTexts;
+use arguments::SearchOptions;
 use design::Design;
 use explore::Shown;
 use model::end::{End, Limits};
 use model::entry::Entry;
 use progress::Progress;
-use seeded::run::SeededRun;
+use runs::run::RunRecord;
 use seeded::samples::{SampleBounds, Seeds, sample};
 use std::alloc::{AllocError, Global};
 use verdict::Claim;
@@ -20,31 +20,31 @@ use verdict::Claim;
 pub fn sampled<P: Progress>(
     alloc: Global,
     design: &Design,
-    extent: Extent,
+    search_options: SearchOptions,
     count: u32,
     progress: &P,
-) -> Result<Texts, AllocError>
-    requires can { CanSearch extent }
-    requires asked { extent.samples ≡ Some count }
-    ensures { IfOk result (λ texts. AreFound design.now extent texts.claim texts.shown.items (option_map (λ journal. journal.items) texts.endless)) }
+) -> Result<FoundTexts, AllocError>
+    requires can { CanSearch search_options }
+    requires asked { search_options.samples ≡ Some count }
+    ensures { IfOk result (λ texts. AreFound design.now search_options texts.claim texts.shown.items (option_map (λ journal. journal.items) texts.endless)) }
 {
     let limits = Limits {
-        until: extent.until,
-        max_entries: extent.max_entries,
+        until: search_options.until,
+        max_entries: search_options.max_entries,
     };
     let seeds = Seeds {
-        first: extent.seed,
+        first: search_options.seed,
         count,
     };
     let bounds = SampleBounds {
-        kept: extent.max_texts as usize,
+        kept: search_options.max_texts as usize,
         entries: u64::MAX,
     };
     let samples = sample(alloc, design, limits, seeds, bounds, progress);
     progress.end();
     let claim = Claim::Sampled(samples.made);
     let shown = shown_of(alloc, samples.kept)?;
-    Ok(Texts {
+    Ok(FoundTexts {
         claim,
         shown,
         endless: None,
@@ -53,7 +53,7 @@ pub fn sampled<P: Progress>(
 
 /// Runs as texts that are shown.
 #[tactic(auto, using(crate::proofs::Sampled::of_more))]
-fn shown_of(alloc: Global, runs: Vec<SeededRun>) -> Result<Vec<Shown<Entry, End>>, AllocError>
+fn shown_of(alloc: Global, runs: Vec<RunRecord>) -> Result<Vec<Shown<Entry, End>>, AllocError>
     ensures { IfOk result (λ shown. AreOf runs.items shown.items) }
 {
     let mut shown = Vec::new(alloc);
@@ -63,10 +63,10 @@ fn shown_of(alloc: Global, runs: Vec<SeededRun>) -> Result<Vec<Shown<Entry, End>
     Ok(shown)
 }
 
-fn shown_as(run: SeededRun) -> Shown<Entry, End>
-    ensures { IsOf run result }
+fn shown_as(run: RunRecord) -> Shown<Entry, End>
+    ensures { IsShownRun run result }
 {
-    let SeededRun {
+    let RunRecord {
         lines,
         journal,
         end,

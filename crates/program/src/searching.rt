@@ -7,30 +7,30 @@ ghost use Rattle.explore.specs.Grown.{Extends};
 ghost use Rattle.explore.specs.Search.{AreDistinct};
 ghost use Rattle.std.specs.List.{All, AllPairs};
 ghost use Rattle.frontend.specs.Sources.{IsDesignOf};
-ghost use Rattle.program.specs.Findings.{AreFound, HaveSomeEnds, IsLawful, IsWithin, claim_of, finding_of, first_text, journals_of, limits_in, or_full, stop_of, unless_stopped};
+ghost use Rattle.program.specs.Findings.{AreFound, HaveSomeEnds, IsLawfulShown, IsClaimWithin, claim_of, finding_of, first_text, journals_of, limits_in, or_full, search_stop_of, unless_stopped};
 ghost use Rattle.arguments.specs.Options.{CanSearch};
 ghost use Rattle.program.specs.Program.{status_of};
 ghost use Rattle.program.specs.Printed.{HasLeft, HasShown, IsToldLast};
 ghost use Rattle.files.specs.Saved.{IsHeld, KeepsFiles, LeadsElsewhere, SavesAllWhereAsked, SavesSomeWhereAsked, journal_path};
 
-use crate::fault::Fault;
-use crate::finding::Finding;
+use crate::fault::CommandFault;
+use crate::finding::SearchFinding;
 use crate::known::add_all;
 use crate::racing::tell_races;
 use crate::sampling::sampled;
-use crate::texts::Texts;
-use arguments::{Extent, RacesRequest};
+use crate::texts::FoundTexts;
+use arguments::{RacesRequest, SearchOptions};
 use design::Design;
 use explore::{Bounds, Explored, Shown, Stopped};
 use files::{Files, read_file, save_all, show_bytes, spare_first, try_first};
 use frontend::read_design;
+use lawful::lawful_orders;
 use model::end::{End, Limits};
 use model::entry::Entry;
 use progress::Progress;
-use races::lawful_orders;
 use std::alloc::{AllocError, Global};
 use std::io::Write;
-use verdict::{Claim, Met, Verdict, push_verdict};
+use verdict::{Claim, SearchStop, Verdict, push_verdict};
 
 /// How many bytes a megabyte has.
 const MEGABYTE: usize = 1_000_000;
@@ -41,12 +41,12 @@ pub fn search_races<'a, F: Files, O: Write>(
     request: &RacesRequest<'a>,
     files: &mut F,
     out: &mut O,
-) -> Result<Finding, Fault<'a>>
-    ensures shown { IfOk result (HasShown (F.held files.old) request.now.file.now request.now.extent (option_map (λ path. path.now) request.now.journals)
+) -> Result<SearchFinding, CommandFault<'a>>
+    ensures shown { IfOk result (HasShown (F.held files.old) request.now.file.now request.now.search_options (option_map (λ path. path.now) request.now.journals)
         (O.contents out.old) (O.contents out.new) (F.made files.old) (F.made files.new)) }
     ensures nothing { IfErr result (λ fault. (status_of fault ≡ 3) ⊎ (status_of fault ≡ 5) → Keeps (O.contents out.old) (O.contents out.new)) }
     ensures unsaved { IfErr result (λ fault. (status_of fault ≡ 3) ⊎ (status_of fault ≡ 5) → KeepsFiles (F.made files.old) (F.made files.new)) }
-    ensures wanting { IfErr result (λ fault. status_of fault ≡ 6 → HasLeft (F.held files.old) request.now.file.now request.now.extent (option_map (λ path. path.now) request.now.journals)
+    ensures wanting { IfErr result (λ fault. status_of fault ≡ 6 → HasLeft (F.held files.old) request.now.file.now request.now.search_options (option_map (λ path. path.now) request.now.journals)
         (O.contents out.old) (O.contents out.new) (F.made files.old) (F.made files.new)) }
     ensures spared { OnOk result (LeadsElsewhere (F.alike files.old) request.now.file.now (option_map (λ prefix. journal_path prefix.now 1) request.now.journals)) }
 {
@@ -65,30 +65,36 @@ fn search_design<F: Files, O: Write>(
     request: &RacesRequest<'_>,
     files: &mut F,
     out: &mut O,
-) -> Result<Finding, Fault<'static>>
+) -> Result<SearchFinding, CommandFault<'static>>
     requires { IsDesignOf source.now design.now }
-    ensures shown { (holding : Option (List ℕ → List ℕ)) (file : List ℕ) → IsHeld holding file source.now → IfOk result (HasShown holding file request.now.extent (option_map (λ path. path.now) request.now.journals)
+    ensures shown { (holding : Option (List ℕ → List ℕ)) (file : List ℕ) → IsHeld holding file source.now → IfOk result (HasShown holding file request.now.search_options (option_map (λ path. path.now) request.now.journals)
         (O.contents out.old) (O.contents out.new) (F.made files.old) (F.made files.new)) }
     ensures fault { IfErr result (λ fault. (status_of fault ≡ 1) ⊎ (status_of fault ≡ 6)) }
-    ensures wanting { (holding : Option (List ℕ → List ℕ)) (file : List ℕ) → IsHeld holding file source.now → IfErr result (λ fault. status_of fault ≡ 6 → HasLeft holding file request.now.extent (option_map (λ path. path.now) request.now.journals)
+    ensures wanting { (holding : Option (List ℕ → List ℕ)) (file : List ℕ) → IsHeld holding file source.now → IfErr result (λ fault. status_of fault ≡ 6 → HasLeft holding file request.now.search_options (option_map (λ path. path.now) request.now.journals)
         (O.contents out.old) (O.contents out.new) (F.made files.old) (F.made files.new)) }
 {
     try_first(alloc, request.journals, files)?;
     let known = tell_races(alloc, source, design, request, out, &files.progress())?;
-    let texts = find_texts(alloc, design, request.extent, known, &files.progress())?;
-    let last = last_lines(alloc, &texts, request.extent, request.journals)?;
+    let texts = find_texts(
+        alloc,
+        design,
+        request.search_options,
+        known,
+        &files.progress(),
+    )?;
+    let last = last_lines(alloc, &texts, request.search_options, request.journals)?;
     tell_texts(alloc, texts, last.as_slice(), request, files, out)
 }
 
 /// Tells what is said of texts, and then saves their journals where they are wanted.
 fn tell_texts<F: Files, O: Write>(
     alloc: Global,
-    texts: Texts,
+    texts: FoundTexts,
     last: &[u8],
     request: &RacesRequest<'_>,
     files: &mut F,
     out: &mut O,
-) -> Result<Finding, Fault<'static>>
+) -> Result<SearchFinding, CommandFault<'static>>
     ensures told { OnOk result (Appends (O.contents out.old) (O.contents out.new) last.now) }
     ensures saved { OnOk result (SavesAllWhereAsked (F.made files.old) (F.made files.new) (option_map (λ path. path.now) request.now.journals) (journals_of texts.shown.items (option_map (λ journal. journal.items) texts.endless))) }
     ensures finding { IfOk result (λ found. found ≡ finding_of texts.claim (length texts.shown.items)) }
@@ -97,12 +103,12 @@ fn tell_texts<F: Files, O: Write>(
         ⊎ (Appends (O.contents out.old) (O.contents out.new) last.now
         × SavesSomeWhereAsked (F.made files.old) (F.made files.new) (option_map (λ path. path.now) request.now.journals) (journals_of texts.shown.items (option_map (λ journal. journal.items) texts.endless)))) }
 {
-    let Texts {
+    let FoundTexts {
         claim,
         shown,
         endless,
     } = texts;
-    let found = Finding::of(claim, shown.len());
+    let found = SearchFinding::of(claim, shown.len());
     let journals = with_endless(alloc, shown, endless)?;
     let all = journals.as_slice();
     let (file, prefix) = (request.file, request.journals);
@@ -151,21 +157,21 @@ fn running(alloc: Global, moves: Vec<Entry>) -> Shown<Entry, End>
 fn find_texts<P: Progress>(
     alloc: Global,
     design: &Design,
-    extent: Extent,
+    search_options: SearchOptions,
     known: Vec<Shown<Entry, End>>,
     progress: &P,
-) -> Result<Texts, AllocError>
-    requires can { CanSearch extent }
-    requires lawful { All (IsLawful design.now (limits_in extent)) known.items }
+) -> Result<FoundTexts, AllocError>
+    requires can { CanSearch search_options }
+    requires lawful { All (IsLawfulShown design.now (limits_in search_options)) known.items }
     requires distinct { AllPairs AreDistinct known.items }
-    requires few { length known.items ≤ extent.max_texts }
-    requires none { IfSome extent.samples (λ asked. known.items ≡ []) }
-    ensures found { IfOk result (λ texts. AreFound design.now extent texts.claim texts.shown.items (option_map (λ journal. journal.items) texts.endless)) }
+    requires few { length known.items ≤ search_options.max_texts }
+    requires none { IfSome search_options.samples (λ asked. known.items ≡ []) }
+    ensures found { IfOk result (λ texts. AreFound design.now search_options texts.claim texts.shown.items (option_map (λ journal. journal.items) texts.endless)) }
     ensures grown { IfOk result (λ texts. Extends known.items texts.shown.items) }
 {
-    match extent.samples {
-        Some(count) => sampled(alloc, design, extent, count, progress),
-        None => Ok(searched(alloc, design, extent, known, progress)),
+    match search_options.samples {
+        Some(count) => sampled(alloc, design, search_options, count, progress),
+        None => Ok(searched(alloc, design, search_options, known, progress)),
     }
 }
 
@@ -173,26 +179,26 @@ fn find_texts<P: Progress>(
 fn searched<P: Progress>(
     alloc: Global,
     design: &Design,
-    extent: Extent,
+    search_options: SearchOptions,
     known: Vec<Shown<Entry, End>>,
     progress: &P,
-) -> Texts
-    requires can { CanSearch extent }
-    requires all { extent.samples ≡ None }
-    requires lawful { All (IsLawful design.now (limits_in extent)) known.items }
+) -> FoundTexts
+    requires can { CanSearch search_options }
+    requires all { search_options.samples ≡ None }
+    requires lawful { All (IsLawfulShown design.now (limits_in search_options)) known.items }
     requires distinct { AllPairs AreDistinct known.items }
-    requires few { length known.items ≤ extent.max_texts }
-    ensures found { AreFound design.now extent result.claim result.shown.items (option_map (λ journal. journal.items) result.endless) }
+    requires few { length known.items ≤ search_options.max_texts }
+    ensures found { AreFound design.now search_options result.claim result.shown.items (option_map (λ journal. journal.items) result.endless) }
     ensures grown { Extends known.items result.shown.items }
 {
     let limits = Limits {
-        until: extent.until,
-        max_entries: extent.max_entries,
+        until: search_options.until,
+        max_entries: search_options.max_entries,
     };
     let bounds = Bounds {
-        nodes: extent.max_states as usize,
-        shown: extent.max_texts as usize,
-        bytes: extent.max_memory as usize * MEGABYTE,
+        nodes: search_options.max_states as usize,
+        shown: search_options.max_texts as usize,
+        bytes: search_options.max_memory as usize * MEGABYTE,
     };
     let explored = lawful_orders(alloc, design, limits, bounds, progress);
     progress.end();
@@ -203,12 +209,12 @@ fn searched<P: Progress>(
         endless,
     } = explored;
     let mut shown = known;
-    let added = add_all(&mut shown, others, extent.max_texts as usize);
+    let added = add_all(&mut shown, others, search_options.max_texts as usize);
     let stopped = stop_of(stopped, added);
     let endless = endless_of(stopped, endless);
     let number = number_of(&endless, shown.as_slice());
-    let claim = claim_of(extent, stopped, nodes, number);
-    Texts {
+    let claim = claim_of(search_options, stopped, nodes, number);
+    FoundTexts {
         claim,
         shown,
         endless,
@@ -218,7 +224,7 @@ fn searched<P: Progress>(
 /// For what a search stopped whose texts were put behind those that are known: for its own reason, for the most texts where one of them was left out, and for want of
 /// memory where that was refused to them.
 fn stop_of(stopped: Option<Stopped>, added: Result<bool, AllocError>) -> Option<Stopped>
-    ensures { result ≡ stop_of stopped added }
+    ensures { result ≡ search_stop_of stopped added }
 {
     match added {
         Ok(true) => stopped,
@@ -259,19 +265,24 @@ fn number_of(endless: &Option<Vec<Entry>>, shown: &[Shown<Entry, End>]) -> Optio
 }
 
 /// What is claimed of the texts of a search.
-fn claim_of(extent: Extent, stopped: Option<Stopped>, nodes: usize, endless: Option<usize>) -> Claim
-    ensures { result ≡ claim_of extent stopped nodes endless }
+fn claim_of(
+    search_options: SearchOptions,
+    stopped: Option<Stopped>,
+    nodes: usize,
+    endless: Option<usize>,
+) -> Claim
+    ensures { result ≡ claim_of search_options stopped nodes endless }
 {
     match stopped {
         None => Claim::Every {
             states: nodes as u64,
             endless,
         },
-        Some(Stopped::Nodes) => Claim::SoFar(Met::States(extent.max_states)),
-        Some(Stopped::Shown) => Claim::SoFar(Met::Texts(extent.max_texts)),
-        Some(Stopped::Unfollowed) => Claim::SoFar(Met::Entries(extent.max_entries)),
-        Some(Stopped::Bytes) => Claim::SoFar(Met::Megabytes(extent.max_memory)),
-        Some(Stopped::Memory) => Claim::SoFar(Met::Memory),
+        Some(Stopped::Nodes) => Claim::SoFar(SearchStop::States(search_options.max_states)),
+        Some(Stopped::Shown) => Claim::SoFar(SearchStop::Texts(search_options.max_texts)),
+        Some(Stopped::Unfollowed) => Claim::SoFar(SearchStop::Entries(search_options.max_entries)),
+        Some(Stopped::Bytes) => Claim::SoFar(SearchStop::Megabytes(search_options.max_memory)),
+        Some(Stopped::Memory) => Claim::SoFar(SearchStop::Memory),
     }
 }
 
@@ -288,16 +299,16 @@ fn ends_differ(shown: &[Shown<Entry, End>]) -> bool
 /// What is said of the texts.
 fn last_lines<'a>(
     alloc: Global,
-    texts: &'a Texts,
-    extent: Extent,
+    texts: &'a FoundTexts,
+    search_options: SearchOptions,
     prefix: Option<&'a str>,
 ) -> Result<Vec<u8>, AllocError>
-    ensures { IfOk result (λ last. IsToldLast extent (option_map (λ path. path.now) prefix.entry) texts.entry.now.claim texts.entry.now.shown.items last.items) }
+    ensures { IfOk result (λ last. IsToldLast search_options (option_map (λ path. path.now) prefix.entry) texts.entry.now.claim texts.entry.now.shown.items last.items) }
 {
     let shown = texts.shown.as_slice();
     let verdict = Verdict {
         claim: texts.claim,
-        until: extent.until,
+        until: search_options.until,
         count: shown.len(),
         ends: ends_differ(shown),
         first: first_of(shown),

@@ -8,7 +8,7 @@ use verdict::Claim;
 /// The texts that were found, each with its end and a journal, what is claimed of them, and the journal of a lawful run that comes to no end, where it is claimed that
 /// there are such runs.
 #[derive(Drop)]
-pub struct Texts {
+pub struct FoundTexts {
     pub claim: Claim,
     pub shown: Vec<Shown<Entry, End>>,
     pub endless: Option<Vec<Entry>>,

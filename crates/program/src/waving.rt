@@ -10,7 +10,7 @@ ghost use Rattle.model.specs.Journal.{IsJournal};
 ghost use Rattle.program.specs.Printed.{HasDumped, HasEnded, IsDumpOf};
 
 use crate::ending::Ending;
-use crate::fault::Fault;
+use crate::fault::CommandFault;
 use arguments::WavesRequest;
 use design::Design;
 use files::{Files, begin_at, open_file, read_file, save_text, spare_source};
@@ -29,7 +29,7 @@ pub fn dump_waves<'a, F: Files>(
     alloc: Global,
     request: &WavesRequest<'a>,
     files: &mut F,
-) -> Result<Ending, Fault<'a>>
+) -> Result<Ending, CommandFault<'a>>
     ensures dumped { OnOk result (HasDumped (F.held files.old) request.now.file.now request.now.journal.now request.now.out.now (F.made files.old) (F.made files.new)) }
     ensures unsaved { OnErr result (KeepsFiles (F.made files.old) (F.made files.new)) }
     ensures source_spared { OnOk result (LeadsElsewhere (F.alike files.old) request.now.file.now (Some request.now.out.now)) }
@@ -55,13 +55,16 @@ pub fn dump_waves<'a, F: Files>(
 }
 
 /// The entries of a journal that is left to read.
-fn entries_of<R: Read + Drop>(alloc: Global, journal: R) -> Result<Vec<Entry>, Fault<'static>>
+fn entries_of<R: Read + Drop>(
+    alloc: Global,
+    journal: R,
+) -> Result<Vec<Entry>, CommandFault<'static>>
     ensures { IfSome (R.remaining journal) (λ bytes. IfOk result (λ entries. IsJournal bytes entries.items)) }
 {
     let mut journal = Counted::new(journal);
     match read_journal(alloc, &mut journal) {
         Ok(entries) => Ok(entries),
-        Err(fault) => Err(Fault::Replay(BytesFault::Read(fault))),
+        Err(fault) => Err(CommandFault::Replay(BytesFault::Read(fault))),
     }
 }
 
@@ -72,18 +75,20 @@ fn dump_of<P: Progress>(
     design: &Design,
     entries: &[Entry],
     progress: &P,
-) -> Result<Vec<u8>, Fault<'static>>
+) -> Result<Vec<u8>, CommandFault<'static>>
     ensures { IfOk result (λ text. IsDumpOf source.now design.now entries.now text.items) }
 {
     let told = waves(alloc, design, entries, progress);
     progress.end();
     let wave = match told {
         Ok(wave) => wave,
-        Err(WaveFault::Replay(fault)) => return Err(Fault::Replay(BytesFault::Replay(fault))),
-        Err(WaveFault::Memory) => return Err(Fault::Memory),
+        Err(WaveFault::Replay(fault)) => return Err(CommandFault::Replay(BytesFault::Replay(
+            fault,
+        ))),
+        Err(WaveFault::Memory) => return Err(CommandFault::Memory),
     };
     match parse(alloc, source) {
         Ok(module) => Ok(value_change_dump(alloc, module.name.as_str(), design, &wave)?),
-        Err(fault) => Err(Fault::Source(SourceFault::Parse(fault))),
+        Err(fault) => Err(CommandFault::Source(SourceFault::Parse(fault))),
     }
 }

@@ -1,5 +1,2 @@
--- The proofs of the laws of a design's runs.
-pub mod Searches
-pub mod Ways
-pub mod Expansions
-pub mod Remade
+-- Lemmas of lists, and of races beside others.
+pub mod Kept

@@ -1,6 +1,2 @@
-pub mod Again
-pub mod DesignRuns
-pub mod Expanding
-pub mod SearchNodes
-pub mod Following
-pub mod Serving
+pub mod RunEndings
+pub mod Races

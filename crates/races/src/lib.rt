@@ -1,22 +1,40 @@
-//! The races of a design: its lawful orders, searched.
+//! The races of a design, named from one run's turns, and each shown by a second run.
 //!
-//! 1. A `DesignNode` is where a journal has come to: the machine that took its entries.
-//! 2. `expand` follows each entry that the rules permit from a node, and tells the ends that a run may have there. Where one
-//!    order stands for all, `walk_on` of `walks` goes on by it.
-//! 3. Where the search asks for the node of a journal that it didn't keep, `again` takes the entries from a node that it kept.
-//! 4. `lawful_orders` gives that to the search of `explore`. What it shows are texts and ends of lawful journals, and where it
-//!    answers that all is covered, those of every lawful journal in time.
+//! 1. `find_races` makes one run of the design, and takes the first entry that the rules permit at each choice (`recorder`).
+//! 2. Beside the machine it notes what each entry did: which registers its turn read, wrote, assigned or began to wait for,
+//!    whether it printed, and which entry made its event. These notes are kept from one change of the regions to the next
+//!    (`segment`).
+//! 3. Two entries of one segment conflict where the later one doesn't need the earlier one and one changes what the other reads, writes or
+//!    waits for, or both assign a register other values, or both print; and an entry that finishes the run conflicts with those before it, and
+//!    with the events that it leaves behind (`conflicts`).
+//! 4. A conflict is tried by a second run (`exchange`, and `follow` for its parts), in which the order of the two alone is turned: the first run
+//!    up to the earlier entry, what stands between the two and doesn't depend on the earlier one (`depend`), the later one, the earlier
+//!    one, and then the transitions of the first run as far as they may be taken. Where entries between the two tie them together, it is compared
+//!    with another one too, in which the two keep their order behind the same entries. They are lawful since a machine made
+//!    them.
+//! 5. Where the second run is apart from the first, a machine that is led to the two entries in the first
+//!    run confirms what each does there, and one led to them in the second that they come the other way round (the crate `accesses`).
+//!    Then it is a race (`trials`).
 //!
-//! The definitions stand in `specs/`: what the runs of a design are to a search, and what it says of the lawful journals that a
-//! search has shown texts and ends, and all of them. What those journals are stands in `walks`. `laws` carries what is proved of them
-//! besides.
+//! What the layer above uses: the contract of `find_races`. The first run and that of each race are lawful and in time, their
+//! lines and ends are told, and the two are apart; the two processes do in the first run what the race says, and come the other way
+//! round in the second. No race is told twice, and what cut the list is told.
 #![tactic(auto)]
 
-mod again;
-mod expand;
-mod lawful;
-pub mod laws;
-mod node;
+mod conflicts;
+mod counts;
+mod depend;
+mod exchange;
+mod follow;
+mod journaled_machine;
+mod race_search;
+mod recorder;
+mod search;
+mod segment;
+mod step_set;
+mod told;
+mod transitions;
+mod trials;
 
-pub use lawful::lawful_orders;
-pub use node::DesignNode;
+pub use search::find_races;
+pub use told::{Bound, Found, Race, RaceBounds};

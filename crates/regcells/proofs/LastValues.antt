@@ -4,11 +4,11 @@ use Rattle.std.proofs.Math.Seq.{map-set_same}
 use Rattle.std.proofs.lemmas.List.{map-set, length-map}
 use Rattle.logic4.specs.Vector.{Vector}
 use Rattle.model.specs.Expressions.{value_of}
-use Rattle.turn.specs.Nets.{altered}
+use Rattle.turn.specs.TurnChanges.{altered}
 use Rattle.turn.proofs.Known.{ne_of}
 use Rattle.regions.specs.Past.{last_of}
 use Rattle.regcells.specs.Values.{last_value, values_after}
-use Rattle.regcells.specs.CellSeats.{Named, Fresh, seen_of, with_seen, last_values, changes_left, IsOf}
+use Rattle.regcells.specs.CellSeats.{RegisterIdentity, Fresh, seen_of, with_seen, last_values, changes_left, IsOfRegisters}
 use Rattle.regcells.proofs.Lasts.{last_given, length-given}
 
 -- what the holder has seen once it has given a register these values
@@ -20,7 +20,7 @@ values_given f r given x is =
     map-set last_value f.seen r (values_after (seen_of f r) given) ∙ ap (λ (v : Vector). set (last_values f) r v) (last_given (seen_of f r) given ∙ is)
 
 -- a value of the register's width leaves the widths
-pub ready_given : (registers : List Named) (f : Fresh) (r : ℕ) (given : List Vector) (x : Vector) → IsOf registers f → last_of (last_value (seen_of f r)) given ≡ x → length x ≡ length (value_of (last_values f) r) → IsOf registers (with_given f r given)
+pub ready_given : (registers : List RegisterIdentity) (f : Fresh) (r : ℕ) (given : List Vector) (x : Vector) → IsOfRegisters registers f → last_of (last_value (seen_of f r)) given ≡ x → length x ≡ length (value_of (last_values f) r) → IsOfRegisters registers (with_given f r given)
 ready_given registers f r given x h is wide =
     record {
       cells = h.cells;

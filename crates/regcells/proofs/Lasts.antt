@@ -8,11 +8,11 @@ use Rattle.crossbeam_utils.specs.Seq.{cell_view}
 use Rattle.logic4.specs.Vector.{Vector}
 use Rattle.logic4.specs.Operators.{same_vector}
 use Rattle.logic4.specs.Sameness.{same_vector-true}
-use Rattle.turn.specs.declared.log.Net.{Net}
-use Rattle.turn.specs.Nets.{altered}
-use Rattle.regions.specs.Past.{last_of, IsNetOf}
+use Rattle.turn.specs.declared.log.TurnChange.{TurnChange}
+use Rattle.turn.specs.TurnChanges.{altered}
+use Rattle.regions.specs.Past.{last_of, IsTurnChangeOf}
 use Rattle.regcells.specs.RegisterRule.{holder}
-use Rattle.regcells.specs.Values.{width_of, last_value, values_after}
+use Rattle.regcells.specs.Values.{register_width, last_value, values_after}
 use Rattle.regcells.specs.Passes.{RegPass, seen_by, IsHolding}
 
 -- ---- the end of a list
@@ -61,7 +61,7 @@ pub last_given : (values given : List Vector) → last_value (values_after value
 last_given values given = last_of-append [] values (altered (last_value values) given) ∙ last_of-altered (last_value values) given
 
 -- a longer list is as wide
-pub width_given : (values given : List Vector) → 0 < length values → width_of (values_after values given) ≡ width_of values
+pub width_given : (values given : List Vector) → 0 < length values → register_width (values_after values given) ≡ register_width values
 width_given [] given h = absurd (omega arith)
 width_given (y ∷ ys) given h = refl
 
@@ -81,38 +81,38 @@ none_given values given none = by_list (altered (last_value values) given) none
 pub length-given : (values given : List Vector) → length (values_after values given) ≡ length values + length (altered (last_value values) given)
 length-given values given = length-append values (altered (last_value values) given)
 
--- ---- nets
+-- ---- turn changes
 
--- the net has the last of its values
-pub net_last : (given : List Vector) (net : Net) (v : Vector) → IsNetOf given net → last_of v given ≡ net.last
-net_last [] net v h = absurd h
-net_last (u ∷ us) net v h = sym h.2
+-- the turn change has the last of its values
+pub turn_change_last : (given : List Vector) (turn_change : TurnChange) (v : Vector) → IsTurnChangeOf given turn_change → last_of v given ≡ turn_change.last
+turn_change_last [] turn_change v h = absurd h
+turn_change_last (u ∷ us) turn_change v h = sym h.2
 
 last_wide : (u : Vector) (us : List Vector) (w : ℕ) → length u ≡ w → All (λ v. length v ≡ w) us → length (last_of u us) ≡ w
 last_wide u [] w h all = h
 last_wide u (v ∷ us) w h all = last_wide v us w (All-head (λ v. length v ≡ w) v us all) (All-tail (λ v. length v ≡ w) v us all)
 
--- where all values of a net have a width, its last has it
-pub net_width : (given : List Vector) (net : Net) (w : ℕ) → IsNetOf given net → All (λ v. length v ≡ w) given → length net.last ≡ w
-net_width [] net w h all = absurd h
-net_width (u ∷ us) net w h all = ap length h.2 ∙ last_wide u us w (All-head (λ v. length v ≡ w) u us all) (All-tail (λ v. length v ≡ w) u us all)
+-- where all values of a turn change have a width, its last has it
+pub turn_change_width : (given : List Vector) (turn_change : TurnChange) (w : ℕ) → IsTurnChangeOf given turn_change → All (λ v. length v ≡ w) given → length turn_change.last ≡ w
+turn_change_width [] turn_change w h all = absurd h
+turn_change_width (u ∷ us) turn_change w h all = ap length h.2 ∙ last_wide u us w (All-head (λ v. length v ≡ w) u us all) (All-tail (λ v. length v ≡ w) u us all)
 
--- how many values a net adds
-pub net_changes : (b : Bool) (given : List Vector) (net : Net) (v : Vector) → same_vector v net.first ≡ b → IsNetOf given net → length (altered v given) ≡ (if b then net.changes else net.changes + 1)
-net_changes b [] net v is h = absurd h
-net_changes true (u ∷ us) net v is h =
-    let same : v ≡ u = same_vector-true v net.first is ∙ h.0 in
+-- how many values a turn change adds
+pub turn_change_changes : (b : Bool) (given : List Vector) (turn_change : TurnChange) (v : Vector) → same_vector v turn_change.first ≡ b → IsTurnChangeOf given turn_change → length (altered v given) ≡ (if b then turn_change.changes else turn_change.changes + 1)
+turn_change_changes b [] turn_change v is h = absurd h
+turn_change_changes true (u ∷ us) turn_change v is h =
+    let same : v ≡ u = same_vector-true v turn_change.first is ∙ h.0 in
     let is' : same_vector v u ≡ true = ap (same_vector v) (sym h.0) ∙ is in
     ap length (altered_here true v u us is') ∙ ap (λ w. length (altered w us)) same ∙ sym h.1
-net_changes false (u ∷ us) net v is h =
+turn_change_changes false (u ∷ us) turn_change v is h =
     let is' : same_vector v u ≡ false = ap (same_vector v) (sym h.0) ∙ is in
     let more : length (altered v (u ∷ us)) ≡ length (u ∷ altered u us) = ap length (altered_here false v u us is') in
     omega (arith, more, h.1)
 
 -- at most one more than its later values that differ
-pub few_changes : (b : Bool) (given : List Vector) (net : Net) (v : Vector) → same_vector v net.first ≡ b → IsNetOf given net → length (altered v given) ≤ net.changes + 1
-few_changes true given net v is h = omega (arith, net_changes true given net v is h)
-few_changes false given net v is h = omega (arith, net_changes false given net v is h)
+pub few_changes : (b : Bool) (given : List Vector) (turn_change : TurnChange) (v : Vector) → same_vector v turn_change.first ≡ b → IsTurnChangeOf given turn_change → length (altered v given) ≤ turn_change.changes + 1
+few_changes true given turn_change v is h = omega (arith, turn_change_changes true given turn_change v is h)
+few_changes false given turn_change v is h = omega (arith, turn_change_changes false given turn_change v is h)
 
 -- ---- the holder's pass
 
@@ -123,19 +123,19 @@ same_holding p q h same =
     record {
       all = same ∙ h.all ∙ ap holder (sym seen);
       begun = subst (λ l. 0 < length l) (sym seen) h.begun;
-      width = subst (λ l. length (last_value l) ≡ width_of l) (sym seen) h.width;
+      width = subst (λ l. length (last_value l) ≡ register_width l) (sym seen) h.width;
     }
 
 -- the holder's pass, after some values of the register's width were given
-pub given_holding : (p q : RegPass) (given : List Vector) (net : Net) (w : ℕ) → IsHolding p → cell_view q ≡ holder (values_after (seen_by p) given) → IsNetOf given net → All (λ v. length v ≡ w) given → w ≡ width_of (seen_by p) → IsHolding q
-given_holding p q given net w h more is all wide =
+pub given_holding : (p q : RegPass) (given : List Vector) (turn_change : TurnChange) (w : ℕ) → IsHolding p → cell_view q ≡ holder (values_after (seen_by p) given) → IsTurnChangeOf given turn_change → All (λ v. length v ≡ w) given → w ≡ register_width (seen_by p) → IsHolding q
+given_holding p q given turn_change w h more is all wide =
     let values = values_after (seen_by p) given in
     let seen : seen_by q ≡ values = ap (λ u. u.seen) more in
-    let last : last_value values ≡ net.last = last_given (seen_by p) given ∙ net_last given net (last_value (seen_by p)) is in
+    let last : last_value values ≡ turn_change.last = last_given (seen_by p) given ∙ turn_change_last given turn_change (last_value (seen_by p)) is in
     record {
       all = more ∙ ap holder (sym seen);
       begun = subst (λ l. 0 < length l) (sym seen) (let b = h.begun in omega (arith, length-given (seen_by p) given));
-      width = subst (λ l. length (last_value l) ≡ width_of l) (sym seen) (ap length last ∙ net_width given net w is all ∙ wide ∙ sym (width_given (seen_by p) given h.begun));
+      width = subst (λ l. length (last_value l) ≡ register_width l) (sym seen) (ap length last ∙ turn_change_width given turn_change w is all ∙ wide ∙ sym (width_given (seen_by p) given h.begun));
     }
 
 -- the holder's pass of a new register
@@ -145,5 +145,5 @@ new_holding p v is =
     record {
       all = is ∙ ap holder (sym seen);
       begun = subst (λ l. 0 < length l) (sym seen) (omega arith);
-      width = subst (λ l. length (last_value l) ≡ width_of l) (sym seen) refl;
+      width = subst (λ l. length (last_value l) ≡ register_width l) (sym seen) refl;
     }

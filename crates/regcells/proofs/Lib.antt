@@ -5,4 +5,4 @@ pub mod Moves
 pub mod Tables
 pub mod LastValues
 pub mod Places
-pub mod NetRegisters
+pub mod TurnChangeRegisters

@@ -8,9 +8,9 @@ use Rattle.atomic_table.proofs.Lists.{at_set, at_snoc, set_again}
 use Rattle.logic4.specs.Vector.{Vector}
 use Rattle.regcells.specs.declared.rule.View.{View}
 use Rattle.regcells.specs.CellWords.{version_in, value_in, HoldValue}
-use Rattle.turn.specs.Nets.{altered}
-use Rattle.regcells.specs.Values.{width_of, last_value, values_after}
-use Rattle.regcells.specs.RegisterRule.{holder, reader, informed, IsEnd, IsEndOnceBegun, Fits, CellInvariant, Looked, Checked, Stored}
+use Rattle.turn.specs.TurnChanges.{altered}
+use Rattle.regcells.specs.Values.{register_width, last_value, values_after}
+use Rattle.regcells.specs.RegisterRule.{holder, reader, informed, IsEnd, IsEndOnceBegun, FitsRegisterPass, CellInvariant, HasLoadedRegister, HasCheckedRegister, Stored}
 use Rattle.regcells.proofs.Beginnings.{prefix_self, prefix_trans, prefix_length}
 use Rattle.regcells.proofs.Lasts.{at_end}
 
@@ -34,12 +34,12 @@ end_once_begun (x ∷ xs) words e = e
 -- one pass changes its view, and the list only grows
 pub fits_set : (seat : ℕ) (values now : List Vector) (views : List View) (by : ℕ) (w : View)
     → IsPrefix values now → (now ≡ values) ⊎ (by ≡ seat)
-    → ((j : ℕ) (u : View) → get_elem? views j ≡ some u → Fits seat values j u)
-    → Fits seat now by w
-    → (j : ℕ) (u : View) → get_elem? (set views by w) j ≡ some u → Fits seat now j u
+    → ((j : ℕ) (u : View) → get_elem? views j ≡ some u → FitsRegisterPass seat values j u)
+    → FitsRegisterPass seat now by w
+    → (j : ℕ) (u : View) → get_elem? (set views by w) j ≡ some u → FitsRegisterPass seat now j u
 fits_set seat values now views by w grows who old mine j u e =
     ⊎_elim
-    (λ (x : (j ≡ by) × (w ≡ u)). subst (λ (y : ℕ × View). Fits seat now y.0 y.1) (λ i. (sym x.0 i, x.1 i)) mine)
+    (λ (x : (j ≡ by) × (w ≡ u)). subst (λ (y : ℕ × View). FitsRegisterPass seat now y.0 y.1) (λ i. (sym x.0 i, x.1 i)) mine)
     (λ (x : (j ≢ by) × (get_elem? views j ≡ some u)).
     let f = old j u x.1 in
     ((λ (h : u.holds ≡ true). ((f.0 h).0, ⊎_elim (λ (s : now ≡ values). (f.0 h).1 ∙ sym s) (λ (s : by ≡ seat). absurd (x.0 ((f.0 h).0 ∙ sym s))) who)), prefix_trans _ _ _ f.1 grows, prefix_trans _ _ _ f.2 grows))
@@ -48,18 +48,18 @@ fits_set seat values now views by w grows who old mine j u e =
 pub begins : (words : List ℕ) → CellInvariant words (holder [] ∷ [])
 begins words = (0, [], tt, one)
   where
-    one : (by : ℕ) (v : View) → get_elem? (holder [] ∷ []) by ≡ some v → Fits 0 [] by v
-    one zero v e = subst (Fits 0 [] 0) (some-injective _ _ e) ((λ _. (refl, refl)), nothing_begins [], nothing_begins [])
+    one : (by : ℕ) (v : View) → get_elem? (holder [] ∷ []) by ≡ some v → FitsRegisterPass 0 [] by v
+    one zero v e = subst (FitsRegisterPass 0 [] 0) (some-injective _ _ e) ((λ _. (refl, refl)), nothing_begins [], nothing_begins [])
     one (suc by) v e = absurd (some-ne-none v (sym e))
 
-pub looks : (by : ℕ) (v : View) → 0 < length v.seen → Turns CellInvariant by v (λ x. x) Looked
+pub looks : (by : ℕ) (v : View) → 0 < length v.seen → Turns CellInvariant by v (λ x. x) HasLoadedRegister
 looks by v some_seen words views h at =
     let mine = h.3 by v at in
     let long : 0 < length h.1 = let l = prefix_length v.seen h.1 mine.1 in omega arith in
     let w = reader h.1 in
     (w, (h.0, h.1, h.2, fits_set h.0 h.1 h.1 views by w (prefix_self h.1) (inl refl) h.3 ((λ c. absurd (off c)), prefix_self h.1, nothing_begins h.1)), (refl, mine.1, mine.2, begun h.1 words long h.2))
 
-pub checks : (by : ℕ) (v : View) → v.holds ≡ true → 0 < length v.seen → Turns CellInvariant by v (λ x. x) Checked
+pub checks : (by : ℕ) (v : View) → v.holds ≡ true → 0 < length v.seen → Turns CellInvariant by v (λ x. x) HasCheckedRegister
 checks by v holds some_seen words views h at =
     let mine = h.3 by v at in
     let all : v.seen ≡ h.1 = (mine.0 holds).1 in
@@ -71,7 +71,7 @@ checks by v holds some_seen words views h at =
     )
 
 -- the words of the last value and of its place are the end of the list
-pub end_of : (values : List Vector) (x : Vector) (words : List ℕ) → x ≡ last_value values → length values ≡ version_in words + 1 → value_in (length x) words ≡ x → HoldValue (length x) words → width_of values ≡ length x → IsEnd values words
+pub end_of : (values : List Vector) (x : Vector) (words : List ℕ) → x ≡ last_value values → length values ≡ version_in words + 1 → value_in (length x) words ≡ x → HoldValue (length x) words → register_width values ≡ length x → IsEnd values words
 end_of values x words last version value hold wide =
     record {
       last = at_end values (version_in words) version ∙ ap Some (sym last ∙ sym value ∙ ap (λ w. value_in w words) (sym wide));
@@ -102,7 +102,7 @@ notes by v words views h at = (
   h.2,
   λ j u e. ⊎_elim
       (λ was. h.3 j u (subst (λ l. get_elem? l j ≡ some u) (set_again views by v at) was))
-      (λ (same : reader v.seen ≡ u). subst (Fits h.0 h.1 j) same ((λ c. absurd (off c)), (h.3 by v at).1, nothing_begins h.1))
+      (λ (same : reader v.seen ≡ u). subst (FitsRegisterPass h.0 h.1 j) same ((λ c. absurd (off c)), (h.3 by v at).1, nothing_begins h.1))
       (at_snoc (set views by v) (reader v.seen) u j e),
 )
 

@@ -8,8 +8,8 @@ use Rattle.crossbeam_utils.specs.Seq.{cell_view}
 use Rattle.regcells.proofs.Lasts.{same_holding}
 use Rattle.regcells.specs.declared.register.Register.{Register}
 use Rattle.regcells.specs.Values.{values_after}
-use Rattle.regcells.specs.CellSeats.{Named, Fresh, seen_of, with_seen, widths_of, last_values}
-use Rattle.regcells.specs.Passes.{RegPass, name_of_pass, name_of_register, seen_by, fresh_by, IsBegun, AllBegun, IsHolding, AllHold}
+use Rattle.regcells.specs.CellSeats.{RegisterIdentity, Fresh, seen_of, with_seen, register_widths, last_values}
+use Rattle.regcells.specs.Passes.{RegPass, name_of_pass, name_of_register, seen_by, fresh_by, HasSeenValue, AllBegun, IsHolding, AllHold}
 
 module _ {A : Type 0} where
   -- the element at an index is there
@@ -39,7 +39,7 @@ same_name f g (x ∷ xs) [] r p q e h at there = absurd (cc e)
 same_name f g (x ∷ xs) (y ∷ ys) zero p q e h at there = let head : f x ≡ g y = cc e in ap f at ∙ head ∙ sym (ap g there)
 same_name f g (x ∷ xs) (y ∷ ys) (suc r) p q e h at there = same_name f g xs ys r p q (cc e) (omega arith) at there
 
-pub within : (xs : List RegPass) (old : Fresh) (names : List Named) (r : ℕ) → fresh_by xs ≡ old → old.cells ≡ names → r < length names → r < length xs
+pub within : (xs : List RegPass) (old : Fresh) (names : List RegisterIdentity) (r : ℕ) → fresh_by xs ≡ old → old.cells ≡ names → r < length names → r < length xs
 within xs old names r is cells h = omega (arith, length-map xs name_of_pass, ap length (ap (λ (f : Fresh). f.cells) is ∙ cells))
 
 pub seen_at : (xs : List RegPass) (old : Fresh) (r : ℕ) (p : RegPass) → fresh_by xs ≡ old → r < length xs → p ≡ get_or xs r p → seen_of old r ≡ seen_by p
@@ -85,7 +85,7 @@ more_notes passes notes old r p one is h at name seen so_far =
     let this : get_or old.cells r (name_of_pass p) ≡ name_of_pass p = ap (λ (f : Fresh). get_or f.cells r (name_of_pass p)) (sym is) ∙ get_or-map name_of_pass passes r p (name_of_pass p) h ∙ sym (ap name_of_pass at) in
     let that : get_or old.seen r [] ≡ seen_by p = seen_at passes old r p is h at in
     let cells : map name_of_pass (notes ++ one ∷ []) ≡ take (r + 1) old.cells =
-    map-append name_of_pass notes (one ∷ []) ∙ ap (λ (f : Fresh). f.cells ++ name_of_pass one ∷ []) so_far ∙ ap (λ (n : Named). take r old.cells ++ n ∷ []) (name ∙ sym this) ∙ sym (take_more old.cells r (name_of_pass p) here) in
+    map-append name_of_pass notes (one ∷ []) ∙ ap (λ (f : Fresh). f.cells ++ name_of_pass one ∷ []) so_far ∙ ap (λ (n : RegisterIdentity). take r old.cells ++ n ∷ []) (name ∙ sym this) ∙ sym (take_more old.cells r (name_of_pass p) here) in
     let all : map seen_by (notes ++ one ∷ []) ≡ take (r + 1) old.seen =
     map-append seen_by notes (one ∷ []) ∙ ap (λ (f : Fresh). f.seen ++ seen_by one ∷ []) so_far ∙ ap (λ (n : List Vector). take r old.seen ++ n ∷ []) (seen ∙ sym that) ∙ sym (take_more old.seen r [] there) in
     λ i. record { cells = cells i; seen = all i }
@@ -101,24 +101,24 @@ pub held_set : (xs : List RegPass) (r : ℕ) (p q : RegPass) → AllHold xs → 
 held_set xs r p q all h at same = each_set IsHolding xs r q all (same_holding p q (all r p (at_index xs r p h at)) same)
 
 -- the width of a register
-pub width_at : (xs : List Register) (names : List Named) (r : ℕ) (q : Register) → map name_of_register xs ≡ names → r < length names → q ≡ get_or xs r q → slice_index (widths_of names) r ≡ q.width
+pub width_at : (xs : List Register) (names : List RegisterIdentity) (r : ℕ) (q : Register) → map name_of_register xs ≡ names → r < length names → q ≡ get_or xs r q → slice_index (register_widths names) r ≡ q.width
 width_at xs names r q is h at =
     let long : r < length xs = omega (arith, length-map xs name_of_register, ap length is) in
     let longer : r < length (map name_of_register xs) = omega (arith, length-map xs name_of_register) in
-    sym (ap (λ l. slice_index (widths_of l) r) is)
-    ∙ get_or-map (λ (n : Named). n.width) (map name_of_register xs) r (name_of_register q) 0 longer
-    ∙ ap (λ (n : Named). n.width) (get_or-map name_of_register xs r q (name_of_register q) long)
+    sym (ap (λ l. slice_index (register_widths l) r) is)
+    ∙ get_or-map (λ (n : RegisterIdentity). n.width) (map name_of_register xs) r (name_of_register q) 0 longer
+    ∙ ap (λ (n : RegisterIdentity). n.width) (get_or-map name_of_register xs r q (name_of_register q) long)
     ∙ ap (λ (u : Register). u.width) (sym at)
 
 -- the last values of the holder's passes have the widths of their registers
-pub last_widths : (xs : List RegPass) → AllHold xs → map length (last_values (fresh_by xs)) ≡ widths_of (fresh_by xs).cells
+pub last_widths : (xs : List RegPass) → AllHold xs → map length (last_values (fresh_by xs)) ≡ register_widths (fresh_by xs).cells
 last_widths [] all = refl
 last_widths (p ∷ xs) all =
     let here = (all 0 p refl).width in
     let rest = last_widths xs (λ k q e. all (suc k) q e) in
     λ i. here i ∷ rest i
 
-pub widths_of_names : (xs : List Register) → widths_of (map name_of_register xs) ≡ map (λ (r : Register). r.width) xs
+pub widths_of_names : (xs : List Register) → register_widths (map name_of_register xs) ≡ map (λ (r : Register). r.width) xs
 widths_of_names [] = refl
 widths_of_names (r ∷ xs) = ap (λ l. r.width ∷ l) (widths_of_names xs)
 
@@ -131,9 +131,9 @@ pub hold_push : (xs : List RegPass) (p : RegPass) (ys : List RegPass) → ys ≡
 hold_push xs p ys more all one = subst AllHold (sym more) (each_push IsHolding xs p all one)
 
 -- one more pass of a seat
-pub begun_push : (xs : List RegPass) (p : RegPass) (ys : List RegPass) → ys ≡ xs ++ p ∷ [] → AllBegun xs → IsBegun p → AllBegun ys
-begun_push xs p ys more all one = subst AllBegun (sym more) (each_push IsBegun xs p all one)
+pub begun_push : (xs : List RegPass) (p : RegPass) (ys : List RegPass) → ys ≡ xs ++ p ∷ [] → AllBegun xs → HasSeenValue p → AllBegun ys
+begun_push xs p ys more all one = subst AllBegun (sym more) (each_push HasSeenValue xs p all one)
 
 -- a pass that has seen what another has seen
-pub as_begun : (p q : RegPass) → seen_by q ≡ seen_by p → 0 < length (seen_by p) → IsBegun q
+pub as_begun : (p q : RegPass) → seen_by q ≡ seen_by p → 0 < length (seen_by p) → HasSeenValue q
 as_begun p q same h = subst (λ (l : List Vector). 0 < length l) (sym same) h

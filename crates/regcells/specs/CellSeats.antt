@@ -5,17 +5,17 @@ use Rattle.logic4.specs.Vector.{Vector, unknown}
 use Rattle.regcells.specs.Values.{last_value, room_of}
 
 -- a register: what tells its cell from all others, and its width
-pub record Named : Type 0 where
+pub record RegisterIdentity : Type 0 where
   pub cell : TableId
   pub width : ℕ
 
 -- the widths of registers
-abbrev pub widths_of : List Named → List ℕ
-widths_of registers = map (λ r. r.width) registers
+abbrev pub register_widths : List RegisterIdentity → List ℕ
+register_widths registers = map (λ r. r.width) registers
 
 -- which registers they are, and of each of them the values that were seen
 pub record Fresh : Type 0 where
-  pub cells : List Named
+  pub cells : List RegisterIdentity
   pub seen : List (List Vector)
 
 -- what was seen of one register
@@ -39,6 +39,6 @@ abbrev pub changes_left : Fresh → ℕ → ℕ
 changes_left f r = room_of (seen_of f r)
 
 -- it is of these registers, and its last value of each has the register's width
-pub record IsOf (registers : List Named) (f : Fresh) : Type 0 where
+pub record IsOfRegisters (registers : List RegisterIdentity) (f : Fresh) : Type 0 where
   pub cells : f.cells ≡ registers
-  pub widths : map length (last_values f) ≡ widths_of registers
+  pub widths : map length (last_values f) ≡ register_widths registers

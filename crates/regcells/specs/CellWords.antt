@@ -3,15 +3,15 @@
 use Rattle.std.specs.Prelude.{ℕ, List, slice_index}
 use Rattle.logic4.specs.Vector.{Vector}
 use Rattle.logic4.specs.VectorWords.{AreWords, of_words}
-use Rattle.design.specs.Halves.{joined}
+use Rattle.design.specs.Halves.{joined_halves}
 
 -- the value's first word
 abbrev pub first_in : List ℕ → ℕ
-first_in words = joined (slice_index words 0) (slice_index words 1)
+first_in words = joined_halves (slice_index words 0) (slice_index words 1)
 
 -- the value's second word
 abbrev pub second_in : List ℕ → ℕ
-second_in words = joined (slice_index words 2) (slice_index words 3)
+second_in words = joined_halves (slice_index words 2) (slice_index words 3)
 
 -- the version in the words
 abbrev pub version_in : List ℕ → ℕ

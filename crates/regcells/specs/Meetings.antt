@@ -9,8 +9,8 @@ abbrev pub fresh_of : List (List Vector) → ℕ → List Vector
 fresh_of fresh r = slice_index_or fresh r []
 
 -- of each register what was seen has grown, if anything
-abbrev pub Rises : List (List Vector) → List (List Vector) → Type 0
-Rises old new = (r : ℕ) → IsPrefix (fresh_of old r) (fresh_of new r)
+abbrev pub HaveGrown : List (List Vector) → List (List Vector) → Type 0
+HaveGrown old new = (r : ℕ) → IsPrefix (fresh_of old r) (fresh_of new r)
 
 -- the recorded version is that of the last value
 abbrev pub IsCurrentOf : List (List Vector) → ℕ × Seen → Type 0

@@ -7,8 +7,8 @@ use Rattle.logic4.specs.Vector.{Vector}
 use Rattle.regcells.specs.declared.rule.View.{View}
 use Rattle.regcells.specs.declared.register.Register.{Register}
 use Rattle.regcells.specs.RegisterRule.{holder}
-use Rattle.regcells.specs.Values.{width_of, last_value}
-use Rattle.regcells.specs.CellSeats.{Named, Fresh}
+use Rattle.regcells.specs.Values.{register_width, last_value}
+use Rattle.regcells.specs.CellSeats.{RegisterIdentity, Fresh}
 
 abbrev pub RegPass : Type 0
 RegPass = Seat (List ℕ) (Doing (List ℕ) View)
@@ -18,11 +18,11 @@ abbrev pub seen_by : RegPass → List Vector
 seen_by p = (cell_view p).seen
 
 -- the register of a pass
-abbrev pub name_of_pass : RegPass → Named
-name_of_pass p = record { cell = p.table_id; width = width_of (seen_by p) }
+abbrev pub name_of_pass : RegPass → RegisterIdentity
+name_of_pass p = record { cell = p.table_id; width = register_width (seen_by p) }
 
 -- what tells a register from others
-abbrev pub name_of_register : Register → Named
+abbrev pub name_of_register : Register → RegisterIdentity
 name_of_register r = record { cell = r.cell.table.shared.table_id; width = r.width }
 
 -- what the passes have seen
@@ -30,18 +30,18 @@ abbrev pub fresh_by : List RegPass → Fresh
 fresh_by passes = record { cells = map name_of_pass passes; seen = map seen_by passes }
 
 -- it has seen a value
-abbrev pub IsBegun : RegPass → Type 0
-IsBegun p = 0 < length (seen_by p)
+abbrev pub HasSeenValue : RegPass → Type 0
+HasSeenValue p = 0 < length (seen_by p)
 
 -- each has seen a value
 abbrev pub AllBegun : List RegPass → Type 0
-AllBegun passes = (k : ℕ) (p : RegPass) → slice_get passes k ≡ Some p → IsBegun p
+AllBegun passes = (k : ℕ) (p : RegPass) → slice_get passes k ≡ Some p → HasSeenValue p
 
 -- it is the holder's, and the last value has the register's width
 pub record IsHolding (p : RegPass) : Type 0 where
   pub all : cell_view p ≡ holder (seen_by p)
   pub begun : 0 < length (seen_by p)
-  pub width : length (last_value (seen_by p)) ≡ width_of (seen_by p)
+  pub width : length (last_value (seen_by p)) ≡ register_width (seen_by p)
 
 -- each knows its register's whole list
 abbrev pub AllHold : List RegPass → Type 0

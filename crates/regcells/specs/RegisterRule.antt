@@ -6,7 +6,7 @@ use lib.ListN.{get_elem?}
 use Rattle.logic4.specs.Vector.{Vector}
 use Rattle.regcells.specs.declared.rule.View.{View}
 use Rattle.regcells.specs.CellWords.{version_in, value_in, HoldValue}
-use Rattle.regcells.specs.Values.{width_of, values_after}
+use Rattle.regcells.specs.Values.{register_width, values_after}
 
 -- the pass that knows all values
 abbrev pub holder : List Vector → View
@@ -22,9 +22,9 @@ informed v w = record { holds = v.holds; seen = v.seen; shown = w.seen }
 
 -- the words hold the last value and its version, which is its place in the list
 pub record IsEnd (values : List Vector) (words : List ℕ) : Type 0 where
-  pub last : slice_get values (version_in words) ≡ Some (value_in (width_of values) words)
+  pub last : slice_get values (version_in words) ≡ Some (value_in (register_width values) words)
   pub version : length values ≡ version_in words + 1
-  pub hold : HoldValue (width_of values) words
+  pub hold : HoldValue (register_width values) words
 
 -- before its first value a cell's words say nothing
 abbrev pub IsEndOnceBegun : List Vector → List ℕ → Type 0
@@ -32,21 +32,21 @@ IsEndOnceBegun [] words = Unit {0}
 IsEndOnceBegun (x ∷ xs) words = IsEnd (x ∷ xs) words
 
 -- the holder's pass knows the whole list, and each pass a beginning of it
-abbrev pub Fits : ℕ → List Vector → ℕ → View → Type 0
-Fits holding values by v = (v.holds ≡ true → (by ≡ holding) × (v.seen ≡ values)) × IsPrefix v.seen values × IsPrefix v.shown values
+abbrev pub FitsRegisterPass : ℕ → List Vector → ℕ → View → Type 0
+FitsRegisterPass holding values by v = (v.holds ≡ true → (by ≡ holding) × (v.seen ≡ values)) × IsPrefix v.seen values × IsPrefix v.shown values
 
 -- there is one list of values
 abbrev pub CellInvariant : List ℕ → List View → Type 0
 CellInvariant words views =
-    (holding : ℕ) × (values : List Vector) × IsEndOnceBegun values words × ((by : ℕ) (v : View) → get_elem? views by ≡ some v → Fits holding values by v)
+    (holding : ℕ) × (values : List Vector) × IsEndOnceBegun values words × ((by : ℕ) (v : View) → get_elem? views by ≡ some v → FitsRegisterPass holding values by v)
 
 -- a seat has seen the list as it is
-abbrev pub Looked : View → List ℕ → List ℕ → View → Type 0
-Looked v before after w = (w ≡ reader w.seen) × IsPrefix v.seen w.seen × IsPrefix v.shown w.seen × IsEnd w.seen before
+abbrev pub HasLoadedRegister : View → List ℕ → List ℕ → View → Type 0
+HasLoadedRegister v before after w = (w ≡ reader w.seen) × IsPrefix v.seen w.seen × IsPrefix v.shown w.seen × IsEnd w.seen before
 
 -- the holder has compared the words with its list, which begins with what it was told of
-abbrev pub Checked : View → List ℕ → List ℕ → View → Type 0
-Checked v before after w = (w ≡ holder v.seen) × IsPrefix v.shown v.seen × IsEnd v.seen before
+abbrev pub HasCheckedRegister : View → List ℕ → List ℕ → View → Type 0
+HasCheckedRegister v before after w = (w ≡ holder v.seen) × IsPrefix v.shown v.seen × IsEnd v.seen before
 
 -- the holder has given the register these values, one after another
 abbrev pub Stored : List Vector → View → List ℕ → List ℕ → View → Type 0

@@ -1,13 +1,13 @@
 -- The list of a register's values.
 use Rattle.std.specs.Prelude.{ℕ, ◌-◌, ◌^◌, List, [], ◌∷◌, ◌++◌, length}
 use Rattle.logic4.specs.Vector.{Vector}
-use Rattle.turn.specs.Nets.{altered}
+use Rattle.turn.specs.TurnChanges.{altered}
 use Rattle.regions.specs.Past.{last_of}
 
 -- the width of a register is that of its first value
-abbrev pub width_of : List Vector → ℕ
-width_of [] = 0
-width_of (v ∷ values) = length v
+abbrev pub register_width : List Vector → ℕ
+register_width [] = 0
+register_width (v ∷ values) = length v
 
 -- the last value
 abbrev pub last_value : List Vector → Vector

@@ -4,10 +4,10 @@ ghost use Rattle.std.specs.List.{All};
 ghost use mathlib.Core.List.{IsPrefix};
 ghost use Rattle.logic4.specs.Vector.{AreWithin};
 ghost use Rattle.model.specs.Runs.{values_in};
-ghost use Rattle.regions.specs.Past.{IsNetOf};
+ghost use Rattle.regions.specs.Past.{IsTurnChangeOf};
 ghost use Rattle.regcells.specs.Values.{last_value, values_after};
 ghost use Rattle.regcells.specs.Passes.{name_of_pass, name_of_register, fresh_by, AllHold, AllBegun};
-ghost use Rattle.regcells.specs.CellSeats.{Fresh, widths_of, seen_of, with_seen, last_values, changes_left, beginnings};
+ghost use Rattle.regcells.specs.CellSeats.{Fresh, register_widths, seen_of, with_seen, last_values, changes_left, beginnings};
 
 use crate::register::Register;
 use crate::rule::RegPass;
@@ -16,7 +16,7 @@ use logic4::bits::Bits;
 use std::alloc::{AllocError, Global};
 use std::marker::{Brand, Model};
 use std::sync::Wait;
-use turn::{Net, Seen};
+use turn::{Seen, TurnChange};
 
 /// The cells of all registers. Contracts see which they are, and their widths.
 #[derive(Drop)]
@@ -26,9 +26,9 @@ pub struct RegCells {
 
 impl Model for RegCells {
     ghost use Rattle.std.specs.Prelude.{List, map};
-    ghost use Rattle.regcells.specs.CellSeats.{Named};
+    ghost use Rattle.regcells.specs.CellSeats.{RegisterIdentity};
 
-    ghost Value = { List Named };
+    ghost Value = { List RegisterIdentity };
 
     ghost use Rattle.regcells.specs.Passes.{name_of_register};
 
@@ -75,7 +75,7 @@ impl Holder {
     /// The number of registers. The last value of each has its width.
     pub fn registers(&self) -> usize
         ensures value { result ≡ length self.now.cells }
-        ensures widths { map length (last_values self.now) ≡ widths_of self.now.cells }
+        ensures widths { map length (last_values self.now) ≡ register_widths self.now.cells }
     {
         self.passes.len()
     }
@@ -134,7 +134,7 @@ impl RegCells {
         design: &Design,
         workers: u32,
     ) -> Result<(RegCells, Holder, Vec<RegSeat>), AllocError>
-        ensures widths { IfOk result (λ r. widths_of r.0 ≡ design.now.widths) }
+        ensures widths { IfOk result (λ r. register_widths r.0 ≡ design.now.widths) }
         ensures cells { IfOk result (λ r. r.1.cells ≡ r.0) }
         ensures unknown { IfOk result (λ r. r.1.seen ≡ beginnings design.now.widths) }
         ensures seats { IfOk result (λ r. r.2.items ≡ replicate workers r.1) }
@@ -151,7 +151,7 @@ impl RegCells {
     ) -> Result<(RegCells, Holder, Vec<RegSeat>), AllocError>
         requires some { All (λ w. 1 ≤ w) widths.now }
         requires within { AreWithin widths.now }
-        ensures widths { IfOk result (λ r. widths_of r.0 ≡ widths.now) }
+        ensures widths { IfOk result (λ r. register_widths r.0 ≡ widths.now) }
         ensures cells { IfOk result (λ r. r.1.cells ≡ r.0) }
         ensures unknown { IfOk result (λ r. r.1.seen ≡ beginnings widths.now) }
         ensures seats { IfOk result (λ r. r.2.items ≡ replicate workers r.1) }
@@ -200,7 +200,7 @@ impl RegCells {
         ensures later { IsPrefix (seen_of seat.old register) (seen_of seat.new register) }
         ensures entry { slice_get (seen_of seat.new register) result.version ≡ Some result.value }
         ensures version { length (seen_of seat.new register) ≡ result.version + 1 }
-        ensures width { length result.value ≡ slice_index (widths_of self.now) register }
+        ensures width { length result.value ≡ slice_index (register_widths self.now) register }
         ensures others { seat.new ≡ with_seen seat.old register (seen_of seat.new register) }
     {
         self.registers[register as usize].look(rt, &mut seat.passes[register as usize])
@@ -214,7 +214,7 @@ impl RegCells {
         ensures entry { slice_get (seen_of holder.old register) result.version ≡ Some result.value }
         ensures version { length (seen_of holder.old register) ≡ result.version + 1 }
         ensures last { result.value ≡ last_value (seen_of holder.old register) }
-        ensures width { length result.value ≡ slice_index (widths_of self.now) register }
+        ensures width { length result.value ≡ slice_index (register_widths self.now) register }
     {
         self.registers[register as usize].check(rt, &mut holder.passes[register as usize])
     }
@@ -224,38 +224,43 @@ impl RegCells {
     pub fn store<R: Wait>(&self, rt: &R, holder: &mut Holder, register: RegId, value: Bits)
         requires cells { holder.old.cells ≡ self.now }
         requires register { register < length self.now }
-        requires width { length value ≡ slice_index (widths_of self.now) register }
+        requires width { length value ≡ slice_index (register_widths self.now) register }
         requires room { 0 < changes_left holder.old register }
         ensures { holder.new ≡ with_seen holder.old register (values_after (seen_of holder.old register) (value ∷ [])) }
     {
-        let net = Net {
+        let turn_change = TurnChange {
             register,
             first: value,
             changes: 0,
             last: value,
         };
-        self.store_net(rt, holder, net, &[(register, value)]);
+        self.store_turn_change(rt, holder, turn_change, &[(register, value)]);
     }
 
-    /// Gives a register the values that these writes give it, one after another, of which the net is known: one entry more
+    /// Gives a register the values that these writes give it, one after another, of which the turn change is known: one entry more
     /// in its list for each that differs from the one before. The cell is stored once, or not at all where none does. The
-    /// writes are what contracts say it of: the net tells all that a store needs.
-    pub fn store_net<R: Wait>(
+    /// writes are what contracts say it of: the turn change tells all that a store needs.
+    pub fn store_turn_change<R: Wait>(
         &self,
         rt: &R,
         holder: &mut Holder,
-        net: Net,
+        turn_change: TurnChange,
         writes: &[(RegId, Bits)],
     )
         requires cells { holder.old.cells ≡ self.now }
-        requires register { net.register < length self.now }
-        requires net { IsNetOf (values_in net.register writes.now) net }
-        requires widths { All (λ v. length v ≡ slice_index (widths_of self.now) net.register) (values_in net.register writes.now) }
-        requires room { net.changes < changes_left holder.old net.register }
-        ensures { holder.new ≡ with_seen holder.old net.register (values_after (seen_of holder.old net.register) (values_in net.register writes.now)) }
+        requires register { turn_change.register < length self.now }
+        requires turn_change { IsTurnChangeOf (values_in turn_change.register writes.now) turn_change }
+        requires widths { All (λ v. length v ≡ slice_index (register_widths self.now) turn_change.register) (values_in turn_change.register writes.now) }
+        requires room { turn_change.changes < changes_left holder.old turn_change.register }
+        ensures { holder.new ≡ with_seen holder.old turn_change.register (values_after (seen_of holder.old turn_change.register) (values_in turn_change.register writes.now)) }
     {
-        let register = net.register as usize;
-        self.registers[register].write::<Brand, R>(rt, &mut holder.passes[register], net, writes);
+        let register = turn_change.register as usize;
+        self.registers[register].write::<Brand, R>(
+            rt,
+            &mut holder.passes[register],
+            turn_change,
+            writes,
+        );
     }
 
     /// The seat has then seen all values of a register, which begin with those that it had seen. Tells the last, and its

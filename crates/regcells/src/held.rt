@@ -1,13 +1,13 @@
 //! The cells and their holder as a store, for the calls that change the values of the registers.
 ghost use Rattle.std.specs.Prelude.{◌≡◌};
-ghost use Rattle.regcells.specs.CellSeats.{IsOf};
+ghost use Rattle.regcells.specs.CellSeats.{IsOfRegisters};
 
 use crate::cells::{Holder, RegCells};
 use design::RegId;
 use logic4::bits::Bits;
 use regions::Store;
 use std::sync::Wait;
-use turn::Net;
+use turn::TurnChange;
 
 /// The values of the registers in their cells, and the holder, which changes them.
 #[derive(Drop)]
@@ -24,7 +24,7 @@ impl<'a, R: Wait> HeldStore<'a, R> {
         ensures holder { result.holder.ghost_name ≡ holder.entry.ghost_name }
         ensures same { result.holder.now ≡ holder.old }
         ensures cells { result.cells.now ≡ cells.entry.now }
-        ensures ready { IsOf cells.entry.now holder.old }
+        ensures ready { IsOfRegisters cells.entry.now holder.old }
     {
         // the widths of its last values are known by this call
         holder.registers();
@@ -34,7 +34,7 @@ impl<'a, R: Wait> HeldStore<'a, R> {
 
 impl<'a, R: Wait> Store for HeldStore<'a, R> {
     ghost use Rattle.std.specs.Prelude.{◌≡◌, List, ℕ};
-    ghost use Rattle.regcells.specs.CellSeats.{Named, seen_of, last_values, changes_left, IsOf};
+    ghost use Rattle.regcells.specs.CellSeats.{RegisterIdentity, seen_of, last_values, changes_left, IsOfRegisters};
 
     ghost values = { λ s. last_values s.holder.now };
 
@@ -42,11 +42,11 @@ impl<'a, R: Wait> Store for HeldStore<'a, R> {
 
     ghost left = { λ s r. changes_left s.holder.now r };
 
-    ghost Name = { ℕ × List Named };
+    ghost Name = { ℕ × List RegisterIdentity };
 
     ghost which = { λ s. (s.holder.ghost_name, s.cells.now) };
 
-    ghost ready = { λ s. IsOf s.cells.now s.holder.now };
+    ghost ready = { λ s. IsOfRegisters s.cells.now s.holder.now };
 
     fn get(&mut self, register: RegId) -> Bits {
         self.cells.get_held(self.rt, self.holder, register).value
@@ -56,7 +56,8 @@ impl<'a, R: Wait> Store for HeldStore<'a, R> {
         self.cells.store(self.rt, self.holder, register, value);
     }
 
-    fn set_net(&mut self, net: Net, writes: &[(RegId, Bits)]) {
-        self.cells.store_net(self.rt, self.holder, net, writes);
+    fn set_turn_change(&mut self, turn_change: TurnChange, writes: &[(RegId, Bits)]) {
+        self.cells
+            .store_turn_change(self.rt, self.holder, turn_change, writes);
     }
 }

@@ -1,7 +1,7 @@
 //! What a turn read is compared with the registers as the holder has them, and a seat meets them.
 ghost use Rattle.std.specs.Prelude.{◌≡◌, ℕ, ◌<◌, length, Some, slice_get, IfSome, IfNone};
 ghost use Rattle.turn.specs.declared.memory.Seen as seens;
-ghost use Rattle.turn.specs.Nets.{nets_of};
+ghost use Rattle.turn.specs.TurnChanges.{turn_changes_of};
 ghost use Rattle.regcells.specs.Meetings.{fresh_of, IsCurrentOf, IsFirstMovedOf, Met, HasMetReads, HasMetWrites, AreReadsIn, AreWritesIn};
 
 use crate::cells::{Holder, RegCells, RegSeat};
@@ -9,7 +9,7 @@ use design::RegId;
 use indexmap::IndexMap;
 use logic4::bits::Bits;
 use std::sync::Wait;
-use turn::{Net, Seen};
+use turn::{Seen, TurnChange};
 
 // A recorded read, by its place.
 fn read_at(reads: &IndexMap<RegId, Seen>, place: usize) -> (RegId, Seen)
@@ -22,12 +22,12 @@ fn read_at(reads: &IndexMap<RegId, Seen>, place: usize) -> (RegId, Seen)
     }
 }
 
-// A net, by its place.
-fn net_at(nets: &[Net], place: usize) -> &Net
-    requires { place < length nets.now }
-    ensures { slice_get nets.entry.now place ≡ Some result.now }
+// A turn change, by its place.
+fn turn_change_at(turn_changes: &[TurnChange], place: usize) -> &TurnChange
+    requires { place < length turn_changes.now }
+    ensures { slice_get turn_changes.entry.now place ≡ Some result.now }
 {
-    &nets[place]
+    &turn_changes[place]
 }
 
 /// The first register that has changed since it was read. The seat has then seen all values of the registers that were read,
@@ -83,27 +83,27 @@ pub fn meet_reads<R: Wait>(
 }
 
 /// The seat has then seen all values of the registers that were written. Each is met once, however often it was written:
-/// the nets name them, and the writes are what the caller names them by.
+/// the turn changes name them, and the writes are what the caller names them by.
 pub fn meet_writes<R: Wait>(
     rt: &R,
     cells: &RegCells,
     seat: &mut RegSeat,
     holder: &mut Holder,
-    nets: &[Net],
+    turn_changes: &[TurnChange],
     writes: &[(RegId, Bits)],
 )
     requires seat { seat.old.cells ≡ cells.now }
     requires holder { holder.old.cells ≡ cells.now }
-    requires nets { nets.now ≡ nets_of writes.now }
+    requires turn_changes { turn_changes.now ≡ turn_changes_of writes.now }
     requires writes { AreWritesIn (length cells.now) writes.now }
     ensures holder { holder.new ≡ holder.old }
     ensures cells { seat.new.cells ≡ seat.old.cells }
     ensures met { Met seat.old.seen holder.old.seen seat.new.seen }
     ensures all { HasMetWrites holder.old.seen seat.new.seen writes.now }
 {
-    for place in 0..nets.len() {
-        let net = net_at(nets, place);
-        cells.meet(rt, seat, holder, net.register);
+    for place in 0..turn_changes.len() {
+        let turn_change = turn_change_at(turn_changes, place);
+        cells.meet(rt, seat, holder, turn_change.register);
     }
 }
 

@@ -4,20 +4,20 @@ ghost use Rattle.std.specs.List.{All};
 ghost use mathlib.Core.List.{IsPrefix};
 ghost use Rattle.crossbeam_utils.specs.Seq.{cell_view};
 ghost use Rattle.logic4.specs.Vector.{Vector, unknown, greatest_width};
-ghost use Rattle.turn.specs.Nets.{altered};
-ghost use Rattle.regions.specs.Past.{IsNetOf};
-ghost use Rattle.regcells.specs.Values.{width_of, last_value, values_after, room_of};
+ghost use Rattle.turn.specs.TurnChanges.{altered};
+ghost use Rattle.regions.specs.Past.{IsTurnChangeOf};
+ghost use Rattle.regcells.specs.Values.{register_width, last_value, values_after, room_of};
 ghost use Rattle.regcells.specs.RegisterRule.{holder};
-ghost use Rattle.regcells.specs.Passes.{seen_by, name_of_pass, name_of_register, IsBegun, IsHolding};
+ghost use Rattle.regcells.specs.Passes.{seen_by, name_of_pass, name_of_register, HasSeenValue, IsHolding};
 
-use crate::rule::{Cell, Checks, Giving, Looks, Notes, RegPass, Stores};
+use crate::rule::{Cell, Checks, Giving, Notes, RegPass, RegisterLoad, Stores};
 use crate::words::{WORDS, seen_in, words_of};
 use design::RegId;
 use logic4::bits::Bits;
 use std::alloc::{AllocError, Global};
 use std::marker::Brand;
 use std::sync::Wait;
-use turn::{Net, Seen};
+use turn::{Seen, TurnChange};
 
 /// A register's cell, and the width of its values.
 #[derive(Drop)]
@@ -26,16 +26,16 @@ pub struct Register {
     width: u32,
 }
 
-// How many of the values of which the net is known differ from the one before, where this one stands before the first.
-fn changes_after(last: Bits, net: Net) -> u64
-    requires { net.changes < 2 ^ 64 - 1 }
-    ensures value { (given : List Vector) → IsNetOf given net → result ≡ length (altered last given) }
-    ensures few { result ≤ net.changes + 1 }
+// How many of the values of which the turn change is known differ from the one before, where this one stands before the first.
+fn changes_after(last: Bits, turn_change: TurnChange) -> u64
+    requires { turn_change.changes < 2 ^ 64 - 1 }
+    ensures value { (given : List Vector) → IsTurnChangeOf given turn_change → result ≡ length (altered last given) }
+    ensures few { result ≤ turn_change.changes + 1 }
 {
-    if last == net.first {
-        return net.changes;
+    if last == turn_change.first {
+        return turn_change.changes;
     }
-    net.changes + 1
+    turn_change.changes + 1
 }
 
 impl Register {
@@ -58,14 +58,14 @@ impl Register {
     /// One load by a seat.
     pub fn look<R: Wait>(&self, rt: &R, pass: &mut RegPass) -> Seen
         requires register { name_of_pass pass.old ≡ name_of_register self.now }
-        requires begun { IsBegun pass.old }
+        requires begun { HasSeenValue pass.old }
         ensures name { name_of_pass pass.new ≡ name_of_pass pass.old }
         ensures later { IsPrefix (seen_by pass.old) (seen_by pass.new) }
         ensures entry { slice_get (seen_by pass.new) result.version ≡ Some result.value }
         ensures version { length (seen_by pass.new) ≡ result.version + 1 }
         ensures width { length result.value ≡ self.now.width }
     {
-        let words = self.cell.load_as::<Looks, R>(rt, pass);
+        let words = self.cell.load_as::<RegisterLoad, R>(rt, pass);
         seen_in(self.width, words)
     }
 
@@ -73,7 +73,7 @@ impl Register {
     #[inline(always)]
     pub fn check<R: Wait>(&self, rt: &R, pass: &mut RegPass) -> Seen
         requires register { name_of_pass pass.old ≡ name_of_register self.now }
-        requires begun { IsBegun pass.old }
+        requires begun { HasSeenValue pass.old }
         requires holds { (cell_view pass.old).holds ≡ true }
         ensures name { name_of_pass pass.new ≡ name_of_pass pass.old }
         ensures same { cell_view pass.new ≡ holder (seen_by pass.old) }
@@ -92,7 +92,7 @@ impl Register {
         requires holds { cell_view pass.old ≡ holder (seen_by pass.old) }
         requires last { value ≡ last_value (values_after (seen_by pass.old) X.given) }
         requires version { length (values_after (seen_by pass.old) X.given) ≡ version + 1 }
-        requires width { width_of (values_after (seen_by pass.old) X.given) ≡ length value }
+        requires width { register_width (values_after (seen_by pass.old) X.given) ≡ length value }
         ensures cell { pass.new.table_id ≡ pass.old.table_id }
         ensures given { cell_view pass.new ≡ holder (values_after (seen_by pass.old) X.given) }
     {
@@ -100,28 +100,28 @@ impl Register {
         self.cell.swap_as::<Stores<X>, R>(rt, pass, words);
     }
 
-    /// The holder gives the register values, one after another, of which the net is known. One store of the last of them
+    /// The holder gives the register values, one after another, of which the turn change is known. One store of the last of them
     /// adds all that differ from the one before, and where none does there is no store. The writes are what the caller
     /// names the values by.
     pub fn write<X: Giving, R: Wait>(
         &self,
         rt: &R,
         pass: &mut RegPass,
-        net: Net,
+        turn_change: TurnChange,
         _writes: &[(RegId, Bits)],
     )
         requires register { name_of_pass pass.old ≡ name_of_register self.now }
         requires holding { IsHolding pass.old }
-        requires net { IsNetOf X.given net }
+        requires turn_change { IsTurnChangeOf X.given turn_change }
         requires widths { All (λ v. length v ≡ self.now.width) X.given }
-        requires room { net.changes < room_of (seen_by pass.old) }
+        requires room { turn_change.changes < room_of (seen_by pass.old) }
         ensures name { name_of_pass pass.new ≡ name_of_pass pass.old }
         ensures holding { IsHolding pass.new }
         ensures given { seen_by pass.new ≡ values_after (seen_by pass.old) X.given }
     {
-        let value = net.last;
+        let value = turn_change.last;
         let last = self.check(rt, pass);
-        let more = changes_after(last.value, net);
+        let more = changes_after(last.value, turn_change);
         if more == 0 {
             return;
         }

@@ -28,21 +28,21 @@ impl Protocol<[u64; WORDS], View> for Growing {
 }
 
 /// A load by a seat.
-pub struct Looks;
+pub struct RegisterLoad;
 
-impl Outcome<[u64; WORDS], View> for Looks {
-    ghost use Rattle.regcells.specs.RegisterRule.{Looked};
+impl Outcome<[u64; WORDS], View> for RegisterLoad {
+    ghost use Rattle.regcells.specs.RegisterRule.{HasLoadedRegister};
 
-    ghost then = { Looked };
+    ghost then = { HasLoadedRegister };
 }
 
 /// A load by the holder.
 pub struct Checks;
 
 impl Outcome<[u64; WORDS], View> for Checks {
-    ghost use Rattle.regcells.specs.RegisterRule.{Checked};
+    ghost use Rattle.regcells.specs.RegisterRule.{HasCheckedRegister};
 
-    ghost then = { Checked };
+    ghost then = { HasCheckedRegister };
 }
 
 /// Which values a store gives the register, one after another. The words tell no more than the last of them, so each call

@@ -14,7 +14,7 @@ use Rattle.model.specs.Runs.{Effect, action_in, turn_of, turn_refusal, refused_w
 use Rattle.model.proofs.RunLaws.{where_none}
 use Rattle.design.specs.declared.code.ProcState.{ProcState}
 use Rattle.design.specs.Compiled.{Compiled, design_of}
-use Rattle.design.specs.DesignInvariant.{remainder_of, controls_of, IsStateOf}
+use Rattle.design.specs.DesignInvariant.{remainder_of_state, controls_of, IsStateOf}
 use Rattle.turn.specs.TurnLogs.{LogView, IsLogOf}
 use Rattle.regions.specs.Queue.{Core, state_of}
 use Rattle.turn.specs.declared.log.FillFault.{FillFault}
@@ -35,9 +35,9 @@ some_turn (Some turn) P h = (turn, refl, h)
 -- the log is the turn that an active evaluation has
 pub is_log_for : (code : Compiled) (core : Core) (values : List Vector) (event p : ℕ) (st : ProcState) (log : LogView) → IsStateOf code p st
     → length values ≡ length code.widths → IsEvaluation core event (p, st) → IsTurnOn code st values core.time log
-    → IsLogFor code (state_of (remainder_of code) values core) p log
+    → IsLogFor code (state_of (remainder_of_state code) values core) p log
 is_log_for code core values event p st log own count e h =
-    let t = some_turn (short_turn (design_of code) p (remainder_of code st) values core.time) (IsLogOf (remainder_of code) (controls_of code) log)
+    let t = some_turn (short_turn (design_of code) p (remainder_of_state code st) values core.time) (IsLogOf (remainder_of_state code) (controls_of code) log)
     (h.is_log.turn p own values count (h.agrees p own)) in
     record {
       turn = t.0;
@@ -64,9 +64,9 @@ process_is core event p st number q e is_entry action =
 -- the turn of an active evaluation
 pub given_turn : (code : Compiled) (core : Core) (values : List Vector) (event p : ℕ) (st : ProcState) (log : LogView) → HasOwnStates (IsStateOf code) core
     → map length values ≡ code.widths → IsEvaluation core event (p, st) → IsTurnOn code st values core.time log
-    → IsTurnGiven code (state_of (remainder_of code) values core) (entries.Turn event) (Some log)
+    → IsTurnGiven code (state_of (remainder_of_state code) values core) (entries.Turn event) (Some log)
 given_turn code core values event p st log own widths e h = λ number q is_entry running action.
-    let P : ℕ → Type 0 = λ n. IsLogFor code (state_of (remainder_of code) values core) n log in
+    let P : ℕ → Type 0 = λ n. IsLogFor code (state_of (remainder_of_state code) values core) n log in
     let count : length values ≡ length code.widths = sym (length-map values length) ∙ ap length widths in
     subst P (process_is core event p st number q e is_entry action)
     (is_log_for code core values event p st log (own_state code core event p st own e) count e h)
@@ -94,11 +94,11 @@ unless_none (Some reason) e h = refl
 
 -- a turn that is permitted and isn't short stops a machine
 pub stop_turn : (code : Compiled) (core : Core) (values : List Vector) (event p : ℕ) (st : ProcState) → HasOwnStates (IsStateOf code) core → IsEvaluation core event (p, st)
-    → refusal (state_of (remainder_of code) values core) (entries.Turn event) ≡ None
-    → ((q : ℕ) → IsStateOf code q st → short_turn (design_of code) q (remainder_of code st) values core.time ≡ None)
-    → IsStop code (state_of (remainder_of code) values core) (entries.Turn event) TooLong
+    → refusal (state_of (remainder_of_state code) values core) (entries.Turn event) ≡ None
+    → ((q : ℕ) → IsStateOf code q st → short_turn (design_of code) q (remainder_of_state code st) values core.time ≡ None)
+    → IsStop code (state_of (remainder_of_state code) values core) (entries.Turn event) TooLong
 stop_turn code core values event p st own e permitted h =
-    let s : State = state_of (remainder_of code) values core in
+    let s : State = state_of (remainder_of_state code) values core in
     let design : Design = design_of code in
     let long : turn_of design s p ≡ None = turn_of-is code core values event p st e ∙ h p (own_state code core event p st own e) in
     let none : effect design s (entries.Turn event) ≡ None = rw (e.0, long) refl in
@@ -123,8 +123,8 @@ refused_inactive s number is = refused_by s.finished (turn_refusal (action_in s.
 
 -- a turn isn't evaluated where it isn't short, or for want of memory
 pub unevaluated : (code : Compiled) (core : Core) (values : List Vector) (event p : ℕ) (st : ProcState) (f : FillFault) → HasOwnStates (IsStateOf code) core → IsEvaluation core event (p, st)
-    → refusal (state_of (remainder_of code) values core) (entries.Turn event) ≡ None → IsNoTurnOn code st values core.time f
-    → IsUnevaluated code (state_of (remainder_of code) values core) event f
+    → refusal (state_of (remainder_of_state code) values core) (entries.Turn event) ≡ None → IsNoTurnOn code st values core.time f
+    → IsUnevaluated code (state_of (remainder_of_state code) values core) event f
 unevaluated code core values event p st unfilled.TooLong own e permitted h = stop_turn code core values event p st own e permitted h
 unevaluated code core values event p st unfilled.Memory own e permitted h = permitted
 

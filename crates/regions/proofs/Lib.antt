@@ -3,7 +3,7 @@ pub mod Sets
 pub mod Covers
 pub mod Changes
 pub mod Pasts
-pub mod Netted
+pub mod ChangedInTurn
 pub mod Storing
 pub mod Unwatched
 pub mod Order

@@ -20,8 +20,8 @@ use Rattle.regions.specs.Queue.{evaluation_event, update_event}
 use Rattle.regions.specs.Find.{update_numbers}
 use Rattle.regions.specs.Order.{InOrder}
 use Rattle.regions.specs.MadeEvents.{Rises}
-use Rattle.regions.specs.Machine.{IsTurn, IsChange, IsDue, AreInOrder}
-use Rattle.regions.specs.EvaluationEntries.{turn_of}
+use Rattle.regions.specs.Machine.{IsTurnEntry, IsChange, IsDue, AreInOrder}
+use Rattle.regions.specs.EvaluationEntries.{turn_entry_of}
 use Rattle.regions.proofs.Order.{IsTakenAfter, taken-after, behind, InOrder-rises}
 use Rattle.regions.proofs.Refusals.{no_evaluation}
 
@@ -86,7 +86,7 @@ no_change s n entry update change permitted =
     let none : has_any s.active ≡ false = resting (has_any s.active) s entry refl change (where_none s.finished Finished (entry_refusal s entry) permitted).1 in
     let clash : true ≡ false = sym some ∙ none in cc
 
-only_update : (s : State) (n : ℕ) (entry : Entry) → refusal s (entries.Update n) ≡ None → (IsTurn entry → ⊥) → refusal s entry ≡ None → entries.Update n ≡ entry
+only_update : (s : State) (n : ℕ) (entry : Entry) → refusal s (entries.Update n) ≡ None → (IsTurnEntry entry → ⊥) → refusal s entry ≡ None → entries.Update n ≡ entry
 only_update s n (entries.Turn m) update other permitted = absurd (other (m, refl))
 only_update s n (entries.Update m) update other permitted =
     let this = permitted_update s n (action_in s.active n) refl (where_none s.finished Finished (update_refusal s n (action_in s.active n)) update).1 in
@@ -102,7 +102,7 @@ only_update s n (Advance time) update other permitted = absurd (no_change s n (A
 
 -- the one entry that is no turn and is permitted
 abbrev pub IsOther : State → Option Entry → Type 0
-IsOther s other = (entry : Entry) → (other ≡ Some entry) ↔ ((IsTurn entry → ⊥) × (refusal s entry ≡ None))
+IsOther s other = (entry : Entry) → (other ≡ Some entry) ↔ ((IsTurnEntry entry → ⊥) × (refusal s entry ≡ None))
 
 pub other_update : (s : State) (n : ℕ) → refusal s (entries.Update n) ≡ None → IsOther s (Some (entries.Update n))
 other_update s n permitted entry = (
@@ -114,7 +114,7 @@ other_update s n permitted entry = (
   (λ h. ap (λ x. Some x) (only_update s n entry permitted h.0 h.1)),
 )
 
-changes : (s : State) (entry : Entry) → least (update_numbers s.active) ≡ None → (IsTurn entry → ⊥) → refusal s entry ≡ None → IsChange entry
+changes : (s : State) (entry : Entry) → least (update_numbers s.active) ≡ None → (IsTurnEntry entry → ⊥) → refusal s entry ≡ None → IsChange entry
 changes s (entries.Turn m) none other permitted = absurd (other (m, refl))
 changes s (entries.Update m) none other permitted =
     let that = permitted_update s m (action_in s.active m) refl (where_none s.finished Finished (update_refusal s m (action_in s.active m)) permitted).1 in
@@ -124,7 +124,7 @@ changes s ActivateNba none other permitted = tt
 changes s ActivateMonitor none other permitted = tt
 changes s (Advance time) none other permitted = tt
 
-no_turn : (entry : Entry) → IsChange entry → IsTurn entry → ⊥
+no_turn : (entry : Entry) → IsChange entry → IsTurnEntry entry → ⊥
 no_turn entry change turn = subst IsChange turn.1 change
 
 pub other_due : (s : State) (due : Option Entry) → least (update_numbers s.active) ≡ None → IsDue s due → IsOther s due
@@ -134,17 +134,17 @@ other_due s due none is entry = (
 )
 
 turn_here : (b : Bool) (e : Evaluation) (es : List Evaluation) (n : ℕ) (a : Action) → eqb e.number n ≡ b → action_in (map evaluation_event (e ∷ es)) n ≡ Some a
-    → (action_in (map evaluation_event es) n ≡ Some a → Contains (map turn_of es) (Turn n)) → Contains (map turn_of (e ∷ es)) (Turn n)
+    → (action_in (map evaluation_event es) n ≡ Some a → Contains (map turn_entry_of es) (Turn n)) → Contains (map turn_entry_of (e ∷ es)) (Turn n)
 turn_here true e es n a same is rest = let here : e.number ≡ n = eqb-true e.number n same in (0, omega arith, ap (λ k. Turn k) here)
-turn_here false e es n a same is rest = Contains-append_right (turn_of e ∷ []) (map turn_of es) (Turn n) (rest (rw same at is))
+turn_here false e es n a same is rest = Contains-append_right (turn_entry_of e ∷ []) (map turn_entry_of es) (Turn n) (rest (rw same at is))
 
-turn_in : (es : List Evaluation) (n : ℕ) (a : Action) → action_in (map evaluation_event es) n ≡ Some a → Contains (map turn_of es) (Turn n)
+turn_in : (es : List Evaluation) (n : ℕ) (a : Action) → action_in (map evaluation_event es) n ≡ Some a → Contains (map turn_entry_of es) (Turn n)
 turn_in [] n a is = cc
 turn_in (e ∷ es) n a is = turn_here (eqb e.number n) e es n a refl is (turn_in es n a)
 
 -- a permitted turn takes one of the evaluations
 turn_among : (us : List queued.Update) (es : List Evaluation) (n : ℕ) (o : Option Action) → action_in (map evaluation_event es) n ≡ o
-    → turn_refusal (action_in (map update_event us ++ map evaluation_event es) n) ≡ None → Contains (map turn_of es) (Turn n)
+    → turn_refusal (action_in (map update_event us ++ map evaluation_event es) n) ≡ None → Contains (map turn_entry_of es) (Turn n)
 turn_among us es n None is permitted =
     let refused = no_evaluation us (map evaluation_event es) n is in let clash : Some NotActive ≡ None = sym refused ∙ permitted in cc
 turn_among us es n (Some a) is permitted = turn_in es n a is
@@ -162,11 +162,11 @@ module _ (P : Action → Type 0) (s : State) (us : List queued.Update) (es : Lis
   running_turn : (n : ℕ) → turn_refusal (action_in s.active n) ≡ None → refusal s (Turn n) ≡ None
   running_turn n h = ap (λ b. refused_where b Finished (turn_refusal (action_in s.active n))) running ∙ h
 
-  turn_permitted : (entry : Entry) → Contains (map turn_of es) entry → refusal s entry ≡ None
+  turn_permitted : (entry : Entry) → Contains (map turn_entry_of es) entry → refusal s entry ≡ None
   turn_permitted entry h =
       let d : Evaluation = record { number = 0; process = 0 } in
       let lt : h.0 < length es = rw length-map at h.1 in
-      let is : turn_of (get_or es h.0 d) ≡ entry = sym (get_or-map turn_of es h.0 d entry lt) ∙ h.2 in
+      let is : turn_entry_of (get_or es h.0 d) ≡ entry = sym (get_or-map turn_entry_of es h.0 d entry lt) ∙ h.2 in
       subst (λ x. refusal s x ≡ None) is (running_turn (get_or es h.0 d).number (permitted_at h.0 d lt))
 
   other_of : (other : Option Entry) (entry : Entry) → Contains (option_to_list other) entry → other ≡ Some entry
@@ -181,15 +181,15 @@ module _ (P : Action → Type 0) (s : State) (us : List queued.Update) (es : Lis
   among_other None entry is = cc
   among_other (Some x) entry is = let same : x ≡ entry = cc in (0, omega arith, same)
 
-  among_last : (other : Option Entry) (entry : Entry) → IsOther s other → (IsTurn entry → ⊥) → refusal s entry ≡ None → Contains (map turn_of es ++ option_to_list other) entry
+  among_last : (other : Option Entry) (entry : Entry) → IsOther s other → (IsTurnEntry entry → ⊥) → refusal s entry ≡ None → Contains (map turn_entry_of es ++ option_to_list other) entry
   among_last other entry only is_none permitted =
-      Contains-append_right (map turn_of es) (option_to_list other) entry (among_other other entry ((only entry).1 (is_none, permitted)))
+      Contains-append_right (map turn_entry_of es) (option_to_list other) entry (among_other other entry ((only entry).1 (is_none, permitted)))
 
-  among : (other : Option Entry) (entry : Entry) → IsOther s other → refusal s entry ≡ None → Contains (map turn_of es ++ option_to_list other) entry
+  among : (other : Option Entry) (entry : Entry) → IsOther s other → refusal s entry ≡ None → Contains (map turn_entry_of es ++ option_to_list other) entry
   among other (entries.Turn n) only permitted =
       let turn : turn_refusal (action_in s.active n) ≡ None = (where_none s.finished Finished (turn_refusal (action_in s.active n)) permitted).1 in
       let turn' : turn_refusal (action_in (map update_event us ++ map evaluation_event es) n) ≡ None = ap (λ fs. turn_refusal (action_in fs n)) (sym active) ∙ turn in
-      Contains-append_left (map turn_of es) (option_to_list other) (Turn n) (turn_among us es n (action_in (map evaluation_event es) n) refl turn')
+      Contains-append_left (map turn_entry_of es) (option_to_list other) (Turn n) (turn_among us es n (action_in (map evaluation_event es) n) refl turn')
   among other (entries.Update n) only permitted = among_last other (entries.Update n) only (λ t. cc) permitted
   among other ActivateInactive only permitted = among_last other ActivateInactive only (λ t. cc) permitted
   among other ActivateNba only permitted = among_last other ActivateNba only (λ t. cc) permitted
@@ -197,14 +197,14 @@ module _ (P : Action → Type 0) (s : State) (us : List queued.Update) (es : Lis
   among other (Advance time) only permitted = among_last other (Advance time) only (λ t. cc) permitted
 
   -- the entries that are permitted
-  pub all_permitted : (other : Option Entry) (items : List Entry) → IsOther s other → items ≡ map turn_of es ++ option_to_list other
+  pub all_permitted : (other : Option Entry) (items : List Entry) → IsOther s other → items ≡ map turn_entry_of es ++ option_to_list other
       → (entry : Entry) → Contains items entry ↔ (refusal s entry ≡ None)
   all_permitted other items only are entry = (
-    (λ h. from (Contains-append_cases (map turn_of es) (option_to_list other) entry (subst (λ xs. Contains xs entry) are h))),
+    (λ h. from (Contains-append_cases (map turn_entry_of es) (option_to_list other) entry (subst (λ xs. Contains xs entry) are h))),
     (λ permitted. subst (λ xs. Contains xs entry) (sym are) (among other entry only permitted)),
   )
     where
-      from : Contains (map turn_of es) entry ⊎ Contains (option_to_list other) entry → refusal s entry ≡ None
+      from : Contains (map turn_entry_of es) entry ⊎ Contains (option_to_list other) entry → refusal s entry ≡ None
       from (inl h) = turn_permitted entry h
       from (inr h) = ((only entry).0 (other_of other entry h)).1
 
@@ -212,17 +212,17 @@ numbers_of : (es : List Evaluation) → map (λ e. e.0) (map evaluation_event es
 numbers_of [] = refl
 numbers_of (e ∷ es) = ap (λ ns. e.number ∷ ns) (numbers_of es)
 
-turns_of : (es : List Evaluation) → map turn_of es ≡ map (λ n. Turn n) (map (λ e. e.number) es)
+turns_of : (es : List Evaluation) → map turn_entry_of es ≡ map (λ n. Turn n) (map (λ e. e.number) es)
 turns_of [] = refl
-turns_of (e ∷ es) = ap (λ xs. turn_of e ∷ xs) (turns_of es)
+turns_of (e ∷ es) = ap (λ xs. turn_entry_of e ∷ xs) (turns_of es)
 
-other_no_turn : (s : State) (other : Option Entry) → IsOther s other → IfSome other (λ entry. IsTurn entry → ⊥)
+other_no_turn : (s : State) (other : Option Entry) → IsOther s other → IfSome other (λ entry. IsTurnEntry entry → ⊥)
 other_no_turn s None only = tt
 other_no_turn s (Some entry) only = ((only entry).0 refl).0
 
 -- they stand in order
 pub in_order : (P : Action → Type 0) (s : State) (us : List queued.Update) (es : List Evaluation) (high : ℕ) (other : Option Entry) (items : List Entry)
-    → InOrder P 0 (map update_event us ++ map evaluation_event es) high → IsOther s other → items ≡ map turn_of es ++ option_to_list other → AreInOrder items
+    → InOrder P 0 (map update_event us ++ map evaluation_event es) high → IsOther s other → items ≡ map turn_entry_of es ++ option_to_list other → AreInOrder items
 in_order P s us es high other items order only are = record {
   numbers = map (λ e. e.number) es;
   last = other;

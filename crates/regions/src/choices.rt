@@ -1,7 +1,7 @@
 //! The entries that the rules permit, each made where it is asked for.
 ghost use Rattle.std.specs.Prelude.{◌≡◌, ◌++◌, [], map, length, min, slice_get};
 ghost use Rattle.std.specs.Option.{option_to_list};
-ghost use Rattle.regions.specs.EvaluationEntries.{turn_of};
+ghost use Rattle.regions.specs.EvaluationEntries.{turn_entry_of};
 
 use crate::queue::Evaluation;
 use model::entry::Entry;
@@ -41,7 +41,7 @@ impl<'a> Choices<'a> {
 
     // The turns of these evaluations, and the one other entry.
     pub(crate) fn new(evaluations: &'a VecDeque<Evaluation>, other: Option<Entry>) -> Choices<'a>
-        ensures { result ≡ map turn_of evaluations.entry.now.items ++ option_to_list other }
+        ensures { result ≡ map turn_entry_of evaluations.entry.now.items ++ option_to_list other }
     {
         Choices {
             over: false,

@@ -9,7 +9,7 @@
 //!    the monitor region, its lines are made before, by the values as they stand.
 //! 3. A turn takes its evaluation out of the active region, and an update the first active update.
 //! 4. Its writes are made in order. Each change of a register wakes the processes that wait for it, and their
-//!    evaluations become active. Where no process waits for any of the registers, each register is stored once, by the net of
+//!    evaluations become active. Where no process waits for any of the registers, each register is stored once, by the turn change of
 //!    its writes: the state after it is the same.
 //! 5. The nonblocking assignments of a turn become updates, in the nonblocking region or in the future, and then the
 //!    event of its own wait becomes inactive or a future event. The `$strobe` statements that it met join the monitor region.

@@ -7,8 +7,8 @@ ghost use Rattle.model.specs.Turns.{Remainder};
 ghost use Rattle.model.specs.Runs.{refusal};
 ghost use Rattle.design.specs.declared.code.ProcState.{ProcState};
 ghost use Rattle.regions.specs.Queue.{core_of, state_of};
-ghost use Rattle.regions.specs.Machine.{IsTurn, IsDue, AreInOrder};
-ghost use Rattle.regions.specs.EvaluationEntries.{turn_of};
+ghost use Rattle.regions.specs.Machine.{IsTurnEntry, IsDue, AreInOrder};
+ghost use Rattle.regions.specs.EvaluationEntries.{turn_entry_of};
 
 use crate::choices::Choices;
 use crate::queue::{Evaluation, Queue};
@@ -18,7 +18,7 @@ use std::alloc::{AllocError, Global};
 
 // Appends the turns of evaluations.
 fn push_turns(turns: &mut Vec<Entry>, evaluations: &[Evaluation]) -> Result<(), AllocError>
-    ensures { OnOk result (turns.new.items ≡ turns.old.items ++ map turn_of evaluations.now) }
+    ensures { OnOk result (turns.new.items ≡ turns.old.items ++ map turn_entry_of evaluations.now) }
 {
     for evaluation in evaluations {
         turns.push(Entry::Turn(evaluation.number))?;
@@ -63,7 +63,7 @@ impl Queue {
 
     // The turns of the active evaluations, in the order of their numbers.
     fn turns(&self, alloc: Global) -> Result<Vec<Entry>, AllocError>
-        ensures { IfOk result (λ v. v.items ≡ map turn_of self.now.evaluations.items) }
+        ensures { IfOk result (λ v. v.items ≡ map turn_entry_of self.now.evaluations.items) }
     {
         let (first, second) = self.evaluations.as_slices();
         let mut turns = Vec::with_capacity(alloc, self.evaluations.len().saturating_add(1))?;
@@ -76,7 +76,7 @@ impl Queue {
     fn next_other(&self) -> Option<Entry>
         requires ordered { IsOrderedQueue self.now }
         requires running { self.now.finished ≡ false }
-        ensures { (rem : ProcState → Remainder) (values : List Vector) (entry : Entry) → (result ≡ Some entry) ↔ ((IsTurn entry → ⊥) × (refusal (state_of rem values (core_of self.now)) entry ≡ None)) }
+        ensures { (rem : ProcState → Remainder) (values : List Vector) (entry : Entry) → (result ≡ Some entry) ↔ ((IsTurnEntry entry → ⊥) × (refusal (state_of rem values (core_of self.now)) entry ≡ None)) }
     {
         match self.first_update() {
             Some(number) => Some(Entry::Update(number)),

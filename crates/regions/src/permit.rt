@@ -5,7 +5,7 @@ ghost use Rattle.model.specs.Turns.{Remainder};
 ghost use Rattle.model.specs.Runs.{refusal};
 ghost use Rattle.model.specs.declared.entry.Entry.TheVariants as entries;
 ghost use Rattle.design.specs.declared.code.ProcState.{ProcState};
-ghost use Rattle.regions.specs.Find.{IsAt};
+ghost use Rattle.regions.specs.Find.{IsEvaluationAt};
 ghost use Rattle.regions.specs.Queue.{core_of, state_of};
 
 use crate::find::find_evaluation;
@@ -19,7 +19,7 @@ impl Queue {
     fn permit_turn(&self, number: u64, near: usize) -> Result<usize, Refusal>
         requires ordered { IsOrderedQueue self.now }
         ensures refused { MatchResult result (λ at. (rem : ProcState → Remainder) (values : List Vector) → refusal (state_of rem values (core_of self.now)) (entries.Turn number) ≡ None) (λ r. (rem : ProcState → Remainder) (values : List Vector) → refusal (state_of rem values (core_of self.now)) (entries.Turn number) ≡ Some r) }
-        ensures place { IfOk result (IsAt self.now.evaluations.items number) }
+        ensures place { IfOk result (IsEvaluationAt self.now.evaluations.items number) }
     {
         if self.finished {
             return Err(Refusal::Finished);
@@ -35,7 +35,7 @@ impl Queue {
     pub fn permit(&self, entry: &Entry, near: usize) -> Result<usize, Refusal>
         requires ordered { IsOrderedQueue self.now }
         ensures refused { MatchResult result (λ at. (rem : ProcState → Remainder) (values : List Vector) → refusal (state_of rem values (core_of self.now)) entry.now ≡ None) (λ r. (rem : ProcState → Remainder) (values : List Vector) → refusal (state_of rem values (core_of self.now)) entry.now ≡ Some r) }
-        ensures place { IfOk result (λ at. (number : ℕ) → entry.now ≡ entries.Turn number → IsAt self.now.evaluations.items number at) }
+        ensures place { IfOk result (λ at. (number : ℕ) → entry.now ≡ entries.Turn number → IsEvaluationAt self.now.evaluations.items number at) }
     {
         match *entry {
             Entry::Turn(number) => self.permit_turn(number, near),

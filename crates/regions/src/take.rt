@@ -1,6 +1,6 @@
 //! How a machine takes an entry: its turn, if it is one, is evaluated, and then it is applied.
 ghost use Rattle.std.specs.Prelude.{◌≡◌, ◌+◌, ◌<◌, map, Some, None, if◌then◌else◌, string_bytes, IsOk, IfErr, OnOk, OnErr, Err, MatchResult, option_copied};
-ghost use Rattle.design.specs.DesignInvariant.{remainder_of};
+ghost use Rattle.design.specs.DesignInvariant.{remainder_of_state};
 ghost use Rattle.regions.specs.Queue.{state_of};
 ghost use Rattle.regions.specs.StepLogs.{IsTurnGiven, IsTaken};
 ghost use Rattle.regions.specs.MadeEvents.{made_events};
@@ -27,7 +27,7 @@ pub fn log_turn(
     store: &PlainStore,
 ) -> Result<Option<u32>, FillFault>
     requires stands { Stands design.now state.now store.now }
-    ensures { MatchResult result (IsEvaluated design.now (state_of (remainder_of design.now) store.now state.now) number log.new) (IsUnevaluated design.now (state_of (remainder_of design.now) store.now state.now) number) }
+    ensures { MatchResult result (IsEvaluated design.now (state_of (remainder_of_state design.now) store.now state.now) number log.new) (IsUnevaluated design.now (state_of (remainder_of_state design.now) store.now state.now) number) }
 {
     if state.is_finished() {
         return Ok(None);
@@ -55,7 +55,7 @@ pub fn log_entry(
     near: usize,
 ) -> Result<bool, TakeFault>
     requires stands { Stands design.now state.now store.now }
-    ensures { MatchResult result (λ has. IsTurnGiven design.now (state_of (remainder_of design.now) store.now state.now) entry (if has then Some log.new else None)) (IsStop design.now (state_of (remainder_of design.now) store.now state.now) entry) }
+    ensures { MatchResult result (λ has. IsTurnGiven design.now (state_of (remainder_of_state design.now) store.now state.now) entry (if has then Some log.new else None)) (IsStop design.now (state_of (remainder_of_state design.now) store.now state.now) entry) }
 {
     match entry {
         Entry::Turn(number) => match log_turn(log, number, near, design, state, store) {
@@ -96,12 +96,12 @@ pub fn apply(
 ) -> Result<(), TakeFault>
     requires stands { Stands design.now state.old store.old }
     requires few { state.old.entries < most_entries }
-    requires given { IsTurnGiven design.now (state_of (remainder_of design.now) store.old state.old) entry (option_copied log) }
+    requires given { IsTurnGiven design.now (state_of (remainder_of_state design.now) store.old state.old) entry (option_copied log) }
     ensures stands { Stands design.now state.new store.new }
-    ensures taken { OnOk result (IsTaken design.now (state_of (remainder_of design.now) store.old state.old) (string_bytes made.old.lines) entry (state_of (remainder_of design.now) store.new state.new) (string_bytes made.new.lines)) }
+    ensures taken { OnOk result (IsTaken design.now (state_of (remainder_of_state design.now) store.old state.old) (string_bytes made.old.lines) entry (state_of (remainder_of_state design.now) store.new state.new) (string_bytes made.new.lines)) }
     ensures entries { OnOk result (state.new.entries ≡ state.old.entries + 1) }
     ensures made { OnOk result (map made_event made.new.events.items ≡ made_events state.old state.new) }
-    ensures stop { IfErr result (IsStop design.now (state_of (remainder_of design.now) store.old state.old) entry) }
+    ensures stop { IfErr result (IsStop design.now (state_of (remainder_of_state design.now) store.old state.old) entry) }
     ensures err { OnErr result ((state.new ≡ state.old) × (store.new ≡ store.old) × (string_bytes made.new.lines ≡ string_bytes made.old.lines)) }
 {
     let applied = state.apply(design, store, entry, log, made);

@@ -28,7 +28,7 @@ mod run_state;
 pub use evaluate::{HeldCells, Holding, held_turn};
 pub use ledger::Item;
 pub use mark::{
-    Addition, Adds, Both, Compares, Looks, Makes, MarkCell, MarkPass, MarkView, Marks, Telling,
+    Addition, Adds, Both, Compares, Makes, MarkCell, MarkLoad, MarkPass, MarkView, Marks, Telling,
     Whole, add, catch_up, look, new_mark, next_seat,
 };
 pub use run_state::RunState;

@@ -9,21 +9,19 @@ use Rattle.rand_pcg.specs.Pcg.{pcg32_of_seed}
 use Rattle.rand.specs.Draw.{Gives}
 use Rattle.rand.specs.Uniform.{usize_single}
 use Rattle.model.specs.declared.entry.Entry.{Entry}
-use Rattle.model.specs.declared.entry.Entry.TheVariants.{Turn}
 use Rattle.model.specs.declared.end.Limits.{Limits}
 use Rattle.model.specs.declared.end.Why.TheVariants.{Finish, Until, Entries, TooLong, Time, Memory}
 use Rattle.model.specs.declared.end.End.{End}
 use Rattle.model.specs.declared.end.End.TheVariants.{Quiet, Running, Stopped}
 use Rattle.model.specs.Design.{Design}
-use Rattle.model.specs.States.{State, Evaluate}
-use Rattle.model.specs.Runs.{action_in, refusal, turn_of, EndsIn}
+use Rattle.model.specs.States.{State}
+use Rattle.model.specs.Runs.{refusal, EndsIn}
 use Rattle.design.specs.Compiled.{Compiled, design_of}
-use Rattle.regions.specs.declared.state.MadeEvent.{MadeEvent}
-use Rattle.regions.specs.Machine.{AreInOrder, MachineView, state_at}
-use Rattle.seeded.specs.declared.run.SeededRun.{SeededRun}
-use Rattle.seeded.specs.Halting.{HaltsAt}
-use Rattle.seeded.specs.Seeds.{AreChosen, EndsByChoice, EndsByEntry, FollowsSeed, IsChosen, IsDrawn, IsOneMore, Nothing, More, stream_from}
-use Rattle.seeded.proofs.Permits.{turn_next}
+use Rattle.regions.specs.Machine.{AreInOrder}
+use Rattle.runs.specs.declared.run.RunRecord.{RunRecord}
+use Rattle.runs.specs.Halting.{HaltsAt}
+use Rattle.seeded.specs.Seeds.{AreChosen, EndsByChoice, FollowsSeed, IsChosen, IsDrawn, IsOneMore, Nothing, More, stream_from}
+use Rattle.runs.proofs.Permits.{turn_next}
 
 -- the entry at the place that is drawn is chosen
 pub drawn_at : (s : State) (choices : List Entry) (o : Option Entry) (place count : ℕ) (stream rest : Stream) → ((e : Entry) → Contains choices e ↔ (refusal s e ≡ None)) → AreInOrder choices
@@ -38,16 +36,6 @@ drawn_at s choices (Some entry) place count stream rest all order count_is drawn
       drawn = drawn ∙ ap (λ (n : ℕ). usize_single 0 n stream) count_is;
       there = sym is;
     }
-
--- the turn of an evaluation that has no short one is too long
-pub long_turn : (design : Design) (s : State) (entry : Entry) (n p : ℕ) → entry ≡ Turn n → action_in s.active n ≡ Some (Evaluate p) → turn_of design s p ≡ None
-    → EndsByEntry design s entry (Stopped (TooLong p))
-long_turn design s entry n p is there none = (n, is, there, none)
-
--- what an entry that isn't taken leaves ends by it too
-pub still_long : (old new : MachineView) (made : List MadeEvent) (entry : Entry) (end : End) → new ≡ record old { made = made }
-    → EndsByEntry (design_of new.code) (state_at new) entry end → EndsByEntry (design_of old.code) (state_at old) entry end
-still_long old new made entry end is long = subst (λ (p : MachineView). EndsByEntry (design_of p.code) (state_at p) entry end) is long
 
 -- a run that halts doesn't end by a turn that is too long
 pub halt_by_choice : (design : Design) (limits : Limits) (journal : List Entry) (stream : Stream) (s : State) (end : End) → 0 < limits.max_entries → HaltsAt design limits s end
@@ -103,7 +91,7 @@ pub none_drawn : (design : Design) (stream : Stream) (journal : List Entry) → 
 none_drawn design stream journal empty = record { rest = stream; chosen = none_chosen design stream journal empty; last = tt }
 
 -- the draws of the generator that a seed begins
-pub follows_seed : (code code' : Compiled) (seed : ℕ) (generator : Lcg) (r : SeededRun) → code' ≡ code → generator ≡ pcg32_of_seed (pcg32_seed 16 seed)
+pub follows_seed : (code code' : Compiled) (seed : ℕ) (generator : Lcg) (r : RunRecord) → code' ≡ code → generator ≡ pcg32_of_seed (pcg32_seed 16 seed)
     → IsDrawn (design_of code') (stream_from generator) r.journal.items r.end → FollowsSeed code seed r
 follows_seed code code' seed generator r same begun drawn =
     let here : IsDrawn (design_of code) (stream_from generator) r.journal.items r.end =

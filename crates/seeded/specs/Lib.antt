@@ -1,4 +1,2 @@
-pub mod Halting
-pub mod SeededRun
 pub mod Samples
 pub mod Seeds

@@ -1,50 +1,17 @@
--- What several seeds gave, and how two runs differ.
-use Rattle.std.specs.Prelude.{◌≡◌, ◌≢◌, ◌⊎◌, ℕ, List, ◌∷◌, ◌++◌, string_bytes}
+-- What several seeds gave.
+use Rattle.std.specs.Prelude.{List}
 use Rattle.std.specs.List.{Contains, Any}
-use Rattle.model.specs.declared.end.Why.TheVariants.{Entries, Memory}
-use Rattle.model.specs.declared.end.End.TheVariants.{Stopped}
-use Rattle.seeded.specs.declared.run.SeededRun.{SeededRun}
-
--- two runs have the same lines and the same end
-abbrev pub AreLike : SeededRun → SeededRun → Type 0
-AreLike a b = (string_bytes a.lines ≡ string_bytes b.lines) × (a.end ≡ b.end)
-
--- two runs differ in their lines or in their end
-abbrev pub AreDistinct : SeededRun → SeededRun → Type 0
-AreDistinct a b = string_bytes a.lines ≡ string_bytes b.lines → a.end ≡ b.end → ⊥
-
--- a run didn't end for want of memory
-abbrev pub WantsNoMemory : SeededRun → Type 0
-WantsNoMemory r = r.end ≢ Stopped Memory
-
--- a run came to its end: neither the most entries nor want of memory cut it off
-abbrev pub IsWhole : SeededRun → Type 0
-IsWhole r = (r.end ≢ Stopped Entries) × (r.end ≢ Stopped Memory)
-
--- Two texts part: behind the same bytes each has one byte more, and these two differ.
-pub record HavePartedTexts (one other : List ℕ) : Type 0 where
-  pub before : List ℕ
-  pub byte : ℕ
-  pub behind : List ℕ
-  pub other_byte : ℕ
-  pub other_behind : List ℕ
-  pub one_is : one ≡ before ++ byte ∷ behind
-  pub other_is : other ≡ before ++ other_byte ∷ other_behind
-  pub differ : byte ≢ other_byte
-
--- Two runs differ in what stands in both: their texts part, or both came to their ends and differ. Of a run that was cut off
--- only what both printed is compared, so that neither a line that it lacks nor its end tells them apart.
-abbrev pub AreApart : SeededRun → SeededRun → Type 0
-AreApart a b = HavePartedTexts (string_bytes a.lines) (string_bytes b.lines) ⊎ (IsWhole a × IsWhole b × AreDistinct a b)
+use Rattle.runs.specs.declared.run.RunRecord.{RunRecord}
+use Rattle.runs.specs.Compared.{AreLike, IsWhole}
 
 -- a run that was cut off gives way to one that came to its end
-abbrev pub GivesWay : SeededRun → SeededRun → Type 0
+abbrev pub GivesWay : RunRecord → RunRecord → Type 0
 GivesWay a b = (IsWhole a → ⊥) × IsWhole b
 
 -- each run of a list that came to its end is in another list too
-abbrev pub AreStillIn : List SeededRun → List SeededRun → Type 0
-AreStillIn old new = (run : SeededRun) → Contains old run → IsWhole run → Contains new run
+abbrev pub AreStillIn : List RunRecord → List RunRecord → Type 0
+AreStillIn old new = (run : RunRecord) → Contains old run → IsWhole run → Contains new run
 
 -- where a run came to its end, a list has one of its lines and its end
-abbrev pub IsTold : List SeededRun → SeededRun → Type 0
-IsTold kept run = IsWhole run → Any (λ one. AreLike one run) kept
+abbrev pub IsRepresented : List RunRecord → RunRecord → Type 0
+IsRepresented kept run = IsWhole run → Any (λ one. AreLike one run) kept

@@ -9,19 +9,20 @@ use Rattle.rand_pcg.specs.Pcg.{pcg32, pcg32_of_seed}
 use Rattle.rand.specs.Draw.{Gives}
 use Rattle.rand.specs.Uniform.{usize_single}
 use Rattle.model.specs.declared.entry.Entry.{Entry}
-use Rattle.model.specs.declared.entry.Entry.TheVariants.{Turn}
 use Rattle.model.specs.declared.end.Limits.{Limits}
 use Rattle.model.specs.declared.end.Why.TheVariants.{TooLong}
 use Rattle.model.specs.declared.end.End.{End}
 use Rattle.model.specs.declared.end.End.TheVariants.{Stopped}
 use Rattle.model.specs.Design.{Design}
-use Rattle.model.specs.States.{State, Evaluate}
-use Rattle.model.specs.Runs.{action_in, after, refusal, turn_of}
+use Rattle.model.specs.States.{State}
+use Rattle.model.specs.Runs.{after, refusal}
 use Rattle.design.specs.Compiled.{Compiled, design_of}
 use Rattle.regions.specs.Machine.{AreInOrder}
-use Rattle.seeded.specs.declared.run.SeededRun.{SeededRun}
-use Rattle.seeded.specs.SeededRun.{IsRun}
-use Rattle.seeded.specs.Samples.{IsTold, WantsNoMemory}
+use Rattle.runs.specs.declared.run.RunRecord.{RunRecord}
+use Rattle.runs.specs.RunRecords.{IsRun}
+use Rattle.runs.specs.Compared.{WantsNoMemory}
+use Rattle.seeded.specs.Samples.{IsRepresented}
+use Rattle.runs.specs.LongEnds.{IsLongTurn}
 
 -- all that a generator will answer
 abbrev pub stream_from : Lcg → Stream
@@ -59,16 +60,6 @@ pub data AreChosen (design : Design) (stream : Stream) : List Entry → Stream �
   More : (journal : List Entry) (left : Stream) (longer : List Entry) (rest : Stream) → AreChosen design stream journal left → IsOneMore design journal left longer rest
       → AreChosen design stream longer rest
 
--- the entry is the turn of a process, and it is too long
-abbrev pub IsLongTurn : Design → State → Entry → ℕ → Type 0
-IsLongTurn design s entry p =
-    (number : ℕ) × (entry ≡ Turn number) × (action_in s.active number ≡ Some (Evaluate p)) × (turn_of design s p ≡ None)
-
--- where a run ends by a turn that is too long, it is this entry's
-abbrev pub EndsByEntry : Design → State → Entry → End → Type 0
-EndsByEntry design s entry (Stopped (TooLong p)) = IsLongTurn design s entry p
-EndsByEntry design s entry _ = Unit {0}
-
 -- Behind a journal, the next draw of a stream chooses a turn of a process that is too long.
 pub record IsLongChoice (design : Design) (journal : List Entry) (stream : Stream) (p : ℕ) : Type 0 where
   pub state : State
@@ -90,20 +81,20 @@ pub record IsDrawn (design : Design) (stream : Stream) (journal : List Entry) (e
   pub last : EndsByChoice design journal rest end
 
 -- the generator that a seed begins chooses all that a run takes
-abbrev pub FollowsSeed : Compiled → ℕ → SeededRun → Type 0
+abbrev pub FollowsSeed : Compiled → ℕ → RunRecord → Type 0
 FollowsSeed code seed r = IsDrawn (design_of code) (seed_stream seed) r.journal.items r.end
 
 -- A run with these limits that follows a seed, and didn't end for want of memory.
-pub record IsRunOfSeed (code : Compiled) (limits : Limits) (seed : ℕ) (r : SeededRun) : Type 0 where
+pub record IsRunOfSeed (code : Compiled) (limits : Limits) (seed : ℕ) (r : RunRecord) : Type 0 where
   pub run : IsRun code limits r
   pub follows : FollowsSeed code seed r
   pub ended : WantsNoMemory r
 
 -- So many runs were made, each of a seed of its own: this one, and those that follow it (past the greatest, 0 follows). Those that
 -- are kept are some of them, and each that came to its end has its lines and its end among the kept.
-pub record AreSampled (code : Compiled) (limits : Limits) (first made : ℕ) (kept : List SeededRun) : Type 0 where
-  pub runs : List SeededRun
+pub record AreSampled (code : Compiled) (limits : Limits) (first made : ℕ) (kept : List RunRecord) : Type 0 where
+  pub runs : List RunRecord
   pub count : length runs ≡ made
-  pub seeds : (k : ℕ) (d : SeededRun) → k < length runs → IsRunOfSeed code limits ((first + k) % 2 ^ 64) (slice_index_or runs k d)
+  pub seeds : (k : ℕ) (d : RunRecord) → k < length runs → IsRunOfSeed code limits ((first + k) % 2 ^ 64) (slice_index_or runs k d)
   pub from : All (Contains runs) kept
-  pub told : All (IsTold kept) runs
+  pub told : All (IsRepresented kept) runs

@@ -2,16 +2,18 @@
 ghost use Rattle.std.specs.Prelude.{◌≡◌, ◌+◌, ◌≤◌, ◌⊎◌, ◌<◌, false, length, IsTrue, IfSome, IfNone, OnOk, OnErr, slice_index_or, vec_len, vec_capacity};
 ghost use Rattle.std.specs.List.{All, AllPairs, Contains};
 ghost use Rattle.model.specs.Runs.{last_time};
-ghost use Rattle.seeded.specs.SeededRun.{IsRun};
+ghost use Rattle.runs.specs.RunRecords.{IsRun};
 ghost use Rattle.seeded.specs.Seeds.{AreSampled};
-ghost use Rattle.seeded.specs.declared.run.SeededRun.{SeededRun};
-ghost use Rattle.seeded.specs.Samples.{AreApart, AreLike, AreStillIn, GivesWay, IsTold, IsWhole, WantsNoMemory};
+ghost use Rattle.runs.specs.declared.run.RunRecord.{RunRecord};
+ghost use Rattle.runs.specs.Compared.{AreDifferentRuns, AreLike, IsWhole, WantsNoMemory};
+ghost use Rattle.seeded.specs.Samples.{AreStillIn, GivesWay, IsRepresented};
 
-use crate::compared::{are_apart, is_same, is_whole};
-use crate::run::{SeededRun, run_seeded};
+use crate::run::run_seeded;
 use design::Design;
 use model::end::{End, Limits, Why};
 use progress::{HowFar, Progress, Untold};
+use runs::compared::{are_apart, is_same, is_whole};
+use runs::run::RunRecord;
 use std::alloc::{AllocError, Global};
 
 /// The seeds of several runs: this one, and those that follow it (past the greatest, 0 follows).
@@ -31,14 +33,14 @@ pub struct SampleBounds {
 /// The runs of several seeds that are apart, and how many runs were made.
 #[derive(Drop)]
 pub struct Samples {
-    pub kept: Vec<SeededRun>,
+    pub kept: Vec<RunRecord>,
     pub made: u32,
 }
 
 // Whether a kept run stands for another one: the two are the same, or the other one was cut off and isn't apart from it.
-fn stands_for(one: &SeededRun, run: &SeededRun) -> bool
+fn stands_for(one: &RunRecord, run: &RunRecord) -> bool
     ensures like { IsTrue result → IsWhole run.now → AreLike one.now run.now }
-    ensures other { result ≡ false → AreApart one.now run.now ⊎ GivesWay one.now run.now }
+    ensures other { result ≡ false → AreDifferentRuns one.now run.now ⊎ GivesWay one.now run.now }
 {
     if is_whole(run) {
         return is_same(one, run);
@@ -47,9 +49,9 @@ fn stands_for(one: &SeededRun, run: &SeededRun) -> bool
 }
 
 // Whether a kept run stands for this one.
-fn is_told(kept: &[SeededRun], run: &SeededRun) -> bool
-    ensures like { IsTrue result → IsTold kept.now run.now }
-    ensures other { result ≡ false → All (λ one. AreApart one run.now ⊎ GivesWay one run.now) kept.now }
+fn is_told(kept: &[RunRecord], run: &RunRecord) -> bool
+    ensures like { IsTrue result → IsRepresented kept.now run.now }
+    ensures other { result ≡ false → All (λ one. AreDifferentRuns one run.now ⊎ GivesWay one run.now) kept.now }
 {
     for one in kept.iter() {
         if stands_for(one, run) {
@@ -60,11 +62,11 @@ fn is_told(kept: &[SeededRun], run: &SeededRun) -> bool
 }
 
 // The place of the first kept run from which this one isn't apart.
-fn first_close(kept: &[SeededRun], run: &SeededRun) -> Option<usize>
-    requires { All (λ one. AreApart one run.now ⊎ GivesWay one run.now) kept.now }
+fn first_close(kept: &[RunRecord], run: &RunRecord) -> Option<usize>
+    requires { All (λ one. AreDifferentRuns one run.now ⊎ GivesWay one run.now) kept.now }
     ensures within { IfSome result (λ place. place < length kept.now) }
-    ensures cut { IfSome result (λ place. (d : SeededRun) → IsWhole (slice_index_or kept.now place d) → ⊥) }
-    ensures apart { IfNone result (All (λ one. AreApart one run.now) kept.now) }
+    ensures cut { IfSome result (λ place. (d : RunRecord) → IsWhole (slice_index_or kept.now place d) → ⊥) }
+    ensures apart { IfNone result (All (λ one. AreDifferentRuns one run.now) kept.now) }
 {
     for (place, one) in kept.iter().enumerate() {
         if !are_apart(one, run) {
@@ -75,11 +77,11 @@ fn first_close(kept: &[SeededRun], run: &SeededRun) -> Option<usize>
 }
 
 // Takes out the kept runs from which this one isn't apart. They were cut off, and it wasn't.
-fn give_way(kept: &mut Vec<SeededRun>, run: &SeededRun)
-    requires other { All (λ one. AreApart one run.now ⊎ GivesWay one run.now) kept.old.items }
-    requires apart { AllPairs AreApart kept.old.items }
-    ensures apart { AllPairs AreApart kept.new.items }
-    ensures close { All (λ one. AreApart one run.now) kept.new.items }
+fn give_way(kept: &mut Vec<RunRecord>, run: &RunRecord)
+    requires other { All (λ one. AreDifferentRuns one run.now ⊎ GivesWay one run.now) kept.old.items }
+    requires apart { AllPairs AreDifferentRuns kept.old.items }
+    ensures apart { AllPairs AreDifferentRuns kept.new.items }
+    ensures close { All (λ one. AreDifferentRuns one run.now) kept.new.items }
     ensures from { All (Contains kept.old.items) kept.new.items }
     ensures whole { AreStillIn kept.old.items kept.new.items }
     ensures few { vec_len kept.new ≤ vec_len kept.old }
@@ -92,12 +94,12 @@ fn give_way(kept: &mut Vec<SeededRun>, run: &SeededRun)
 
 // Keeps a run unless a kept one stands for it. Those that were cut off give way to it where they aren't apart from it. Fails
 // where memory is refused, and then those that were kept stay.
-fn keep(kept: &mut Vec<SeededRun>, run: SeededRun) -> Result<(), AllocError>
-    requires apart { AllPairs AreApart kept.old.items }
-    ensures apart { AllPairs AreApart kept.new.items }
+fn keep(kept: &mut Vec<RunRecord>, run: RunRecord) -> Result<(), AllocError>
+    requires apart { AllPairs AreDifferentRuns kept.old.items }
+    ensures apart { AllPairs AreDifferentRuns kept.new.items }
     ensures from { All (λ one. Contains kept.old.items one ⊎ (one ≡ run)) kept.new.items }
     ensures whole { AreStillIn kept.old.items kept.new.items }
-    ensures told { OnOk result (IsTold kept.new.items run) }
+    ensures told { OnOk result (IsRepresented kept.new.items run) }
     ensures few { vec_len kept.new ≤ vec_len kept.old + 1 }
     ensures stay { OnErr result (vec_len kept.new ≡ vec_len kept.old) }
     ensures same { OnErr result (kept.new.items ≡ kept.old.items) }
@@ -112,7 +114,7 @@ fn keep(kept: &mut Vec<SeededRun>, run: SeededRun) -> Result<(), AllocError>
 }
 
 // Whether a run ended for want of memory.
-fn wants_memory(run: &SeededRun) -> bool
+fn wants_memory(run: &RunRecord) -> bool
     ensures { result ≡ false → WantsNoMemory run.now }
 {
     match run.end {
@@ -136,7 +138,7 @@ pub fn sample<P: Progress>(
 ) -> Samples
     requires until { IfSome limits.until (λ until. until ≤ last_time) }
     ensures runs { All (IsRun design.now limits) result.kept.items }
-    ensures apart { AllPairs AreApart result.kept.items }
+    ensures apart { AllPairs AreDifferentRuns result.kept.items }
     ensures ended { All WantsNoMemory result.kept.items }
     ensures most { vec_len result.kept ≤ bounds.kept }
     ensures kept { vec_len result.kept ≤ result.made }

@@ -6,10 +6,10 @@ use Rattle.model.specs.Turns.{contains}
 use Rattle.model.specs.States.{State}
 use Rattle.model.specs.Laws.{evaluations_in}
 use Rattle.design.specs.Compiled.{Compiled, design_of}
-use Rattle.phases.specs.Phase.{Block, IsBlock, IsPending, HasSettled, IsOutput, continuation_of, waits_for, updated_in}
+use Rattle.phases.specs.Phase.{Block, IsBlock, IsTurnPending, HasSettled, IsOutput, continuation_of, waits_for_register, updated_in}
 use Rattle.combinational.specs.declared.block.Logic.{Logic}
 use Rattle.combinational.specs.declared.network.Network.{Network}
-use Rattle.combinational.specs.Found.{AreFound, HasLogic, AreRanked, block_in, rank_in}
+use Rattle.combinational.specs.Found.{IsNetworkOf, HasLogic, AreRanked, block_in, rank_in}
 use Rattle.settling.specs.Settling.{block_or, block_at, IsMember, AreMembers, IsPhaseOf, HaveOutputs}
 
 -- the block of a member is that of its logic
@@ -33,13 +33,13 @@ differ_if p q is same =
 
 -- what was told of some members of a network in a state
 pub record Told (code : Compiled) (s : State) (network : Network) (members outputs : List ℕ) : Type 0 where
-  pub found : AreFound code network
+  pub found : IsNetworkOf code network
   pub goes_on : s.finished ≡ false
   pub apart : (r : ℕ) → contains (updated_in s) r ≡ true → contains outputs r ≡ false
   pub outputs_are : HaveOutputs network members outputs
   pub inside : (p : ℕ) → contains members p ≡ false → evaluations_in p s.active ≡ 0
-  pub updates_sleep : (q r : ℕ) → contains members q ≡ false → contains (updated_in s) r ≡ true → waits_for (continuation_of s q) r ≡ false
-  pub outputs_sleep : (q r : ℕ) → contains members q ≡ false → contains outputs r ≡ true → waits_for (continuation_of s q) r ≡ false
+  pub updates_sleep : (q r : ℕ) → contains members q ≡ false → contains (updated_in s) r ≡ true → waits_for_register (continuation_of s q) r ≡ false
+  pub outputs_sleep : (q r : ℕ) → contains members q ≡ false → contains outputs r ≡ true → waits_for_register (continuation_of s q) r ≡ false
   pub each : AreMembers code s network members
 
 -- an output of a member is among the outputs
@@ -54,19 +54,19 @@ is_block code s network members outputs told p there =
     let has : HasLogic code p m.logic = told.found.each p m.logic m.found in
     subst (IsBlock (design_of code) p) (sym (member_block code network p m.logic m.found)) has.block
 
-stands_so : (code : Compiled) (s : State) (network : Network) (p : ℕ) → IsMember code s network p → IsPending s p (block_at code network p) ⊎ HasSettled (design_of code) s p (block_at code network p)
+stands_so : (code : Compiled) (s : State) (network : Network) (p : ℕ) → IsMember code s network p → IsTurnPending s p (block_at code network p) ⊎ HasSettled (design_of code) s p (block_at code network p)
 stands_so code s network p m =
-    subst (λ (b : Block). IsPending s p b ⊎ HasSettled (design_of code) s p b) (sym (member_block code network p m.logic m.found)) m.stands
+    subst (λ (b : Block). IsTurnPending s p b ⊎ HasSettled (design_of code) s p b) (sym (member_block code network p m.logic m.found)) m.stands
 
-are_apart : (code : Compiled) (s : State) (network : Network) (p q : ℕ) → AreFound code network → p ≢ q → (m : IsMember code s network p) → (n : IsMember code s network q) → AreRanked network.ranks.items p q m.logic n.logic
+are_apart : (code : Compiled) (s : State) (network : Network) (p q : ℕ) → IsNetworkOf code network → p ≢ q → (m : IsMember code s network p) → (n : IsMember code s network q) → AreRanked network.ranks.items p q m.logic n.logic
 are_apart code s network p q found differ m n = found.apart p q m.logic n.logic differ m.found n.found
 
-is_single : (code : Compiled) (s : State) (network : Network) (p q r : ℕ) → AreFound code network → p ≢ q → IsMember code s network p → IsMember code s network q → contains (block_at code network p).outputs r ≡ true → contains (block_at code network q).outputs r ≡ false
+is_single : (code : Compiled) (s : State) (network : Network) (p q r : ℕ) → IsNetworkOf code network → p ≢ q → IsMember code s network p → IsMember code s network q → contains (block_at code network p).outputs r ≡ true → contains (block_at code network q).outputs r ≡ false
 is_single code s network p q r found differ m n out =
     let own : contains m.logic.outputs.items r ≡ true = ap (λ (b : Block). contains b.outputs r) (sym (member_block code network p m.logic m.found)) ∙ out in
     ap (λ (b : Block). contains b.outputs r) (member_block code network q n.logic n.found) ∙ (are_apart code s network p q found differ m n).single r own
 
-in_order : (code : Compiled) (s : State) (network : Network) (p q r : ℕ) → AreFound code network → p ≢ q → IsMember code s network p → IsMember code s network q → contains (block_at code network p).outputs r ≡ true → contains (block_at code network q).inputs r ≡ true
+in_order : (code : Compiled) (s : State) (network : Network) (p q r : ℕ) → IsNetworkOf code network → p ≢ q → IsMember code s network p → IsMember code s network q → contains (block_at code network p).outputs r ≡ true → contains (block_at code network q).inputs r ≡ true
     → rank_in network.ranks.items p < rank_in network.ranks.items q
 in_order code s network p q r found differ m n out in_it =
     let own : contains m.logic.outputs.items r ≡ true = ap (λ (b : Block). contains b.outputs r) (sym (member_block code network p m.logic m.found)) ∙ out in
@@ -83,7 +83,7 @@ order_if code s network members outputs told p q r false is there there' out in_
     in_order code s network p q r told.found (differ_if p q is) (told.each p there) (told.each q there') out in_it
 
 sleeps_through : (code : Compiled) (s : State) (network : Network) (members outputs : List ℕ) → Told code s network members outputs → (q r : ℕ) → contains members q ≡ false
-    → contains (updated_in s) r ≡ true ⊎ IsOutput members (block_at code network) r → waits_for (continuation_of s q) r ≡ false
+    → contains (updated_in s) r ≡ true ⊎ IsOutput members (block_at code network) r → waits_for_register (continuation_of s q) r ≡ false
 sleeps_through code s network members outputs told q r none (inl updated) = told.updates_sleep q r none updated
 sleeps_through code s network members outputs told q r none (inr (p, there, out)) =
     told.outputs_sleep q r none (is_listed code s network members outputs told p r there out)

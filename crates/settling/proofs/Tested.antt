@@ -6,24 +6,24 @@ use Rattle.model.specs.Turns.{contains}
 use Rattle.model.specs.Laws.{evaluations_in}
 use Rattle.orders.specs.Alike.{updates_in}
 use Rattle.design.specs.Compiled.{Compiled}
-use Rattle.design.specs.DesignInvariant.{remainder_of, controls_of}
-use Rattle.phases.specs.Phase.{continuation_of, waits_for}
+use Rattle.design.specs.DesignInvariant.{remainder_of_state, controls_of}
+use Rattle.phases.specs.Phase.{continuation_of, waits_for_register}
 use Rattle.regions.specs.declared.queue.Continuation.{Continuation}
 use Rattle.regions.specs.declared.queue.Update.{Update}
 use Rattle.regions.specs.declared.queue.Evaluation.{Evaluation}
-use Rattle.regions.specs.Queue.{Core, state_of, process_of, update_event, evaluation_event}
+use Rattle.regions.specs.Queue.{Core, state_of, process_wait_of, update_event, evaluation_event}
 use Rattle.regions.specs.Machine.{Stands}
 use Rattle.settling.specs.Waiting.{OthersSleep}
 use Rattle.settling.proofs.Listed.{updates_active, evaluations_active}
 use Rattle.settling.proofs.Places.{same_processes, stranger_sleeps}
 
 -- the processes of a queue, by the event controls of the design
-pub processes_told : (code : Compiled) (core queue : Core) (values : List Vector) (ps : List Continuation) → Stands code core values → map (process_of queue.controls) ps ≡ queue.processes → queue ≡ core → map (process_of (controls_of code)) ps ≡ core.processes
+pub processes_told : (code : Compiled) (core queue : Core) (values : List Vector) (ps : List Continuation) → Stands code core values → map (process_wait_of queue.controls) ps ≡ queue.processes → queue ≡ core → map (process_wait_of (controls_of code)) ps ≡ core.processes
 processes_told code core queue values ps stands are same = same_processes core queue ps (controls_of code) are same stands.controls
 
 pub sleep_told : (code design : Compiled) (core queue : Core) (values : List Vector) (ps : List Continuation) (controls : List (List Trigger)) (members registers rs : List ℕ) → design ≡ code → Stands code core values → controls ≡ controls_of design
-    → map (process_of queue.controls) ps ≡ queue.processes → queue ≡ core → registers ≡ rs → OthersSleep controls ps members registers → (q r : ℕ) → contains members q ≡ false → contains rs r ≡ true
-    → waits_for (continuation_of (state_of (remainder_of code) values core) q) r ≡ false
+    → map (process_wait_of queue.controls) ps ≡ queue.processes → queue ≡ core → registers ≡ rs → OthersSleep controls ps members registers → (q r : ℕ) → contains members q ≡ false → contains rs r ≡ true
+    → waits_for_register (continuation_of (state_of (remainder_of_state code) values core) q) r ≡ false
 sleep_told code design core queue values ps controls members registers rs codes stands controls_are are same registers_are sleep q r none there =
     let sleep' : OthersSleep (controls_of code) ps members rs =
     subst (λ (cs : List (List Trigger)). OthersSleep cs ps members rs) (controls_are ∙ ap controls_of codes) (subst (OthersSleep controls ps members) registers_are sleep) in

@@ -3,7 +3,7 @@ use Rattle.std.specs.Prelude.{◌≡◌, ◌⊎◌, ℕ, ◌<◌, true, List, []
 use Rattle.model.specs.Turns.{contains}
 use Rattle.model.specs.States.{State}
 use Rattle.design.specs.Compiled.{Compiled, design_of}
-use Rattle.phases.specs.Phase.{Block, IsPending, HasSettled, IsPhase}
+use Rattle.phases.specs.Phase.{Block, IsTurnPending, HasSettled, IsPhase}
 use Rattle.combinational.specs.declared.block.Logic.{Logic}
 use Rattle.combinational.specs.declared.network.Network.{Network}
 use Rattle.combinational.specs.Found.{block_in, rank_in}
@@ -22,7 +22,7 @@ pub record IsMember (code : Compiled) (s : State) (network : Network) (p : ℕ) 
   pub logic : Logic
   pub found : slice_get network.logics.items p ≡ Some (Some logic)
   pub exists : p < length s.processes
-  pub stands : IsPending s p (block_in code logic) ⊎ HasSettled (design_of code) s p (block_in code logic)
+  pub stands : IsTurnPending s p (block_in code logic) ⊎ HasSettled (design_of code) s p (block_in code logic)
 
 -- each of these is
 abbrev pub AreMembers : Compiled → State → Network → List ℕ → Type 0

@@ -4,11 +4,11 @@ ghost use Rattle.model.specs.Turns.{contains};
 ghost use Rattle.model.specs.Laws.{evaluations_in};
 ghost use Rattle.design.specs.Compiled.{design_of};
 ghost use Rattle.combinational.specs.declared.block.Logic.{Logic as Found};
-ghost use Rattle.combinational.specs.Found.{AreFound};
+ghost use Rattle.combinational.specs.Found.{IsNetworkOf};
 ghost use Rattle.regions.specs.Machine.{state_at};
 ghost use Rattle.regions.specs.Queue.{evaluation_event};
 ghost use Rattle.settling.specs.Settling.{IsMember, AreMembers};
-ghost use Rattle.settling.specs.LogicStanding.{IsContinuedAt, StandsBehind, HasLeft, StandsAs};
+ghost use Rattle.settling.specs.LogicStanding.{IsContinuedAt, StandsBehind, HasUnchangingTurn, StandsAs};
 
 use crate::consistent::leaves_values;
 use combinational::{Logic, Network, is_among};
@@ -66,7 +66,7 @@ fn is_consistent(
     machine: &Machine<'_>,
     place: &ProcState,
 ) -> Result<bool, AllocError>
-    ensures { IfOk result (λ consistent. consistent ≡ true → (p : ℕ) → IsContinuedAt machine.now.core p place.now → HasLeft (design_of machine.now.code) (state_at machine.now) p) }
+    ensures { IfOk result (λ consistent. consistent ≡ true → (p : ℕ) → IsContinuedAt machine.now.core p place.now → HasUnchangingTurn (design_of machine.now.code) (state_at machine.now) p) }
 {
     machine.stands();
     let mut log = TurnLog::new(alloc);
@@ -116,7 +116,7 @@ pub(crate) fn is_member(
     network: &Network,
     process: u32,
 ) -> Result<bool, AllocError>
-    requires found { AreFound machine.now.code network.now }
+    requires found { IsNetworkOf machine.now.code network.now }
     ensures { IfOk result (λ member. member ≡ true → IsMember machine.now.code (state_at machine.now) network.now process) }
 {
     let logic = match logic_at(network, process) {
@@ -141,7 +141,7 @@ pub(crate) fn are_members(
     network: &Network,
     members: &[u32],
 ) -> Result<bool, AllocError>
-    requires found { AreFound machine.now.code network.now }
+    requires found { IsNetworkOf machine.now.code network.now }
     ensures { IfOk result (λ all. all ≡ true → AreMembers machine.now.code (state_at machine.now) network.now members.now) }
 {
     for member in members {

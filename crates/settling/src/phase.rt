@@ -1,7 +1,7 @@
 //! Whether the state of a machine is a phase.
 ghost use Rattle.std.specs.Prelude.{◌≡◌, true, false, map, Some, slice_get, IfOk, IfSome};
 ghost use Rattle.orders.specs.Alike.{updates_in};
-ghost use Rattle.combinational.specs.Found.{AreFound};
+ghost use Rattle.combinational.specs.Found.{IsNetworkOf};
 ghost use Rattle.combinational.specs.declared.block.Logic.{Logic as Found};
 ghost use Rattle.regions.specs.Machine.{state_at};
 ghost use Rattle.regions.specs.Queue.{update_event};
@@ -137,7 +137,7 @@ fn is_phase(
     members: &[u32],
     registers: &[RegId],
 ) -> Result<bool, AllocError>
-    requires found { AreFound machine.now.code network.now }
+    requires found { IsNetworkOf machine.now.code network.now }
     requires registers { registers.now ≡ map (λ u. u.0) (updates_in (state_at machine.now).active) }
     ensures { IfOk result (λ is. is ≡ true → IsPhaseOf machine.now.code (state_at machine.now) network.now members.now) }
 {
@@ -170,7 +170,7 @@ pub fn phase_of(
     machine: &Machine<'_>,
     network: &Network,
 ) -> Result<Option<Vec<u32>>, AllocError>
-    requires found { AreFound machine.now.code network.now }
+    requires found { IsNetworkOf machine.now.code network.now }
     ensures { IfOk result (λ found. IfSome found (λ members. IsPhaseOf machine.now.code (state_at machine.now) network.now members.items)) }
 {
     let state = machine.state();

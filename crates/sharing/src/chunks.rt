@@ -12,7 +12,7 @@ const NUMBERS: u64 = 0xffff_ffff;
 
 /// Where a chunk begins in the arena, and how long it is.
 #[derive(Clone, Copy)]
-pub(crate) struct Row {
+pub(crate) struct ChunkSpan {
     pub(crate) begin: usize,
     pub(crate) length: usize,
 }
@@ -30,7 +30,7 @@ pub(crate) enum Unknown {
 /// chunk's number. From where the hash of a chunk leads to its own slot, no slot is free.
 #[derive(Drop)]
 pub(crate) struct Chunks {
-    pub(crate) rows: Vec<Row>,
+    pub(crate) rows: Vec<ChunkSpan>,
     pub(crate) arena: Vec<u8>,
     pub(crate) slots: Vec<u64>,
 }
@@ -70,7 +70,7 @@ fn slot(hash: u64, number: u32) -> u64 {
 }
 
 // The place to which the hash in a slot leads.
-fn place_of(slot: u64, count: usize) -> usize
+fn first_slot(slot: u64, count: usize) -> usize
     requires { 0 < count }
     ensures { result < count }
 {
@@ -94,7 +94,7 @@ fn put(slots: &mut Vec<u64>, slot: u64)
     if count == 0 {
         return;
     }
-    let mut at = place_of(slot, count);
+    let mut at = first_slot(slot, count);
     for _ in 0..count {
         if slots[at] == 0 {
             slots[at] = slot;
@@ -133,7 +133,7 @@ impl Chunks {
 
     /// About how many bytes they take.
     pub(crate) fn bytes(&self) -> usize {
-        let rows = self.rows.capacity().saturating_mul(size_of::<Row>());
+        let rows = self.rows.capacity().saturating_mul(size_of::<ChunkSpan>());
         let slots = self.slots.capacity().saturating_mul(size_of::<u64>());
         rows.saturating_add(slots)
             .saturating_add(self.arena.capacity())
@@ -166,7 +166,7 @@ impl Chunks {
         if count == 0 {
             return None;
         }
-        let mut at = place_of(hash, count);
+        let mut at = first_slot(hash, count);
         for _ in 0..count {
             let slot = self.slots[at];
             if slot == 0 {
@@ -208,7 +208,7 @@ impl Chunks {
         self.widen(alloc)?;
         let begin = self.arena.len();
         self.arena.extend_from_slice(bytes)?;
-        self.rows.push(Row {
+        self.rows.push(ChunkSpan {
             begin,
             length: bytes.len(),
         })?;

@@ -1,6 +1,6 @@
 //! Byte strings, each shortened to a number.
 ghost use Rattle.std.specs.Prelude.{◌≡◌, ◌*◌, [], None, length, IfOk, IfSome, OnOk};
-ghost use Rattle.sharing.specs.Parts.{numbers_in, parts, whole, AreParts, Extends, IsHeld};
+ghost use Rattle.sharing.specs.Parts.{numbers_in, chunk_table, unshortened, AreParts, Extends, HoldsWhole};
 
 use crate::chunks::{Chunks, Unknown, narrow};
 use crate::cut::cut;
@@ -36,8 +36,8 @@ fn encode(code: &mut Vec<u8>, numbers: &[u32]) -> Result<(), AllocError>
 impl Parts {
     /// No parts.
     pub fn new(alloc: Global) -> Parts
-        ensures whole { AreParts result }
-        ensures none { parts result ≡ [] }
+        ensures unshortened { AreParts result }
+        ensures none { chunk_table result ≡ [] }
     {
         Parts {
             chunks: Chunks::new(alloc),
@@ -58,13 +58,13 @@ impl Parts {
         bytes: &[u8],
         unknown: Unknown,
     ) -> Result<Option<Shortened>, AllocError>
-        requires whole { AreParts self.old }
-        ensures whole { OnOk result (AreParts self.new) }
-        ensures grows { OnOk result (Extends (parts self.old) (parts self.new)) }
-        ensures held { IfOk result (λ found. IfSome found (IsHeld (parts self.new))) }
-        ensures told { IfOk result (λ found. IfSome found (λ short. whole (parts self.new) short ≡ bytes.now)) }
+        requires unshortened { AreParts self.old }
+        ensures unshortened { OnOk result (AreParts self.new) }
+        ensures grows { OnOk result (Extends (chunk_table self.old) (chunk_table self.new)) }
+        ensures held { IfOk result (λ found. IfSome found (HoldsWhole (chunk_table self.new))) }
+        ensures told { IfOk result (λ found. IfSome found (λ short. unshortened (chunk_table self.new) short ≡ bytes.now)) }
         ensures missed { IfOk result (λ found. found ≡ None → unknown ≡ Unknown.Missed) }
-        ensures same { OnOk result (unknown ≡ Unknown.Missed → parts self.new ≡ parts self.old) }
+        ensures same { OnOk result (unknown ≡ Unknown.Missed → chunk_table self.new ≡ chunk_table self.old) }
     {
         if !cut(alloc, &mut self.chunks, &mut self.numbers, bytes, unknown)? {
             return Ok(None);
@@ -91,11 +91,11 @@ impl Parts {
 
     /// Shortens a byte string to what tells it. Fails where memory is refused.
     pub fn shorten(&mut self, alloc: Global, bytes: &[u8]) -> Result<Shortened, AllocError>
-        requires whole { AreParts self.old }
-        ensures whole { OnOk result (AreParts self.new) }
-        ensures grows { OnOk result (Extends (parts self.old) (parts self.new)) }
-        ensures held { IfOk result (IsHeld (parts self.new)) }
-        ensures told { IfOk result (λ short. whole (parts self.new) short ≡ bytes.now) }
+        requires unshortened { AreParts self.old }
+        ensures unshortened { OnOk result (AreParts self.new) }
+        ensures grows { OnOk result (Extends (chunk_table self.old) (chunk_table self.new)) }
+        ensures held { IfOk result (HoldsWhole (chunk_table self.new)) }
+        ensures told { IfOk result (λ short. unshortened (chunk_table self.new) short ≡ bytes.now) }
     {
         match self.shortened(alloc, bytes, Unknown::Added)? {
             Some(short) => Ok(short),
@@ -105,11 +105,11 @@ impl Parts {
 
     /// What a byte string was shortened to, where all parts of it are there. No part is added.
     pub fn find(&mut self, alloc: Global, bytes: &[u8]) -> Result<Option<Shortened>, AllocError>
-        requires whole { AreParts self.old }
-        ensures whole { OnOk result (AreParts self.new) }
-        ensures same { OnOk result (parts self.new ≡ parts self.old) }
-        ensures held { IfOk result (λ found. IfSome found (IsHeld (parts self.new))) }
-        ensures told { IfOk result (λ found. IfSome found (λ short. whole (parts self.new) short ≡ bytes.now)) }
+        requires unshortened { AreParts self.old }
+        ensures unshortened { OnOk result (AreParts self.new) }
+        ensures same { OnOk result (chunk_table self.new ≡ chunk_table self.old) }
+        ensures held { IfOk result (λ found. IfSome found (HoldsWhole (chunk_table self.new))) }
+        ensures told { IfOk result (λ found. IfSome found (λ short. unshortened (chunk_table self.new) short ≡ bytes.now)) }
     {
         self.shortened(alloc, bytes, Unknown::Missed)
     }

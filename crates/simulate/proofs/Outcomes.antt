@@ -24,13 +24,13 @@ use Rattle.runstate.specs.Ledger.{Ledger, entries_of, end_in, IsEndLast}
 use Rattle.commitgate.specs.Seats.{SeatView, new_seat}
 use Rattle.commitgate.specs.Tickets.{TicketView, IsFirstTickets}
 use Rattle.commitgate.specs.GateJournals.{IsLedger}
-use Rattle.commitgate.specs.Closing.{ClosedView, EndsOrRuns, IsEndIn, IsClosedWith, AreAllSeats, times}
+use Rattle.commitgate.specs.Closing.{ClosedView, EndsOrRuns, IsEndIn, IsClosedWith, AreAllSeats, occurrences}
 use Rattle.eventpool.specs.Ends.{Owning, Stealing, owner_card}
-use Rattle.eventpool.specs.Pools.{Counts, cards_of, IsPool, IsUnused}
+use Rattle.eventpool.specs.Pools.{PoolCounts, cards_of, IsPool, IsUnused}
 use Rattle.eventpool.proofs.Cards.{pool_kept}
 use Rattle.workers.specs.declared.worker.Worker.{Worker}
-use Rattle.workers.specs.Counting.{turns_in, turns_at}
-use Rattle.workers.specs.WorkerInvariant.{IsOver, IsCounted, HasPositions, turns_of, AreDone, AreBegun, IsFixed, ArePlaced}
+use Rattle.workers.specs.Counting.{journal_turn_count, turns_at}
+use Rattle.workers.specs.WorkerInvariant.{IsOver, IsCounted, HasPositions, seat_turn_count, AreDone, AreBegun, IsFixed, AreDealtRoundRobin}
 use Rattle.model.specs.declared.end.Limits.{Limits}
 use Rattle.simulate.specs.Outcomes.{IsOutcome}
 use Rattle.workers.proofs.Counting.{turns_add_up}
@@ -78,7 +78,7 @@ once design journal event h = by (run design journal) refl h
     by None is h = absurd (cc h)
     by (Some e) is h = (events_are_taken_once design journal e event is).0
 
-few_turns : (journal : List Entry) → turns_in journal ≤ length journal
+few_turns : (journal : List Entry) → journal_turn_count journal ≤ length journal
 few_turns [] = omega arith
 few_turns (Turn e ∷ es) = let r = few_turns es in omega (arith, r)
 few_turns (Update e ∷ es) = let r = few_turns es in omega (arith, r)
@@ -162,7 +162,7 @@ module _ {A : Type 0} where
   turns_few ledger (y ∷ ys) c p =
       let a = sum_cons (λ (w : Worker A). turns_at (entries_of ledger) w.seat.positions) y ys in
       let b = sum_cons (λ (w : Worker A). w.evaluations) y ys in
-      let t : turns_at (entries_of ledger) y.seat.positions ≡ turns_of y.seat = turns_begin (entries_of y.seat.seen) (entries_of ledger) y.seat.positions (entries_begin y.seat.seen ledger (p 0 y.seat (omega arith))) c.0.0 in
+      let t : turns_at (entries_of ledger) y.seat.positions ≡ seat_turn_count y.seat = turns_begin (entries_of y.seat.seen) (entries_of ledger) y.seat.positions (entries_begin y.seat.seen ledger (p 0 y.seat (omega arith))) c.0.0 in
       elim (small y.evaluations) [
         | inl lt ↦
             ⊎_elim
@@ -200,14 +200,14 @@ module _ {A : Type 0} where
       let rest : map (λ (v : Worker A). v.seat) ws ≡ map (new_seat code) ks = cc e in (
         (
           subst HasPositions (sym seat) tt,
-          (λ _. let t : turns_of w.seat ≡ 0 = ap turns_of seat in omega (arith, t)),
+          (λ _. let t : seat_turn_count w.seat ≡ 0 = ap seat_turn_count seat in omega (arith, t)),
           (let none = z.0 in omega (arith, none)),
         ),
         new_counted code ks ws rest z.1,
       )
 
   pub begun : (n : Named) (ws : List (Worker A)) (seats : List SeatView) (owners owners' : List (Owning TicketView)) (rows : List (Vec (Stealing TicketView))) (tickets : List TicketView)
-      → seats ≡ map (new_seat n.code) (range_with_len 0 n.workers) → IsFirstTickets n.code tickets → IsPool owners rows → IsUnused owners rows → IsFixed owners owners' → ArePlaced owners tickets owners'
+      → seats ≡ map (new_seat n.code) (range_with_len 0 n.workers) → IsFirstTickets n.code tickets → IsPool owners rows → IsUnused owners rows → IsFixed owners owners' → AreDealtRoundRobin owners tickets owners'
       → map (λ w. w.seat) ws ≡ seats → map (λ w. w.owner) ws ≡ owners' → map (λ w. w.row) ws ≡ rows → AllByRecursion (λ w. w.evaluations ≡ 0) ws → AreBegun n ws
   begun n ws seats owners owners' rows tickets new are_first pool unused fixed placed s o r none = record {
     seats = s ∙ new;
@@ -222,7 +222,7 @@ module _ {A : Type 0} where
         placed_at n.workers ws owners owners' rows tickets o (omega (arith, count, many)) count unused placed);
   }
 
-  pub outcome : (n : Named) (first left : List (Worker A)) (seats : List SeatView) (owners : List (Owning _)) (rows : List (Vec (Stealing _))) (closed : ClosedView) (tally : Counts) (evaluations : List ℕ)
+  pub outcome : (n : Named) (first left : List (Worker A)) (seats : List SeatView) (owners : List (Owning _)) (rows : List (Vec (Stealing _))) (closed : ClosedView) (tally : PoolCounts) (evaluations : List ℕ)
       → AreBegun n first → AreDone n first left → 1 ≤ n.workers → n.limits.max_entries < 2 ^ 32
       → seats ≡ map (λ w. w.seat) left → owners ≡ map (λ w. w.owner) left → rows ≡ map (λ w. w.row) left → evaluations ≡ map (λ w. w.evaluations) left
       → IsClosedWith n seats closed → tally.puts ≡ sum_by (λ o. length o.put) owners → tally.takes ≡ sum_by (λ o. length o.taken) owners → tally.steals ≡ sum_by (λ row. sum_by (λ t. length t.stolen) row.items) rows
@@ -231,16 +231,16 @@ module _ {A : Type 0} where
       let long : length left ≡ n.workers = done_length n first left h ∙ b.count in
       let counted : AllByRecursion Counted left = done_counted n first left b.counted h in
       let extends : All (λ v. IsPrefix v.seen c.ledger) (map (λ (w : Worker A). w.seat) left) = subst (λ (l : List SeatView). All (λ v. IsPrefix v.seen c.ledger) l) s c.extends in
-      let shares : (place : ℕ) → sum_by (λ ps. times place ps) (map (λ (v : SeatView). v.positions) seats) ≡ times place (range_with_len 0 (length closed.entries)) =
-      (λ place. sum_map (λ (ps : List ℕ). times place ps) (λ (v : SeatView). v.positions) seats ∙ c.once place) in
-      let all : sum_by (λ (w : Worker A). turns_at (entries_of c.ledger) w.seat.positions) left ≡ turns_in closed.entries =
+      let shares : (place : ℕ) → sum_by (λ ps. occurrences place ps) (map (λ (v : SeatView). v.positions) seats) ≡ occurrences place (range_with_len 0 (length closed.entries)) =
+      (λ place. sum_map (λ (ps : List ℕ). occurrences place ps) (λ (v : SeatView). v.positions) seats ∙ c.once place) in
+      let all : sum_by (λ (w : Worker A). turns_at (entries_of c.ledger) w.seat.positions) left ≡ journal_turn_count closed.entries =
       (ap (λ (j : List Entry). sum_by (λ (w : Worker A). turns_at j w.seat.positions) left) (sym c.entries)
       ∙ sym (sum_map (λ (v : SeatView). turns_at closed.entries v.positions) (λ (w : Worker A). w.seat) left)
       ∙ ap (sum_by (λ (v : SeatView). turns_at closed.entries v.positions)) (sym s)
       ∙ sym (sum_map (λ (ps : List ℕ). turns_at closed.entries ps) (λ (v : SeatView). v.positions) seats)
       ∙ turns_add_up closed.entries (map (λ (v : SeatView). v.positions) seats) shares) in
       let total : sum evaluations ≡ sum_by (λ (w : Worker A). w.evaluations) left = sum_is evaluations ∙ ap (sum_by (λ (k : ℕ). k)) e ∙ sum_map (λ (k : ℕ). k) (λ (w : Worker A). w.evaluations) left in
-      let most : turns_in closed.entries ≤ length closed.entries = few_turns closed.entries in
+      let most : journal_turn_count closed.entries ≤ length closed.entries = few_turns closed.entries in
       let room : length closed.entries ≤ n.limits.max_entries = (let f = c.is_ledger.few in let l = ap length c.entries in omega (arith, f, l)) in
       let taken : tally.takes ≡ sum_by (λ (w : Worker A). length w.owner.taken) left = takes ∙ ap (sum_by (λ (q : Owning _). length q.taken)) o ∙ sum_map (λ (q : Owning _). length q.taken) (λ (w : Worker A). w.owner) left in
       let put : tally.puts ≡ sum_by (λ (w : Worker A). length w.owner.put) left = puts ∙ ap (sum_by (λ (q : Owning _). length q.put)) o ∙ sum_map (λ (q : Owning _). length q.put) (λ (w : Worker A). w.owner) left in
@@ -263,7 +263,7 @@ module _ {A : Type 0} where
         placed = let p = placed_few n first left b h some in omega (arith, p, put);
       }
 
-pub outcome_at : (code code' : Compiled) (limits limits' : Limits) (workers workers' : ℕ) (closed : ClosedView) (tally : Counts) (evaluations : List ℕ)
+pub outcome_at : (code code' : Compiled) (limits limits' : Limits) (workers workers' : ℕ) (closed : ClosedView) (tally : PoolCounts) (evaluations : List ℕ)
     → code ≡ code' → limits ≡ limits' → workers ≡ workers' → IsOutcome code limits workers closed tally evaluations → IsOutcome code' limits' workers' closed tally evaluations
 outcome_at code code' limits limits' workers workers' closed tally evaluations a b c o =
     subst (λ (x : Compiled × Limits × ℕ). IsOutcome x.0 x.1 x.2 closed tally evaluations) (λ i. (a i, b i, c i)) o

@@ -9,7 +9,7 @@ use Rattle.eventpool.specs.Ends.{Owning, Stealing}
 use Rattle.eventpool.specs.Pools.{IsUnused}
 use Rattle.eventpool.proofs.Places.{some_at, below_at}
 use Rattle.workers.specs.declared.worker.Worker.{Worker}
-use Rattle.workers.specs.WorkerInvariant.{every, AreDone, AreBegun, ArePlaced}
+use Rattle.workers.specs.WorkerInvariant.{every, AreDone, AreBegun, AreDealtRoundRobin}
 use Rattle.workers.proofs.Rows.{sum_cons}
 
 -- the lengths of the first of some lists
@@ -46,7 +46,7 @@ map_at f (y ∷ ys) (suc k) x at = map_at f ys k x at
 module _ {A : Type 0} where
   -- each owner was put its tickets behind none
   pub placed_at : (n : ℕ) (ws : List (Worker A)) (owners owners' : List (Owning TicketView)) (rows : List (Vec (Stealing TicketView))) (tickets : List TicketView)
-      → map (λ w. w.owner) ws ≡ owners' → length owners ≡ n → length owners' ≡ length owners → IsUnused owners rows → ArePlaced owners tickets owners'
+      → map (λ w. w.owner) ws ≡ owners' → length owners ≡ n → length owners' ≡ length owners → IsUnused owners rows → AreDealtRoundRobin owners tickets owners'
       → (w : ℕ) (x : Worker A) → slice_get ws w ≡ Some x → x.owner.put ≡ every n w tickets
   placed_at n ws owners owners' rows tickets is long same unused placed w x at =
       let there : slice_get owners' w ≡ Some x.owner = ap (λ (l : List (Owning TicketView)). slice_get l w) (sym is) ∙ map_at (λ (v : Worker A). v.owner) ws w x at in

@@ -15,22 +15,22 @@ use Rattle.orders.specs.Alike.{updates_in}
 use Rattle.regions.specs.declared.queue.Update.{Update}
 use Rattle.regions.specs.declared.queue.Evaluation.{Evaluation}
 use Rattle.regions.specs.declared.future.Due.{Due}
-use Rattle.regions.specs.Queue.{evaluation_event, update_event, process_of}
+use Rattle.regions.specs.Queue.{evaluation_event, update_event, process_wait_of}
 use Rattle.regions.specs.ProcessWaking.{triggers_at}
 use Rattle.regions.specs.declared.queue.Continuation.{Continuation}
 use Rattle.design.specs.declared.code.ProcState.{ProcState}
 use Rattle.model.specs.Design.{Trigger}
 use Rattle.regions.specs.Future.{due_event}
 use Rattle.statekeys.specs.Keys.{at_time, AreEvents, AreToCome}
-use Rattle.statekeys.specs.KeyParts.{going_on, assignment, due_process, due_assignment}
+use Rattle.statekeys.specs.KeyParts.{going_on, unnumbered_update, due_process, due_assignment}
 
 -- the processes of evaluations
 abbrev pub processes_of : List Evaluation → List ℕ
 processes_of es = map (λ e. e.process) es
 
-updates-updates : (us : List Update) (rest : List Event) → updates_in (map update_event us ++ rest) ≡ map assignment us ++ updates_in rest
+updates-updates : (us : List Update) (rest : List Event) → updates_in (map update_event us ++ rest) ≡ map unnumbered_update us ++ updates_in rest
 updates-updates [] rest = refl
-updates-updates (u ∷ us) rest = ap (λ (xs : List (ℕ × Vector)). assignment u ∷ xs) (updates-updates us rest)
+updates-updates (u ∷ us) rest = ap (λ (xs : List (ℕ × Vector)). unnumbered_update u ∷ xs) (updates-updates us rest)
 
 updates-evaluations : (es : List Evaluation) → updates_in (map evaluation_event es) ≡ []
 updates-evaluations [] = refl
@@ -56,10 +56,10 @@ times-permutation p xs ys h =
 
 -- the updates, and then the evaluations, whose processes stand in any order
 pub active_told : (us : List Update) (es : List Evaluation) (ps : List ℕ) (events : List Event)
-    → map update_event us ++ map evaluation_event es ≡ events → IsPermutation (processes_of es) ps → AreEvents (map assignment us) ps events
+    → map update_event us ++ map evaluation_event es ≡ events → IsPermutation (processes_of es) ps → AreEvents (map unnumbered_update us) ps events
 active_told us es ps events is h = record {
   in_order = sym (ap updates_in is) ∙ updates-updates us (map evaluation_event es)
-      ∙ ap (λ (xs : List (ℕ × Vector)). map assignment us ++ xs) (updates-evaluations es) ∙ append-nil (map assignment us);
+      ∙ ap (λ (xs : List (ℕ × Vector)). map unnumbered_update us ++ xs) (updates-evaluations es) ∙ append-nil (map unnumbered_update us);
   as_many = λ p. sym (ap (evaluations_in p) is) ∙ evaluations-updates p us (map evaluation_event es) ∙ evaluations-evaluations p es
       ∙ times-permutation p (processes_of es) ps h;
 }
@@ -68,7 +68,7 @@ pub inactive_told : (es : List Evaluation) (ps : List ℕ) (events : List Event)
     → IsPermutation (processes_of es) ps → AreEvents [] ps events
 inactive_told es ps events is h = active_told [] es ps events is h
 
-pub nonblocking_told : (us : List Update) (events : List Event) → map update_event us ≡ events → AreEvents (map assignment us) [] events
+pub nonblocking_told : (us : List Update) (events : List Event) → map update_event us ≡ events → AreEvents (map unnumbered_update us) [] events
 nonblocking_told us events is = active_told us [] [] events (append-nil (map update_event us) ∙ is) (IsPermutation-refl [])
 
 -- one more evaluation to come, which may be due
@@ -131,7 +131,7 @@ times-updates (d ∷ ds) = ap (λ (ts : List ℕ). d.time ∷ ts) (times-updates
 due_update : (b : Bool) (d : Due Update) (xs : List (ℕ × Event)) (ys : List (ℕ × (ℕ × Vector)))
     → updates_in (map (λ (x : ℕ × Event). x.1) xs) ≡ map (λ (y : ℕ × (ℕ × Vector)). y.1) ys
     → updates_in (map (λ (x : ℕ × Event). x.1) (cond b (due_event update_event d ∷ xs) xs)) ≡ map (λ (y : ℕ × (ℕ × Vector)). y.1) (cond b (due_assignment d ∷ ys) ys)
-due_update true d xs ys h = ap (λ (us : List (ℕ × Vector)). assignment d.event ∷ us) h
+due_update true d xs ys h = ap (λ (us : List (ℕ × Vector)). unnumbered_update d.event ∷ us) h
 due_update false d xs ys h = h
 
 due_updates : (time : ℕ) (ds : List (Due Update)) → updates_in (due_at time (map (due_event update_event) ds)) ≡ at_time time (map due_assignment ds)
@@ -159,5 +159,5 @@ future_nonblocking_told ds future is =
 
 -- where processes go on, and what they wait for
 pub processes_told : (controls : List (List Trigger)) (ps : List Continuation) (all : List (ProcState × List Trigger))
-    → map (process_of controls) ps ≡ all → map (λ (p : ProcState × Option ℕ). (p.0, triggers_at controls p.1)) (map going_on ps) ≡ all
+    → map (process_wait_of controls) ps ≡ all → map (λ (p : ProcState × Option ℕ). (p.0, triggers_at controls p.1)) (map going_on ps) ≡ all
 processes_told controls ps all h = map-map (λ (p : ProcState × Option ℕ). (p.0, triggers_at controls p.1)) going_on ps ∙ h

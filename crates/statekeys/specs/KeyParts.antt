@@ -12,8 +12,8 @@ abbrev pub going_on : Continuation → ProcState × Option ℕ
 going_on p = (p.state, p.waits)
 
 -- an update without its number
-abbrev pub assignment : Update → ℕ × Vector
-assignment u = (u.register, u.value)
+abbrev pub unnumbered_update : Update → ℕ × Vector
+unnumbered_update u = (u.register, u.value)
 
 -- the process of an evaluation to come, with its time
 abbrev pub due_process : Due Evaluation → ℕ × ℕ
@@ -21,4 +21,4 @@ due_process d = (d.time, d.event.process)
 
 -- an update to come without its number, with its time
 abbrev pub due_assignment : Due Update → ℕ × (ℕ × Vector)
-due_assignment d = (d.time, assignment d.event)
+due_assignment d = (d.time, unnumbered_update d.event)

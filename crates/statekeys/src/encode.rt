@@ -2,7 +2,7 @@
 ghost use Rattle.std.specs.Prelude.{◌≡◌, ◌++◌, OnOk, flat_map};
 ghost use Rattle.statekeys.specs.KeyCodes.{nat_code, list_code};
 
-use design::Halved;
+use design::PackedBits;
 use logic4::bits::Bits;
 use std::alloc::AllocError;
 use std::collections::VecDeque;
@@ -127,7 +127,7 @@ impl Encode for Bits {
     }
 }
 
-impl Encode for Halved {
+impl Encode for PackedBits {
     ghost use Rattle.statekeys.specs.KeyCodes.{vector_code};
 
     ghost code = { vector_code };

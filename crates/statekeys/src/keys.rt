@@ -3,7 +3,7 @@ ghost use Rattle.std.specs.Prelude.{◌≡◌, ◌++◌, map, OnOk};
 ghost use Rattle.std.specs.List.Sorted.{IsPermutation};
 ghost use Rattle.statekeys.specs.KeyCodes.{nat_code, pair_code, list_code};
 ghost use Rattle.statekeys.specs.Keys.{process_code, update_code, IsKey};
-ghost use Rattle.statekeys.specs.KeyParts.{going_on, assignment, due_process, due_assignment};
+ghost use Rattle.statekeys.specs.KeyParts.{going_on, unnumbered_update, due_process, due_assignment};
 
 use crate::encode::{Encode, put_deque, put_slice};
 use design::ProcState;
@@ -54,7 +54,7 @@ impl Encode for Continuation {
 }
 
 impl Encode for Update {
-    ghost code = { λ u. update_code (assignment u) };
+    ghost code = { λ u. update_code (unnumbered_update u) };
 
     fn encode(&self, bytes: &mut Vec<u8>) -> Result<(), AllocError> {
         self.register.encode(bytes)?;
@@ -80,7 +80,7 @@ fn put_processes(bytes: &mut Vec<u8>, processes: &[Continuation]) -> Result<(), 
 
 // Appends updates in their order.
 fn put_updates(bytes: &mut Vec<u8>, updates: &VecDeque<Update>) -> Result<(), AllocError>
-    ensures { OnOk result (bytes.new.items ≡ bytes.old.items ++ list_code update_code (map assignment updates.now.items)) }
+    ensures { OnOk result (bytes.new.items ≡ bytes.old.items ++ list_code update_code (map unnumbered_update updates.now.items)) }
 {
     put_deque(bytes, updates)
 }

@@ -20,7 +20,7 @@ use Rattle.design.specs.Fits.{FitsRegister}
 use Rattle.turn.specs.declared.log.Nba.{Nba}
 use Rattle.turn.specs.TurnLogs.{assignment_of}
 use Rattle.turn.specs.Evaluate.{written}
-use Rattle.regions.specs.Order.{InOrder, IsSound, IsOrdered}
+use Rattle.regions.specs.Order.{InOrder, IsSoundAction, IsOrdered}
 use Rattle.regions.proofs.Order.{InOrder-high}
 use Rattle.regions.proofs.Kept as kept
 use Rattle.steps.specs.ExplainerStanding.{IsSoundState}
@@ -116,7 +116,7 @@ pub sound_turned : (code : Compiled) (s : State) (n p : ℕ) (turn : turns.Turn)
     → map assignment_of nbas ≡ turn.nbas → All (λ x. FitsRegister code.widths x.reg x.value) nbas → IsSoundState code (turned s n p turn)
 sound_turned code s n p turn nbas sound action given fits =
     let count : ℕ = length s.processes in
-    let lt : p < count = sound_at (IsSound code.widths count) 0 s.active s.next_event n (Evaluate p) sound.active action in
+    let lt : p < count = sound_at (IsSoundAction code.widths count) 0 s.active s.next_event n (Evaluate p) sound.active action in
     let P : NonblockingAssignment → Type 0 = λ l. FitsRegister code.widths l.register l.value in
     let all : All P turn.nbas = subst (λ (ls : List NonblockingAssignment). All P ls) given (All-map P assignment_of nbas fits) in
     sound_state code count (turned s n p turn) (kept.turned-kept code.widths count s n p turn lt all (kept_state code s sound))
@@ -126,7 +126,7 @@ sound_updated code s n r v sound =
     sound_state code (length s.processes) (updated s n r v) (kept.updated-kept code.widths (length s.processes) s n r v (kept_state code s sound))
 
 pub update_fits : (code : Compiled) (s : State) (n r : ℕ) (v : Vector) → IsSoundState code s → action_in s.active n ≡ Some (Action.Update r v) → FitsRegister code.widths r v
-update_fits code s n r v sound action = sound_at (IsSound code.widths (length s.processes)) 0 s.active s.next_event n (Action.Update r v) sound.active action
+update_fits code s n r v sound action = sound_at (IsSoundAction code.widths (length s.processes)) 0 s.active s.next_event n (Action.Update r v) sound.active action
 
 none_any : (es : List Event) → has_any es ≡ false → es ≡ []
 none_any [] is = refl
@@ -188,12 +188,12 @@ quiet_advance code s time e sound is =
 -- the start is sound
 
 numbered_order : (widths : List ℕ) (count i : ℕ) (ps : List Process) → i + length ps ≤ count
-    → InOrder (IsSound widths count) i (map (λ e. (e.0, Evaluate e.0)) (enumerate_from i ps)) (i + length ps)
+    → InOrder (IsSoundAction widths count) i (map (λ e. (e.0, Evaluate e.0)) (enumerate_from i ps)) (i + length ps)
 numbered_order widths count i [] le = omega arith
 numbered_order widths count i (p ∷ ps) le = (
   omega arith,
   omega (arith, le),
-  InOrder-high (IsSound widths count) (i + 1) (map (λ e. (e.0, Evaluate e.0)) (enumerate_from (i + 1) ps)) (i + 1 + length ps) (i + suc (length ps)) (omega arith)
+  InOrder-high (IsSoundAction widths count) (i + 1) (map (λ e. (e.0, Evaluate e.0)) (enumerate_from (i + 1) ps)) (i + 1 + length ps) (i + suc (length ps)) (omega arith)
       (numbered_order widths count (i + 1) ps (omega (arith, le))),
 )
 
@@ -207,7 +207,7 @@ sound_start code =
     let count : ℕ = length design.processes in
     let ordered : IsOrdered code.widths count (start design) =
     record {
-      active = InOrder-high (IsSound code.widths count) 0 (start design).active (0 + count) count (omega arith) (numbered_order code.widths count 0 design.processes (omega arith));
+      active = InOrder-high (IsSoundAction code.widths count) 0 (start design).active (0 + count) count (omega arith) (numbered_order code.widths count 0 design.processes (omega arith));
       inactive = omega arith;
       nonblocking = omega arith;
       future_inactive = record { times = tt; numbers = λ t. omega arith };

@@ -18,36 +18,36 @@ use Rattle.regions.specs.declared.queue.Update as queued
 use Rattle.regions.specs.declared.queue.Evaluation.{Evaluation}
 use Rattle.regions.specs.StepLogs.{IsTaken}
 use Rattle.regions.specs.Machine.{MachineView, state_at, IsTurnLogged}
-use Rattle.steps.specs.declared.cells.Cell.{Cell}
+use Rattle.steps.specs.declared.cells.VersionedValue.{VersionedValue}
 use Rattle.steps.specs.declared.entry_account.Reading.{Reading}
-use Rattle.steps.specs.declared.entry_account.Deed.TheVariants as deeds
-use Rattle.steps.specs.Accounts.{Account, greatest_version, reading, changed_from, IsRegionsTold, IsDeedTold}
-use Rattle.steps.specs.Cells.{values_at, version_at, reading_in, HasChanged, AreWritten}
-use Rattle.steps.specs.ExplainerStanding.{Standing, IsSoundState, IsNoted, IsBehind, IsExplained, update_of}
+use Rattle.steps.specs.declared.entry_account.EntryActor.TheVariants as actors
+use Rattle.steps.specs.Accounts.{Account, greatest_version, reading, changed_from, IsRegionsTold, IsActorTold}
+use Rattle.steps.specs.Cells.{cell_values, version_at, reading_in, HasChanged, AreWritten}
+use Rattle.steps.specs.ExplainerStanding.{Standing, IsSoundState, IsNoted, IsExplainerBehind, IsExplained, update_of}
 use Rattle.steps.proofs.Writes.{count_append, changed_none}
 use Rattle.steps.proofs.Effects.{turn_effect_is, update_effect_is, store_turned, store_updated, sound_turned, sound_updated, IsQuietStep, quiet_inactive, quiet_nonblocking, quiet_monitor, quiet_advance}
 
 -- a turn
-pub turn_noted : (code : Compiled) (s : State) (n p : ℕ) (log : LogView) (old new : List Cell) (a : Account) → IsTurnLogged code s n p log
-    → a.deed ≡ deeds.Turn p → a.reads ≡ map (reading_in old) (registers log.reads) → a.assigned ≡ log.nbas → AreWritten old log.writes [] new a.changes
-    → (e : Effect) → values_at old ≡ s.store → step (design_of code) s (entries.Turn n) ≡ Some e → IsNoted code s old (entries.Turn n) e new a
-turn_noted code s n p log old new a logged deed reads assigned writes e values is =
+pub turn_noted : (code : Compiled) (s : State) (n p : ℕ) (log : LogView) (old new : List VersionedValue) (a : Account) → IsTurnLogged code s n p log
+    → a.actor ≡ actors.Turn p → a.reads ≡ map (reading_in old) (registers log.reads) → a.assigned ≡ log.nbas → AreWritten old log.writes [] new a.changes
+    → (e : Effect) → cell_values old ≡ s.store → step (design_of code) s (entries.Turn n) ≡ Some e → IsNoted code s old (entries.Turn n) e new a
+turn_noted code s n p log old new a logged actor reads assigned writes e values is =
     let l = logged.is_log in
     let t = l.turn in
-    let same : changes_of (values_at old) log.writes ≡ changes_of s.store t.writes = ap (λ (v : Store). changes_of v log.writes) values ∙ ap (changes_of s.store) l.is_log.writes in
+    let same : changes_of (cell_values old) log.writes ≡ changes_of s.store t.writes = ap (λ (v : Store). changes_of v log.writes) values ∙ ap (changes_of s.store) l.is_log.writes in
     let own : IsNoted code s old (entries.Turn n) (turn_effect s n p t) new a =
     record {
-      deed =
+      actor =
           record {
             process = p;
             action = logged.action;
             turn = t;
             is_turn = l.is_turn;
-            deed = deed;
+            actor = actor;
             reads = reads ∙ ap (map (reading_in old)) l.is_log.uses;
             assigned = ap (map assignment_of) assigned ∙ l.is_log.nbas;
           };
-      changes = writes.told ∙ ap (λ (v : Store). changed_from v (changes_of (values_at old) log.writes)) values ∙ ap (changed_from s.store) same;
+      changes = writes.told ∙ ap (λ (v : Store). changed_from v (changes_of (cell_values old) log.writes)) values ∙ ap (changed_from s.store) same;
       changed = subst (λ (cs : List (ℕ × Vector)). HasChanged old cs new) same writes.changed;
       store = store_turned s n p t;
     } in
@@ -61,16 +61,16 @@ turn_sound code s n p log sound logged e is =
     (sound_turned code s n p l.turn log.nbas sound logged.action l.is_log.nbas l.fits.nbas)
 
 -- an update
-pub update_noted : (code : Compiled) (s : State) (n r : ℕ) (v : Vector) (old new : List Cell) (a : Account) → action_in s.active n ≡ Some (Action.Update r v)
-    → a.deed ≡ deeds.Update r v → a.reads ≡ [] → a.assigned ≡ [] → AreWritten old ((r, v) ∷ []) [] new a.changes
-    → (e : Effect) → values_at old ≡ s.store → step (design_of code) s (entries.Update n) ≡ Some e → IsNoted code s old (entries.Update n) e new a
-update_noted code s n r v old new a action deed reads assigned writes e values is =
+pub update_noted : (code : Compiled) (s : State) (n r : ℕ) (v : Vector) (old new : List VersionedValue) (a : Account) → action_in s.active n ≡ Some (Action.Update r v)
+    → a.actor ≡ actors.Update r v → a.reads ≡ [] → a.assigned ≡ [] → AreWritten old ((r, v) ∷ []) [] new a.changes
+    → (e : Effect) → cell_values old ≡ s.store → step (design_of code) s (entries.Update n) ≡ Some e → IsNoted code s old (entries.Update n) e new a
+update_noted code s n r v old new a action actor reads assigned writes e values is =
     let ws : List (ℕ × Vector) = (r, v) ∷ [] in
-    let same : changes_of (values_at old) ws ≡ changes_of s.store ws = ap (λ (x : Store). changes_of x ws) values in
+    let same : changes_of (cell_values old) ws ≡ changes_of s.store ws = ap (λ (x : Store). changes_of x ws) values in
     let own : IsNoted code s old (entries.Update n) (update_effect s n r v) new a =
     record {
-      deed = record { register = r; value = v; action = action; deed = deed; reads = reads; assigned = assigned };
-      changes = writes.told ∙ ap (λ (x : Store). changed_from x (changes_of (values_at old) ws)) values ∙ ap (changed_from s.store) same;
+      actor = record { register = r; value = v; action = action; actor = actor; reads = reads; assigned = assigned };
+      changes = writes.told ∙ ap (λ (x : Store). changed_from x (changes_of (cell_values old) ws)) values ∙ ap (changed_from s.store) same;
       changed = subst (λ (cs : List (ℕ × Vector)). HasChanged old cs new) same writes.changed;
       store = store_updated s n r v;
     } in
@@ -82,29 +82,29 @@ update_sound code s n r v sound action e is =
     subst (λ (f : Effect). IsSoundState code f.state) (update_effect_is (design_of code) s n r v e action is) (sound_updated code s n r v sound)
 
 -- a change of the regions
-regions_noted : (code : Compiled) (s : State) (entry : Entry) (cells : List Cell) (a : Account) (e : Effect) → IsQuietStep code s e → IsDeedTold (design_of code) s (reading_in cells) entry a
+regions_noted : (code : Compiled) (s : State) (entry : Entry) (cells : List VersionedValue) (a : Account) (e : Effect) → IsQuietStep code s e → IsActorTold (design_of code) s (reading_in cells) entry a
     → a.changes ≡ [] → IsNoted code s cells entry e cells a
-regions_noted code s entry cells a e quiet deed changes =
+regions_noted code s entry cells a e quiet actor changes =
     record {
-      deed = deed;
+      actor = actor;
       changes = changes ∙ sym (ap (changed_from s.store) quiet.changes);
       changed = subst (λ (cs : List (ℕ × Vector)). HasChanged cells cs cells) (sym quiet.changes) ((changed_none cells []).changed);
       store = quiet.store ∙ sym (ap (written s.store) quiet.changes);
     }
 
-pub other_noted : (code : Compiled) (s : State) (entry : Entry) (cells : List Cell) (a : Account) → ((n : ℕ) → entry ≡ entries.Turn n → ⊥) → ((n : ℕ) → entry ≡ entries.Update n → ⊥)
-    → IsSoundState code s → a.deed ≡ deeds.Regions → a.reads ≡ [] → a.changes ≡ [] → a.assigned ≡ []
+pub other_noted : (code : Compiled) (s : State) (entry : Entry) (cells : List VersionedValue) (a : Account) → ((n : ℕ) → entry ≡ entries.Turn n → ⊥) → ((n : ℕ) → entry ≡ entries.Update n → ⊥)
+    → IsSoundState code s → a.actor ≡ actors.Regions → a.reads ≡ [] → a.changes ≡ [] → a.assigned ≡ []
     → (e : Effect) → step (design_of code) s entry ≡ Some e → IsNoted code s cells entry e cells a
-other_noted code s (entries.Turn n) cells a no_turn no_update sound deed reads changes assigned e is = absurd (no_turn n refl)
-other_noted code s (entries.Update n) cells a no_turn no_update sound deed reads changes assigned e is = absurd (no_update n refl)
-other_noted code s entries.ActivateInactive cells a no_turn no_update sound deed reads changes assigned e is =
-    regions_noted code s entries.ActivateInactive cells a e (quiet_inactive code s e sound is) (record { deed = deed; reads = reads; assigned = assigned }) changes
-other_noted code s entries.ActivateNba cells a no_turn no_update sound deed reads changes assigned e is =
-    regions_noted code s entries.ActivateNba cells a e (quiet_nonblocking code s e sound is) (record { deed = deed; reads = reads; assigned = assigned }) changes
-other_noted code s entries.ActivateMonitor cells a no_turn no_update sound deed reads changes assigned e is =
-    regions_noted code s entries.ActivateMonitor cells a e (quiet_monitor code s e sound is) (record { deed = deed; reads = reads; assigned = assigned }) changes
-other_noted code s (entries.Advance time) cells a no_turn no_update sound deed reads changes assigned e is =
-    regions_noted code s (entries.Advance time) cells a e (quiet_advance code s time e sound is) (record { deed = deed; reads = reads; assigned = assigned }) changes
+other_noted code s (entries.Turn n) cells a no_turn no_update sound actor reads changes assigned e is = absurd (no_turn n refl)
+other_noted code s (entries.Update n) cells a no_turn no_update sound actor reads changes assigned e is = absurd (no_update n refl)
+other_noted code s entries.ActivateInactive cells a no_turn no_update sound actor reads changes assigned e is =
+    regions_noted code s entries.ActivateInactive cells a e (quiet_inactive code s e sound is) (record { actor = actor; reads = reads; assigned = assigned }) changes
+other_noted code s entries.ActivateNba cells a no_turn no_update sound actor reads changes assigned e is =
+    regions_noted code s entries.ActivateNba cells a e (quiet_nonblocking code s e sound is) (record { actor = actor; reads = reads; assigned = assigned }) changes
+other_noted code s entries.ActivateMonitor cells a no_turn no_update sound actor reads changes assigned e is =
+    regions_noted code s entries.ActivateMonitor cells a e (quiet_monitor code s e sound is) (record { actor = actor; reads = reads; assigned = assigned }) changes
+other_noted code s (entries.Advance time) cells a no_turn no_update sound actor reads changes assigned e is =
+    regions_noted code s (entries.Advance time) cells a e (quiet_advance code s time e sound is) (record { actor = actor; reads = reads; assigned = assigned }) changes
 
 pub other_sound : (code : Compiled) (s : State) (entry : Entry) → ((n : ℕ) → entry ≡ entries.Turn n → ⊥) → ((n : ℕ) → entry ≡ entries.Update n → ⊥)
     → IsSoundState code s → (e : Effect) → step (design_of code) s entry ≡ Some e → IsSoundState code e.state
@@ -171,48 +171,48 @@ map_same f g (r ∷ rs) same = λ k. same r k ∷ map_same f g rs same k
 
 -- these tell the same of who does an entry
 pub record TellSame (a b : Account) : Type 0 where
-  pub deed : b.deed ≡ a.deed
+  pub actor : b.actor ≡ a.actor
   pub reads : b.reads ≡ a.reads
   pub changes : b.changes ≡ a.changes
   pub assigned : b.assigned ≡ a.assigned
 
 regions_told : (a b : Account) → TellSame a b → IsRegionsTold a → IsRegionsTold b
-regions_told a b same h = record { deed = same.deed ∙ h.deed; reads = same.reads ∙ h.reads; assigned = same.assigned ∙ h.assigned }
+regions_told a b same h = record { actor = same.actor ∙ h.actor; reads = same.reads ∙ h.reads; assigned = same.assigned ∙ h.assigned }
 
-deed_told : (design : Design) (s : State) (f g : ℕ → Reading) (entry : Entry) (a b : Account) → ((r : ℕ) → f r ≡ g r) → TellSame a b
-    → IsDeedTold design s f entry a → IsDeedTold design s g entry b
-deed_told design s f g (entries.Turn n) a b reads same h =
+actor_told : (design : Design) (s : State) (f g : ℕ → Reading) (entry : Entry) (a b : Account) → ((r : ℕ) → f r ≡ g r) → TellSame a b
+    → IsActorTold design s f entry a → IsActorTold design s g entry b
+actor_told design s f g (entries.Turn n) a b reads same h =
     record {
       process = h.process;
       action = h.action;
       turn = h.turn;
       is_turn = h.is_turn;
-      deed = same.deed ∙ h.deed;
+      actor = same.actor ∙ h.actor;
       reads = same.reads ∙ h.reads ∙ map_same f g h.turn.uses reads;
       assigned = ap (map assignment_of) same.assigned ∙ h.assigned;
     }
-deed_told design s f g (entries.Update n) a b reads same h =
-    record { register = h.register; value = h.value; action = h.action; deed = same.deed ∙ h.deed; reads = same.reads ∙ h.reads; assigned = same.assigned ∙ h.assigned }
-deed_told design s f g entries.ActivateInactive a b reads same h = regions_told a b same h
-deed_told design s f g entries.ActivateNba a b reads same h = regions_told a b same h
-deed_told design s f g entries.ActivateMonitor a b reads same h = regions_told a b same h
-deed_told design s f g (entries.Advance time) a b reads same h = regions_told a b same h
+actor_told design s f g (entries.Update n) a b reads same h =
+    record { register = h.register; value = h.value; action = h.action; actor = same.actor ∙ h.actor; reads = same.reads ∙ h.reads; assigned = same.assigned ∙ h.assigned }
+actor_told design s f g entries.ActivateInactive a b reads same h = regions_told a b same h
+actor_told design s f g entries.ActivateNba a b reads same h = regions_told a b same h
+actor_told design s f g entries.ActivateMonitor a b reads same h = regions_told a b same h
+actor_told design s f g (entries.Advance time) a b reads same h = regions_told a b same h
 
 -- an entry was noted in the state of a machine
-abbrev pub NotedAt : Standing → Entry → List Cell → Account → Type 0
+abbrev pub NotedAt : Standing → Entry → List VersionedValue → Account → Type 0
 NotedAt old entry cells a =
-    (e : Effect) → values_at old.cells ≡ old.position.values → step (design_of old.position.code) (state_at old.position) entry ≡ Some e
+    (e : Effect) → cell_values old.cells ≡ old.position.values → step (design_of old.position.code) (state_at old.position) entry ≡ Some e
     → IsNoted old.position.code (state_at old.position) old.cells entry e cells a
 
 -- it was noted and taken, and its lines were taken out
 pub explained : (journal : List Entry) (entry : Entry) (old new : Standing) (mid : MachineView) (a : Account) → new.position.code ≡ old.position.code → state_at new.position ≡ state_at mid
     → new.position.lines ≡ [] → IsTaken old.position.code (state_at old.position) old.position.lines entry (state_at mid) mid.lines → NotedAt old entry new.cells a
-    → TellSame a new.account → new.account.lines ≡ mid.lines → new.account.time ≡ (state_at mid).time → IsBehind journal old → IsExplained journal entry old new
+    → TellSame a new.account → new.account.lines ≡ mid.lines → new.account.time ≡ (state_at mid).time → IsExplainerBehind journal old → IsExplained journal entry old new
 explained journal entry old new mid a code state quiet taken noted same lines time b =
     let design : Design = design_of old.position.code in
     let e : Effect = taken.effect in
     let next : step design b.effect.state entry ≡ Some e = ap (λ (s : State). step design s entry) b.state_is ∙ taken.is_step in
-    let values : values_at old.cells ≡ old.position.values = b.values ∙ ap (λ (s : State). s.store) b.state_is in
+    let values : cell_values old.cells ≡ old.position.values = b.values ∙ ap (λ (s : State). s.store) b.state_is in
     let n : IsNoted old.position.code b.effect.state old.cells entry e new.cells a =
     subst (λ (s : State). IsNoted old.position.code s old.cells entry e new.cells a) (sym b.state_is) (noted e values taken.is_step) in
     record {
@@ -223,9 +223,9 @@ explained journal entry old new mid a code state quiet taken noted same lines ti
           record {
             is_step = next;
             time = time ∙ sym (ap (λ (s : State). s.time) taken.state_is);
-            deed =
-                deed_told design b.effect.state (reading_in old.cells) (reading b.effect) entry a new.account
-                (λ r k. record { register = r; value = value_of (b.values k) r; version = b.versions r k }) same n.deed;
+            actor =
+                actor_told design b.effect.state (reading_in old.cells) (reading b.effect) entry a new.account
+                (λ r k. record { register = r; value = value_of (b.values k) r; version = b.versions r k }) same n.actor;
             changes = same.changes ∙ n.changes;
             lines = lines ∙ taken.lines_are ∙ ap (λ (l : List ℕ). l ++ e.lines) b.quiet;
           };
@@ -242,7 +242,7 @@ explained journal entry old new mid a code state quiet taken noted same lines ti
 
 -- the start
 pub behind_start : (x : Standing) (code : Compiled) → x.position.code ≡ code → state_at x.position ≡ start (design_of code) → x.position.lines ≡ []
-    → values_at x.cells ≡ (start (design_of code)).store → ((r : ℕ) → version_at x.cells r ≡ 0) → IsBehind [] x
+    → cell_values x.cells ≡ (start (design_of code)).store → ((r : ℕ) → version_at x.cells r ≡ 0) → IsExplainerBehind [] x
 behind_start x code same first lines values versions =
     let at : start (design_of x.position.code) ≡ start (design_of code) = ap (λ (c : Compiled). start (design_of c)) same in
     record {

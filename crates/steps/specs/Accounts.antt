@@ -13,8 +13,8 @@ use Rattle.turn.specs.declared.log.Nba.{Nba}
 use Rattle.turn.specs.TurnLogs.{assignment_of}
 use Rattle.steps.specs.declared.entry_account.Reading.{Reading}
 use Rattle.steps.specs.declared.entry_account.Changed.{Changed}
-use Rattle.steps.specs.declared.entry_account.Deed.{Deed}
-use Rattle.steps.specs.declared.entry_account.Deed.TheVariants as deeds
+use Rattle.steps.specs.declared.entry_account.EntryActor.{EntryActor}
+use Rattle.steps.specs.declared.entry_account.EntryActor.TheVariants as actors
 use Rattle.steps.specs.declared.entry_account.EntryAccount.{EntryAccount}
 
 -- the greatest version that is told
@@ -38,7 +38,7 @@ changed_from store (c ∷ cs) =
 -- what is told of an entry, as plain lists
 pub record Account : Type 0 where
   pub time : ℕ
-  pub deed : Deed
+  pub actor : EntryActor
   pub reads : List Reading
   pub changes : List Changed
   pub assigned : List Nba
@@ -49,7 +49,7 @@ abbrev pub account_of : EntryAccount → Account
 account_of told =
     record {
       time = told.time;
-      deed = told.deed;
+      actor = told.actor;
       reads = told.reads.items;
       changes = told.changes.items;
       assigned = told.assigned.items;
@@ -63,7 +63,7 @@ pub record IsTurnTold (design : Design) (s : State) (read : ℕ → Reading) (nu
   pub action : action_in s.active number ≡ Some (Evaluate process)
   pub turn : turns.Turn
   pub is_turn : turn_of design s process ≡ Some turn
-  pub deed : a.deed ≡ deeds.Turn process
+  pub actor : a.actor ≡ actors.Turn process
   pub reads : a.reads ≡ map read turn.uses
   pub assigned : map assignment_of a.assigned ≡ turn.nbas
 
@@ -72,30 +72,30 @@ pub record IsUpdateTold (s : State) (number : ℕ) (a : Account) : Type 0 where
   pub register : ℕ
   pub value : Vector
   pub action : action_in s.active number ≡ Some (states.Update register value)
-  pub deed : a.deed ≡ deeds.Update register value
+  pub actor : a.actor ≡ actors.Update register value
   pub reads : a.reads ≡ []
   pub assigned : a.assigned ≡ []
 
 -- A change of the regions reads and assigns nothing.
 pub record IsRegionsTold (a : Account) : Type 0 where
-  pub deed : a.deed ≡ deeds.Regions
+  pub actor : a.actor ≡ actors.Regions
   pub reads : a.reads ≡ []
   pub assigned : a.assigned ≡ []
 
 -- what is told of who does an entry, where registers are read so
-abbrev pub IsDeedTold : Design → State → (ℕ → Reading) → Entry → Account → Type 0
-IsDeedTold design s read (entries.Turn number) a = IsTurnTold design s read number a
-IsDeedTold design s read (entries.Update number) a = IsUpdateTold s number a
-IsDeedTold design s read entries.ActivateInactive a = IsRegionsTold a
-IsDeedTold design s read entries.ActivateNba a = IsRegionsTold a
-IsDeedTold design s read entries.ActivateMonitor a = IsRegionsTold a
-IsDeedTold design s read (entries.Advance time) a = IsRegionsTold a
+abbrev pub IsActorTold : Design → State → (ℕ → Reading) → Entry → Account → Type 0
+IsActorTold design s read (entries.Turn number) a = IsTurnTold design s read number a
+IsActorTold design s read (entries.Update number) a = IsUpdateTold s number a
+IsActorTold design s read entries.ActivateInactive a = IsRegionsTold a
+IsActorTold design s read entries.ActivateNba a = IsRegionsTold a
+IsActorTold design s read entries.ActivateMonitor a = IsRegionsTold a
+IsActorTold design s read (entries.Advance time) a = IsRegionsTold a
 
 -- What is told of an entry, of which this comes after what came before it: the time after it, who does it, the registers that
 -- are read as they stand before it, its changes, each from the value before to the one after, and its lines.
-pub record IsTold (design : Design) (before : Effect) (entry : Entry) (effect : Effect) (a : Account) : Type 0 where
+pub record IsAccountOf (design : Design) (before : Effect) (entry : Entry) (effect : Effect) (a : Account) : Type 0 where
   pub is_step : step design before.state entry ≡ Some effect
   pub time : a.time ≡ effect.state.time
-  pub deed : IsDeedTold design before.state (reading before) entry a
+  pub actor : IsActorTold design before.state (reading before) entry a
   pub changes : a.changes ≡ changed_from before.state.store effect.changes
   pub lines : a.lines ≡ effect.lines

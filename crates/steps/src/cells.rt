@@ -1,6 +1,6 @@
 //! The registers as they are known: values and versions.
 ghost use Rattle.std.specs.Prelude.{◌≡◌, ◌<◌, [], ◌∷◌, map, length, IfOk, OnOk};
-ghost use Rattle.steps.specs.Cells.{first_cell, reading_in, AreWritten, AreWritesIn};
+ghost use Rattle.steps.specs.Cells.{first_cell, reading_in, AreWritten, AllWritesIn};
 
 use crate::entry_account::{Changed, Reading};
 use design::{Design, RegId};
@@ -9,18 +9,18 @@ use std::alloc::{AllocError, Global};
 
 /// A register as it is known: its value, and how many changes it has had, or the greatest `u64` where that is less.
 #[derive(Clone, Copy)]
-pub struct Cell {
+pub struct VersionedValue {
     pub value: Bits,
     pub version: u64,
 }
 
 /// The registers at the start: every one is all x, at version 0 (4.2.2).
-pub fn first_cells(alloc: Global, design: &Design) -> Result<Vec<Cell>, AllocError>
+pub fn first_cells(alloc: Global, design: &Design) -> Result<Vec<VersionedValue>, AllocError>
     ensures { IfOk result (λ cells. cells.items ≡ map first_cell design.now.widths) }
 {
     let mut cells = Vec::new(alloc);
     for width in design.widths() {
-        cells.push(Cell {
+        cells.push(VersionedValue {
             value: Bits::unknown(*width),
             version: 0,
         })?;
@@ -29,7 +29,7 @@ pub fn first_cells(alloc: Global, design: &Design) -> Result<Vec<Cell>, AllocErr
 }
 
 /// A register as it is read.
-pub fn reading(cells: &[Cell], register: RegId) -> Reading
+pub fn reading(cells: &[VersionedValue], register: RegId) -> Reading
     requires { register < length cells.now }
     ensures { result ≡ reading_in cells.now register }
 {
@@ -44,7 +44,7 @@ pub fn reading(cells: &[Cell], register: RegId) -> Reading
 /// Gives a register a value. Where that is another than its own, it is one change more, which is told behind the others. Fails where
 /// memory is refused.
 pub fn change(
-    cells: &mut Vec<Cell>,
+    cells: &mut Vec<VersionedValue>,
     changes: &mut Vec<Changed>,
     register: RegId,
     value: Bits,
@@ -62,7 +62,7 @@ pub fn change(
         before: cell.value,
         after: value,
     })?;
-    cells[register as usize] = Cell {
+    cells[register as usize] = VersionedValue {
         value,
         version: cell.version.saturating_add(1),
     };
@@ -71,11 +71,11 @@ pub fn change(
 
 /// Makes these writes in order, and tells those that change a register behind other changes. Fails where memory is refused.
 pub fn change_all(
-    cells: &mut Vec<Cell>,
+    cells: &mut Vec<VersionedValue>,
     changes: &mut Vec<Changed>,
     writes: &[(RegId, Bits)],
 ) -> Result<(), AllocError>
-    requires { AreWritesIn (length cells.old.items) writes.now }
+    requires { AllWritesIn (length cells.old.items) writes.now }
     ensures written { OnOk result (AreWritten cells.old.items writes.now changes.old.items cells.new.items changes.new.items) }
     ensures registers { length cells.new.items ≡ length cells.old.items }
 {

@@ -24,7 +24,7 @@ pub struct Changed {
 
 /// Who does an entry.
 #[derive(Clone, Copy)]
-pub enum Deed {
+pub enum EntryActor {
     /// The turn of a process, which takes an evaluation event (11.2).
     Turn(u32),
     /// The update event of a register with this value (11.2).
@@ -38,7 +38,7 @@ pub enum Deed {
 #[derive(Drop)]
 pub struct EntryAccount {
     pub time: u64,
-    pub deed: Deed,
+    pub actor: EntryActor,
     pub lines: String,
     pub reads: Vec<Reading>,
     pub changes: Vec<Changed>,
@@ -50,7 +50,7 @@ impl EntryAccount {
     pub(crate) fn new(alloc: Global) -> EntryAccount {
         EntryAccount {
             time: 0,
-            deed: Deed::Regions,
+            actor: EntryActor::Regions,
             lines: String::new(alloc),
             reads: Vec::new(alloc),
             changes: Vec::new(alloc),

@@ -4,9 +4,9 @@ ghost use Rattle.model.specs.declared.entry.Entry.{Entry};
 ghost use Rattle.regions.specs.StepLogs.{IsTaken};
 ghost use Rattle.regions.specs.Machine.{most_entries, state_at, IsNotTaken};
 ghost use Rattle.steps.specs.Accounts.{account_of};
-ghost use Rattle.steps.specs.ExplainerStanding.{IsBehind, IsExplained, IsLogFilled, IsNotExplained};
+ghost use Rattle.steps.specs.ExplainerStanding.{IsExplainerBehind, IsExplained, IsLogFilled, IsNotExplained};
 
-use crate::cells::{Cell, first_cells};
+use crate::cells::{VersionedValue, first_cells};
 use crate::entry_account::EntryAccount;
 use crate::fault::StepFault;
 use crate::noting::note;
@@ -22,7 +22,7 @@ use turn::TurnLog;
 #[derive(Drop)]
 pub struct Explainer<'d> {
     machine: Machine<'d>,
-    cells: Vec<Cell>,
+    cells: Vec<VersionedValue>,
     log: TurnLog,
     told: EntryAccount,
 }
@@ -66,7 +66,7 @@ fn take_noted(
 impl<'d> Explainer<'d> {
     /// The start of a design's run (11.3): every register is all x, at version 0. Fails where memory is refused.
     pub fn start(alloc: Global, design: &'d Design) -> Result<Explainer<'d>, AllocError>
-        ensures behind { IfOk result (IsBehind []) }
+        ensures behind { IfOk result (IsExplainerBehind []) }
         ensures code { IfOk result (λ e. e.position.code ≡ design.now) }
         ensures entries { IfOk result (λ e. e.position.core.entries ≡ 0) }
     {
@@ -83,7 +83,7 @@ impl<'d> Explainer<'d> {
     /// Takes an entry (11.4), and tells of it. After an `Err` the machine stands where it stood, but no other entry is to be told.
     pub fn step(&mut self, entry: Entry) -> Result<(), StepFault>
         // It is one step of the rules, and what is told of it is what comes of that step.
-        ensures told { OnOk result ((journal : List Entry) → IsBehind journal self.old → IsExplained journal entry self.old self.new) }
+        ensures told { OnOk result ((journal : List Entry) → IsExplainerBehind journal self.old → IsExplained journal entry self.old self.new) }
         ensures entries { OnOk result (self.new.position.core.entries ≡ self.old.position.core.entries + 1) }
         ensures few { OnOk result (self.old.position.core.entries < most_entries) }
         ensures code { self.new.position.code ≡ self.old.position.code }

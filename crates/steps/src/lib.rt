@@ -15,6 +15,6 @@ mod explainer;
 mod fault;
 mod noting;
 
-pub use entry_account::{Changed, Deed, EntryAccount, Reading};
+pub use entry_account::{Changed, EntryAccount, EntryActor, Reading};
 pub use explainer::Explainer;
 pub use fault::StepFault;

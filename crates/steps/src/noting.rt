@@ -6,13 +6,13 @@ ghost use Rattle.design.specs.Compiled.{design_of};
 ghost use Rattle.turn.specs.Reads.{registers, AreDeclared};
 ghost use Rattle.regions.specs.Queue.{update_event};
 ghost use Rattle.regions.specs.Machine.{state_at};
-ghost use Rattle.steps.specs.declared.entry_account.Deed.TheVariants as deeds;
+ghost use Rattle.steps.specs.declared.entry_account.EntryActor.TheVariants as actors;
 ghost use Rattle.steps.specs.Accounts.{account_of};
-ghost use Rattle.steps.specs.Cells.{values_at, reading_in, AreWritten, AreWritesIn};
+ghost use Rattle.steps.specs.Cells.{cell_values, reading_in, AreWritten, AllWritesIn};
 ghost use Rattle.steps.specs.ExplainerStanding.{update_of, IsCleared, IsLogFilled, IsNoted, IsSoundState};
 
-use crate::cells::{Cell, change, change_all, reading};
-use crate::entry_account::{Deed, EntryAccount, Reading};
+use crate::cells::{VersionedValue, change, change_all, reading};
+use crate::entry_account::{EntryAccount, EntryActor, Reading};
 use crate::fault::StepFault;
 use design::RegId;
 use indexmap::IndexMap;
@@ -36,7 +36,7 @@ fn register_at(reads: &IndexMap<RegId, Seen>, place: usize) -> RegId
 // Tells the registers that were read, as they are known.
 fn tell_reads(
     told: &mut Vec<Reading>,
-    cells: &[Cell],
+    cells: &[VersionedValue],
     reads: &IndexMap<RegId, Seen>,
 ) -> Result<(), AllocError>
     requires empty { told.old.items ≡ [] }
@@ -52,16 +52,16 @@ fn tell_reads(
 // Tells what a turn reads, assigns and changes.
 fn tell_turn(
     told: &mut EntryAccount,
-    cells: &mut Vec<Cell>,
+    cells: &mut Vec<VersionedValue>,
     log: &TurnLog,
 ) -> Result<(), AllocError>
     requires cleared { IsCleared told.old }
     requires declared { AreDeclared (length cells.old.items) log.now.reads }
-    requires writes { AreWritesIn (length cells.old.items) log.now.writes }
+    requires writes { AllWritesIn (length cells.old.items) log.now.writes }
     ensures reads { OnOk result (told.new.reads.items ≡ map (reading_in cells.old.items) (registers log.now.reads)) }
     ensures assigned { OnOk result (told.new.assigned.items ≡ log.now.nbas) }
     ensures written { OnOk result (AreWritten cells.old.items log.now.writes [] cells.new.items told.new.changes.items) }
-    ensures deed { told.new.deed ≡ told.old.deed }
+    ensures actor { told.new.actor ≡ told.old.actor }
     ensures registers { length cells.new.items ≡ length cells.old.items }
 {
     tell_reads(&mut told.reads, cells, log.reads())?;
@@ -74,13 +74,13 @@ fn note_turn(
     machine: &Machine<'_>,
     number: u64,
     log: &mut TurnLog,
-    cells: &mut Vec<Cell>,
+    cells: &mut Vec<VersionedValue>,
     told: &mut EntryAccount,
 ) -> Result<Option<u64>, StepFault>
     requires sound { IsSoundState machine.now.code (state_at machine.now) }
     requires cells { length cells.old.items ≡ length machine.now.code.widths }
     requires cleared { IsCleared told.old }
-    ensures noted { OnOk result ((effect : Effect) → values_at cells.old.items ≡ machine.now.values → step (design_of machine.now.code) (state_at machine.now) (entries.Turn number) ≡ Some effect → IsNoted machine.now.code (state_at machine.now) cells.old.items (entries.Turn number) effect cells.new.items (account_of told.new)) }
+    ensures noted { OnOk result ((effect : Effect) → cell_values cells.old.items ≡ machine.now.values → step (design_of machine.now.code) (state_at machine.now) (entries.Turn number) ≡ Some effect → IsNoted machine.now.code (state_at machine.now) cells.old.items (entries.Turn number) effect cells.new.items (account_of told.new)) }
     ensures sound { OnOk result ((effect : Effect) → step (design_of machine.now.code) (state_at machine.now) (entries.Turn number) ≡ Some effect → IsSoundState machine.now.code effect.state) }
     ensures given { IfOk result (IsLogFilled machine.now.code (state_at machine.now) (entries.Turn number) log.new) }
     ensures registers { length cells.new.items ≡ length cells.old.items }
@@ -88,7 +88,7 @@ fn note_turn(
 {
     match machine.evaluate(log, number, 0) {
         Ok(Some(process)) => {
-            told.deed = Deed::Turn(process);
+            told.actor = EntryActor::Turn(process);
             tell_turn(told, cells, log)?;
             Ok(Some(number))
         }
@@ -114,21 +114,21 @@ fn update_numbered(updates: &VecDeque<Update>, number: u64) -> Option<&Update>
 // Notes an update.
 fn note_update(
     machine: &Machine<'_>,
-    cells: &mut Vec<Cell>,
+    cells: &mut Vec<VersionedValue>,
     told: &mut EntryAccount,
     number: u64,
 ) -> Result<(), StepFault>
     requires sound { IsSoundState machine.now.code (state_at machine.now) }
     requires cells { length cells.old.items ≡ length machine.now.code.widths }
     requires cleared { IsCleared told.old }
-    ensures noted { OnOk result ((effect : Effect) → values_at cells.old.items ≡ machine.now.values → step (design_of machine.now.code) (state_at machine.now) (entries.Update number) ≡ Some effect → IsNoted machine.now.code (state_at machine.now) cells.old.items (entries.Update number) effect cells.new.items (account_of told.new)) }
+    ensures noted { OnOk result ((effect : Effect) → cell_values cells.old.items ≡ machine.now.values → step (design_of machine.now.code) (state_at machine.now) (entries.Update number) ≡ Some effect → IsNoted machine.now.code (state_at machine.now) cells.old.items (entries.Update number) effect cells.new.items (account_of told.new)) }
     ensures sound { OnOk result ((effect : Effect) → step (design_of machine.now.code) (state_at machine.now) (entries.Update number) ≡ Some effect → IsSoundState machine.now.code effect.state) }
     ensures registers { length cells.new.items ≡ length cells.old.items }
     ensures fault { IfErr result (λ fault. fault ≡ StepFault.Memory) }
 {
     match update_numbered(machine.state().active().0, number) {
         Some(update) => {
-            told.deed = Deed::Update(update.register, update.value);
+            told.actor = EntryActor::Update(update.register, update.value);
             Ok(change(cells, &mut told.changes, update.register, update.value)?)
         }
         None => Ok(()),
@@ -138,9 +138,9 @@ fn note_update(
 // Forgets what was told of another entry.
 fn clear(told: &mut EntryAccount)
     ensures cleared { IsCleared told.new }
-    ensures deed { told.new.deed ≡ deeds.Regions }
+    ensures actor { told.new.actor ≡ actors.Regions }
 {
-    told.deed = Deed::Regions;
+    told.actor = EntryActor::Regions;
     told.reads.clear();
     told.changes.clear();
     told.assigned.clear();
@@ -152,12 +152,12 @@ pub fn note(
     machine: &Machine<'_>,
     entry: Entry,
     log: &mut TurnLog,
-    cells: &mut Vec<Cell>,
+    cells: &mut Vec<VersionedValue>,
     told: &mut EntryAccount,
 ) -> Result<Option<u64>, StepFault>
     requires sound { IsSoundState machine.now.code (state_at machine.now) }
     requires cells { length cells.old.items ≡ length machine.now.code.widths }
-    ensures noted { OnOk result ((effect : Effect) → values_at cells.old.items ≡ machine.now.values → step (design_of machine.now.code) (state_at machine.now) entry ≡ Some effect → IsNoted machine.now.code (state_at machine.now) cells.old.items entry effect cells.new.items (account_of told.new)) }
+    ensures noted { OnOk result ((effect : Effect) → cell_values cells.old.items ≡ machine.now.values → step (design_of machine.now.code) (state_at machine.now) entry ≡ Some effect → IsNoted machine.now.code (state_at machine.now) cells.old.items entry effect cells.new.items (account_of told.new)) }
     ensures sound { OnOk result ((effect : Effect) → step (design_of machine.now.code) (state_at machine.now) entry ≡ Some effect → IsSoundState machine.now.code effect.state) }
     ensures given { IfOk result (IsLogFilled machine.now.code (state_at machine.now) entry log.new) }
     ensures registers { length cells.new.items ≡ length cells.old.items }

@@ -2,14 +2,14 @@
 use Rattle.std.proofs.Common.{Bool, true, false, ◌≡◌, ◌⊎◌, ◌∙◌, inl, inr, refl, sym, ap, ℕ, List, [], ◌∷◌, ◌++◌, take, drop, get_or, length, zero, suc, ◌<◌, subst, arith, append_assoc, add-one, Option, Some, None}
 use Rattle.std.specs.Io.KnownBytes.{Appends}
 use Rattle.std.proofs.lemmas.List.{append-nil, length_push, take-append-drop, take_all}
-use Rattle.journal.specs.Counted.{failed_calls, one_more}
-use Rattle.journal.specs.Written.{AppendsBeginning, Passes}
+use Rattle.journal.specs.Counted.{failed_calls, one_more_failure}
+use Rattle.journal.specs.Written.{AppendsBeginning, IsWrittenUpTo}
 use Rattle.journal.specs.declared.counted.Counted.{Counted}
 use Rattle.std.proofs.lemmas.Iterator.{YieldsList}
 use Rattle.std.proofs.lemmas.Iterator.Consumers.{YieldsList-from_shown}
 use Rattle.std.specs.Char.Escape.{escape_default}
 use Rattle.std.specs.Char.Iter.{escape_rest, escape_steps}
-use Rattle.telling.specs.FaultLines.{IsBroken, IsWhole, Sends, Tells, spelled}
+use Rattle.telling.specs.FaultLines.{IsBroken, IsWrittenWhole, Sends, Tells, spelled}
 
 appends_then : (a b c : Option (List ℕ)) (xs ys : List ℕ) → Appends a b xs → Appends b c ys → Appends a c (xs ++ ys)
 appends_then None b c xs ys h g = tt
@@ -22,11 +22,11 @@ appends_none None = tt
 appends_none (Some a) = sym (append-nil a)
 
 -- nothing went out yet
-pub passes_start : (a : Option (List ℕ)) (text : List ℕ) → Passes a a text text
+pub passes_start : (a : Option (List ℕ)) (text : List ℕ) → IsWrittenUpTo a a text text
 passes_start a text = ([], refl, appends_none a)
 
 -- a call took some bytes
-pub passes_taken : (a b c : Option (List ℕ)) (text rest others : List ℕ) (count : ℕ) → Passes a b text rest → Appends b c (take count rest) → others ≡ drop count rest → Passes a c text others
+pub passes_taken : (a b c : Option (List ℕ)) (text rest others : List ℕ) (count : ℕ) → IsWrittenUpTo a b text rest → Appends b c (take count rest) → others ≡ drop count rest → IsWrittenUpTo a c text others
 passes_taken a b c text rest others count (xs, is, went) took left =
     let ys : List ℕ = take count rest in
     let rest_is : rest ≡ ys ++ others = sym (take-append-drop count rest) ∙ ap (λ t. ys ++ t) (sym left) in
@@ -52,7 +52,7 @@ sends_then contents a b c xs ys false next e h g = cc
 sends_then contents a b c xs ys true true e (same, h) (still, g) =
     (still ∙ same, appends_then (contents a.inner) (contents b.inner) (contents c.inner) xs ys h g)
 sends_then contents a b c xs ys true false e (same, h) (failed, g) =
-    (failed ∙ ap one_more same, begins_then (contents a.inner) (contents b.inner) (contents c.inner) xs ys h g)
+    (failed ∙ ap one_more_failure same, begins_then (contents a.inner) (contents b.inner) (contents c.inner) xs ys h g)
 
 -- a text that was broken off, and none behind it
 pub sends_broken : {E : Type 0} (contents : E → Option (List ℕ)) (a b : Counted E) (xs more : List ℕ) (whole : Bool) → whole ≡ false
@@ -82,7 +82,7 @@ spelled_split f (c ∷ cs) (suc n) = append_assoc (f c) (spelled f (take n cs)) 
 
 -- one more was sent
 pub one_sent : {E : Type 0} (contents : E → Option (List ℕ)) (a b c : Counted E) (f : ℕ → List ℕ) (cs : List ℕ) (n x : ℕ) (whole : Bool) → n < length cs
-    → x ≡ get_or cs n x → IsWhole contents a b (spelled f (take n cs)) → Sends whole contents b c (f x)
+    → x ≡ get_or cs n x → IsWrittenWhole contents a b (spelled f (take n cs)) → Sends whole contents b c (f x)
     → Sends whole contents a c (spelled f (take (suc n) cs))
 one_sent contents a b c f cs n x whole lt is before now =
     subst (Sends whole contents a c) (ap (λ y. spelled f (take n cs) ++ f y) is ∙ spelled_more f cs n x lt)
@@ -90,7 +90,7 @@ one_sent contents a b c f cs n x whole lt is before now =
 
 -- one was broken off
 pub one_broken : {E : Type 0} (contents : E → Option (List ℕ)) (a b c : Counted E) (f : ℕ → List ℕ) (cs : List ℕ) (n x : ℕ) (whole : Bool) → n < length cs
-    → x ≡ get_or cs n x → IsWhole contents a b (spelled f (take n cs)) → Sends whole contents b c (f x) → whole ≡ false
+    → x ≡ get_or cs n x → IsWrittenWhole contents a b (spelled f (take n cs)) → Sends whole contents b c (f x) → whole ≡ false
     → IsBroken contents a c (spelled f cs)
 one_broken contents a b c f cs n x true lt is before now e = cc
 one_broken contents a b c f cs n x false lt is before now e =
@@ -99,16 +99,16 @@ one_broken contents a b c f cs n x false lt is before now e =
 
 -- all were sent
 pub all_sent : {E : Type 0} (contents : E → Option (List ℕ)) (a b : Counted E) (f : ℕ → List ℕ) (cs : List ℕ) (n : ℕ) → n ≡ length cs
-    → IsWhole contents a b (spelled f (take n cs)) → IsWhole contents a b (spelled f cs)
-all_sent contents a b f cs n e h = subst (λ (l : List ℕ). IsWhole contents a b (spelled f l)) (take_all n cs (omega (arith, e))) h
+    → IsWrittenWhole contents a b (spelled f (take n cs)) → IsWrittenWhole contents a b (spelled f cs)
+all_sent contents a b f cs n e h = subst (λ (l : List ℕ). IsWrittenWhole contents a b (spelled f l)) (take_all n cs (omega (arith, e))) h
 
 -- one more was sent, behind those before it
 pub whole_sent : {E : Type 0} (contents : E → Option (List ℕ)) (a b c : Counted E) (f : ℕ → List ℕ) (cs ys : List ℕ) (x : ℕ) (whole : Bool) → length ys < length cs
-    → x ≡ get_or cs (length ys) x → IsWhole contents a b (spelled f (take (length ys) cs)) → Sends whole contents b c (f x) → whole ≡ true
-    → IsWhole contents a c (spelled f (take (length (ys ++ x ∷ [])) cs))
+    → x ≡ get_or cs (length ys) x → IsWrittenWhole contents a b (spelled f (take (length ys) cs)) → Sends whole contents b c (f x) → whole ≡ true
+    → IsWrittenWhole contents a c (spelled f (take (length (ys ++ x ∷ [])) cs))
 whole_sent contents a b c f cs ys x false lt is before now e = cc
 whole_sent contents a b c f cs ys x true lt is before now e =
-    subst (λ (n : ℕ). IsWhole contents a c (spelled f (take n cs))) (sym (length_push ys x ∙ add-one (length ys)))
+    subst (λ (n : ℕ). IsWrittenWhole contents a c (spelled f (take n cs))) (sym (length_push ys x ∙ add-one (length ys)))
     (one_sent contents a b c f cs (length ys) x true lt is before now)
 
 -- the characters of an escape

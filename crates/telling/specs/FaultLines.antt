@@ -3,16 +3,16 @@ use Rattle.std.specs.Prelude.{◌≡◌, ◌⊎◌, ◌==◌, ℕ, List, [], ◌
 use Rattle.std.specs.Char.{encode_utf8, is_control}
 use Rattle.std.specs.Char.Escape.{escape_default}
 use Rattle.std.specs.Io.KnownBytes.{Appends}
-use Rattle.journal.specs.Counted.{failed_calls, held, one_more}
+use Rattle.journal.specs.Counted.{failed_calls, held, one_more_failure}
 use Rattle.journal.specs.Written.{AppendsBeginning}
 use Rattle.journal.specs.declared.counted.Counted.{Counted}
-use Rattle.telling.specs.declared.line.Line.{Line}
+use Rattle.telling.specs.declared.line.SubjectLine.{SubjectLine}
 use Rattle.telling.specs.declared.line.Subject.{Subject}
 use Rattle.telling.specs.declared.line.Subject.TheVariants.{Nothing, Number, Name, Path}
 
 -- a line of the program's own: its name, a text in three parts, and a newline
-abbrev pub line : List ℕ → List ℕ → List ℕ → List ℕ
-line head subject tail = codes "vsimtx: " ++ (head ++ (subject ++ (tail ++ 10 ∷ [])))
+abbrev pub program_line : List ℕ → List ℕ → List ℕ → List ℕ
+program_line head subject tail = codes "vsimtx: " ++ (head ++ (subject ++ (tail ++ 10 ∷ [])))
 
 -- each character by its bytes, one behind another
 abbrev pub spelled : (ℕ → List ℕ) → List ℕ → List ℕ
@@ -43,32 +43,32 @@ subject_text (Name name) = name.now
 subject_text (Path path) = shown_path path.now
 
 -- the bytes of a line
-abbrev pub line_of : Line → List ℕ
-line_of l = line l.head.now (subject_text l.subject) l.tail.now
+abbrev pub line_of : SubjectLine → List ℕ
+line_of l = program_line l.head.now (subject_text l.subject) l.tail.now
 
 -- those up to its subject, those behind it, and those from it on
-abbrev pub head_of : Line → List ℕ
+abbrev pub head_of : SubjectLine → List ℕ
 head_of l = codes "vsimtx: " ++ l.head.now
 
-abbrev pub end_of : Line → List ℕ
+abbrev pub end_of : SubjectLine → List ℕ
 end_of l = l.tail.now ++ 10 ∷ []
 
-abbrev pub rest_of : Line → List ℕ
+abbrev pub rest_of : SubjectLine → List ℕ
 rest_of l = subject_text l.subject ++ end_of l
 
 -- no write failed, and known bytes grew by the text
-abbrev pub IsWhole : {E : Type 0} → (E → Option (List ℕ)) → Counted E → Counted E → List ℕ → Type 0
-IsWhole contents old new text = (failed_calls new ≡ failed_calls old) × Appends (contents (held old)) (contents (held new)) text
+abbrev pub IsWrittenWhole : {E : Type 0} → (E → Option (List ℕ)) → Counted E → Counted E → List ℕ → Type 0
+IsWrittenWhole contents old new text = (failed_calls new ≡ failed_calls old) × Appends (contents (held old)) (contents (held new)) text
 
 -- one write failed, or took no byte, and known bytes grew by a beginning of the text
 abbrev pub IsBroken : {E : Type 0} → (E → Option (List ℕ)) → Counted E → Counted E → List ℕ → Type 0
-IsBroken contents old new text = (failed_calls new ≡ one_more (failed_calls old)) × AppendsBeginning (contents (held old)) (contents (held new)) text
+IsBroken contents old new text = (failed_calls new ≡ one_more_failure (failed_calls old)) × AppendsBeginning (contents (held old)) (contents (held new)) text
 
 -- the text was told once, up to the first write that failed
 abbrev pub Tells : {E : Type 0} → (E → Option (List ℕ)) → Counted E → Counted E → List ℕ → Type 0
-Tells contents old new text = IsWhole contents old new text ⊎ IsBroken contents old new text
+Tells contents old new text = IsWrittenWhole contents old new text ⊎ IsBroken contents old new text
 
 -- so it was, and this tells whether no write failed
 abbrev pub Sends : {E : Type 0} → Bool → (E → Option (List ℕ)) → Counted E → Counted E → List ℕ → Type 0
-Sends true contents old new text = IsWhole contents old new text
+Sends true contents old new text = IsWrittenWhole contents old new text
 Sends false contents old new text = IsBroken contents old new text

@@ -10,5 +10,5 @@
 mod line;
 mod telling;
 
-pub use line::{Line, Subject};
+pub use line::{Subject, SubjectLine};
 pub use telling::{show_path, tell, tell_lines, tell_text};

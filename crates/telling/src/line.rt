@@ -1,7 +1,7 @@
 //! A line of the program's own.
 
 ghost use Rattle.std.specs.Prelude.{◌≡◌, [], decimal};
-ghost use Rattle.telling.specs.FaultLines.{line, line_of};
+ghost use Rattle.telling.specs.FaultLines.{program_line, line_of};
 
 /// What stands within the text of a line: a number, a name as it is, or a path with its control characters escaped.
 #[derive(Clone, Copy)]
@@ -14,18 +14,18 @@ pub enum Subject<'a> {
 
 /// A line: the text before its subject, the subject, and the text behind it.
 #[derive(Clone, Copy)]
-pub struct Line<'a> {
+pub struct SubjectLine<'a> {
     pub head: &'static str,
     pub subject: Subject<'a>,
     pub tail: &'static str,
 }
 
-impl Line<'static> {
+impl SubjectLine<'static> {
     /// The line of a text alone.
-    pub fn plain(head: &'static str) -> Line<'static>
-        ensures { line_of result ≡ line head.entry.now [] [] }
+    pub fn plain(head: &'static str) -> SubjectLine<'static>
+        ensures { line_of result ≡ program_line head.entry.now [] [] }
     {
-        Line {
+        SubjectLine {
             head,
             subject: Subject::Nothing,
             tail: "",
@@ -33,10 +33,10 @@ impl Line<'static> {
     }
 
     /// The line of a text with a number behind it.
-    pub fn numbered(head: &'static str, number: u64) -> Line<'static>
-        ensures { line_of result ≡ line head.entry.now (decimal number) [] }
+    pub fn numbered(head: &'static str, number: u64) -> SubjectLine<'static>
+        ensures { line_of result ≡ program_line head.entry.now (decimal number) [] }
     {
-        Line {
+        SubjectLine {
             head,
             subject: Subject::Number(number),
             tail: "",
@@ -44,12 +44,12 @@ impl Line<'static> {
     }
 }
 
-impl<'a> Line<'a> {
+impl<'a> SubjectLine<'a> {
     /// The line of a text with a name behind it.
-    pub fn named(head: &'static str, name: &'a str) -> Line<'a>
-        ensures { line_of result ≡ line head.entry.now name.entry.now [] }
+    pub fn named(head: &'static str, name: &'a str) -> SubjectLine<'a>
+        ensures { line_of result ≡ program_line head.entry.now name.entry.now [] }
     {
-        Line {
+        SubjectLine {
             head,
             subject: Subject::Name(name),
             tail: "",

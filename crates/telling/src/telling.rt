@@ -5,7 +5,7 @@ ghost use Rattle.std.specs.Char.{encode_utf8};
 ghost use Rattle.std.specs.Char.Escape.{escape_default};
 ghost use Rattle.telling.specs.FaultLines.{Sends, Tells, end_of, head_of, line_of, rest_of, shown_in_lines, shown_letter, shown_lines, shown_path, spelled, subject_text};
 
-use crate::line::{Line, Subject};
+use crate::line::{Subject, SubjectLine};
 use itoa::Buffer;
 use journal::Counted;
 use std::io::Write;
@@ -15,7 +15,7 @@ const NAME: &str = "vsimtx: ";
 const NEWLINE: &str = "\n";
 
 /// Tells a line of the program's own. Nobody is left to hear of a write that fails.
-pub fn tell<E: Write>(err: &mut Counted<E>, line: &Line<'_>)
+pub fn tell<E: Write>(err: &mut Counted<E>, line: &SubjectLine<'_>)
     ensures { Tells E.contents err.old err.new (line_of line.now) }
 {
     let _whole = send_head(err, line) && send_rest(err, line);
@@ -45,21 +45,21 @@ pub fn show_path<O: Write>(out: &mut Counted<O>, path: &str, text: &str) -> bool
 }
 
 /// Sends a line up to its subject.
-fn send_head<E: Write>(err: &mut Counted<E>, line: &Line<'_>) -> bool
+fn send_head<E: Write>(err: &mut Counted<E>, line: &SubjectLine<'_>) -> bool
     ensures { Sends result E.contents err.old err.new (head_of line.now) }
 {
     send(err, NAME) && send(err, line.head)
 }
 
 /// Sends a line from its subject on.
-fn send_rest<E: Write>(err: &mut Counted<E>, line: &Line<'_>) -> bool
+fn send_rest<E: Write>(err: &mut Counted<E>, line: &SubjectLine<'_>) -> bool
     ensures { Sends result E.contents err.old err.new (rest_of line.now) }
 {
     send_subject(err, line.subject) && send_end(err, line)
 }
 
 /// Sends the end of a line.
-fn send_end<E: Write>(err: &mut Counted<E>, line: &Line<'_>) -> bool
+fn send_end<E: Write>(err: &mut Counted<E>, line: &SubjectLine<'_>) -> bool
     ensures { Sends result E.contents err.old err.new (end_of line.now) }
 {
     send(err, line.tail) && send(err, NEWLINE)

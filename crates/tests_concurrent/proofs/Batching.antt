@@ -5,18 +5,18 @@ use Rattle.design.specs.Compiled.{Compiled}
 use Rattle.turn.specs.declared.memory.Seen.{Seen}
 use Rattle.turn.specs.TurnLogs.{LogView}
 use Rattle.turn.specs.TurnAnswers.{IsTurnLog}
-use Rattle.turn.specs.Reads.{GaveAll, Keeps}
+use Rattle.turn.specs.Reads.{GaveAll, KeepsGiven}
 use Rattle.runstate.specs.Histories.{IsRead}
 use Rattle.commitgate.specs.Tickets.{TicketView, most_tries}
 use Rattle.commitgate.specs.Batches.{AreOffered}
 
-gave_kept : (before after : ℕ → Seen → Type 0) (reads : List (ℕ × Seen)) → Keeps before after → GaveAll before reads → GaveAll after reads
+gave_kept : (before after : ℕ → Seen → Type 0) (reads : List (ℕ × Seen)) → KeepsGiven before after → GaveAll before reads → GaveAll after reads
 gave_kept before after [] keeps gave = tt
 gave_kept before after (d ∷ ds) keeps gave = (keeps d.0 d.1 gave.0, gave_kept before after ds keeps gave.1)
 
 -- one more turn is offered, with its log behind those of the others, where what was read before stays read
 pub offered_more : (code : Compiled) (before after : List (List Vector)) (tickets : List TicketView) (ticket : TicketView) (logs : List LogView) (log : LogView)
-    → length tickets ≡ length logs → Keeps (IsRead code before) (IsRead code after) → AreOffered code before tickets logs
+    → length tickets ≡ length logs → KeepsGiven (IsRead code before) (IsRead code after) → AreOffered code before tickets logs
     → ticket.tries < most_tries → IsTurnLog code ticket.state ticket.time log → GaveAll (IsRead code after) log.reads
     → AreOffered code after (tickets ++ ticket ∷ []) (logs ++ log ∷ [])
 offered_more code before after [] ticket [] log same keeps o tries turn gave = (tries, turn, gave, tt)

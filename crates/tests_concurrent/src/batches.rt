@@ -4,10 +4,10 @@ ghost use Rattle.std.specs.Prelude.{◌≡◌, length};
 ghost use Rattle.commitgate.specs.Batches.{AreOffered};
 
 use crate::claims::{fail, holds};
-use crate::course::{Course, Seats, accepted, assert_journal, assert_turn};
+use crate::course::{GateCourse, Seats, accepted, assert_journal, assert_turn};
 use crate::examples::{APART, APART_JOURNAL};
 use crate::hoards::{leave, open, take_all};
-use crate::pair::{Opened, Pair, play_source};
+use crate::pair::{Opened, SeatPair, play_source};
 use crate::refused::granted;
 use commitgate::{Closed, Naming, Reply, Seat, Ticket};
 use hoard::{Hoard, LARGEST_PIECE};
@@ -38,16 +38,16 @@ const PIECES: usize = 3 * ROOMS;
 
 // Turns of one seat that were evaluated and aren't committed yet: their tickets, and the log of each at its place.
 #[derive(Drop)]
-pub struct Batch<K: Naming> {
+pub struct SeatBatch<K: Naming> {
     pub tickets: VecDeque<Ticket<K>>,
     pub logs: Vec<TurnLog>,
 }
 
-impl<K: Naming> Batch<K> {
+impl<K: Naming> SeatBatch<K> {
     // Evaluates the turn of a ticket, and puts it behind the others.
     fn add<R: Wait + Abort>(
         &mut self,
-        course: &Course<'_, '_, K, R>,
+        course: &GateCourse<'_, '_, K, R>,
         seat: &mut Seat<K>,
         ticket: Ticket<K>,
     )
@@ -68,13 +68,13 @@ impl<K: Naming> Batch<K> {
 
 /// The turns of these tickets, evaluated one after another.
 pub fn evaluated<K: Naming, R: Wait + Abort>(
-    course: &Course<'_, '_, K, R>,
+    course: &GateCourse<'_, '_, K, R>,
     seat: &mut Seat<K>,
     tickets: Vec<Ticket<K>>,
-) -> Batch<K>
+) -> SeatBatch<K>
     ensures { AreOffered K.named.code seat.new.fresh result.tickets.items result.logs.items }
 {
-    let mut batch = Batch {
+    let mut batch = SeatBatch {
         tickets: VecDeque::new(course.alloc),
         logs: Vec::new(course.alloc),
     };
@@ -91,15 +91,15 @@ fn room<K: Naming>(rt: &impl Abort, alloc: Global) -> VecDeque<Reply<K>> {
 
 // Commits the turns of a batch in one holding of the lock.
 fn commit<K: Naming, R: Wait + Abort>(
-    course: &Course<'_, '_, K, R>,
+    course: &GateCourse<'_, '_, K, R>,
     seat: &mut Seat<K>,
-    batch: &mut Batch<K>,
+    batch: &mut SeatBatch<K>,
     replies: &mut VecDeque<Reply<K>>,
 )
     requires { AreOffered K.named.code seat.old.fresh batch.old.tickets.items batch.old.logs.items }
 {
     let rt = course.rt;
-    let Batch { tickets, logs } = batch;
+    let SeatBatch { tickets, logs } = batch;
     holds(
         rt,
         tickets.len() <= replies.capacity(),
@@ -110,9 +110,9 @@ fn commit<K: Naming, R: Wait + Abort>(
 
 /// The answers to a batch, which leave none of its tickets.
 pub fn committed<K: Naming, R: Wait + Abort>(
-    course: &Course<'_, '_, K, R>,
+    course: &GateCourse<'_, '_, K, R>,
     seat: &mut Seat<K>,
-    batch: &mut Batch<K>,
+    batch: &mut SeatBatch<K>,
 ) -> VecDeque<Reply<K>>
     requires { AreOffered K.named.code seat.old.fresh batch.old.tickets.items batch.old.logs.items }
 {
@@ -141,7 +141,7 @@ fn assert_turns<K: Naming>(rt: &impl Abort, mut replies: VecDeque<Reply<K>>, eve
 
 // The turns of these tickets, which are those of these events, are accepted at once.
 fn accept_all<K: Naming, R: Wait + Abort>(
-    course: &Course<'_, '_, K, R>,
+    course: &GateCourse<'_, '_, K, R>,
     seat: &mut Seat<K>,
     tickets: Vec<Ticket<K>>,
     events: Range<u64>,
@@ -152,9 +152,9 @@ fn accept_all<K: Naming, R: Wait + Abort>(
 
 // Commits the turns of a batch where no more than so many bytes of memory can be had. Behind that there is enough again.
 fn commit_in<K: Naming, R: Wait + Abort>(
-    course: &Course<'_, '_, K, R>,
+    course: &GateCourse<'_, '_, K, R>,
     seat: &mut Seat<K>,
-    batch: &mut Batch<K>,
+    batch: &mut SeatBatch<K>,
     replies: &mut VecDeque<Reply<K>>,
     hoard: &mut Hoard,
     bytes: usize,
@@ -201,9 +201,9 @@ fn assert_waiting<K: Naming>(rt: &impl Abort, tickets: &VecDeque<Ticket<K>>, fir
 
 // Commits the turns of a batch in so many bytes. Answers how many were accepted; the tickets of all others wait.
 fn commit_starved<K: Naming, R: Wait + Abort>(
-    course: &Course<'_, '_, K, R>,
+    course: &GateCourse<'_, '_, K, R>,
     seat: &mut Seat<K>,
-    batch: &mut Batch<K>,
+    batch: &mut SeatBatch<K>,
     hoard: &mut Hoard,
     bytes: usize,
 ) -> u64
@@ -225,13 +225,13 @@ fn commit_starved<K: Naming, R: Wait + Abort>(
 // The first worker commits three turns at once in so many bytes, and then those that were left in enough memory. How many
 // were accepted at first.
 #[derive(Drop)]
-struct Starving<'h> {
+struct StarvingBatches<'h> {
     hoard: &'h mut Hoard,
     bytes: usize,
     accepted: u64,
 }
 
-impl<'h> Pair for Starving<'h> {
+impl<'h> SeatPair for StarvingBatches<'h> {
     fn lead<K: Naming, R: Wait + Abort>(&mut self, opened: Opened<'_, '_, '_, K, R>) -> Seats<K> {
         let (course, (mut one, two), tickets) = opened;
         let mut batch = evaluated(course, &mut one, tickets);
@@ -252,7 +252,7 @@ fn assert_quiet(rt: &impl Abort, closed: &Closed) {
 // How many of the three turns so many bytes were enough for.
 fn play_starving<R: Wait + Abort>(rt: &R, alloc: Global, hoard: &mut Hoard, bytes: usize) -> u64 {
     open(rt, hoard);
-    let mut starving = Starving {
+    let mut starving = StarvingBatches {
         hoard,
         bytes,
         accepted: 0,

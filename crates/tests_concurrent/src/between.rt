@@ -6,7 +6,7 @@ ghost use Rattle.turn.specs.Reads.{GaveAll};
 ghost use Rattle.runstate.specs.Histories.{IsRead};
 
 use crate::claims::{fail, holds};
-use crate::course::Course;
+use crate::course::GateCourse;
 use commitgate::{Naming, Seat, SeatReader, Ticket};
 use design::RegId;
 use std::process::Abort;
@@ -15,7 +15,7 @@ use turn::{FillFault, RegReader, Seen, TurnLog, fill_turn};
 
 // The other seat's turn, if it still waits.
 fn overtake<K: Naming, R: Wait + Abort>(
-    course: &Course<'_, '_, K, R>,
+    course: &GateCourse<'_, '_, K, R>,
     other: &mut Seat<K>,
     waits: &mut Option<Ticket<K>>,
 ) {
@@ -27,7 +27,7 @@ fn overtake<K: Naming, R: Wait + Abort>(
 /// A seat's reader that, after its first read, lets another seat commit a turn.
 #[derive(Drop)]
 struct Between<'s, 'o, 'w, 'c, 'g, 'd, K: Naming, R: Wait + Abort> {
-    course: &'c Course<'g, 'd, K, R>,
+    course: &'c GateCourse<'g, 'd, K, R>,
     reader: SeatReader<'s, K, R>,
     other: &'o mut Seat<K>,
     waits: &'w mut Option<Ticket<K>>,
@@ -55,7 +55,7 @@ impl<'s, 'o, 'w, 'c, 'g, 'd, K: Naming, R: Wait + Abort> RegReader
 
 // Fills a log with the turn of a ticket. After its first read the other seat commits the turn that waits.
 fn fill<K: Naming, R: Wait + Abort>(
-    course: &Course<'_, '_, K, R>,
+    course: &GateCourse<'_, '_, K, R>,
     log: &mut TurnLog,
     seat: &mut Seat<K>,
     ticket: &Ticket<K>,
@@ -86,7 +86,7 @@ fn fill<K: Naming, R: Wait + Abort>(
 /// The log of a turn that is too long, since another seat committed its turn after the first read. Any other outcome ends
 /// the test.
 pub fn mixed<K: Naming, R: Wait + Abort>(
-    course: &Course<'_, '_, K, R>,
+    course: &GateCourse<'_, '_, K, R>,
     one: &mut Seat<K>,
     early: Ticket<K>,
     two: &mut Seat<K>,

@@ -19,20 +19,20 @@ const LOOKS: u32 = 1_000_000;
 
 // What is stored: the number of each version, or all ones and all zeros by turns, of which no part is a part of both.
 #[derive(Clone, Copy)]
-enum Pattern {
+enum StoredPattern {
     Numbers,
     OnesAndZeros,
 }
 
 // The value of a version in a register's width: all ones where it is odd, and else all zeros.
-fn value_at(pattern: Pattern, width: u32, version: u64) -> Bits
+fn value_at(pattern: StoredPattern, width: u32, version: u64) -> Bits
     requires some { 1 ≤ width }
     requires within { width ≤ 128 }
     ensures { length result ≡ width }
 {
     match pattern {
-        Pattern::Numbers => Bits::from_u64(width, version),
-        Pattern::OnesAndZeros => {
+        StoredPattern::Numbers => Bits::from_u64(width, version),
+        StoredPattern::OnesAndZeros => {
             let zeros = Bits::from_u64(width, 0);
             if version % 2 == 0 { zeros } else { zeros.not() }
         }
@@ -40,7 +40,7 @@ fn value_at(pattern: Pattern, width: u32, version: u64) -> Bits
 }
 
 // Whether this is what stands: all x at first, and then the value of each version.
-fn is_stored(pattern: Pattern, seen: &Seen) -> bool {
+fn is_stored(pattern: StoredPattern, seen: &Seen) -> bool {
     let width = seen.value.width();
     if seen.version == 0 {
         return seen.value == Bits::unknown(width);
@@ -54,7 +54,7 @@ fn store_next<R: Wait + Abort>(
     cells: &RegCells,
     holder: &mut Holder,
     register: RegId,
-    pattern: Pattern,
+    pattern: StoredPattern,
 )
     requires cells { holder.old.cells ≡ cells.now }
     requires register { register < length cells.now }
@@ -72,7 +72,7 @@ fn store_often<R: Wait + Abort>(
     cells: &RegCells,
     mut holder: Holder,
     register: RegId,
-    pattern: Pattern,
+    pattern: StoredPattern,
 )
     requires cells { holder.cells ≡ cells.now }
     requires register { register < length cells.now }
@@ -89,7 +89,7 @@ fn read_to_the_last<R: Wait>(
     cells: &RegCells,
     mut seat: RegSeat,
     register: RegId,
-    pattern: Pattern,
+    pattern: StoredPattern,
 ) -> bool
     requires cells { seat.cells ≡ cells.now }
     requires register { register < length cells.now }
@@ -117,7 +117,7 @@ fn race<R: Threads + Wait + Abort + Sync>(
     holder: Holder,
     seat: RegSeat,
     register: RegId,
-    pattern: Pattern,
+    pattern: StoredPattern,
 ) -> bool
     requires holder { holder.cells ≡ cells.now }
     requires seat { seat.cells ≡ cells.now }
@@ -132,11 +132,11 @@ fn race<R: Threads + Wait + Abort + Sync>(
 }
 
 // Registers of 1, 8 and 128 digits, and what is stored in each.
-const RACES: [(RegId, Pattern); 4] = [
-    (0, Pattern::Numbers),
-    (1, Pattern::Numbers),
-    (2, Pattern::Numbers),
-    (2, Pattern::OnesAndZeros),
+const RACES: [(RegId, StoredPattern); 4] = [
+    (0, StoredPattern::Numbers),
+    (1, StoredPattern::Numbers),
+    (2, StoredPattern::Numbers),
+    (2, StoredPattern::OnesAndZeros),
 ];
 
 #[test]

@@ -2,7 +2,7 @@
 ghost use Rattle.std.specs.Prelude.{◌≡◌, ◌<◌, ◌∷◌, [], IfSome, MatchResult};
 ghost use Rattle.turn.specs.declared.log.FillFault.TheVariants.{TooLong};
 ghost use Rattle.turn.specs.TurnAnswers.{IsTurnLog, IsNoTurn};
-ghost use Rattle.turn.specs.Reads.{GaveAll, Keeps};
+ghost use Rattle.turn.specs.Reads.{GaveAll, KeepsGiven};
 ghost use Rattle.runstate.specs.Histories.{IsRead};
 
 use crate::claims::{fail, holds};
@@ -18,7 +18,7 @@ use turn::{FillFault, RegReader, Seen, TurnLog, fill_turn};
 
 /// An open gate, and its design.
 #[derive(Drop)]
-pub struct Course<'g, 'd, K: Naming, R: Wait + Abort> {
+pub struct GateCourse<'g, 'd, K: Naming, R: Wait + Abort> {
     pub rt: &'g R,
     pub alloc: Global,
     pub gate: &'g Gate<'d, K>,
@@ -29,17 +29,17 @@ pub struct Course<'g, 'd, K: Naming, R: Wait + Abort> {
 /// The seats of two workers, in order.
 pub type Seats<K> = (Seat<K>, Seat<K>);
 
-impl<'g, 'd, K: Naming, R: Wait + Abort> Course<'g, 'd, K, R> {
+impl<'g, 'd, K: Naming, R: Wait + Abort> GateCourse<'g, 'd, K, R> {
     /// The open gate of a design.
     pub fn new(
         rt: &'g R,
         alloc: Global,
         gate: &'g Gate<'d, K>,
         design: &'d Design,
-    ) -> Course<'g, 'd, K, R>
+    ) -> GateCourse<'g, 'd, K, R>
         requires { design.now ≡ K.named.code }
     {
-        Course {
+        GateCourse {
             rt,
             alloc,
             gate,
@@ -51,7 +51,7 @@ impl<'g, 'd, K: Naming, R: Wait + Abort> Course<'g, 'd, K, R> {
     pub fn evaluate(&self, seat: &mut Seat<K>, ticket: &Ticket<K>) -> TurnLog
         ensures turn { IsTurnLog K.named.code ticket.now.state ticket.now.time result }
         ensures gave { GaveAll (IsRead K.named.code seat.new.fresh) result.reads }
-        ensures keeps { Keeps (IsRead K.named.code seat.old.fresh) (IsRead K.named.code seat.new.fresh) }
+        ensures keeps { KeepsGiven (IsRead K.named.code seat.old.fresh) (IsRead K.named.code seat.new.fresh) }
     {
         self.try_evaluate(seat, ticket).expect(self.rt, "memory")
     }
@@ -60,7 +60,7 @@ impl<'g, 'd, K: Naming, R: Wait + Abort> Course<'g, 'd, K, R> {
     pub fn try_evaluate(&self, seat: &mut Seat<K>, ticket: &Ticket<K>) -> Option<TurnLog>
         ensures turn { IfSome result (λ log. IsTurnLog K.named.code ticket.now.state ticket.now.time log) }
         ensures gave { IfSome result (λ log. GaveAll (IsRead K.named.code seat.new.fresh) log.reads) }
-        ensures keeps { Keeps (IsRead K.named.code seat.old.fresh) (IsRead K.named.code seat.new.fresh) }
+        ensures keeps { KeepsGiven (IsRead K.named.code seat.old.fresh) (IsRead K.named.code seat.new.fresh) }
     {
         let mut log = TurnLog::new(self.alloc);
         match self.fill(&mut log, seat, ticket) {
@@ -81,7 +81,7 @@ impl<'g, 'd, K: Naming, R: Wait + Abort> Course<'g, 'd, K, R> {
     ) -> Result<(), FillFault>
         ensures turn { MatchResult result (λ _. IsTurnLog K.named.code ticket.now.state ticket.now.time log.new) (IsNoTurn K.named.code ticket.now.state ticket.now.time log.new.reads) }
         ensures gave { MatchResult result (λ _. GaveAll (IsRead K.named.code seat.new.fresh) log.new.reads) (λ fault. fault ≡ TooLong → GaveAll (IsRead K.named.code seat.new.fresh) log.new.reads) }
-        ensures keeps { Keeps (IsRead K.named.code seat.old.fresh) (IsRead K.named.code seat.new.fresh) }
+        ensures keeps { KeepsGiven (IsRead K.named.code seat.old.fresh) (IsRead K.named.code seat.new.fresh) }
     {
         let mut reader = self.gate.reader(self.rt, seat);
         let turn = fill_turn(log, self.design, ticket.state(), ticket.time(), &mut reader);
@@ -215,7 +215,7 @@ pub fn assert_turn<K: Naming>(rt: &impl Abort, grant: &Grant<K>, event: u64) {
 
 /// Whether there is memory for a copy of the journal, which then has these entries. The seat has then seen them.
 pub fn is_copied<K: Naming, R: Wait + Abort>(
-    course: &Course<'_, '_, K, R>,
+    course: &GateCourse<'_, '_, K, R>,
     seat: &mut Seat<K>,
     wanted: &[Entry],
 ) -> bool {
@@ -231,7 +231,7 @@ pub fn is_copied<K: Naming, R: Wait + Abort>(
 
 /// The journal has these entries.
 pub fn assert_journal<K: Naming, R: Wait + Abort>(
-    course: &Course<'_, '_, K, R>,
+    course: &GateCourse<'_, '_, K, R>,
     seat: &mut Seat<K>,
     wanted: &[Entry],
 ) {

@@ -5,7 +5,7 @@ ghost use Rattle.eventpool.specs.Pools.{cards_of, IsPool};
 
 use crate::claims::{fail, holds};
 use crate::course::{Seats, design_of, last};
-use crate::pair::{Opened, Pair, play_source};
+use crate::pair::{Opened, SeatPair, play_source};
 use commitgate::{Blank, Gate, Naming, Ticket};
 use eventpool::{Owner, Pool, PutFault, Stolen, Tally, Thief, close};
 use hoard::Hoard;
@@ -134,7 +134,7 @@ enum Pooled {
     Refused,
 }
 
-impl Pair for Pooled {
+impl SeatPair for Pooled {
     fn lead<K: Naming, R: Wait + Abort>(&mut self, opened: Opened<'_, '_, '_, K, R>) -> Seats<K> {
         let (course, seats, tickets) = opened;
         let rt = course.rt;

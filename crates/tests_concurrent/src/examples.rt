@@ -3,8 +3,8 @@
 use crate::claims::holds;
 use crate::course::{Seats, assert_closed, assert_journal, assert_left, design_of};
 use crate::driven::assert_lines;
-use crate::pair::{Opened, Pair, play_pair};
-use crate::steps::{Act, Ended, Led, Other, Side, Step, Told};
+use crate::pair::{Opened, SeatPair, play_pair};
+use crate::steps::{Act, HoldingEnd, Led, Other, SeatStep, Side, Told};
 use commitgate::Naming;
 use fixtures::entries::{A1, I, M, N, T0, T1, T2, T3, T4, T7, U1, U2, U3, U4, U5, U6};
 use fixtures::{COPY, GLITCH, GLITCH_JOURNAL};
@@ -21,7 +21,7 @@ struct Row<'a> {
     source: &'a str,
     max_entries: u32,
     glitches: usize,
-    steps: &'a [&'a [Step<'a>]],
+    steps: &'a [&'a [SeatStep<'a>]],
     tickets: usize,
     journal: &'a [Entry],
     committed: [u64; 2],
@@ -74,7 +74,7 @@ pub const APART: &str =
 pub const APART_JOURNAL: &[Entry] = &[T0, T1, T2];
 
 /// Three turns overtake the fourth, one after each of its evaluations.
-pub const THRICE: &[Step<'static>] = &[
+pub const THRICE: &[SeatStep<'static>] = &[
     (TWO, Act::Late(3, &[], Other::Takes(&[0])), Told::Stale(1)),
     (TWO, Act::Late(3, &[], Other::Takes(&[1])), Told::Stale(2)),
     (TWO, Act::Late(3, &[], Other::Takes(&[2])), Told::Stale(3)),
@@ -119,16 +119,20 @@ const EXAMPLES: &[Row<'static>] = &[
             (ONE, Act::Rest, Told::Entry(N)),
             (
                 ONE,
-                Act::Updates(&[(2, 0), (3, 1)], Ended::Woke),
+                Act::Updates(&[(2, 0), (3, 1)], HoldingEnd::Woke),
                 Told::Nothing,
             ),
             (
                 ONE,
-                Act::Updates(&[(4, 0), (5, 0)], Ended::NoRoom),
+                Act::Updates(&[(4, 0), (5, 0)], HoldingEnd::NoRoom),
                 Told::Nothing,
             ),
-            (ONE, Act::Updates(&[(6, 0)], Ended::Nothing), Told::Nothing),
-            (ONE, Act::Updates(&[], Ended::Nothing), Told::Nothing),
+            (
+                ONE,
+                Act::Updates(&[(6, 0)], HoldingEnd::Nothing),
+                Told::Nothing,
+            ),
+            (ONE, Act::Updates(&[], HoldingEnd::Nothing), Told::Nothing),
             (ONE, Act::Turn(7), Told::Entry(T7)),
             (ONE, Act::Rest, Told::Nothing),
         ]],
@@ -338,7 +342,7 @@ const AT_ONCE: &[Row<'static>] = &[
 ];
 
 /// The steps of the glitch, of which the seats take turns.
-const GLITCHES: &[Step<'static>] = &[
+const GLITCHES: &[SeatStep<'static>] = &[
     (ONE, Act::Turn(0), Told::Entry(T0)),
     (TWO, Act::Turn(1), Told::Entry(T1)),
     (ONE, Act::Rest, Told::Entry(I)),
@@ -349,7 +353,7 @@ const GLITCHES: &[Step<'static>] = &[
 ];
 
 /// Either seat is told that the run was stopped, after a stop by the first one too.
-const OVER: &[Step<'static>] = &[
+const OVER: &[SeatStep<'static>] = &[
     (ONE, Act::Stop, Told::Nothing),
     (ONE, Act::Update, STOPPED),
     (ONE, Act::Rest, STOPPED),
@@ -358,11 +362,11 @@ const OVER: &[Step<'static>] = &[
 ];
 
 /// The second seat stops the run.
-const STOP: &[Step<'static>] = &[(TWO, Act::Stop, Told::Nothing)];
+const STOP: &[SeatStep<'static>] = &[(TWO, Act::Stop, Told::Nothing)];
 
 /// After 0, 1, .. entries of the glitch: how the second seat stops the run, between the evaluation of the first seat's turn and its
 /// commit where there is a ticket; the tickets that are left are refused.
-const STOPS: [&[&[Step<'static>]]; 7] = [
+const STOPS: [&[&[SeatStep<'static>]]; 7] = [
     &[
         &[
             (ONE, Act::Late(0, &[], Other::Stops), STOPPED),
@@ -378,7 +382,7 @@ const STOPS: [&[&[Step<'static>]]; 7] = [
     &[&[(ONE, Act::Late(4, &[], Other::Stops), STOPPED)], OVER],
 ];
 
-impl Pair for Row<'_> {
+impl SeatPair for Row<'_> {
     fn lead<K: Naming, R: Wait + Abort>(&mut self, opened: Opened<'_, '_, '_, K, R>) -> Seats<K> {
         let (course, (mut one, mut two), tickets) = opened;
         let mut led = Led::new(course, tickets);

@@ -4,7 +4,7 @@ ghost use Rattle.std.specs.Thread.{IsSend, IsSync};
 ghost use Rattle.design.specs.contracts.design.Design as design_rows;
 
 use crate::claims::{fail, holds};
-use crate::course::{Course, design_of, last, two_of};
+use crate::course::{GateCourse, design_of, last, two_of};
 use commitgate::{Blank, Gate, Naming, Rest, Seat, Ticket, UpdatesEnd};
 use design::Design;
 use model::end::Limits;
@@ -35,7 +35,7 @@ const MOST_HOLDINGS: u32 = 1_000;
 
 // The only turn, and the change of the regions that makes its updates active.
 fn begin<K: Naming, R: Wait + Abort>(
-    course: &Course<'_, '_, K, R>,
+    course: &GateCourse<'_, '_, K, R>,
     seat: &mut Seat<K>,
     mut tickets: Vec<Ticket<K>>,
 ) {
@@ -65,7 +65,7 @@ fn wait_for(rt: &impl Abort, looks: &AtomicBool) {
 
 // Makes all updates in one holding of the lock.
 fn update_all<K: Naming, R: Wait + Abort>(
-    course: &Course<'_, '_, K, R>,
+    course: &GateCourse<'_, '_, K, R>,
     mut one: Seat<K>,
     looks: &AtomicBool,
 ) -> Seat<K> {
@@ -82,7 +82,10 @@ fn update_all<K: Naming, R: Wait + Abort>(
 }
 
 // How many updates the mark tells of.
-fn updates<K: Naming, R: Wait + Abort>(course: &Course<'_, '_, K, R>, seat: &mut Seat<K>) -> u64 {
+fn updates<K: Naming, R: Wait + Abort>(
+    course: &GateCourse<'_, '_, K, R>,
+    seat: &mut Seat<K>,
+) -> u64 {
     let entries = course.gate.entries(course.rt, seat);
     entries.saturating_sub(BEFORE)
 }
@@ -94,7 +97,7 @@ fn is_held(updates: u64) -> bool {
 
 // Whether the lock was held from before each register was read until after that.
 fn read_held<K: Naming, R: Wait + Abort>(
-    course: &Course<'_, '_, K, R>,
+    course: &GateCourse<'_, '_, K, R>,
     seat: &mut Seat<K>,
 ) -> bool {
     if !is_held(updates(course, seat)) {
@@ -109,7 +112,7 @@ fn read_held<K: Naming, R: Wait + Abort>(
 
 // Whether each register was read so often while the lock was held.
 fn read_often<K: Naming, R: Wait + Abort>(
-    course: &Course<'_, '_, K, R>,
+    course: &GateCourse<'_, '_, K, R>,
     mut two: Seat<K>,
     looks: &AtomicBool,
 ) -> bool {
@@ -141,7 +144,7 @@ fn design_is_shared()
 
 // One thread has the lock while the other reads.
 fn race<K: Naming + Send + Sync, R: Threads + Wait + Abort + Sync>(
-    course: &Course<'_, '_, K, R>,
+    course: &GateCourse<'_, '_, K, R>,
     one: Seat<K>,
     two: Seat<K>,
 ) -> bool
@@ -172,7 +175,7 @@ fn run<K: Naming + Send + Sync, R: Threads + Wait + Abort + Sync>(
 {
     let (gate, seats, tickets) = blank.open::<K>(alloc).expect(rt, "memory");
     let (mut one, two) = two_of(rt, seats);
-    let course = Course::new(rt, alloc, &gate, design);
+    let course = GateCourse::new(rt, alloc, &gate, design);
     begin(&course, &mut one, tickets);
     design_is_shared();
     race(&course, one, two)

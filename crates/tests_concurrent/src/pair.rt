@@ -2,7 +2,7 @@
 ghost use Rattle.std.specs.Prelude.{◌≡◌};
 
 use crate::claims::holds;
-use crate::course::{Course, Seats, close_two, design_of, two_of};
+use crate::course::{GateCourse, Seats, close_two, design_of, two_of};
 use commitgate::{Blank, Closed, Gate, Naming, Ticket};
 use design::Design;
 use model::end::Limits;
@@ -12,17 +12,17 @@ use std::process::Abort;
 use std::sync::Wait;
 
 /// An open gate, the seats of its two workers, and a ticket for each process.
-pub type Opened<'c, 'g, 'd, K, R> = (&'c Course<'g, 'd, K, R>, Seats<K>, Vec<Ticket<K>>);
+pub type Opened<'c, 'g, 'd, K, R> = (&'c GateCourse<'g, 'd, K, R>, Seats<K>, Vec<Ticket<K>>);
 
 /// What the two workers of a gate do.
-pub trait Pair {
+pub trait SeatPair {
     /// Leads the run, and gives the seats back.
     fn lead<K: Naming, R: Wait + Abort>(&mut self, opened: Opened<'_, '_, '_, K, R>) -> Seats<K>;
 }
 
 // Two workers lead the run at an open gate.
-fn lead<K: Naming, R: Wait + Abort, W: Pair>(
-    course: &Course<'_, '_, K, R>,
+fn lead<K: Naming, R: Wait + Abort, W: SeatPair>(
+    course: &GateCourse<'_, '_, K, R>,
     seats: Seats<K>,
     tickets: Vec<Ticket<K>>,
     work: &mut W,
@@ -31,7 +31,7 @@ fn lead<K: Naming, R: Wait + Abort, W: Pair>(
 }
 
 // Opens a gate for two workers, which lead the run, and closes it.
-fn run<K: Naming, R: Wait + Abort, W: Pair>(
+fn run<K: Naming, R: Wait + Abort, W: SeatPair>(
     rt: &R,
     alloc: Global,
     design: &Design,
@@ -44,14 +44,14 @@ fn run<K: Naming, R: Wait + Abort, W: Pair>(
 {
     let (gate, seats, tickets) = blank.open::<K>(alloc).expect(rt, "memory");
     let seats = two_of(rt, seats);
-    let course = Course::new(rt, alloc, &gate, design);
+    let course = GateCourse::new(rt, alloc, &gate, design);
     let (one, two) = lead(&course, seats, tickets, work);
     drop(course);
     close_two(rt, alloc, gate, one, two)
 }
 
 /// The gate of a design that two workers lead so, with room for so many entries.
-pub fn play_pair<R: Wait + Abort, W: Pair>(
+pub fn play_pair<R: Wait + Abort, W: SeatPair>(
     rt: &R,
     alloc: Global,
     design: &Design,
@@ -68,7 +68,7 @@ pub fn play_pair<R: Wait + Abort, W: Pair>(
 }
 
 /// The same of the design of a source, with room enough.
-pub fn play_source<R: Wait + Abort, W: Pair>(
+pub fn play_source<R: Wait + Abort, W: SeatPair>(
     rt: &R,
     alloc: Global,
     source: &str,

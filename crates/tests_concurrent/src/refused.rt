@@ -4,10 +4,10 @@ ghost use Rattle.turn.specs.Reads.{GaveAll};
 ghost use Rattle.runstate.specs.Histories.{IsRead};
 
 use crate::claims::{fail, holds};
-use crate::course::{Course, Seats, first, keep};
+use crate::course::{GateCourse, Seats, first, keep};
 use crate::driven::worked::UPDATES;
 use crate::hoards::{leave, open, take_all};
-use crate::pair::{Opened, Pair, play_source};
+use crate::pair::{Opened, SeatPair, play_source};
 use commitgate::{Closed, Grant, Naming, Reply, Rest, Seat, Ticket, UpdateReply};
 use fixtures::{COPY, GLITCH, SWAP};
 use hoard::Hoard;
@@ -32,7 +32,7 @@ const ENTRIES: usize = 64;
 
 // How often memory was refused, by the call.
 #[derive(Clone, Copy)]
-struct Refused {
+struct RefusedCalls {
     evaluations: u32,
     commits: u32,
     updates: u32,
@@ -41,10 +41,10 @@ struct Refused {
 
 // A course in little memory.
 #[derive(Drop)]
-struct Starved<'c, 'h, 'g, 'd, K: Naming, R: Wait + Abort> {
-    course: &'c Course<'g, 'd, K, R>,
+struct StarvedCourse<'c, 'h, 'g, 'd, K: Naming, R: Wait + Abort> {
+    course: &'c GateCourse<'g, 'd, K, R>,
     hoard: &'h mut Hoard,
-    refused: Refused,
+    refused: RefusedCalls,
 }
 
 // What came of a call: an entry, nothing to do, or want of memory.
@@ -57,7 +57,7 @@ enum Came<K: Naming> {
 
 // A call of a worker without a ticket.
 #[derive(Clone, Copy)]
-enum Call {
+enum WorkerCall {
     Update,
     Rest,
 }
@@ -97,7 +97,7 @@ pub fn granted<K: Naming>(
     }
 }
 
-impl<'c, 'h, 'g, 'd, K: Naming, R: Wait + Abort> Starved<'c, 'h, 'g, 'd, K, R> {
+impl<'c, 'h, 'g, 'd, K: Naming, R: Wait + Abort> StarvedCourse<'c, 'h, 'g, 'd, K, R> {
     // Takes what was given back since the last call, and leaves so much for the next one.
     fn leave(&mut self, count: usize) {
         leave(self.course.rt, self.hoard, count.saturating_mul(STEP));
@@ -158,28 +158,28 @@ impl<'c, 'h, 'g, 'd, K: Naming, R: Wait + Abort> Starved<'c, 'h, 'g, 'd, K, R> {
     }
 
     // What comes of a call in so little memory.
-    fn ask(&mut self, seat: &mut Seat<K>, call: Call, count: usize) -> Came<K> {
+    fn ask(&mut self, seat: &mut Seat<K>, call: WorkerCall, count: usize) -> Came<K> {
         let course = self.course;
         self.leave(count);
         let came = match call {
-            Call::Update => came_of_update(course.rt, course.update(seat)),
-            Call::Rest => came_of_rest(course.rt, course.rest(seat)),
+            WorkerCall::Update => came_of_update(course.rt, course.update(seat)),
+            WorkerCall::Rest => came_of_rest(course.rt, course.rest(seat)),
         };
         self.hoard.shut();
         came
     }
 
     // Counts a call that was refused memory.
-    fn count_refused(&mut self, call: Call) {
+    fn count_refused(&mut self, call: WorkerCall) {
         let refused = &mut self.refused;
         match call {
-            Call::Update => refused.updates = refused.updates.saturating_add(1),
-            Call::Rest => refused.rests = refused.rests.saturating_add(1),
+            WorkerCall::Update => refused.updates = refused.updates.saturating_add(1),
+            WorkerCall::Rest => refused.rests = refused.rests.saturating_add(1),
         }
     }
 
     // Asks with more and more memory.
-    fn insist(&mut self, seat: &mut Seat<K>, call: Call) -> Option<Grant<K>> {
+    fn insist(&mut self, seat: &mut Seat<K>, call: WorkerCall) -> Option<Grant<K>> {
         for count in 0..ROOMS {
             match self.ask(seat, call, count) {
                 Came::Entry(grant) => return Some(grant),
@@ -193,8 +193,8 @@ impl<'c, 'h, 'g, 'd, K: Naming, R: Wait + Abort> Starved<'c, 'h, 'g, 'd, K, R> {
 
     // An update, or else a change of the regions.
     fn step_alone(&mut self, seat: &mut Seat<K>) -> Option<Grant<K>> {
-        match self.insist(seat, Call::Update) {
-            None => self.insist(seat, Call::Rest),
+        match self.insist(seat, WorkerCall::Update) {
+            None => self.insist(seat, WorkerCall::Rest),
             update => update,
         }
     }
@@ -227,7 +227,7 @@ impl<'c, 'h, 'g, 'd, K: Naming, R: Wait + Abort> Starved<'c, 'h, 'g, 'd, K, R> {
 }
 
 // No refusals yet.
-const NONE_YET: Refused = Refused {
+const NONE_YET: RefusedCalls = RefusedCalls {
     evaluations: 0,
     commits: 0,
     updates: 0,
@@ -244,15 +244,15 @@ fn roomy<K: Naming>(rt: &impl Abort, alloc: Global, tickets: Vec<Ticket<K>>) -> 
 // The first worker leads the run in too little memory. This is how often it was refused.
 #[derive(Drop)]
 struct Starving {
-    refused: Refused,
+    refused: RefusedCalls,
 }
 
-impl Pair for Starving {
+impl SeatPair for Starving {
     fn lead<K: Naming, R: Wait + Abort>(&mut self, opened: Opened<'_, '_, '_, K, R>) -> Seats<K> {
         let (course, (mut one, two), tickets) = opened;
         let held = roomy(course.rt, course.alloc, tickets);
         let mut hoard = take_all(course.rt, course.alloc, PIECES, PIECE);
-        let mut starved = Starved {
+        let mut starved = StarvedCourse {
             course,
             hoard: &mut hoard,
             refused: self.refused,
@@ -318,7 +318,7 @@ const ROWS: &[Row<'static>] = &[
 ];
 
 // Memory was refused to each of these calls.
-fn assert_refused(rt: &impl Abort, refused: Refused, row: &Row<'_>) {
+fn assert_refused(rt: &impl Abort, refused: RefusedCalls, row: &Row<'_>) {
     holds(
         rt,
         refused.evaluations > 0 || !row.evaluations,

@@ -2,10 +2,10 @@
 // that is led through a gate. What was refused changes nothing.
 
 use crate::claims::{fail, holds};
-use crate::course::{Course, Seats, assert_closed, assert_left, design_of, is_copied};
+use crate::course::{GateCourse, Seats, assert_closed, assert_left, design_of, is_copied};
 use crate::examples::{FOUR_TURNS, THRICE, WRITERS};
 use crate::hoards::{leave, take_all};
-use crate::pair::{Opened, Pair, play_source};
+use crate::pair::{Opened, SeatPair, play_source};
 use crate::steps::{Led, ticket_of};
 use commitgate::{Naming, Reply, Seat, Ticket};
 use drive::{DriveFault, drive};
@@ -44,7 +44,7 @@ fn refused<K: Naming>(rt: &impl Abort, reply: Reply<K>) -> Option<Ticket<K>> {
 
 // Evaluates a turn under the lock with more and more memory.
 fn commit_held<K: Naming, R: Wait + Abort>(
-    course: &Course<'_, '_, K, R>,
+    course: &GateCourse<'_, '_, K, R>,
     hoard: &mut Hoard,
     seat: &mut Seat<K>,
     ticket: Ticket<K>,
@@ -66,7 +66,7 @@ fn commit_held<K: Naming, R: Wait + Abort>(
 
 // Copies the journal with more and more memory.
 fn copy<K: Naming, R: Wait + Abort>(
-    course: &Course<'_, '_, K, R>,
+    course: &GateCourse<'_, '_, K, R>,
     hoard: &mut Hoard,
     seat: &mut Seat<K>,
 ) {
@@ -84,7 +84,7 @@ fn copy<K: Naming, R: Wait + Abort>(
 #[derive(Drop)]
 struct Starved;
 
-impl Pair for Starved {
+impl SeatPair for Starved {
     fn lead<K: Naming, R: Wait + Abort>(&mut self, opened: Opened<'_, '_, '_, K, R>) -> Seats<K> {
         let (course, (mut one, mut two), tickets) = opened;
         let mut led = Led::new(course, tickets);

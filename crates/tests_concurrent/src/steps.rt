@@ -4,7 +4,7 @@
 use crate::batches::{committed, evaluated, next};
 use crate::between::mixed;
 use crate::claims::{fail, holds};
-use crate::course::{Course, keep};
+use crate::course::{GateCourse, keep};
 use commitgate::{Grant, Naming, Reply, Rest, Seat, Ticket, UpdateReply, UpdatesEnd};
 use design::RegId;
 use logic4::bits::Bits;
@@ -52,7 +52,7 @@ pub enum Act<'a> {
     Update,
     /// Makes updates in one holding of the lock, with room for two: the number of each and how many tickets it gives, and why there are
     /// no more.
-    Updates(&'a [(u64, usize)], Ended),
+    Updates(&'a [(u64, usize)], HoldingEnd),
     Rest,
     Stop,
     /// Reads registers: what stands in them.
@@ -61,7 +61,7 @@ pub enum Act<'a> {
 
 /// Why no further update is made in a holding of the lock.
 #[derive(Clone, Copy)]
-pub enum Ended {
+pub enum HoldingEnd {
     Woke,
     Nothing,
     NoRoom,
@@ -80,12 +80,12 @@ pub enum Told {
 }
 
 /// A step of a seat, and what it is told.
-pub type Step<'a> = (Side, Act<'a>, Told);
+pub type SeatStep<'a> = (Side, Act<'a>, Told);
 
 /// How far a run has come: its gate, the tickets that aren't used up, and the number of entries.
 #[derive(Drop)]
 pub struct Led<'c, 'g, 'd, K: Naming, R: Wait + Abort> {
-    course: &'c Course<'g, 'd, K, R>,
+    course: &'c GateCourse<'g, 'd, K, R>,
     pub tickets: Vec<Ticket<K>>,
     entries: u64,
 }
@@ -110,7 +110,7 @@ fn assert_read(rt: &impl Abort, log: &TurnLog, values: &[Value]) {
 
 // A seat reads these.
 fn assert_sees<K: Naming, R: Wait + Abort>(
-    course: &Course<'_, '_, K, R>,
+    course: &GateCourse<'_, '_, K, R>,
     seat: &mut Seat<K>,
     values: &[Value],
 ) {
@@ -150,11 +150,11 @@ fn tickets_of<K: Naming>(
 }
 
 // Whether no further update was made for this reason.
-fn is_end(end: &UpdatesEnd, wanted: Ended) -> bool {
+fn is_end(end: &UpdatesEnd, wanted: HoldingEnd) -> bool {
     match wanted {
-        Ended::Woke => matches!(end, UpdatesEnd::Woke),
-        Ended::Nothing => matches!(end, UpdatesEnd::Nothing),
-        Ended::NoRoom => matches!(end, UpdatesEnd::NoRoom),
+        HoldingEnd::Woke => matches!(end, UpdatesEnd::Woke),
+        HoldingEnd::Nothing => matches!(end, UpdatesEnd::Nothing),
+        HoldingEnd::NoRoom => matches!(end, UpdatesEnd::NoRoom),
     }
 }
 
@@ -180,7 +180,10 @@ fn assert_grants<K: Naming>(rt: &impl Abort, grants: &[Grant<K>], wanted: &[(u64
 
 impl<'c, 'g, 'd, K: Naming, R: Wait + Abort> Led<'c, 'g, 'd, K, R> {
     /// A run without entries.
-    pub fn new(course: &'c Course<'g, 'd, K, R>, tickets: Vec<Ticket<K>>) -> Led<'c, 'g, 'd, K, R> {
+    pub fn new(
+        course: &'c GateCourse<'g, 'd, K, R>,
+        tickets: Vec<Ticket<K>>,
+    ) -> Led<'c, 'g, 'd, K, R> {
         Led {
             course,
             tickets,
@@ -322,7 +325,7 @@ impl<'c, 'g, 'd, K: Naming, R: Wait + Abort> Led<'c, 'g, 'd, K, R> {
     }
 
     // Several updates that are made in one holding of the lock.
-    fn updates(&mut self, seat: &mut Seat<K>, wanted: &[(u64, usize)], ended: Ended) {
+    fn updates(&mut self, seat: &mut Seat<K>, wanted: &[(u64, usize)], ended: HoldingEnd) {
         let rt = self.course.rt;
         let alloc = self.course.alloc;
         let mut grants = room(rt, alloc);
@@ -379,7 +382,7 @@ impl<'c, 'g, 'd, K: Naming, R: Wait + Abort> Led<'c, 'g, 'd, K, R> {
     }
 
     /// Makes steps.
-    pub fn lead(&mut self, one: &mut Seat<K>, two: &mut Seat<K>, steps: &[Step<'_>]) {
+    pub fn lead(&mut self, one: &mut Seat<K>, two: &mut Seat<K>, steps: &[SeatStep<'_>]) {
         for (side, act, told) in steps {
             match *side {
                 Side::One => self.step(one, two, *act, *told),

@@ -116,7 +116,7 @@ impl Write for Target {
 /// the same bytes; `LINK` and `LINKED.1.journal` lead to the source, and `COPY` to the journal. `folder` isn't there, for `UNBEGUN` there is
 /// no memory when it is begun, for `UNFINISHED` none when it is finished, and any new file has the room that is given.
 #[derive(Drop)]
-struct Memory<'a> {
+struct FilesInMemory<'a> {
     alloc: Global,
     source: &'a [u8],
     journal: &'a [u8],
@@ -125,7 +125,7 @@ struct Memory<'a> {
     flushes: bool,
 }
 
-impl<'a> Files for Memory<'a> {
+impl<'a> Files for FilesInMemory<'a> {
     type Source = Source<'a>;
 
     type Target = Target;
@@ -228,15 +228,15 @@ struct Left {
 
 /// What a command is to leave: its status, and what stands on output and on standard error.
 #[derive(Clone, Copy)]
-struct Wanted<'a> {
+struct Expected<'a> {
     status: u8,
     out: &'a str,
     err: &'a str,
 }
 
 /// These lines, and no fault.
-fn prints(out: &str) -> Wanted<'_> {
-    Wanted {
+fn prints(out: &str) -> Expected<'_> {
+    Expected {
         status: 0,
         out,
         err: "",
@@ -244,8 +244,8 @@ fn prints(out: &str) -> Wanted<'_> {
 }
 
 /// A status and its line, and nothing on output.
-fn tells(status: u8, err: &str) -> Wanted<'_> {
-    Wanted {
+fn tells(status: u8, err: &str) -> Expected<'_> {
+    Expected {
         status,
         out: "",
         err,
@@ -254,16 +254,16 @@ fn tells(status: u8, err: &str) -> Wanted<'_> {
 
 /// The two texts that a source may print.
 #[derive(Clone, Copy)]
-struct Texts<'a> {
+struct EitherText<'a> {
     one: &'a str,
     other: &'a str,
 }
 
-fn either<'a>(one: &'a str, other: &'a str) -> Texts<'a> {
-    Texts { one, other }
+fn either<'a>(one: &'a str, other: &'a str) -> EitherText<'a> {
+    EitherText { one, other }
 }
 
-impl Texts<'_> {
+impl EitherText<'_> {
     fn has(&self, lines: &[u8]) -> bool {
         lines == self.one.as_bytes() || lines == self.other.as_bytes()
     }
@@ -289,7 +289,7 @@ fn decimal(rt: &impl Abort, alloc: Global, number: u64) -> String {
 /// A text, then others, and whatever ends it all. Each of the others is these parts, each with the number of the other behind it,
 /// and a last part.
 #[derive(Clone, Copy)]
-struct Pattern<'a> {
+struct TextPattern<'a> {
     before: &'a str,
     numbered: &'a [&'a str],
     last: &'a str,
@@ -305,7 +305,7 @@ fn append_numbered(rt: &impl Abort, text: &mut String, parts: &[&str], number: &
 }
 
 /// A text in which others stand so many times.
-fn repeated(rt: &impl Abort, alloc: Global, pattern: Pattern<'_>, times: u64) -> String {
+fn repeated(rt: &impl Abort, alloc: Global, pattern: TextPattern<'_>, times: u64) -> String {
     let mut text = joined(rt, alloc, &[pattern.before]);
     for number in 0..times {
         let digits = decimal(rt, alloc, number);
@@ -353,8 +353,8 @@ fn files_in<'a>(
     alloc: Global,
     setting: &Setting<'a>,
     made: &Shared,
-) -> Memory<'a> {
-    Memory {
+) -> FilesInMemory<'a> {
+    FilesInMemory {
         alloc,
         source: setting.source.as_bytes(),
         journal: setting.journal,
@@ -424,14 +424,14 @@ fn assert_bytes(rt: &impl Abort, what: &str, bytes: &[u8], wanted: &[u8]) {
     holds(rt, bytes == wanted, what);
 }
 
-fn assert_left(rt: &impl Abort, what: &str, left: &Left, wanted: Wanted<'_>) {
+fn assert_left(rt: &impl Abort, what: &str, left: &Left, wanted: Expected<'_>) {
     assert_status(rt, what, left.status, wanted.status);
     assert_bytes(rt, what, left.out.as_slice(), wanted.out.as_bytes());
     assert_bytes(rt, what, left.err.as_slice(), wanted.err.as_bytes());
 }
 
 /// A run printed one of the texts, and told of no fault.
-fn assert_texts(rt: &impl Abort, source: &str, left: &Left, texts: Texts<'_>) {
+fn assert_texts(rt: &impl Abort, source: &str, left: &Left, texts: EitherText<'_>) {
     assert_status(rt, source, left.status, 0);
     assert_bytes(rt, source, left.err.as_slice(), b"");
     holds(rt, texts.has(left.out.as_slice()), source);
@@ -444,7 +444,7 @@ fn assert_in<R: Abort + Threads + Wait + Sync>(
     what: &str,
     line: &str,
     setting: &Setting<'_>,
-    wanted: Wanted<'_>,
+    wanted: Expected<'_>,
 ) {
     assert_left(rt, what, &run_in(rt, alloc, line, setting), wanted);
 }
@@ -455,7 +455,7 @@ fn assert_made<R: Abort + Threads + Wait + Sync>(
     alloc: Global,
     line: &str,
     setting: &Setting<'_>,
-    wanted: Wanted<'_>,
+    wanted: Expected<'_>,
     made: &[u8],
 ) {
     let left = run_in(rt, alloc, line, setting);
@@ -469,7 +469,7 @@ fn assert_line<R: Abort + Threads + Wait + Sync>(
     alloc: Global,
     line: &str,
     source: &str,
-    wanted: Wanted<'_>,
+    wanted: Expected<'_>,
 ) {
     assert_in(rt, alloc, line, line, &over(source), wanted);
 }
@@ -486,7 +486,7 @@ fn assert_cut<R: Abort + Threads + Wait + Sync>(
         out_room: out.len(),
         ..setting
     };
-    let wanted = Wanted {
+    let wanted = Expected {
         status: 1,
         out,
         err: CANNOT_WRITE,

@@ -6,7 +6,7 @@ use Rattle.std.proofs.lemmas.Slice.Eq.{bytes_eq-Decides}
 use Rattle.std.proofs.lemmas.Bool.Decides.{nat_tests}
 use Rattle.tokens.specs.declared.token.Kind.TheVariants as k
 use Rattle.tokens.specs.ByteClasses.{is_letter, is_digit}
-use Rattle.tokens.specs.Lexing.{is_sign1, or_else, KindTable, kind_in, words, system_names, signs, kind_by_first, sign_kind, kind_of}
+use Rattle.tokens.specs.Lexing.{is_sign1, or_kind, KindTable, kind_in, words, system_names, signs, kind_by_first, sign_kind, kind_of}
 use Rattle.tokens.proofs.Steps.{true_or_false, and-true}
 
 -- two texts whose first bytes a test tells apart
@@ -89,7 +89,7 @@ unfolding kind_by_first
 dollar b bs h = rw h
 
 -- a $ begins system names
-pub system_is : (t : List ℕ) → get_or t 0 0 ≡ 36 → kind_of t ≡ or_else (kind_in system_names t) k.System
+pub system_is : (t : List ℕ) → get_or t 0 0 ≡ 36 → kind_of t ≡ or_kind (kind_in system_names t) k.System
 system_is [] h = absurd (omega arith)
 system_is (b ∷ bs) h =
     let e : sign_kind (b ∷ bs) ≡ k.System = no_sign (b ∷ bs) (ap is_sign1 h) ∙ dollar b bs h in

@@ -3,7 +3,7 @@ pub mod Ascii
 pub mod Steps
 pub mod Numbers
 pub mod Decimals
-pub mod Worths
+pub mod LiteralValues
 pub mod Firsts
 pub mod Longest
 pub mod Chain

@@ -5,83 +5,83 @@ use Rattle.logic4.specs.Vector.{vector, unknown}
 use Rattle.tokens.specs.declared.token.Kind.{Kind}
 use Rattle.tokens.specs.declared.token.Kind.TheVariants as k
 use Rattle.tokens.specs.Tokens.{PlainTokens}
-use Rattle.tokens.specs.Literals.{decimal_of, binary_digits, hex_digits, fitted, decimal_vector, based, literal_of, number_of, token_value, token_digits}
-use Rattle.tokens.specs.Lexing.{words, system_names, signs, kind_by_first, reading, string_text, is_string_rest, is_comment_rest}
+use Rattle.tokens.specs.Literals.{decimal_of, binary_digits, hex_digits, fitted, decimal_vector, based, literal_of, numeral_value_of, token_value, token_digits}
+use Rattle.tokens.specs.Lexing.{words, system_names, signs, kind_by_first, tokens_of_piece, string_text, is_string_rest, is_comment_rest}
 
 abbrev one : Kind → List ℕ → ℕ → Option PlainTokens
 one kind text value = Some (record { kind = kind; text = text; value = value; bits = None } ∷ [])
 
-a_name : reading (codes "a_1$") ≡ one k.Name (codes "a_1$") 0
-unfolding reading words system_names signs kind_by_first
+a_name : tokens_of_piece (codes "a_1$") ≡ one k.Name (codes "a_1$") 0
+unfolding tokens_of_piece words system_names signs kind_by_first
 a_name = refl
 
-reserved_word : reading (codes "begin") ≡ one k.Begin (codes "begin") 0
-unfolding reading words
+reserved_word : tokens_of_piece (codes "begin") ≡ one k.Begin (codes "begin") 0
+unfolding tokens_of_piece words
 reserved_word = refl
 
 -- names differ by case
-name_in_capitals : reading (codes "Begin") ≡ one k.Name (codes "Begin") 0
-unfolding reading words system_names signs kind_by_first
+name_in_capitals : tokens_of_piece (codes "Begin") ≡ one k.Name (codes "Begin") 0
+unfolding tokens_of_piece words system_names signs kind_by_first
 name_in_capitals = refl
 
-system_name : reading (codes "$display") ≡ one k.Display (codes "$display") 0
-unfolding reading words system_names
+system_name : tokens_of_piece (codes "$display") ≡ one k.Display (codes "$display") 0
+unfolding tokens_of_piece words system_names
 system_name = refl
 
-another_system_name : reading (codes "$strobe") ≡ one k.Strobe (codes "$strobe") 0
-unfolding reading words system_names
+another_system_name : tokens_of_piece (codes "$strobe") ≡ one k.Strobe (codes "$strobe") 0
+unfolding tokens_of_piece words system_names
 another_system_name = refl
 
 -- the whole name counts
-longer_system_name : reading (codes "$strobes") ≡ one k.System (codes "$strobes") 0
-unfolding reading words system_names signs kind_by_first
+longer_system_name : tokens_of_piece (codes "$strobes") ≡ one k.System (codes "$strobes") 0
+unfolding tokens_of_piece words system_names signs kind_by_first
 longer_system_name = refl
 
 -- a system name that the grammar doesn't have is a token all the same
-other_system_name : reading (codes "$time") ≡ one k.System (codes "$time") 0
-unfolding reading words system_names signs kind_by_first
+other_system_name : tokens_of_piece (codes "$time") ≡ one k.System (codes "$time") 0
+unfolding tokens_of_piece words system_names signs kind_by_first
 other_system_name = refl
 
-nonblocking_sign : reading (codes "<=") ≡ one k.AtMost (codes "<=") 0
-unfolding reading words system_names signs
+nonblocking_sign : tokens_of_piece (codes "<=") ≡ one k.AtMost (codes "<=") 0
+unfolding tokens_of_piece words system_names signs
 nonblocking_sign = refl
 
-plain_decimal : reading (codes "18") ≡ one k.Decimal (codes "18") 18
-unfolding reading words system_names signs kind_by_first number_of decimal_of
+plain_decimal : tokens_of_piece (codes "18") ≡ one k.Decimal (codes "18") 18
+unfolding tokens_of_piece words system_names signs kind_by_first numeral_value_of decimal_of
 plain_decimal = refl
 
-eighteen_digits : number_of (codes "999999999999999999") ≡ Some (999999999999999999, None)
-unfolding number_of decimal_of
+eighteen_digits : numeral_value_of (codes "999999999999999999") ≡ Some (999999999999999999, None)
+unfolding numeral_value_of decimal_of
 eighteen_digits = refl
 
-nineteen_digits : reading (codes "1234567890123456789") ≡ None
-unfolding reading number_of decimal_of
+nineteen_digits : tokens_of_piece (codes "1234567890123456789") ≡ None
+unfolding tokens_of_piece numeral_value_of decimal_of
 nineteen_digits = refl
 
 -- a sized literal carries its digits
-sized_literal : reading (codes "4'b00001") ≡ Some (record { kind = k.Sized; text = codes "4'b00001"; value = 0; bits = Some (vector 4 1) } ∷ [])
-unfolding reading words system_names signs kind_by_first number_of literal_of decimal_of based binary_digits fitted
+sized_literal : tokens_of_piece (codes "4'b00001") ≡ Some (record { kind = k.Sized; text = codes "4'b00001"; value = 0; bits = Some (vector 4 1) } ∷ [])
+unfolding tokens_of_piece words system_names signs kind_by_first numeral_value_of literal_of decimal_of based binary_digits fitted
 sized_literal = refl
 
 -- a plain decimal has a value, and a sized literal digits alone
 value_of_a_decimal : token_value (codes "18") ≡ 18
-unfolding token_value number_of decimal_of
+unfolding token_value numeral_value_of decimal_of
 value_of_a_decimal = refl
 
 value_of_a_literal : token_value (codes "4'b00001") ≡ 0
-unfolding token_value number_of literal_of decimal_of based binary_digits fitted
+unfolding token_value numeral_value_of literal_of decimal_of based binary_digits fitted
 value_of_a_literal = refl
 
 digits_of_a_literal : token_digits (codes "4'b00001") ≡ Some (vector 4 1)
-unfolding token_digits number_of literal_of decimal_of based binary_digits fitted
+unfolding token_digits numeral_value_of literal_of decimal_of based binary_digits fitted
 digits_of_a_literal = refl
 
 digits_of_a_decimal : token_digits (codes "18") ≡ None
-unfolding token_digits number_of decimal_of
+unfolding token_digits numeral_value_of decimal_of
 digits_of_a_decimal = refl
 
-a_space : reading (codes " ") ≡ Some []
-unfolding reading
+a_space : tokens_of_piece (codes " ") ≡ Some []
+unfolding tokens_of_piece
 a_space = refl
 
 -- ---- literals

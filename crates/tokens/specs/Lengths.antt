@@ -2,7 +2,7 @@
 use Rattle.std.specs.Prelude.{◌≡◌, ℕ, suc, ◌+◌, List, [], ◌∷◌, ◌++◌, drop, Bool, true, false, not, ◌&&◌, ◌||◌, ◌==◌, if◌then◌else◌, Some, None}
 use Rattle.tokens.specs.Tokens.{PlainTokens}
 use Rattle.tokens.specs.ByteClasses.{is_letter, is_digit, in_word, in_literal, is_space, in_line, in_string, is_escape, span}
-use Rattle.tokens.specs.Lexing.{is_sign1, is_sign2, is_sign3, reading}
+use Rattle.tokens.specs.Lexing.{is_sign1, is_sign2, is_sign3, tokens_of_piece}
 
 -- Stands in a string, behind a `\` or not.
 abbrev pub accepts : Bool → ℕ → Bool
@@ -69,6 +69,6 @@ piece_len (b ∷ bs) =
     else sign_len (b ∷ bs))))))
 
 -- What reading a piece does to the tokens found.
-abbrev pub Adds : List ℕ → PlainTokens → Bool → PlainTokens → Type 0
-Adds piece old true new = (us : PlainTokens) × (reading piece ≡ Some us) × (new ≡ old ++ us)
-Adds piece old false new = reading piece ≡ None
+abbrev pub AddsTokens : List ℕ → PlainTokens → Bool → PlainTokens → Type 0
+AddsTokens piece old true new = (us : PlainTokens) × (tokens_of_piece piece ≡ Some us) × (new ≡ old ++ us)
+AddsTokens piece old false new = tokens_of_piece piece ≡ None

@@ -5,7 +5,7 @@ use Rattle.tokens.specs.declared.token.Kind.{Kind}
 use Rattle.tokens.specs.declared.token.Kind.TheVariants as k
 use Rattle.tokens.specs.Tokens.{PlainTokens}
 use Rattle.tokens.specs.ByteClasses.{is_letter, is_digit, in_word, in_literal, is_space, in_line, in_string, is_escape, all}
-use Rattle.tokens.specs.Literals.{is_empty, worth_of}
+use Rattle.tokens.specs.Literals.{is_empty, literal_value_of}
 
 -- ---- operators and marks (3.4, A.8.6)
 
@@ -61,9 +61,9 @@ pub record IsNext (piece rest : List ℕ) : Type 0 where
 -- ---- what a piece stands for
 
 -- The first of two kinds that is there.
-abbrev pub or_else : Option Kind → Kind → Kind
-or_else None kind = kind
-or_else (Some kind) other = kind
+abbrev pub or_kind : Option Kind → Kind → Kind
+or_kind None kind = kind
+or_kind (Some kind) other = kind
 
 -- Texts, each with the kind of its token.
 abbrev pub KindTable : Type 0
@@ -106,11 +106,11 @@ kind_by_first (b ∷ bs) =
 
 -- The kind of a token that is no word of the grammar.
 abbrev pub sign_kind : List ℕ → Kind
-sign_kind t = or_else (kind_in signs t) (kind_by_first t)
+sign_kind t = or_kind (kind_in signs t) (kind_by_first t)
 
 -- The kind of a token, by how it is spelled.
 abbrev pub kind_of : List ℕ → Kind
-kind_of t = or_else (kind_in words t) (or_else (kind_in system_names t) (sign_kind t))
+kind_of t = or_kind (kind_in words t) (or_kind (kind_in system_names t) (sign_kind t))
 
 -- A piece that is no token: a space or a comment.
 abbrev pub is_skipped : List ℕ → Bool
@@ -118,22 +118,22 @@ is_skipped [] = false
 is_skipped (b ∷ bs) = is_space b || b == 47
 
 -- The tokens that a piece gives, one or none, if it isn't a number that is malformed or too wide.
-unfoldable pub reading : List ℕ → Option PlainTokens
-reading piece = if is_skipped piece then Some [] else option_map (λ w. record { kind = kind_of piece; text = piece; value = w.0; bits = w.1 } ∷ []) (worth_of piece)
+unfoldable pub tokens_of_piece : List ℕ → Option PlainTokens
+tokens_of_piece piece = if is_skipped piece then Some [] else option_map (λ w. record { kind = kind_of piece; text = piece; value = w.0; bits = w.1 } ∷ []) (literal_value_of piece)
 
 -- The byte that an escape stands for, by the byte behind its `\`: \n, \t, \\ and \" (3.6.3).
-abbrev pub escaped : ℕ → ℕ
-escaped b = if b == 110 then 10 else (if b == 116 then 9 else b)
+abbrev pub unescaped : ℕ → ℕ
+unescaped b = if b == 110 then 10 else (if b == 116 then 9 else b)
 
 -- What a byte of a string adds to its text, behind a `\` or not.
-abbrev pub shown : Bool → ℕ → List ℕ
-shown true b = escaped b ∷ []
-shown false b = if b == 34 || b == 92 then [] else b ∷ []
+abbrev pub string_byte_text : Bool → ℕ → List ℕ
+string_byte_text true b = unescaped b ∷ []
+string_byte_text false b = if b == 34 || b == 92 then [] else b ∷ []
 
 -- What the bytes of a string add to its text, behind a `\` or not.
 abbrev pub string_text_from : Bool → List ℕ → List ℕ
 string_text_from after [] = []
-string_text_from after (b ∷ bs) = shown after b ++ string_text_from (not after && b == 92) bs
+string_text_from after (b ∷ bs) = string_byte_text after b ++ string_text_from (not after && b == 92) bs
 
 -- The text of a string: without its quotes, and with its escapes replaced.
 abbrev pub string_text : List ℕ → List ℕ
@@ -144,15 +144,15 @@ string_text t = string_text_from false t
 -- A text is cut into these tokens: again and again the longest piece is taken, up to the end.
 pub data Cut : List ℕ → PlainTokens → Type 0 where
   ended : Cut [] []
-  next : {piece rest : List ℕ} {us ts : PlainTokens} → IsNext piece rest → reading piece ≡ Some us → Cut rest ts → Cut (piece ++ rest) (us ++ ts)
+  next : {piece rest : List ℕ} {us ts : PlainTokens} → IsNext piece rest → tokens_of_piece piece ≡ Some us → Cut rest ts → Cut (piece ++ rest) (us ++ ts)
 
 -- Why a cut stops: no piece begins, or a number that is malformed or too wide.
-pub data Cause : Type 0 where
-  stray : Cause
-  bad_number : Cause
+pub data CutCause : Type 0 where
+  stray : CutCause
+  bad_number : CutCause
 
 -- The cut of a text stops at this byte, counted from 0.
-pub data Stops : List ℕ → Cause → ℕ → Type 0 where
+pub data Stops : List ℕ → CutCause → ℕ → Type 0 where
   no_piece : {b : ℕ} {text : List ℕ} → ((q r : List ℕ) → q ++ r ≡ b ∷ text → IsPiece q → ⊥) → Stops (b ∷ text) stray 0
-  no_value : {piece rest : List ℕ} → IsNext piece rest → reading piece ≡ None → Stops (piece ++ rest) bad_number 0
-  later : {piece rest : List ℕ} {us : PlainTokens} {cause : Cause} {n : ℕ} → IsNext piece rest → reading piece ≡ Some us → Stops rest cause n → Stops (piece ++ rest) cause (length piece + n)
+  no_value : {piece rest : List ℕ} → IsNext piece rest → tokens_of_piece piece ≡ None → Stops (piece ++ rest) bad_number 0
+  later : {piece rest : List ℕ} {us : PlainTokens} {cause : CutCause} {n : ℕ} → IsNext piece rest → tokens_of_piece piece ≡ Some us → Stops rest cause n → Stops (piece ++ rest) cause (length piece + n)

@@ -86,50 +86,50 @@ based width base bs =
     else (if (base == 100) && all is_digit bs then decimal_vector width (value_from 0 bs) else None)))
 
 -- The digits of a literal by its size, which is 1 to the greatest width.
-abbrev pub sized : Option ℕ → ℕ → List ℕ → Option Vector
-sized None base bs = None
-sized (Some width) base bs = if nat_le 1 width && nat_le width greatest_width then based width base bs else None
+abbrev pub sized_digits : Option ℕ → ℕ → List ℕ → Option Vector
+sized_digits None base bs = None
+sized_digits (Some width) base bs = if nat_le 1 width && nat_le width greatest_width then based width base bs else None
 
 -- The digits of a literal by its size, and by what stands behind that: the ', the base and the bytes of the digits.
 abbrev pub literal_from : List ℕ → List ℕ → Option Vector
 literal_from size [] = None
 literal_from size (q ∷ []) = None
-literal_from size (q ∷ base ∷ bs) = sized (decimal_of size) base bs
+literal_from size (q ∷ base ∷ bs) = sized_digits (decimal_of size) base bs
 
 -- The digits of a sized literal, the least significant first; none where it is malformed or too wide.
 unfoldable pub literal_of : List ℕ → Option Vector
 literal_of text = literal_from (take (span is_digit text) text) (drop (span is_digit text) text)
 
 -- The number that a token stands for, and its digits, which a sized literal has.
-abbrev pub Worth : Type 0
-Worth = ℕ × Option Vector
+abbrev pub LiteralValue : Type 0
+LiteralValue = ℕ × Option Vector
 
 -- A plain decimal has a number and no digits; a sized literal has digits, and the number 0.
-abbrev pub plain_worth : ℕ → Worth
-plain_worth n = (n, None)
+abbrev pub plain_literal_value : ℕ → LiteralValue
+plain_literal_value n = (n, None)
 
 -- The number and the digits of a plain decimal or of a sized literal; none where it is malformed or too wide.
-unfoldable pub number_of : List ℕ → Option Worth
-number_of text = if all is_digit text then option_map plain_worth (decimal_of text) else option_map (λ v. (0, Some v)) (literal_of text)
+unfoldable pub numeral_value_of : List ℕ → Option LiteralValue
+numeral_value_of text = if all is_digit text then option_map plain_literal_value (decimal_of text) else option_map (λ v. (0, Some v)) (literal_of text)
 
 -- The number and the digits of a token: 0 and none where it is neither a plain decimal nor a sized literal. None where one
 -- of these is malformed or too wide.
-abbrev pub worth_of : List ℕ → Option Worth
-worth_of [] = Some (0, None)
-worth_of (b ∷ bs) = if is_digit b then number_of (b ∷ bs) else Some (0, None)
+abbrev pub literal_value_of : List ℕ → Option LiteralValue
+literal_value_of [] = Some (0, None)
+literal_value_of (b ∷ bs) = if is_digit b then numeral_value_of (b ∷ bs) else Some (0, None)
 
 -- A number and digits where they were found, else 0 and none.
-abbrev pub worth_or_none : Option Worth → Worth
-worth_or_none None = (0, None)
-worth_or_none (Some w) = w
+abbrev pub literal_value_or_none : Option LiteralValue → LiteralValue
+literal_value_or_none None = (0, None)
+literal_value_or_none (Some w) = w
 
 -- The number of a token: that of a plain decimal, and 0 for every other.
 unfoldable pub token_value : List ℕ → ℕ
-token_value text = (worth_or_none (worth_of text)).0
+token_value text = (literal_value_or_none (literal_value_of text)).0
 
 -- The digits of a token: those of a sized literal, which no other has.
 unfoldable pub token_digits : List ℕ → Option Vector
-token_digits text = (worth_or_none (worth_of text)).1
+token_digits text = (literal_value_or_none (literal_value_of text)).1
 
 -- What adding the digits of a byte does to those found.
 abbrev pub AddsDigits : Option Vector → Vector → Bool → Vector → Type 0

@@ -2,7 +2,7 @@
 
 ghost use Rattle.std.specs.Prelude.{◌≡◌, ℕ, false, map, IfOk};
 ghost use Rattle.std.specs.Str.{IsAscii};
-ghost use Rattle.tokens.specs.Lengths.{Adds};
+ghost use Rattle.tokens.specs.Lengths.{AddsTokens};
 ghost use Rattle.tokens.specs.Lexing as spec;
 ghost use Rattle.tokens.specs.Lexing.{Cut, Stops};
 ghost use Rattle.tokens.specs.Tokens.{plain_token};
@@ -36,10 +36,10 @@ fn text_of(piece: &[u8]) -> &str
 }
 
 /// Adds the token that a piece gives, if it gives one. A number that is malformed or too wide is refused.
-#[tactic(auto, unfolding(crate::specs::Lexing::reading))]
+#[tactic(auto, unfolding(crate::specs::Lexing::tokens_of_piece))]
 fn add<'a>(alloc: Global, found: &mut Vec<Token<'a>>, piece: &'a [u8]) -> Result<bool, AllocError>
     requires { spec.is_skipped piece.now ≡ false → IsAscii piece.now }
-    ensures { IfOk result (λ read. Adds piece.now (map plain_token found.old.items) read (map plain_token found.new.items)) }
+    ensures { IfOk result (λ read. AddsTokens piece.now (map plain_token found.old.items) read (map plain_token found.new.items)) }
 {
     if is_skipped(piece) {
         return Ok(true);

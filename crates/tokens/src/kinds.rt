@@ -8,10 +8,10 @@ use crate::spans::{all_digits, is_digit, is_letter};
 use crate::token::Kind;
 
 /// A text, and the kind of a token that is spelled so.
-type Row = (&'static [u8], Kind);
+type Spelling = (&'static [u8], Kind);
 
 /// The reserved words (3.7.2).
-const WORDS: &[Row] = &[
+const WORDS: &[Spelling] = &[
     (b"module", Kind::Module),
     (b"endmodule", Kind::EndModule),
     (b"reg", Kind::Reg),
@@ -28,7 +28,7 @@ const WORDS: &[Row] = &[
 ];
 
 /// The system names (3.7.3) that the grammar has.
-const SYSTEM_NAMES: &[Row] = &[
+const SYSTEM_NAMES: &[Spelling] = &[
     (b"$display", Kind::Display),
     (b"$strobe", Kind::Strobe),
     (b"$finish", Kind::Finish),
@@ -36,7 +36,7 @@ const SYSTEM_NAMES: &[Row] = &[
 
 /// The brackets, the comma and the semicolon, which stand most often; the operators, from the level that binds most to the one
 /// that binds least (5.1.2); and the marks of assignments, delays and events.
-const SIGNS: &[Row] = &[
+const SIGNS: &[Spelling] = &[
     (b"(", Kind::Open),
     (b")", Kind::Close),
     (b"[", Kind::OpenSquare),
@@ -72,7 +72,7 @@ const SIGNS: &[Row] = &[
 ];
 
 /// The kind that a table has for a text.
-fn kind_in(table: &[Row], text: &[u8]) -> Option<Kind>
+fn kind_in(table: &[Spelling], text: &[u8]) -> Option<Kind>
     ensures { result ≡ spec.kind_in (map (λ row. (row.0.now, row.1)) table.now) text.now }
 {
     let mut left = table;

@@ -5,7 +5,7 @@ ghost use Rattle.std.specs.Option.{is_some};
 ghost use Rattle.logic4.specs.Vector.{bit_digit, vector, greatest_width};
 ghost use Rattle.tokens.specs.ByteClasses.{is_digit, all};
 ghost use Rattle.tokens.specs.Literals as spec;
-ghost use Rattle.tokens.specs.Literals.{AddsDigits, plain_worth};
+ghost use Rattle.tokens.specs.Literals.{AddsDigits, plain_literal_value};
 
 use crate::spans::{Class, all_digits, digits_value, is_digit, span};
 use logic4::bits::{Bits, MAX_WIDTH};
@@ -230,7 +230,7 @@ fn sized(
     base: u8,
     text: &[u8],
 ) -> Result<Option<Bits>, AllocError>
-    ensures { IfOk result (λ fit. fit ≡ spec.sized size base text.now) }
+    ensures { IfOk result (λ fit. fit ≡ spec.sized_digits size base text.now) }
 {
     match size {
         Some(width) if width >= 1 && width <= u128::from(MAX_WIDTH) => based(
@@ -262,12 +262,12 @@ fn literal_of(alloc: Global, text: &[u8]) -> Result<Option<Bits>, AllocError>
 }
 
 /// The number that a token stands for, and its digits, which a sized literal has.
-pub type Worth = (u64, Option<Bits>);
+pub type LiteralValue = (u64, Option<Bits>);
 
 /// What a run of digits stands for, of at most 18, which 64 bits hold.
-fn plain(text: &[u8]) -> Option<Worth>
+fn plain(text: &[u8]) -> Option<LiteralValue>
     requires { all is_digit text.now ≡ true }
-    ensures { result ≡ option_map plain_worth (spec.decimal_of text.now) }
+    ensures { result ≡ option_map plain_literal_value (spec.decimal_of text.now) }
 {
     match decimal_of(text) {
         None => None,
@@ -276,9 +276,9 @@ fn plain(text: &[u8]) -> Option<Worth>
 }
 
 /// The number of a plain decimal, or the digits of a sized literal; `None` where it is malformed or too wide.
-#[tactic(auto, unfolding(crate::specs::Literals::number_of))]
-fn number_of(alloc: Global, text: &[u8]) -> Result<Option<Worth>, AllocError>
-    ensures { IfOk result (λ found. found ≡ spec.number_of text.now) }
+#[tactic(auto, unfolding(crate::specs::Literals::numeral_value_of))]
+fn number_of(alloc: Global, text: &[u8]) -> Result<Option<LiteralValue>, AllocError>
+    ensures { IfOk result (λ found. found ≡ spec.numeral_value_of text.now) }
 {
     if all_digits(text) {
         return Ok(plain(text));
@@ -290,8 +290,8 @@ fn number_of(alloc: Global, text: &[u8]) -> Result<Option<Worth>, AllocError>
 }
 
 /// The number and the digits of a token; `None` for a number that is malformed or too wide.
-pub fn worth_of(alloc: Global, text: &[u8]) -> Result<Option<Worth>, AllocError>
-    ensures { IfOk result (λ found. found ≡ spec.worth_of text.now) }
+pub fn literal_value_of(alloc: Global, text: &[u8]) -> Result<Option<LiteralValue>, AllocError>
+    ensures { IfOk result (λ found. found ≡ spec.literal_value_of text.now) }
 {
     match text {
         [b, ..] if is_digit(*b) => number_of(alloc, text),
@@ -302,7 +302,7 @@ pub fn worth_of(alloc: Global, text: &[u8]) -> Result<Option<Worth>, AllocError>
 // Whether a number is malformed or too wide. What a number stands for is long, and is to lie in no frame of the callers'.
 #[inline(never)]
 fn is_unread(alloc: Global, number: &[u8]) -> Result<bool, AllocError>
-    ensures { IfOk result (λ unread. is_some (spec.number_of number.now) ≡ not unread) }
+    ensures { IfOk result (λ unread. is_some (spec.numeral_value_of number.now) ≡ not unread) }
 {
     Ok(number_of(alloc, number)?.is_none())
 }
@@ -310,7 +310,7 @@ fn is_unread(alloc: Global, number: &[u8]) -> Result<bool, AllocError>
 /// Whether a token is a number that is malformed or too wide.
 #[inline(always)]
 pub fn is_bad_number(alloc: Global, text: &[u8]) -> Result<bool, AllocError>
-    ensures { IfOk result (λ bad. is_some (spec.worth_of text.now) ≡ not bad) }
+    ensures { IfOk result (λ bad. is_some (spec.literal_value_of text.now) ≡ not bad) }
 {
     match text {
         [b, ..] if is_digit(*b) => is_unread(alloc, text),
@@ -319,7 +319,7 @@ pub fn is_bad_number(alloc: Global, text: &[u8]) -> Result<bool, AllocError>
 }
 
 /// The number of a plain decimal, and 0 for every other token.
-#[tactic(auto, using(crate::proofs::Worths::value_is))]
+#[tactic(auto, using(crate::proofs::LiteralValues::value_is))]
 pub fn token_value(text: &[u8]) -> u64
     ensures { result ≡ spec.token_value text.now }
 {
@@ -337,7 +337,7 @@ pub fn token_value(text: &[u8]) -> u64
 pub fn token_digits(alloc: Global, text: &[u8]) -> Result<Option<Bits>, AllocError>
     ensures { IfOk result (λ found. found ≡ spec.token_digits text.now) }
 {
-    match worth_of(alloc, text)? {
+    match literal_value_of(alloc, text)? {
         None => Ok(None),
         Some((_, bits)) => Ok(bits),
     }

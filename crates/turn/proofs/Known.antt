@@ -10,7 +10,7 @@ use Rattle.indexmap.specs.IndexMap.{insert_entry}
 use Rattle.turn.specs.declared.memory.Seen.{Seen}
 use Rattle.turn.specs.Reads.{registers, AreDeclared, Agrees, GaveAll}
 use Rattle.std.proofs.lemmas.List.Elements.{All-push}
-use Rattle.turn.specs.Memory.{Looks, LooksAt}
+use Rattle.turn.specs.Memory.{LooksUp, LooksUpAt}
 use Rattle.turn.specs.Evaluate.{Holds, written, written_in, Knows, Continues}
 
 -- ---- numbers and truth values
@@ -184,12 +184,12 @@ looked_new r s known reads lt is =
           });
     }
 
-looked_at : (o : Option Vector) (r : ℕ) (v : Vector) (known : List (Option Vector)) (reads : List (ℕ × Seen)) (known' : List (Option Vector)) (reads' : List (ℕ × Seen)) → r < length known → slice_index_or known r None ≡ o → LooksAt o known reads r v known' reads' → Looked r v known reads known' reads'
+looked_at : (o : Option Vector) (r : ℕ) (v : Vector) (known : List (Option Vector)) (reads : List (ℕ × Seen)) (known' : List (Option Vector)) (reads' : List (ℕ × Seen)) → r < length known → slice_index_or known r None ≡ o → LooksUpAt o known reads r v known' reads' → Looked r v known reads known' reads'
 looked_at (Some w) r v known reads known' reads' lt is (e, k, s) = rw (k, s) (looked_known r v w known reads lt is e)
 looked_at None r v known reads known' reads' lt is (s, (e, k, t)) =
     let l = looked_new r s known reads lt is in
     let k' : known' ≡ slice_set known r (Some s.value) = k ∙ ap (λ v. slice_set known r (Some v)) e in
     rw (k', t, e) l
 
-pub looked : (r : ℕ) (v : Vector) (known : List (Option Vector)) (reads : List (ℕ × Seen)) (known' : List (Option Vector)) (reads' : List (ℕ × Seen)) → r < length known → Looks known reads r v known' reads' → Looked r v known reads known' reads'
+pub looked : (r : ℕ) (v : Vector) (known : List (Option Vector)) (reads : List (ℕ × Seen)) (known' : List (Option Vector)) (reads' : List (ℕ × Seen)) → r < length known → LooksUp known reads r v known' reads' → Looked r v known reads known' reads'
 looked r v known reads known' reads' lt l = looked_at (slice_index_or known r None) r v known reads known' reads' lt refl l

@@ -3,7 +3,7 @@ pub mod Operators
 pub mod Known
 mod Sizes
 pub mod Slots
-mod Nets
+mod TurnChanges
 pub mod Runs
 pub mod Printed
 pub mod Values

@@ -11,7 +11,7 @@ use Rattle.design.specs.Operate.{combined}
 use Rattle.design.specs.ExpressionSteps.{topmost, below, act, run_ops, reads_of, all_reads, IsOpOf}
 use Rattle.turn.specs.declared.memory.Seen.{Seen}
 use Rattle.turn.specs.Reads.{registers}
-use Rattle.turn.specs.Evaluate.{Acts, Ran, Knows, Continues, written_in}
+use Rattle.turn.specs.Evaluate.{Acts, RunsSteps, Knows, Continues, written_in}
 use Rattle.turn.proofs.Known.{Looked, looked}
 
 run_ops-append : (values : Store) (xs ys : List Op) (st : List Vector) → run_ops values (xs ++ ys) st ≡ run_ops values ys (run_ops values xs st)
@@ -40,7 +40,7 @@ continues_both writes rs qs s s1 s2 k1 k2 a b = record {
 
 -- ---- runs
 
-pub ran_none : (k : List (Option Vector)) (s : List (ℕ × Seen)) (st : List Vector) → Ran [] k s st k s st
+pub ran_none : (k : List (Option Vector)) (s : List (ℕ × Seen)) (st : List Vector) → RunsSteps [] k s st k s st
 ran_none k s st = record {
   size = refl;
   holds = λ values h. h;
@@ -48,12 +48,12 @@ ran_none k s st = record {
   continues = λ writes h. continues_none writes s k h;
 }
 
-pub ran_empty : (ops : List Op) (k : List (Option Vector)) (s : List (ℕ × Seen)) (st : List Vector) → length ops ≡ 0 → Ran ops k s st k s st
+pub ran_empty : (ops : List Op) (k : List (Option Vector)) (s : List (ℕ × Seen)) (st : List Vector) → length ops ≡ 0 → RunsSteps ops k s st k s st
 ran_empty [] k s st e = ran_none k s st
 ran_empty (op ∷ ops) k s st e = absurd (omega (arith, e))
 
 -- one step as a run
-ran_look : (op : Op) (r : ℕ) (v : Vector) (k : List (Option Vector)) (s : List (ℕ × Seen)) (st : List Vector) (k' : List (Option Vector)) (s' : List (ℕ × Seen)) (st' : List Vector) → reads_of op ≡ r ∷ [] → ((values : Store) → value_of values r ≡ v → act values op st ≡ st') → Looked r v k s k' s' → Ran (op ∷ []) k s st k' s' st'
+ran_look : (op : Op) (r : ℕ) (v : Vector) (k : List (Option Vector)) (s : List (ℕ × Seen)) (st : List Vector) (k' : List (Option Vector)) (s' : List (ℕ × Seen)) (st' : List Vector) → reads_of op ≡ r ∷ [] → ((values : Store) → value_of values r ≡ v → act values op st ≡ st') → Looked r v k s k' s' → RunsSteps (op ∷ []) k s st k' s' st'
 ran_look op r v k s st k' s' st' reads acts l = record {
   size = l.size;
   holds = l.holds;
@@ -61,7 +61,7 @@ ran_look op r v k s st k' s' st' reads acts l = record {
   continues = λ writes h. subst (λ rs. Continues writes (rs ++ []) s s' k') (sym reads) (l.continues writes h);
 }
 
-ran_plain : (op : Op) (k : List (Option Vector)) (s : List (ℕ × Seen)) (st : List Vector) (k' : List (Option Vector)) (s' : List (ℕ × Seen)) (st' : List Vector) → reads_of op ≡ [] → ((values : Store) → act values op st ≡ act [] op st) → (k' ≡ k) × (s' ≡ s) × (st' ≡ act [] op st) → Ran (op ∷ []) k s st k' s' st'
+ran_plain : (op : Op) (k : List (Option Vector)) (s : List (ℕ × Seen)) (st : List Vector) (k' : List (Option Vector)) (s' : List (ℕ × Seen)) (st' : List Vector) → reads_of op ≡ [] → ((values : Store) → act values op st ≡ act [] op st) → (k' ≡ k) × (s' ≡ s) × (st' ≡ act [] op st) → RunsSteps (op ∷ []) k s st k' s' st'
 ran_plain op k s st k' s' st' reads same (ek, es, est) =
     rw (ek, es, est) (record {
       size = refl;
@@ -70,7 +70,7 @@ ran_plain op k s st k' s' st' reads same (ek, es, est) =
       continues = λ writes h. subst (λ rs. Continues writes (rs ++ []) s s k) (sym reads) (continues_none writes s k h);
     })
 
-ran_one : (op : Op) (k : List (Option Vector)) (s : List (ℕ × Seen)) (st : List Vector) (k' : List (Option Vector)) (s' : List (ℕ × Seen)) (st' : List Vector) → IsOpOf (length k) op → Acts op k s st k' s' st' → Ran (op ∷ []) k s st k' s' st'
+ran_one : (op : Op) (k : List (Option Vector)) (s : List (ℕ × Seen)) (st : List Vector) (k' : List (Option Vector)) (s' : List (ℕ × Seen)) (st' : List Vector) → IsOpOf (length k) op → Acts op k s st k' s' st' → RunsSteps (op ∷ []) k s st k' s' st'
 ran_one (Load r size) k s st k' s' st' lt (v, (l, e)) =
     ran_look (Load r size) r v k s st k' s' st' refl (λ values h. ap (λ w. resize size w ∷ st) h ∙ sym e) (looked r v k s k' s' lt l)
 ran_one (Pick r i size) k s st k' s' st' lt (v, (l, e)) =
@@ -86,7 +86,7 @@ ran_one (Resize size) k s st k' s' st' lt h = ran_plain (Resize size) k s st k' 
 ran_one (Choose size) k s st k' s' st' lt h = ran_plain (Choose size) k s st k' s' st' refl (λ values. refl) h
 
 -- runs compose
-ran_both : (xs ys : List Op) (k : List (Option Vector)) (s : List (ℕ × Seen)) (st : List Vector) (k1 : List (Option Vector)) (s1 : List (ℕ × Seen)) (st1 : List Vector) (k2 : List (Option Vector)) (s2 : List (ℕ × Seen)) (st2 : List Vector) → Ran xs k s st k1 s1 st1 → Ran ys k1 s1 st1 k2 s2 st2 → Ran (xs ++ ys) k s st k2 s2 st2
+ran_both : (xs ys : List Op) (k : List (Option Vector)) (s : List (ℕ × Seen)) (st : List Vector) (k1 : List (Option Vector)) (s1 : List (ℕ × Seen)) (st1 : List Vector) (k2 : List (Option Vector)) (s2 : List (ℕ × Seen)) (st2 : List Vector) → RunsSteps xs k s st k1 s1 st1 → RunsSteps ys k1 s1 st1 k2 s2 st2 → RunsSteps (xs ++ ys) k s st k2 s2 st2
 ran_both xs ys k s st k1 s1 st1 k2 s2 st2 a b = record {
   size = b.size ∙ a.size;
   holds = λ values h. a.holds values (b.holds values h);
@@ -97,18 +97,18 @@ ran_both xs ys k s st k1 s1 st1 k2 s2 st2 a b = record {
 }
 
 -- one more step
-pub ran_more : (ops : List Op) (i : ℕ) (op : Op) (k : List (Option Vector)) (s : List (ℕ × Seen)) (st : List Vector) (k1 : List (Option Vector)) (s1 : List (ℕ × Seen)) (st1 : List Vector) (k2 : List (Option Vector)) (s2 : List (ℕ × Seen)) (st2 : List Vector) → i < length ops → op ≡ get_or ops i op → All (IsOpOf (length k)) ops → Ran (take i ops) k s st k1 s1 st1 → Acts op k1 s1 st1 k2 s2 st2 → Ran (take (i + 1) ops) k s st k2 s2 st2
+pub ran_more : (ops : List Op) (i : ℕ) (op : Op) (k : List (Option Vector)) (s : List (ℕ × Seen)) (st : List Vector) (k1 : List (Option Vector)) (s1 : List (ℕ × Seen)) (st1 : List Vector) (k2 : List (Option Vector)) (s2 : List (ℕ × Seen)) (st2 : List Vector) → i < length ops → op ≡ get_or ops i op → All (IsOpOf (length k)) ops → RunsSteps (take i ops) k s st k1 s1 st1 → Acts op k1 s1 st1 k2 s2 st2 → RunsSteps (take (i + 1) ops) k s st k2 s2 st2
 ran_more ops i op k s st k1 s1 st1 k2 s2 st2 lt is all a acts =
     let fits : IsOpOf (length k) op = subst (IsOpOf (length k)) (sym is) (all i op lt) in
     let fits' : IsOpOf (length k1) op = subst (λ n. IsOpOf n op) (sym a.size) fits in
-    let both : Ran (take i ops ++ op ∷ []) k s st k2 s2 st2 = ran_both (take i ops) (op ∷ []) k s st k1 s1 st1 k2 s2 st2 a (ran_one op k1 s1 st1 k2 s2 st2 fits' acts) in
+    let both : RunsSteps (take i ops ++ op ∷ []) k s st k2 s2 st2 = ran_both (take i ops) (op ∷ []) k s st k1 s1 st1 k2 s2 st2 a (ran_one op k1 s1 st1 k2 s2 st2 fits' acts) in
     let more : take (i + 1) ops ≡ take i ops ++ op ∷ [] = ap (λ n. take n ops) (add-one i) ∙ take-suc ops i op lt ∙ ap (λ o. take i ops ++ o ∷ []) (sym is) in
     rw more both
 
 -- a first step, and others
-pub ran_first : (ops : List Op) (op : Op) (others : List Op) (k : List (Option Vector)) (s : List (ℕ × Seen)) (st : List Vector) (k1 : List (Option Vector)) (s1 : List (ℕ × Seen)) (st1 : List Vector) (k2 : List (Option Vector)) (s2 : List (ℕ × Seen)) (st2 : List Vector) → ops ≡ op ∷ others → All (IsOpOf (length k)) ops → Acts op k s st k1 s1 st1 → (All (IsOpOf (length k1)) others → Ran others k1 s1 st1 k2 s2 st2) → Ran ops k s st k2 s2 st2
+pub ran_first : (ops : List Op) (op : Op) (others : List Op) (k : List (Option Vector)) (s : List (ℕ × Seen)) (st : List Vector) (k1 : List (Option Vector)) (s1 : List (ℕ × Seen)) (st1 : List Vector) (k2 : List (Option Vector)) (s2 : List (ℕ × Seen)) (st2 : List Vector) → ops ≡ op ∷ others → All (IsOpOf (length k)) ops → Acts op k s st k1 s1 st1 → (All (IsOpOf (length k1)) others → RunsSteps others k1 s1 st1 k2 s2 st2) → RunsSteps ops k s st k2 s2 st2
 ran_first ops op others k s st k1 s1 st1 k2 s2 st2 is all acts ran =
     let all' : All (IsOpOf (length k)) (op ∷ others) = subst (All (IsOpOf (length k))) is all in
-    let one : Ran (op ∷ []) k s st k1 s1 st1 = ran_one op k s st k1 s1 st1 (all' 0 op (omega arith)) acts in
+    let one : RunsSteps (op ∷ []) k s st k1 s1 st1 = ran_one op k s st k1 s1 st1 (all' 0 op (omega arith)) acts in
     let left : All (IsOpOf (length k1)) others = subst (λ n. All (IsOpOf n) others) (sym one.size) (λ i o lt. all' (suc i) o (omega (arith, lt))) in
     rw is (ran_both (op ∷ []) others k s st k1 s1 st1 k2 s2 st2 one (ran left))

@@ -12,7 +12,7 @@ use Rattle.logic4.specs.Operators.{truth}
 use Rattle.model.specs.declared.tree.Task.TheVariants as Task
 use Rattle.model.specs.Syntax.{Expression, Expressions, registers_of}
 use Rattle.model.specs.Design as tree
-use Rattle.model.specs.Design.{Statement, Statements, Piece, Trigger, Process, statement_at, process_at, statements_of, all_of, size}
+use Rattle.model.specs.Design.{Statement, Statements, Piece, Trigger, Process, statement_at, process_at, all_statements, all_of, size}
 use Rattle.model.specs.Expressions.{Store, own_value, assigned_value}
 use Rattle.model.specs.Turns as turns
 use Rattle.model.specs.Turns.{At, Set, Remainder, Turn, Going, parts, whole, next, after_statement, counted, goes_on, stops, delayed, where_true}
@@ -20,13 +20,13 @@ use Rattle.design.specs.declared.code.Node.{Node}
 use Rattle.design.specs.declared.code.Node.TheVariants as node
 use Rattle.design.specs.declared.code.ProcState.{ProcState}
 use Rattle.design.specs.declared.code.Span.{Span}
-use Rattle.design.specs.ExpressionSteps.{piece, IsOpOf}
+use Rattle.design.specs.ExpressionSteps.{span_of, IsOpOf}
 use Rattle.design.specs.Fits.{FitsRegister}
 use Rattle.design.specs.CodePlaces.{remainder_at, IsPlaceOf}
 use Rattle.design.specs.Compiled.{Compiled, design_of}
 use Rattle.design.specs.Meaning.{IsTest, IsFine, IsCompiled}
 use Rattle.design.proofs.Numbered.{place_named}
-use Rattle.design.specs.DesignInvariant.{pending_part, remainder_of, IsPending, IsStateOf}
+use Rattle.design.specs.DesignInvariant.{pending_part, remainder_of_state, IsPending, IsStateOf}
 use Rattle.turn.specs.declared.log.Suspend.{Suspend}
 use Rattle.turn.specs.declared.log.Suspend.TheVariants as suspends
 use Rattle.turn.specs.declared.machine.Step.{Step}
@@ -34,7 +34,7 @@ use Rattle.turn.specs.declared.machine.Step.TheVariants as step
 use Rattle.turn.specs.Reads.{registers, Agrees}
 use Rattle.turn.specs.Evaluate.{Knows, written}
 use Rattle.turn.specs.RunningTurn.{Status, at, writing, holding, delaying, printing, wait_for, chosen_place, strobing}
-use Rattle.turn.specs.TurnSteps.{TakesNode, TakesSome, TakesPending, Takes}
+use Rattle.turn.specs.TurnSteps.{TakesNode, TakesSome, TakesPending, TakesStep}
 use Rattle.turn.specs.TurnLogs.{assignment_of, wait_of}
 use Rattle.turn.proofs.Known.{written-append}
 use Rattle.turn.proofs.Values.{all_piece, Gets, gets, length-assigned, knows_write, Lined, lined}
@@ -42,7 +42,7 @@ use Rattle.turn.proofs.Values.{all_piece, Gets, gets, length-assigned, knows_wri
 -- a turn under way, on a store
 abbrev pub going_of : Compiled → Store → ℕ → Status → Going
 going_of code store count s = record {
-  left = remainder_of code s.state;
+  left = remainder_of_state code s.state;
   values = written store s.writes;
   uses = registers s.reads;
   writes = s.writes;
@@ -60,7 +60,7 @@ turn_of code s suspend finish count = record {
   nbas = map assignment_of s.nbas;
   lines = s.lines;
   strobes = s.strobes;
-  rest = remainder_of code s.state;
+  rest = remainder_of_state code s.state;
   wait = wait_of code.controls suspend;
   finish = finish;
   count = count;
@@ -77,11 +77,11 @@ pub record Sound (code : Compiled) (p : ℕ) (s : Status) : Type 0 where
 -- the step on a store that agrees
 abbrev pub StepOn : Compiled → ℕ → ℕ → Store → ℕ → Status → Step → Status → Type 0
 StepOn code p now store count s step.Goes s' =
-    next (design_of code) p now (going_of code store count s) (remainder_of code s.state) ≡ turns.Goes (going_of code store (count + 1) s')
+    next (design_of code) p now (going_of code store count s) (remainder_of_state code s.state) ≡ turns.Goes (going_of code store (count + 1) s')
 StepOn code p now store count s step.Over s' =
-    next (design_of code) p now (going_of code store count s) (remainder_of code s.state) ≡ turns.Over (turn_of code s' suspends.Ended false count)
+    next (design_of code) p now (going_of code store count s) (remainder_of_state code s.state) ≡ turns.Over (turn_of code s' suspends.Ended false count)
 StepOn code p now store count s (step.Ends suspend finish) s' =
-    next (design_of code) p now (going_of code store count s) (remainder_of code s.state) ≡ turns.Over (turn_of code s' suspend finish (count + 1))
+    next (design_of code) p now (going_of code store count s) (remainder_of_state code s.state) ≡ turns.Over (turn_of code s' suspend finish (count + 1))
 
 pub record Follows (code : Compiled) (p now : ℕ) (s : Status) (r : Step) (s' : Status) : Type 0 where
   pub sound : Sound code p s'
@@ -111,10 +111,10 @@ control_found (c ∷ controls) (suc i) triggers e = control_found controls i tri
 
 -- ---- each place has a node
 
-first_within : (n : ℕ) (ps : List Process) → length (statements_of (take n ps)) ≤ length (statements_of ps)
+first_within : (n : ℕ) (ps : List Process) → length (all_statements (take n ps)) ≤ length (all_statements ps)
 first_within zero ps = omega arith
 first_within (suc n) [] = omega arith
-first_within (suc n) (p ∷ ps) = omega (arith, first_within n ps, length-append (all_of p.body) (statements_of (take n ps)), length-append (all_of p.body) (statements_of ps))
+first_within (suc n) (p ∷ ps) = omega (arith, first_within n ps, length-append (all_of p.body) (all_statements (take n ps)), length-append (all_of p.body) (all_statements ps))
 
 pub place_within : (code : Compiled) (p : ℕ) (s : ProcState) → IsCompiled code → IsStateOf code p s → s.place < length code.nodes
 place_within code p s is state = ⊎_elim
@@ -161,39 +161,39 @@ module _ (code : Compiled) (p now : ℕ) where
     goes = λ store count len agree. goes store count;
   }
 
-  over_follows : (s : Status) → Sound code p s → remainder_of code s.state ≡ [] → (process_at (design_of code) p).repeats ≡ false → Follows code p now s step.Over s
+  over_follows : (s : Status) → Sound code p s → remainder_of_state code s.state ≡ [] → (process_at (design_of code) p).repeats ≡ false → Follows code p now s step.Over s
   over_follows s sound left still = record {
     sound = sound;
     agrees = λ store h. h;
     goes = λ store count len agree.
-        ending (going_of code store count s) (remainder_of code s.state) left still
-        ∙ over_eq _ _ _ _ _ _ [] (remainder_of code s.state) _ _ false count refl (sym left) refl;
+        ending (going_of code store count s) (remainder_of_state code s.state) left still
+        ∙ over_eq _ _ _ _ _ _ [] (remainder_of_state code s.state) _ _ false count refl (sym left) refl;
   }
 
-  restart_follows : (s : Status) (to : ℕ) → Sound code p s → remainder_of code s.state ≡ [] → (process_at (design_of code) p).repeats ≡ true → remainder_at (design_of code) to ≡ whole (design_of code) p → IsPlaceOf (design_of code) p to → Follows code p now s step.Goes (at s to)
+  restart_follows : (s : Status) (to : ℕ) → Sound code p s → remainder_of_state code s.state ≡ [] → (process_at (design_of code) p).repeats ≡ true → remainder_at (design_of code) to ≡ whole (design_of code) p → IsPlaceOf (design_of code) p to → Follows code p now s step.Goes (at s to)
   restart_follows s to sound left again there within = plain_goes s to sound within (λ store count.
-      restarting (going_of code store count s) (remainder_of code s.state) left again
+      restarting (going_of code store count s) (remainder_of_state code s.state) left again
       ∙ goes_eq _ (remainder_at (design_of code) to) _ _ _ _ _ _ _ _ _ _ _ (count + 1) (sym there) refl refl refl refl refl)
 
-  skip_follows : (s : Status) (to place : ℕ) → Sound code p s → remainder_of code s.state ≡ At place ∷ remainder_at (design_of code) to → statement_at (design_of code) place ≡ tree.Empty → IsPlaceOf (design_of code) p to → Follows code p now s step.Goes (at s to)
+  skip_follows : (s : Status) (to place : ℕ) → Sound code p s → remainder_of_state code s.state ≡ At place ∷ remainder_at (design_of code) to → statement_at (design_of code) place ≡ tree.Empty → IsPlaceOf (design_of code) p to → Follows code p now s step.Goes (at s to)
   skip_follows s to place sound left is within = plain_goes s to sound within (λ store count.
-      stepping (going_of code store count s) (remainder_of code s.state) (remainder_at (design_of code) to) place tree.Empty left is)
+      stepping (going_of code store count s) (remainder_of_state code s.state) (remainder_at (design_of code) to) place tree.Empty left is)
 
-  finish_follows : (s : Status) (to place : ℕ) → Sound code p s → remainder_of code s.state ≡ At place ∷ remainder_at (design_of code) to → statement_at (design_of code) place ≡ tree.Finish → IsPlaceOf (design_of code) p to → Follows code p now s (step.Ends suspends.Ended true) (at s to)
+  finish_follows : (s : Status) (to place : ℕ) → Sound code p s → remainder_of_state code s.state ≡ At place ∷ remainder_at (design_of code) to → statement_at (design_of code) place ≡ tree.Finish → IsPlaceOf (design_of code) p to → Follows code p now s (step.Ends suspends.Ended true) (at s to)
   finish_follows s to place sound left is within = plain_ends s to suspends.Ended true sound within (λ store count.
-      stepping (going_of code store count s) (remainder_of code s.state) (remainder_at (design_of code) to) place tree.Finish left is)
+      stepping (going_of code store count s) (remainder_of_state code s.state) (remainder_at (design_of code) to) place tree.Finish left is)
 
-  delay_follows : (s : Status) (to place delay : ℕ) (body : Statements) (rest : Remainder) → Sound code p s → remainder_of code s.state ≡ At place ∷ rest → statement_at (design_of code) place ≡ tree.Delay delay body → remainder_at (design_of code) to ≡ parts (place + 1) body ++ rest → IsPlaceOf (design_of code) p to → Follows code p now s (step.Ends (wait_for now delay) false) (at s to)
+  delay_follows : (s : Status) (to place delay : ℕ) (body : Statements) (rest : Remainder) → Sound code p s → remainder_of_state code s.state ≡ At place ∷ rest → statement_at (design_of code) place ≡ tree.Delay delay body → remainder_at (design_of code) to ≡ parts (place + 1) body ++ rest → IsPlaceOf (design_of code) p to → Follows code p now s (step.Ends (wait_for now delay) false) (at s to)
   delay_follows s to place delay body rest sound left is there within = plain_ends s to (wait_for now delay) false sound within (λ store count.
-      stepping (going_of code store count s) (remainder_of code s.state) rest place (tree.Delay delay body) left is
+      stepping (going_of code store count s) (remainder_of_state code s.state) rest place (tree.Delay delay body) left is
       ∙ over_eq _ _ _ _ _ _ _ (remainder_at (design_of code) to) _ _ false (count + 1) refl (sym there) (wait_delayed code.controls now delay))
 
-  await_follows : (s : Status) (to place control : ℕ) (triggers : List Trigger) (body : Statements) (rest : Remainder) → Sound code p s → remainder_of code s.state ≡ At place ∷ rest → slice_get code.controls control ≡ Some triggers → statement_at (design_of code) place ≡ tree.Await triggers body → remainder_at (design_of code) to ≡ parts (place + 1) body ++ rest → IsPlaceOf (design_of code) p to → Follows code p now s (step.Ends (suspends.Event control) false) (at s to)
+  await_follows : (s : Status) (to place control : ℕ) (triggers : List Trigger) (body : Statements) (rest : Remainder) → Sound code p s → remainder_of_state code s.state ≡ At place ∷ rest → slice_get code.controls control ≡ Some triggers → statement_at (design_of code) place ≡ tree.Await triggers body → remainder_at (design_of code) to ≡ parts (place + 1) body ++ rest → IsPlaceOf (design_of code) p to → Follows code p now s (step.Ends (suspends.Event control) false) (at s to)
   await_follows s to place control triggers body rest sound left found is there within = plain_ends s to (suspends.Event control) false sound within (λ store count.
-      stepping (going_of code store count s) (remainder_of code s.state) rest place (tree.Await triggers body) left is
+      stepping (going_of code store count s) (remainder_of_state code s.state) rest place (tree.Await triggers body) left is
       ∙ over_eq _ _ _ _ _ _ _ (remainder_at (design_of code) to) _ _ false (count + 1) refl (sym there) (ap turns.OnChange (sym (control_found code.controls control triggers found))))
 
-  assign_follows : (s : Status) (q to place : ℕ) (e : Expression ℕ) (v : Vector) (m : Status) → Sound code p s → Gets s v m (λ values. assigned_value code.widths values q e) (registers_of e) → remainder_of code s.state ≡ At place ∷ remainder_at (design_of code) to → statement_at (design_of code) place ≡ tree.Assign q e → q < length code.widths → IsPlaceOf (design_of code) p to → Follows code p now s step.Goes (writing (record s { known = m.known; reads = m.reads }) q v to)
+  assign_follows : (s : Status) (q to place : ℕ) (e : Expression ℕ) (v : Vector) (m : Status) → Sound code p s → Gets s v m (λ values. assigned_value code.widths values q e) (registers_of e) → remainder_of_state code s.state ≡ At place ∷ remainder_at (design_of code) to → statement_at (design_of code) place ≡ tree.Assign q e → q < length code.widths → IsPlaceOf (design_of code) p to → Follows code p now s step.Goes (writing (record s { known = m.known; reads = m.reads }) q v to)
   assign_follows s q to place e v m sound got left is fits within =
       let known = got.size ∙ sound.size in
       record {
@@ -207,7 +207,7 @@ module _ (code : Compiled) (p now : ℕ) where
         agrees = got.continues.agrees;
         goes = λ store count len agree.
             let value = got.value store (len ∙ sym sound.size) agree in
-            stepping (going_of code store count s) (remainder_of code s.state) (remainder_at (design_of code) to) place (tree.Assign q e) left is
+            stepping (going_of code store count s) (remainder_of_state code s.state) (remainder_at (design_of code) to) place (tree.Assign q e) left is
             ∙ goes_eq (remainder_at (design_of code) to) (remainder_at (design_of code) to) _ _ _ _ _ _ _ _ _ _ _ (count + 1) refl
             (ap (slice_set (written store s.writes) q) value ∙ sym (written-append s.writes store q v))
             (sym got.continues.uses)
@@ -215,7 +215,7 @@ module _ (code : Compiled) (p now : ℕ) where
             refl refl;
       }
 
-  after_follows : (s : Status) (q to place delay : ℕ) (e : Expression ℕ) (v : Vector) (m : Status) → Sound code p s → Gets s v m (λ values. assigned_value code.widths values q e) (registers_of e) → remainder_of code s.state ≡ At place ∷ remainder_at (design_of code) to → statement_at (design_of code) place ≡ tree.AssignAfter q delay e → q < length code.widths → IsPlaceOf (design_of code) p to → Follows code p now s (step.Ends (wait_for now delay) false) (holding (record s { known = m.known; reads = m.reads }) q v to)
+  after_follows : (s : Status) (q to place delay : ℕ) (e : Expression ℕ) (v : Vector) (m : Status) → Sound code p s → Gets s v m (λ values. assigned_value code.widths values q e) (registers_of e) → remainder_of_state code s.state ≡ At place ∷ remainder_at (design_of code) to → statement_at (design_of code) place ≡ tree.AssignAfter q delay e → q < length code.widths → IsPlaceOf (design_of code) p to → Follows code p now s (step.Ends (wait_for now delay) false) (holding (record s { known = m.known; reads = m.reads }) q v to)
   after_follows s q to place delay e v m sound got left is fits within = record {
     sound = record {
       state = record { process = sound.state.process; place = within; pending = (fits, length-assigned code.widths q e v got.some) };
@@ -226,11 +226,11 @@ module _ (code : Compiled) (p now : ℕ) where
     };
     agrees = got.continues.agrees;
     goes = λ store count len agree.
-        stepping (going_of code store count s) (remainder_of code s.state) (remainder_at (design_of code) to) place (tree.AssignAfter q delay e) left is
+        stepping (going_of code store count s) (remainder_of_state code s.state) (remainder_at (design_of code) to) place (tree.AssignAfter q delay e) left is
         ∙ over_eq _ _ _ _ _ _ _ _ _ _ false (count + 1) (sym got.continues.uses) (ap (λ x. Set q x ∷ remainder_at (design_of code) to) (got.value store (len ∙ sym sound.size) agree)) (wait_delayed code.controls now delay);
   }
 
-  later_follows : (s : Status) (q to place delay : ℕ) (e : Expression ℕ) (v : Vector) (m : Status) → Sound code p s → Gets s v m (λ values. assigned_value code.widths values q e) (registers_of e) → remainder_of code s.state ≡ At place ∷ remainder_at (design_of code) to → statement_at (design_of code) place ≡ tree.AssignLater q delay e → q < length code.widths → IsPlaceOf (design_of code) p to → Follows code p now s step.Goes (delaying (record s { known = m.known; reads = m.reads }) (record { reg = q; value = v; due = now + delay }) to)
+  later_follows : (s : Status) (q to place delay : ℕ) (e : Expression ℕ) (v : Vector) (m : Status) → Sound code p s → Gets s v m (λ values. assigned_value code.widths values q e) (registers_of e) → remainder_of_state code s.state ≡ At place ∷ remainder_at (design_of code) to → statement_at (design_of code) place ≡ tree.AssignLater q delay e → q < length code.widths → IsPlaceOf (design_of code) p to → Follows code p now s step.Goes (delaying (record s { known = m.known; reads = m.reads }) (record { reg = q; value = v; due = now + delay }) to)
   later_follows s q to place delay e v m sound got left is fits within = record {
     sound = record {
       state = state_at s.state to sound.state within;
@@ -241,7 +241,7 @@ module _ (code : Compiled) (p now : ℕ) where
     };
     agrees = got.continues.agrees;
     goes = λ store count len agree.
-        stepping (going_of code store count s) (remainder_of code s.state) (remainder_at (design_of code) to) place (tree.AssignLater q delay e) left is
+        stepping (going_of code store count s) (remainder_of_state code s.state) (remainder_at (design_of code) to) place (tree.AssignLater q delay e) left is
         ∙ goes_eq (remainder_at (design_of code) to) (remainder_at (design_of code) to) _ _ _ _ _ _ _ _ _ _ _ (count + 1) refl refl (sym got.continues.uses) refl
         (ap (λ x. map assignment_of s.nbas ++ record { register = q; value = x; due = now + delay } ∷ []) (got.value store (len ∙ sym sound.size) agree)
         ∙ sym (map-append assignment_of s.nbas (record { reg = q; value = v; due = now + delay } ∷ [])))
@@ -253,7 +253,7 @@ module _ (code : Compiled) (p now : ℕ) where
   ways False taken missed = refl
   ways Unknown taken missed = refl
 
-  branch_follows : (s : Status) (place taken missed : ℕ) (c : Expression ℕ) (rest : Remainder) (v : Vector) (m : Status) → Sound code p s → Gets s v m (λ values. own_value code.widths values c) (registers_of c) → remainder_of code s.state ≡ At place ∷ rest → IsTest (design_of code) place c rest (remainder_at (design_of code) taken) (remainder_at (design_of code) missed) → IsPlaceOf (design_of code) p (chosen_place (truth v) taken missed) → Follows code p now s step.Goes (at (record s { known = m.known; reads = m.reads }) (chosen_place (truth v) taken missed))
+  branch_follows : (s : Status) (place taken missed : ℕ) (c : Expression ℕ) (rest : Remainder) (v : Vector) (m : Status) → Sound code p s → Gets s v m (λ values. own_value code.widths values c) (registers_of c) → remainder_of_state code s.state ≡ At place ∷ rest → IsTest (design_of code) place c rest (remainder_at (design_of code) taken) (remainder_at (design_of code) missed) → IsPlaceOf (design_of code) p (chosen_place (truth v) taken missed) → Follows code p now s step.Goes (at (record s { known = m.known; reads = m.reads }) (chosen_place (truth v) taken missed))
   branch_follows s place taken missed c rest v m sound got left test within = record {
     sound = record {
       state = state_at s.state (chosen_place (truth v) taken missed) sound.state within;
@@ -271,15 +271,15 @@ module _ (code : Compiled) (p now : ℕ) where
         let one = ap (λ x. where_true (truth x) first second) (got.value store (len ∙ sym sound.size) agree) ∙ ways (truth v) taken missed in
         ⊎_elim
         (λ (body, (otherwise, (is, e1, e2))).
-        stepping (going_of code store count s) (remainder_of code s.state) rest place (tree.If c body otherwise) left is
+        stepping (going_of code store count s) (remainder_of_state code s.state) rest place (tree.If c body otherwise) left is
         ∙ goes_eq _ (remainder_at (design_of code) to) _ _ _ _ _ _ _ _ _ _ _ (count + 1) (ap (λ x. where_true tested x (parts (place + 1 + size body) otherwise ++ rest)) (sym e1) ∙ ap (where_true tested first) (sym e2) ∙ one) refl (sym got.continues.uses) refl refl refl)
         (λ (body, (is, e1, e2)).
-        stepping (going_of code store count s) (remainder_of code s.state) rest place (tree.While c body) left is
+        stepping (going_of code store count s) (remainder_of_state code s.state) rest place (tree.While c body) left is
         ∙ goes_eq _ (remainder_at (design_of code) to) _ _ _ _ _ _ _ _ _ _ _ (count + 1) (ap (λ x. where_true tested x rest) (sym e1) ∙ ap (where_true tested first) (sym e2) ∙ one) refl (sym got.continues.uses) refl refl refl)
         test;
   }
 
-  display_follows : (s m : Status) (to place : ℕ) (format : List Piece) (arguments : Expressions ℕ) → Sound code p s → Lined code.widths s m format arguments → remainder_of code s.state ≡ At place ∷ remainder_at (design_of code) to → statement_at (design_of code) place ≡ tree.Print Task.Display format arguments → IsPlaceOf (design_of code) p to → Follows code p now s step.Goes (at (printing (record s { known = m.known; reads = m.reads; lines = m.lines }) (10 ∷ [])) to)
+  display_follows : (s m : Status) (to place : ℕ) (format : List Piece) (arguments : Expressions ℕ) → Sound code p s → Lined code.widths s m format arguments → remainder_of_state code s.state ≡ At place ∷ remainder_at (design_of code) to → statement_at (design_of code) place ≡ tree.Print Task.Display format arguments → IsPlaceOf (design_of code) p to → Follows code p now s step.Goes (at (printing (record s { known = m.known; reads = m.reads; lines = m.lines }) (10 ∷ [])) to)
   display_follows s m to place format arguments sound l left is within = record {
     sound = record {
       state = state_at s.state to sound.state within;
@@ -290,11 +290,11 @@ module _ (code : Compiled) (p now : ℕ) where
     };
     agrees = l.continues.agrees;
     goes = λ store count len agree.
-        stepping (going_of code store count s) (remainder_of code s.state) (remainder_at (design_of code) to) place (tree.Print Task.Display format arguments) left is
+        stepping (going_of code store count s) (remainder_of_state code s.state) (remainder_at (design_of code) to) place (tree.Print Task.Display format arguments) left is
         ∙ goes_eq (remainder_at (design_of code) to) (remainder_at (design_of code) to) _ _ _ _ _ _ _ _ _ _ _ (count + 1) refl refl (sym l.continues.uses) refl refl (sym (l.lines store (len ∙ sym sound.size) agree));
   }
 
-  strobe_follows : (s : Status) (to place : ℕ) (format : List Piece) (arguments : Expressions ℕ) → Sound code p s → remainder_of code s.state ≡ At place ∷ remainder_at (design_of code) to → statement_at (design_of code) place ≡ tree.Print Task.Strobe format arguments → place ≡ s.state.place → IsPlaceOf (design_of code) p to → Follows code p now s step.Goes (strobing s to)
+  strobe_follows : (s : Status) (to place : ℕ) (format : List Piece) (arguments : Expressions ℕ) → Sound code p s → remainder_of_state code s.state ≡ At place ∷ remainder_at (design_of code) to → statement_at (design_of code) place ≡ tree.Print Task.Strobe format arguments → place ≡ s.state.place → IsPlaceOf (design_of code) p to → Follows code p now s step.Goes (strobing s to)
   strobe_follows s to place format arguments sound left is same within = record {
     sound = record {
       state = state_at s.state to sound.state within;
@@ -305,7 +305,7 @@ module _ (code : Compiled) (p now : ℕ) where
     };
     agrees = λ store agree. agree;
     goes = λ store count len agree.
-        stepping (going_of code store count s) (remainder_of code s.state) (remainder_at (design_of code) to) place (tree.Print Task.Strobe format arguments) left is
+        stepping (going_of code store count s) (remainder_of_state code s.state) (remainder_at (design_of code) to) place (tree.Print Task.Strobe format arguments) left is
         ∙ ap (λ (n : ℕ). turns.Goes (record (going_of code store (count + 1) (strobing s to)) { strobes = s.strobes ++ n ∷ [] })) same;
   }
 
@@ -328,41 +328,41 @@ module _ (code : Compiled) (p now : ℕ) where
     ops_within : (s : Status) → Sound code p s → All (IsOpOf (length s.known)) code.ops
     ops_within s sound = subst (λ n. All (IsOpOf n) code.ops) (sym sound.size) is_code.ops
 
-    piece_within : (s : Status) (span : Span) → Sound code p s → All (IsOpOf (length s.known)) (piece code.ops span)
+    piece_within : (s : Status) (span : Span) → Sound code p s → All (IsOpOf (length s.known)) (span_of code.ops span)
     piece_within s span sound = all_piece (IsOpOf (length s.known)) code.ops span (ops_within s sound)
 
     -- each node
-    node_follows : (i : Node) (s : Status) (r : Step) (s' : Status) → Sound code p s → remainder_of code s.state ≡ remainder_at (design_of code) s.state.place → IsFine code p i (remainder_at (design_of code) s.state.place) → TakesNode code.ops code.shown now i s r s' → Follows code p now s r s'
+    node_follows : (i : Node) (s : Status) (r : Step) (s' : Status) → Sound code p s → remainder_of_state code s.state ≡ remainder_at (design_of code) s.state.place → IsFine code p i (remainder_at (design_of code) s.state.place) → TakesNode code.ops code.shown now i s r s' → Follows code p now s r s'
     node_follows node.Over s r s' sound here (left, still) (er, es) = rw (er, es) (over_follows s sound (here ∙ left) still)
     node_follows (node.Restart to) s r s' sound here (left, again, there, within) (er, es) = rw (er, es) (restart_follows s to sound (here ∙ left) again there within)
     node_follows (node.Skip to) s r s' sound here (place, (left, is, within)) (er, es) = rw (er, es) (skip_follows s to place sound (here ∙ left) is within)
     node_follows (node.Assign q span to) s r s' sound here (place, (e, (left, is, c, fits, within))) (er, (v, (m, (val, es)))) =
-        let got = gets (piece code.ops span) s v m _ _ (piece_within s span sound) sound.knows c val in
+        let got = gets (span_of code.ops span) s v m _ _ (piece_within s span sound) sound.knows c val in
         let es' = es ∙ ap (λ z. writing z q v to) got.same in
         rw (er, es') (assign_follows s q to place e v m sound got (here ∙ left) is fits within)
     node_follows (node.AssignAfter q delay span to) s r s' sound here (place, (e, (left, is, c, fits, within))) (er, (v, (m, (val, es)))) =
-        let got = gets (piece code.ops span) s v m _ _ (piece_within s span sound) sound.knows c val in
+        let got = gets (span_of code.ops span) s v m _ _ (piece_within s span sound) sound.knows c val in
         let es' = es ∙ ap (λ z. holding z q v to) got.same in
         rw (er, es') (after_follows s q to place delay e v m sound got (here ∙ left) is fits within)
     node_follows (node.AssignLater q delay span to) s r s' sound here (place, (e, (left, is, c, fits, within))) (er, (v, (m, (val, es)))) =
-        let got = gets (piece code.ops span) s v m _ _ (piece_within s span sound) sound.knows c val in
+        let got = gets (span_of code.ops span) s v m _ _ (piece_within s span sound) sound.knows c val in
         let es' = es ∙ ap (λ z. delaying z (record { reg = q; value = v; due = now + delay }) to) got.same in
         rw (er, es') (later_follows s q to place delay e v m sound got (here ∙ left) is fits within)
     node_follows (node.Delay delay to) s r s' sound here (place, (body, (rest, (left, is, there, within)))) (er, es) = rw (er, es) (delay_follows s to place delay body rest sound (here ∙ left) is there within)
     node_follows (node.Await control to) s r s' sound here (place, (body, (rest, (triggers, (left, found, is, there, within))))) (er, es) = rw (er, es) (await_follows s to place control triggers body rest sound (here ∙ left) found is there within)
     node_follows (node.Branch span taken missed) s r s' sound here (place, (c, (rest, (left, comp, test, w1, w2)))) (er, (v, (m, (val, es)))) =
-        let got = gets (piece code.ops span) s v m _ _ (piece_within s span sound) sound.knows comp val in
+        let got = gets (span_of code.ops span) s v m _ _ (piece_within s span sound) sound.knows comp val in
         let es' = es ∙ ap (λ z. at z (chosen_place (truth v) taken missed)) got.same in
         rw (er, es') (branch_follows s place taken missed c rest v m sound got (here ∙ left) test (way_within (IsPlaceOf (design_of code) p) (truth v) taken missed w1 w2))
     node_follows (node.Print Task.Display span to) s r s' sound here (place, (format, (arguments, (left, is, line, within)))) (er, (m, (prints, es))) =
-        let l = lined code.widths code.ops (piece code.shown span) s m format arguments (ops_within s sound) sound.knows line prints in
+        let l = lined code.widths code.ops (span_of code.shown span) s m format arguments (ops_within s sound) sound.knows line prints in
         let es' = es ∙ ap (λ z. at (printing z (10 ∷ [])) to) l.same in
         rw (er, es') (display_follows s m to place format arguments sound l (here ∙ left) is within)
     node_follows (node.Print Task.Strobe span to) s r s' sound here (place, (format, (arguments, (left, is, line, within)))) (er, es) =
         rw (er, es) (strobe_follows s to place format arguments sound (here ∙ left) is (place_named (design_of code) p s.state.place place _ sound.state.place left) within)
     node_follows (node.Finish to) s r s' sound here (place, (left, is, within)) (er, es) = rw (er, es) (finish_follows s to place sound (here ∙ left) is within)
 
-    some_follows : (o : Option Node) (s : Status) (r : Step) (s' : Status) → slice_get code.nodes s.state.place ≡ o → Sound code p s → remainder_of code s.state ≡ remainder_at (design_of code) s.state.place → TakesSome code.ops code.shown now o s r s' → Follows code p now s r s'
+    some_follows : (o : Option Node) (s : Status) (r : Step) (s' : Status) → slice_get code.nodes s.state.place ≡ o → Sound code p s → remainder_of_state code s.state ≡ remainder_at (design_of code) s.state.place → TakesSome code.ops code.shown now o s r s' → Follows code p now s r s'
     some_follows None s r s' found sound here takes = absurd (not_past code.nodes s.state.place (place_within code p s.state is_code sound.state) found)
     some_follows (Some i) s r s' found sound here takes = node_follows i s r s' sound here (is_code.fine p s.state.place i sound.state.process sound.state.place found) takes
 
@@ -374,5 +374,5 @@ module _ (code : Compiled) (p now : ℕ) where
         rw (er, es) (pending_follows s w sound found fits)
 
     -- each step
-    pub takes_follows : (s : Status) (r : Step) (s' : Status) → Sound code p s → Takes code.nodes code.ops code.shown now s r s' → Follows code p now s r s'
+    pub takes_follows : (s : Status) (r : Step) (s' : Status) → Sound code p s → TakesStep code.nodes code.ops code.shown now s r s' → Follows code p now s r s'
     takes_follows s r s' sound takes = pend_follows s.state.pending s r s' refl sound takes

@@ -14,10 +14,10 @@ use Rattle.model.specs.Turns.{At, Remainder, with_uses, line_text, own_values}
 use Rattle.model.specs.Runs.{strobe_line, strobe_lines_at}
 use Rattle.design.specs.declared.code.Node.{Node}
 use Rattle.design.specs.declared.code.Op.{Op}
-use Rattle.design.specs.declared.code.Shown.{Shown}
+use Rattle.design.specs.declared.code.LinePiece.{LinePiece}
 use Rattle.design.specs.declared.code.Node.TheVariants as node
 use Rattle.design.specs.declared.code.ProcState.{ProcState}
-use Rattle.design.specs.ExpressionSteps.{piece, IsOpOf}
+use Rattle.design.specs.ExpressionSteps.{span_of, IsOpOf}
 use Rattle.design.specs.CodePlaces.{remainder_at, statement_count, IsPlaceOf}
 use Rattle.design.specs.DesignTrees.{process_of}
 use Rattle.design.specs.Compiled.{Compiled, design_of}
@@ -156,7 +156,7 @@ module _ (code : Compiled) (places : List ℕ) (place : ℕ) where
     node_strobed (node.Print Task.Display span to) s s' is strobed (n, (format, (arguments, (left, st, line, within)))) e = strobed_still s s' strobed (still_there n _ (tree.Print Task.Display format arguments) left st (λ store. refl) refl) e
     node_strobed (node.Print Task.Strobe span to) s s' is strobed (n, (format, (arguments, (left, st, line, within)))) (m, (prints, e)) =
         let all : All (IsOpOf (length s.known)) code.ops = subst (λ k. All (IsOpOf k) code.ops) (sym strobed.size) is.ops in
-        let l = lined code.widths code.ops (piece code.shown span) s m format arguments all strobed.knows line prints in
+        let l = lined code.widths code.ops (span_of code.shown span) s m format arguments all strobed.knows line prints in
         strobed_line s m s' format arguments strobed (statement_there n _ (tree.Print Task.Strobe format arguments) left st) l e
     node_strobed (node.Finish to) s s' is strobed (n, (left, st, within)) e = strobed_still s s' strobed (still_there n _ tree.Finish left st (λ store. refl) refl) e
 
@@ -194,5 +194,5 @@ strobed_all code places s reads text strobed read same = record {
 }
 
 -- a step over the lists that the program has
-pub printed : (code : Compiled) (nodes : List Node) (ops : List Op) (shown : List Shown) (place : ℕ) (s s' : Status) → nodes ≡ code.nodes → ops ≡ code.ops → shown ≡ code.shown → PrintsStrobe ops shown (slice_get nodes place) s s' → PrintsStrobe code.ops code.shown (slice_get code.nodes place) s s'
+pub printed : (code : Compiled) (nodes : List Node) (ops : List Op) (shown : List LinePiece) (place : ℕ) (s s' : Status) → nodes ≡ code.nodes → ops ≡ code.ops → shown ≡ code.shown → PrintsStrobe ops shown (slice_get nodes place) s s' → PrintsStrobe code.ops code.shown (slice_get code.nodes place) s s'
 printed code nodes ops shown place s s' e1 e2 e3 p = rw (← e1, ← e2, ← e3) p

@@ -17,22 +17,22 @@ use Rattle.design.specs.declared.code.Node.{Node}
 use Rattle.design.specs.declared.code.Node.TheVariants as node
 use Rattle.design.specs.declared.code.Op.{Op}
 use Rattle.design.specs.declared.code.ProcState.{ProcState}
-use Rattle.design.specs.declared.code.Shown.{Shown}
+use Rattle.design.specs.declared.code.LinePiece.{LinePiece}
 use Rattle.design.specs.Fits.{FitsRegister}
 use Rattle.design.specs.CodePlaces.{remainder_at}
 use Rattle.design.specs.Compiled.{Compiled, design_of}
 use Rattle.design.specs.Meaning.{IsFine, IsCompiled}
-use Rattle.design.specs.DesignInvariant.{pending_part, remainder_of, controls_of, IsStateOf}
+use Rattle.design.specs.DesignInvariant.{pending_part, remainder_of_state, controls_of, IsStateOf}
 use Rattle.turn.specs.declared.log.Suspend.{Suspend}
 use Rattle.turn.specs.declared.log.Suspend.TheVariants as suspends
 use Rattle.turn.specs.declared.machine.Step.{Step}
 use Rattle.turn.specs.declared.machine.Step.TheVariants as step
 use Rattle.turn.specs.Reads.{registers, AreDeclared, Agrees}
-use Rattle.turn.specs.Partial.{under_way, going_after, first_uses}
+use Rattle.turn.specs.Partial.{under_way, going_after, long_turn_uses}
 use Rattle.turn.specs.Evaluate.{Knows}
 use Rattle.turn.specs.RunningTurn.{Status, fresh}
-use Rattle.turn.specs.TurnSteps.{Takes, TakesSome, TakesPending, IsEndNode, IsAtEnd}
-use Rattle.turn.specs.Nets.{nets_of}
+use Rattle.turn.specs.TurnSteps.{TakesStep, TakesSome, TakesPending, IsEndNode, IsAtEnd}
+use Rattle.turn.specs.TurnChanges.{turn_changes_of}
 use Rattle.turn.specs.TurnLogs.{LogView, assignment_of, wait_of, IsLogOf}
 use Rattle.turn.specs.TurnAnswers.{IsTurnLog}
 use Rattle.turn.proofs.Steps.{going_of, turn_of, Sound, takes_follows, not_past, place_within}
@@ -41,8 +41,8 @@ use Rattle.turn.proofs.Steps.{going_of, turn_of, Sound, takes_follows, not_past,
 -- far: the values of registers that weren't read count for nothing.
 pub record ReachedIn (code : Compiled) (p now : ℕ) (state : ProcState) (count : ℕ) (s : Status) : Type 0 where
   pub sound : Sound code p s
-  pub goes : (store : Store) → length store ≡ length code.widths → Agrees s.reads store → (k : ℕ) → turn_within (count + k) (design_of code) p now (begun (remainder_of code state) store) ≡ turn_within k (design_of code) p now (going_of code store count s)
-  pub passed : (store : Store) → length store ≡ length code.widths → Agrees s.reads store → going_after count (design_of code) p now (begun (remainder_of code state) store) ≡ Some (going_of code store count s)
+  pub goes : (store : Store) → length store ≡ length code.widths → Agrees s.reads store → (k : ℕ) → turn_within (count + k) (design_of code) p now (begun (remainder_of_state code state) store) ≡ turn_within k (design_of code) p now (going_of code store count s)
+  pub passed : (store : Store) → length store ≡ length code.widths → Agrees s.reads store → going_after count (design_of code) p now (begun (remainder_of_state code state) store) ≡ Some (going_of code store count s)
 
 -- the same for each process with this state
 abbrev pub Reached : Compiled → ProcState → ℕ → ℕ → Status → Type 0
@@ -84,8 +84,8 @@ reached_none code state now p start = record {
     writes = All-nil _;
     nbas = All-nil _;
   };
-  goes = λ store len agree k. ap (λ n. turn_within n (design_of code) p now (begun (remainder_of code state) store)) (zero-add k);
-  passed = λ store len agree. after_none (design_of code) p now (begun (remainder_of code state) store);
+  goes = λ store len agree k. ap (λ n. turn_within n (design_of code) p now (begun (remainder_of_state code state) store)) (zero-add k);
+  passed = λ store len agree. after_none (design_of code) p now (begun (remainder_of_state code state) store);
 }
 
 -- ---- one step more
@@ -103,7 +103,7 @@ over_more : (design : Design) (p now k : ℕ) (g : Going) (turn : Turn) → next
 unfolding turn_within
 over_more design p now k g turn e = rw e refl
 
-pub reached_more : (code : Compiled) → IsCompiled code → (state : ProcState) (now count : ℕ) (s s' : Status) → Reached code state now count s → Takes code.nodes code.ops code.shown now s step.Goes s' → Reached code state now (count + 1) s'
+pub reached_more : (code : Compiled) → IsCompiled code → (state : ProcState) (now count : ℕ) (s s' : Status) → Reached code state now count s → TakesStep code.nodes code.ops code.shown now s step.Goes s' → Reached code state now (count + 1) s'
 reached_more code is state now count s s' reached takes p start =
     let r = reached p start in
     let f = takes_follows code p now is s step.Goes s' r.sound takes in
@@ -111,11 +111,11 @@ reached_more code is state now count s s' reached takes p start =
       sound = f.sound;
       goes = λ store len agree k.
           let sum : count + 1 + k ≡ count + suc k = omega arith in
-          ap (λ n. turn_within n (design_of code) p now (begun (remainder_of code state) store)) sum
+          ap (λ n. turn_within n (design_of code) p now (begun (remainder_of_state code state) store)) sum
           ∙ r.goes store len (f.agrees store agree) (suc k)
           ∙ goes_more (design_of code) p now k (going_of code store count s) (going_of code store (count + 1) s') (f.goes store count len agree);
       passed = λ store len agree.
-          after_more (design_of code) p now count (begun (remainder_of code state) store) (going_of code store count s) (going_of code store (count + 1) s')
+          after_more (design_of code) p now count (begun (remainder_of_state code state) store) (going_of code store count s) (going_of code store (count + 1) s')
           (r.passed store len (f.agrees store agree)) (f.goes store count len agree);
     }
 
@@ -125,14 +125,14 @@ reached_more code is state now count s s' reached takes p start =
 pub record Ends (code : Compiled) (p now count : ℕ) (s s' : Status) (suspend : Suspend) (finish : Bool) (n : ℕ) : Type 0 where
   pub sound : Sound code p s'
   pub agrees : (store : Store) → Agrees s'.reads store → Agrees s.reads store
-  pub over : (store : Store) → length store ≡ length code.widths → Agrees s'.reads store → next (design_of code) p now (going_of code store count s) (remainder_of code s.state) ≡ turns.Over (turn_of code s' suspend finish n)
+  pub over : (store : Store) → length store ≡ length code.widths → Agrees s'.reads store → next (design_of code) p now (going_of code store count s) (remainder_of_state code s.state) ≡ turns.Over (turn_of code s' suspend finish n)
 
-pub ends_over : (code : Compiled) → IsCompiled code → (p now count : ℕ) (s s' : Status) → Takes code.nodes code.ops code.shown now s step.Over s' → Sound code p s → Ends code p now count s s' suspends.Ended false count
+pub ends_over : (code : Compiled) → IsCompiled code → (p now count : ℕ) (s s' : Status) → TakesStep code.nodes code.ops code.shown now s step.Over s' → Sound code p s → Ends code p now count s s' suspends.Ended false count
 ends_over code is p now count s s' takes sound =
     let f = takes_follows code p now is s step.Over s' sound takes in
     record { sound = f.sound; agrees = f.agrees; over = λ store len agree. f.goes store count len agree }
 
-pub ends_counted : (code : Compiled) → IsCompiled code → (p now count : ℕ) (s s' : Status) (suspend : Suspend) (finish : Bool) → Takes code.nodes code.ops code.shown now s (step.Ends suspend finish) s' → Sound code p s → Ends code p now count s s' suspend finish (count + 1)
+pub ends_counted : (code : Compiled) → IsCompiled code → (p now count : ℕ) (s s' : Status) (suspend : Suspend) (finish : Bool) → TakesStep code.nodes code.ops code.shown now s (step.Ends suspend finish) s' → Sound code p s → Ends code p now count s s' suspend finish (count + 1)
 ends_counted code is p now count s s' suspend finish takes sound =
     let f = takes_follows code p now is s (step.Ends suspend finish) s' sound takes in
     record { sound = f.sound; agrees = f.agrees; over = λ store len agree. f.goes store count len agree }
@@ -141,7 +141,7 @@ ends_counted code is p now count s s' suspend finish takes sound =
 pub record Logs (log : LogView) (s : Status) (suspend : Suspend) (finish : Bool) (n : ℕ) : Type 0 where
   pub reads : log.reads ≡ s.reads
   pub writes : log.writes ≡ s.writes
-  pub nets : log.nets ≡ nets_of s.writes
+  pub turn_changes : log.turn_changes ≡ turn_changes_of s.writes
   pub nbas : log.nbas ≡ s.nbas
   pub lines : log.lines ≡ s.lines
   pub strobes : log.strobes ≡ s.strobes
@@ -150,14 +150,14 @@ pub record Logs (log : LogView) (s : Status) (suspend : Suspend) (finish : Bool)
   pub finishes : log.finish ≡ finish
   pub count : log.count ≡ n
 
-log_is : (code : Compiled) (log : LogView) (s : Status) (suspend : Suspend) (finish : Bool) (n : ℕ) → Logs log s suspend finish n → IsLogOf (remainder_of code) (controls_of code) log (turn_of code s suspend finish n)
+log_is : (code : Compiled) (log : LogView) (s : Status) (suspend : Suspend) (finish : Bool) (n : ℕ) → Logs log s suspend finish n → IsLogOf (remainder_of_state code) (controls_of code) log (turn_of code s suspend finish n)
 log_is code log s suspend finish n l = record {
   uses = ap registers l.reads;
   writes = l.writes;
   nbas = ap (map assignment_of) l.nbas;
   lines = l.lines;
   strobes = l.strobes;
-  rest = ap (remainder_of code) l.next;
+  rest = ap (remainder_of_state code) l.next;
   wait = ap (wait_of code.controls) l.waits;
   finish = l.finishes;
   count = l.count;
@@ -171,10 +171,10 @@ is_log code state now count s s' suspend finish n log reached ends short l = rec
       let f = ends p r.sound in
       let agree' : Agrees s'.reads store = subst (λ reads. Agrees reads store) l.reads agree in
       let turn = turn_of code s' suspend finish n in
-      let found : turn_within (count + 1) (design_of code) p now (begun (remainder_of code state) store) ≡ Some turn =
+      let found : turn_within (count + 1) (design_of code) p now (begun (remainder_of_state code state) store) ≡ Some turn =
       r.goes store len (f.agrees store agree') 1 ∙ over_more (design_of code) p now 0 (going_of code store count s) turn (f.over store len agree') in
-      subst (λ o. IsSomeAnd o (IsLogOf (remainder_of code) (controls_of code) log))
-      (sym (short_turn_found (design_of code) p (remainder_of code state) store now turn (count + 1, found) short))
+      subst (λ o. IsSomeAnd o (IsLogOf (remainder_of_state code) (controls_of code) log))
+      (sym (short_turn_found (design_of code) p (remainder_of_state code state) store now turn (count + 1, found) short))
       (log_is code log s' suspend finish n l);
   declared = λ p start.
       let f = (ends p (reached p start).sound).sound in
@@ -184,7 +184,7 @@ is_log code state now count s s' suspend finish n log reached ends short l = rec
       let f = (ends p (reached p start).sound).sound in
       record {
         writes = subst (All (λ w. FitsRegister code.widths w.0 w.1)) (sym l.writes) f.writes;
-        nets = l.nets ∙ ap nets_of (sym l.writes);
+        turn_changes = l.turn_changes ∙ ap turn_changes_of (sym l.writes);
         nbas = subst (All (λ n. FitsRegister code.widths n.reg n.value)) (sym l.nbas) f.nbas;
       };
 }
@@ -208,7 +208,7 @@ end_pending : (o : Option (ℕ × Vector)) (code : Compiled) (now : ℕ) (s : St
 end_pending None code now s e h = end_node (slice_get code.nodes s.state.place) code now s h
 end_pending (Some w) code now s e h = cc
 
-pub end_takes : (code : Compiled) (now : ℕ) (s : Status) → IsAtEnd code.nodes s.state → Takes code.nodes code.ops code.shown now s step.Over s
+pub end_takes : (code : Compiled) (now : ℕ) (s : Status) → IsAtEnd code.nodes s.state → TakesStep code.nodes code.ops code.shown now s step.Over s
 end_takes code now s (e, h) = end_pending s.state.pending code now s e h
 
 -- ---- turns that are too long
@@ -275,18 +275,18 @@ unfolding IsLong
 pending_long None code p now s g is state not c = some_long (slice_get code.nodes s.place) code p now s g is state refl (not refl) c
 pending_long (Some w) code p now s g is state not c = tt
 
-pub too_long : (code : Compiled) → IsCompiled code → (state : ProcState) (now count : ℕ) (s : Status) → Reached code state now count s → count ≡ most_steps → (IsAtEnd code.nodes s.state → ⊥) → (p : ℕ) → IsStateOf code p state → (store : Store) → length store ≡ length code.widths → Agrees s.reads store → short_turn (design_of code) p (remainder_of code state) store now ≡ None
+pub too_long : (code : Compiled) → IsCompiled code → (state : ProcState) (now count : ℕ) (s : Status) → Reached code state now count s → count ≡ most_steps → (IsAtEnd code.nodes s.state → ⊥) → (p : ℕ) → IsStateOf code p state → (store : Store) → length store ≡ length code.widths → Agrees s.reads store → short_turn (design_of code) p (remainder_of_state code state) store now ≡ None
 too_long code is state now count s reached full not p start store len agree =
     let r = reached p start in
     let g = going_of code store count s in
     let long : IsLong (next (design_of code) p now g g.left) = pending_long s.state.pending code p now s.state g is r.sound.state (λ e h. not (e, h)) full in
-    ap if_short (ap (λ n. turn_within (n + 1) (design_of code) p now (begun (remainder_of code state) store)) (sym full) ∙ r.goes store len agree 1 ∙ one_within (design_of code) p now g)
+    ap if_short (ap (λ n. turn_within (n + 1) (design_of code) p now (begun (remainder_of_state code state) store)) (sym full) ∙ r.goes store len agree 1 ∙ one_within (design_of code) p now g)
     ∙ long_none (design_of code) p now (next (design_of code) p now g g.left) long
 
 -- and its reads are what these steps used
-pub uses_first : (code : Compiled) (state : ProcState) (now count : ℕ) (s : Status) → Reached code state now count s → count ≡ most_steps → (p : ℕ) → IsStateOf code p state → (store : Store) → length store ≡ length code.widths → Agrees s.reads store → first_uses (design_of code) p (remainder_of code state) store now ≡ Some (registers s.reads)
+pub uses_first : (code : Compiled) (state : ProcState) (now count : ℕ) (s : Status) → Reached code state now count s → count ≡ most_steps → (p : ℕ) → IsStateOf code p state → (store : Store) → length store ≡ length code.widths → Agrees s.reads store → long_turn_uses (design_of code) p (remainder_of_state code state) store now ≡ Some (registers s.reads)
 uses_first code state now count s reached full p start store len agree =
-    ap (λ n. option_map (λ (g : Going). g.uses) (going_after n (design_of code) p now (begun (remainder_of code state) store))) (sym full)
+    ap (λ n. option_map (λ (g : Going). g.uses) (going_after n (design_of code) p now (begun (remainder_of_state code state) store))) (sym full)
     ∙ ap (option_map (λ (g : Going). g.uses)) ((reached p start).passed store len agree)
 
 -- and they are of declared registers
@@ -296,5 +296,5 @@ reads_declared code state now count s reached p start =
     subst (λ n. AreDeclared n s.reads) f.size f.knows.declared
 
 -- a step over the lists that the program has
-pub taken : (code : Compiled) (nodes : List Node) (ops : List Op) (shown : List Shown) (now : ℕ) (s : Status) (r r' : Step) (s' : Status) → nodes ≡ code.nodes → ops ≡ code.ops → shown ≡ code.shown → r ≡ r' → Takes nodes ops shown now s r s' → Takes code.nodes code.ops code.shown now s r' s'
+pub taken : (code : Compiled) (nodes : List Node) (ops : List Op) (shown : List LinePiece) (now : ℕ) (s : Status) (r r' : Step) (s' : Status) → nodes ≡ code.nodes → ops ≡ code.ops → shown ≡ code.shown → r ≡ r' → TakesStep nodes ops shown now s r s' → TakesStep code.nodes code.ops code.shown now s r' s'
 taken code nodes ops shown now s r r' s' e1 e2 e3 e4 t = rw (← e1, ← e2, ← e3, ← e4) t

@@ -14,21 +14,21 @@ use Rattle.model.specs.Turns.{contains, line_text, own_values}
 use Rattle.design.specs.declared.code.Op.{Op}
 use Rattle.design.specs.declared.code.Op.TheVariants.{Load, Pick, Constant, Unary, Binary, BinaryConstant, BinaryRegister, Join, Resize, Choose}
 use Rattle.design.specs.declared.code.Span.{Span}
-use Rattle.design.specs.declared.code.Shown.{Shown}
-use Rattle.design.specs.declared.code.Shown.TheVariants as pieces
-use Rattle.design.specs.ExpressionSteps.{topmost, Computes, IsOpOf, piece}
+use Rattle.design.specs.declared.code.LinePiece.{LinePiece}
+use Rattle.design.specs.declared.code.LinePiece.TheVariants as pieces
+use Rattle.design.specs.ExpressionSteps.{topmost, Computes, IsOpOf, span_of}
 use Rattle.design.specs.DesignTrees.{conversion_of}
 use Rattle.design.specs.Compiled.{Compiled}
 use Rattle.design.specs.Meaning.{IsLine, IsCompiled}
 use Rattle.turn.specs.declared.memory.Seen.{Seen}
 use Rattle.turn.specs.Reads.{registers, AreDeclared, Agrees}
 use Rattle.turn.specs.Evaluate.{NamesDeclared, Holds, Knows, Continues, written, written_in}
-use Rattle.turn.specs.RunningTurn.{Status, printing, Valued, Prints}
+use Rattle.turn.specs.RunningTurn.{Status, printing, Valued, PrintsPieces}
 use Rattle.turn.proofs.Known.{known_same, known_other, same_or_not, written-append, length-written, there, or_true, or_false, ne_of}
 use Rattle.turn.proofs.Runs.{continues_none, continues_both}
 
 -- each of the elements of a part is one of the list
-pub all_piece : {A : Type 0} (P : A → Type 0) (xs : List A) (span : Span) → All P xs → All P (piece xs span)
+pub all_piece : {A : Type 0} (P : A → Type 0) (xs : List A) (span : Span) → All P xs → All P (span_of xs span)
 all_piece P xs span h = cases (nat_le span.from span.to && nat_le span.to (length xs)) where
   cases : (b : Bool) → All P (if b then slice_range xs span.from span.to else [])
   cases true = All-take P _ (drop span.from xs) (All-drop P span.from xs h)
@@ -145,7 +145,7 @@ lined_value widths s m s' v conversion e format arguments got l = record {
 }
 
 -- pieces that are those of a format print its line, but for the newline
-pub lined : (widths : List ℕ) (ops : List Op) (ps : List Shown) (s s' : Status) (format : List Piece) (arguments : Expressions ℕ) → All (IsOpOf (length s.known)) ops → Knows s.writes s.reads s.known → IsLine widths ops ps format arguments → Prints ops ps s s' → Lined widths s s' format arguments
+pub lined : (widths : List ℕ) (ops : List Op) (ps : List LinePiece) (s s' : Status) (format : List Piece) (arguments : Expressions ℕ) → All (IsOpOf (length s.known)) ops → Knows s.writes s.reads s.known → IsLine widths ops ps format arguments → PrintsPieces ops ps s s' → Lined widths s s' format arguments
 lined widths ops [] s s' [] Nothing all k is e = record {
   size = ap (λ (t : Status). length t.known) e;
   continues = subst (λ (t : Status). Continues s.writes [] s.reads t.reads t.known) (sym e) (continues_none s.writes s.reads s.known k);
@@ -159,14 +159,14 @@ lined widths ops (pieces.Byte b ∷ ps) s s' (Argument c ∷ format) arguments a
 lined widths ops (pieces.Byte b ∷ ps) s s' (Byte c ∷ format) arguments all k (same, is) (m, (e, h)) =
     subst (λ c. Lined widths s s' (Byte c ∷ format) arguments) same
     (lined_byte widths s s' b format arguments
-    (lined widths ops ps (printing s (b ∷ [])) s' format arguments all k is (subst (λ t. Prints ops ps t s') e h)))
+    (lined widths ops ps (printing s (b ∷ [])) s' format arguments all k is (subst (λ t. PrintsPieces ops ps t s') e h)))
 lined widths ops (pieces.Value conversion span ∷ ps) s s' [] arguments all k is h = absurd is
 lined widths ops (pieces.Value conversion span ∷ ps) s s' (Byte c ∷ format) arguments all k is h = absurd is
 lined widths ops (pieces.Value conversion span ∷ ps) s s' (Argument c ∷ format) Nothing all k is h = absurd is
 lined widths ops (pieces.Value conversion span ∷ ps) s s' (Argument c ∷ format) (Also e arguments) all k (same, computes, is) (n, ((v, (m, (valued, en))), h)) =
-    let got = gets (piece ops span) s v m (λ values. own_value widths values e) (registers_of e) (all_piece (IsOpOf (length s.known)) ops span all) k computes valued in
+    let got = gets (span_of ops span) s v m (λ values. own_value widths values e) (registers_of e) (all_piece (IsOpOf (length s.known)) ops span all) k computes valued in
     let en' : n ≡ record s { known = m.known; reads = m.reads; lines = s.lines ++ shown (conversion_of conversion) v } = en ∙ ap (λ t. printing t (shown (conversion_of conversion) v)) got.same in
     subst (λ c. Lined widths s s' (Argument c ∷ format) (Also e arguments)) same
     (lined_value widths s m s' v (conversion_of conversion) e format arguments got
     (lined widths ops ps (record s { known = m.known; reads = m.reads; lines = s.lines ++ shown (conversion_of conversion) v }) s' format arguments
-    (subst (λ n. All (IsOpOf n) ops) (sym got.size) all) got.continues.knows is (subst (λ t. Prints ops ps t s') en' h)))
+    (subst (λ n. All (IsOpOf n) ops) (sym got.size) all) got.continues.knows is (subst (λ t. PrintsPieces ops ps t s') en' h)))

@@ -12,7 +12,7 @@ use Rattle.design.specs.ExpressionSteps.{topmost, below, act, run_ops, all_reads
 use Rattle.turn.specs.declared.memory.Seen.{Seen}
 use Rattle.turn.specs.declared.stack.Stack.{Stack}
 use Rattle.turn.specs.Reads.{registers, AreDeclared, Agrees}
-use Rattle.turn.specs.Memory.{Looks}
+use Rattle.turn.specs.Memory.{LooksUp}
 
 -- the vectors of a stack, the topmost one first
 abbrev pub vectors : Stack → List Vector
@@ -24,9 +24,9 @@ NamesDeclared n ops = All (IsOpOf n) ops
 
 -- one step, with its look at a register if it reads one
 abbrev pub Acts : Op → List (Option Vector) → List (ℕ × Seen) → List Vector → List (Option Vector) → List (ℕ × Seen) → List Vector → Type 0
-Acts (Load r size) k s st k' s' st' = (v : Vector) × (Looks k s r v k' s' × (st' ≡ resize size v ∷ st))
-Acts (Pick r i size) k s st k' s' st' = (v : Vector) × (Looks k s r v k' s' × (st' ≡ one_digit size (select_digit v i) ∷ st))
-Acts (BinaryRegister op size asked r other) k s st k' s' st' = (v : Vector) × (Looks k s r v k' s' × (st' ≡ combined op size asked (topmost st) (resize other v) ∷ below st))
+Acts (Load r size) k s st k' s' st' = (v : Vector) × (LooksUp k s r v k' s' × (st' ≡ resize size v ∷ st))
+Acts (Pick r i size) k s st k' s' st' = (v : Vector) × (LooksUp k s r v k' s' × (st' ≡ one_digit size (select_digit v i) ∷ st))
+Acts (BinaryRegister op size asked r other) k s st k' s' st' = (v : Vector) × (LooksUp k s r v k' s' × (st' ≡ combined op size asked (topmost st) (resize other v) ∷ below st))
 Acts op k s st k' s' st' = (k' ≡ k) × (s' ≡ s) × (st' ≡ act [] op st)
 
 -- the values of these registers are those that are known
@@ -55,7 +55,7 @@ pub record Continues (writes : List (ℕ × Vector)) (rs : List ℕ) (reads : Li
   pub uses : registers reads' ≡ with_uses (written_in writes) (registers reads) rs
 
 -- steps on a stack, from what was known and read before to what is known and read after them
-pub record Ran (ops : List Op) (known : List (Option Vector)) (reads : List (ℕ × Seen)) (st : List Vector) (known' : List (Option Vector)) (reads' : List (ℕ × Seen)) (st' : List Vector) : Type 0 where
+pub record RunsSteps (ops : List Op) (known : List (Option Vector)) (reads : List (ℕ × Seen)) (st : List Vector) (known' : List (Option Vector)) (reads' : List (ℕ × Seen)) (st' : List Vector) : Type 0 where
   pub size : length known' ≡ length known
   pub holds : (values : Store) → Holds known' values → Holds known values
   pub stack : (values : Store) → Holds known' values → run_ops values ops st ≡ st'
@@ -65,4 +65,4 @@ pub record Ran (ops : List Op) (known : List (Option Vector)) (reads : List (ℕ
 abbrev pub Evaluates : List Op → List (Option Vector) → List (ℕ × Seen) → Vector → List (Option Vector) → List (ℕ × Seen) → Type 0
 Evaluates ops known reads v known' reads' =
     NamesDeclared (length known) ops
-    → (st : List Vector) × ((st' : List Vector) × ((v ≡ topmost st') × Ran ops known reads st known' reads' st'))
+    → (st : List Vector) × ((st' : List Vector) × ((v ≡ topmost st') × RunsSteps ops known reads st known' reads' st'))

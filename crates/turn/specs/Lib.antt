@@ -1,5 +1,5 @@
 pub mod Slots
-pub mod Nets
+pub mod TurnChanges
 pub mod Reads
 pub mod Memory
 pub mod Evaluate

@@ -17,5 +17,5 @@ going_after (suc k) design p now g = option_and_then (λ h. under_way (next desi
 
 -- The registers that a turn uses, in the order of first use and without those that it wrote before, in its first counted
 -- steps: as many as a turn may have. There are none where it is over before.
-abbrev pub first_uses : Design → ℕ → Remainder → Store → ℕ → Option (List ℕ)
-first_uses design p remainder store now = option_map (λ g. g.uses) (going_after most_steps design p now (begun remainder store))
+abbrev pub long_turn_uses : Design → ℕ → Remainder → Store → ℕ → Option (List ℕ)
+long_turn_uses design p remainder store now = option_map (λ g. g.uses) (going_after most_steps design p now (begun remainder store))

@@ -23,12 +23,12 @@ GaveAll gave [] = Unit {0}
 GaveAll gave (r ∷ reads) = gave r.0 r.1 × GaveAll gave reads
 
 -- each pair that was given before is also given after
-abbrev pub Keeps : (ℕ → Seen → Type 0) → (ℕ → Seen → Type 0) → Type 0
-Keeps before after = (r : ℕ) (s : Seen) → before r s → after r s
+abbrev pub KeepsGiven : (ℕ → Seen → Type 0) → (ℕ → Seen → Type 0) → Type 0
+KeepsGiven before after = (r : ℕ) (s : Seen) → before r s → after r s
 
 -- What a call leaves that may read on, with this result. The reader gives all that it gave before, and what no read changes stays.
 -- After an `Ok`, where all reads before were given, so are all that are recorded now.
 pub record ReadsOn {S L A E : Type 0} (given : S → ℕ → Seen → Type 0) (stays : S → L) (result : Result A E) (old : S) (before : List (ℕ × Seen)) (new : S) (after : List (ℕ × Seen)) : Type 0 where
   pub gave : OnOk result (GaveAll (given old) before → GaveAll (given new) after)
-  pub keeps : Keeps (given old) (given new)
+  pub keeps : KeepsGiven (given old) (given new)
   pub lasting : stays new ≡ stays old

@@ -6,10 +6,10 @@ use Rattle.logic4.specs.declared.digit.Truth.TheVariants.{False, True, Unknown}
 use Rattle.logic4.specs.Vector.{Vector}
 use Rattle.logic4.specs.Display.{shown}
 use Rattle.design.specs.declared.code.Op.{Op}
-use Rattle.design.specs.declared.code.Shown.{Shown}
-use Rattle.design.specs.declared.code.Shown.TheVariants as pieces
+use Rattle.design.specs.declared.code.LinePiece.{LinePiece}
+use Rattle.design.specs.declared.code.LinePiece.TheVariants as pieces
 use Rattle.design.specs.declared.code.ProcState.{ProcState}
-use Rattle.design.specs.ExpressionSteps.{piece}
+use Rattle.design.specs.ExpressionSteps.{span_of}
 use Rattle.design.specs.DesignTrees.{conversion_of}
 use Rattle.turn.specs.declared.log.Nba.{Nba}
 use Rattle.turn.specs.declared.log.Suspend.{Suspend}
@@ -29,8 +29,8 @@ pub record Status : Type 0 where
   pub strobes : List ℕ
 
 -- the plain lists of the program's
-abbrev pub status_of : RunningTurn → Status
-status_of p = record {
+abbrev pub turn_status_of : RunningTurn → Status
+turn_status_of p = record {
   state = p.state;
   known = p.memory.known;
   reads = p.memory.reads.entries;
@@ -78,15 +78,15 @@ abbrev pub WithValue : List Op → Status → (Vector → Status → Type 0) →
 WithValue ops s P = (v : Vector) × ((m : Status) × (Valued ops s v m × P v m))
 
 -- a piece of a line is printed (17.1.1)
-abbrev pub PrintsPiece : List Op → Shown → Status → Status → Type 0
+abbrev pub PrintsPiece : List Op → LinePiece → Status → Status → Type 0
 PrintsPiece ops (pieces.Byte b) s s' = s' ≡ printing s (b ∷ [])
 PrintsPiece ops (pieces.Value conversion span) s s' =
-    WithValue (piece ops span) s (λ v m. s' ≡ printing m (shown (conversion_of conversion) v))
+    WithValue (span_of ops span) s (λ v m. s' ≡ printing m (shown (conversion_of conversion) v))
 
 -- the pieces of a line are printed, in order
-abbrev pub Prints : List Op → List Shown → Status → Status → Type 0
-Prints ops [] s s' = s' ≡ s
-Prints ops (p ∷ ps) s s' = (m : Status) × (PrintsPiece ops p s m × Prints ops ps m s')
+abbrev pub PrintsPieces : List Op → List LinePiece → Status → Status → Type 0
+PrintsPieces ops [] s s' = s' ≡ s
+PrintsPieces ops (p ∷ ps) s s' = (m : Status) × (PrintsPiece ops p s m × PrintsPieces ops ps m s')
 
 -- what a delay waits for
 abbrev pub wait_for : ℕ → ℕ → Suspend

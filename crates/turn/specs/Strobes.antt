@@ -7,19 +7,19 @@ use Rattle.model.specs.Expressions.{Store}
 use Rattle.model.specs.Turns.{with_uses}
 use Rattle.model.specs.Runs.{strobe_lines_at}
 use Rattle.design.specs.declared.code.Op.{Op}
-use Rattle.design.specs.declared.code.Shown.{Shown}
+use Rattle.design.specs.declared.code.LinePiece.{LinePiece}
 use Rattle.design.specs.declared.code.Node.{Node}
 use Rattle.design.specs.declared.code.Node.TheVariants as node
-use Rattle.design.specs.ExpressionSteps.{piece}
+use Rattle.design.specs.ExpressionSteps.{span_of}
 use Rattle.design.specs.Compiled.{Compiled, design_of}
 use Rattle.turn.specs.declared.memory.Seen.{Seen}
 use Rattle.turn.specs.Reads.{registers, Agrees}
-use Rattle.turn.specs.RunningTurn.{Status, printing, Prints}
+use Rattle.turn.specs.RunningTurn.{Status, printing, PrintsPieces}
 
 -- the line of a node is printed, where that is a $strobe statement's
-abbrev pub PrintsStrobe : List Op → List Shown → Option Node → Status → Status → Type 0
+abbrev pub PrintsStrobe : List Op → List LinePiece → Option Node → Status → Status → Type 0
 PrintsStrobe ops shown (Some (node.Print Strobe span next)) s s' =
-    (m : Status) × (Prints ops (piece shown span) s m × (s' ≡ printing m (10 ∷ [])))
+    (m : Status) × (PrintsPieces ops (span_of shown span) s m × (s' ≡ printing m (10 ∷ [])))
 PrintsStrobe ops shown o s s' = s' ≡ s
 
 -- the registers that the line of a $strobe statement uses; none where none stands there

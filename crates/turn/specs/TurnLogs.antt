@@ -10,17 +10,17 @@ use Rattle.design.specs.Fits.{FitsRegister}
 use Rattle.turn.specs.declared.log.Nba.{Nba}
 use Rattle.turn.specs.declared.log.Suspend.{Suspend}
 use Rattle.turn.specs.declared.log.Suspend.TheVariants as suspends
-use Rattle.turn.specs.declared.log.Net.{Net}
+use Rattle.turn.specs.declared.log.TurnChange.{TurnChange}
 use Rattle.turn.specs.declared.memory.Seen.{Seen}
 use Rattle.turn.specs.declared.running_turn.RunningTurn.{RunningTurn}
 use Rattle.turn.specs.Reads.{registers}
-use Rattle.turn.specs.Nets.{nets_of}
+use Rattle.turn.specs.TurnChanges.{turn_changes_of}
 
 -- a log, as plain lists
 pub record LogView : Type 0 where
   pub reads : List (ℕ × Seen)
   pub writes : List (ℕ × Vector)
-  pub nets : List Net
+  pub turn_changes : List TurnChange
   pub nbas : List Nba
   pub lines : List ℕ
   pub strobes : List ℕ
@@ -34,7 +34,7 @@ abbrev pub log_of : RunningTurn → Suspend → Bool → ℕ → LogView
 log_of p suspend finish count = record {
   reads = p.memory.reads.entries;
   writes = p.writes;
-  nets = nets_of p.writes;
+  turn_changes = turn_changes_of p.writes;
   nbas = p.nbas.items;
   lines = string_bytes p.lines;
   strobes = p.strobes.items;
@@ -67,8 +67,8 @@ pub record IsLogOf (rem : ProcState → Remainder) (controls : List (List Trigge
   pub finish : log.finish ≡ turn.finish
   pub count : log.count ≡ turn.count
 
--- what a log keeps to: each register is declared, each value has its register's width, and the nets are those of the writes
+-- what a log keeps to: each register is declared, each value has its register's width, and the turn changes are those of the writes
 pub record LogFits (widths : List ℕ) (log : LogView) : Type 0 where
   pub writes : All (λ w. FitsRegister widths w.0 w.1) log.writes
-  pub nets : log.nets ≡ nets_of log.writes
+  pub turn_changes : log.turn_changes ≡ turn_changes_of log.writes
   pub nbas : All (λ n. FitsRegister widths n.reg n.value) log.nbas

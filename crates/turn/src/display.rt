@@ -4,12 +4,12 @@ ghost use Rattle.logic4.specs.Display as display;
 ghost use Rattle.design.specs.DesignTrees.{conversion_of};
 ghost use Rattle.turn.specs.Reads.{ReadsOn};
 ghost use Rattle.turn.specs.Evaluate.{NamesDeclared};
-ghost use Rattle.turn.specs.RunningTurn.{status_of, printing, PrintsPiece, Prints};
+ghost use Rattle.turn.specs.RunningTurn.{turn_status_of, printing, PrintsPiece, PrintsPieces};
 
 use crate::memory::RegReader;
 use crate::running_turn::RunningTurn;
 use design::Ascii;
-use design::code::{Op, Shown};
+use design::code::{LinePiece, Op};
 use design::tree::Conversion;
 use logic4::bits::Bits;
 use std::alloc::{AllocError, Global};
@@ -28,14 +28,14 @@ fn text_of(alloc: Global, conversion: Conversion, value: Bits) -> Result<String,
 impl RunningTurn {
     // Prints a byte. It is one of ASCII (3.6), so in UTF-8 it is the whole of a character.
     fn print_byte(&mut self, byte: Ascii) -> Result<(), AllocError>
-        ensures { OnOk result (status_of self.new ≡ printing (status_of self.old) (byte ∷ [])) }
+        ensures { OnOk result (turn_status_of self.new ≡ printing (turn_status_of self.old) (byte ∷ [])) }
     {
         self.lines.push(byte.to_char())
     }
 
     // Prints a value by a conversion.
     fn print_value(&mut self, conversion: Conversion, value: Bits) -> Result<(), AllocError>
-        ensures { OnOk result (status_of self.new ≡ printing (status_of self.old) (display.shown (conversion_of conversion) value)) }
+        ensures { OnOk result (turn_status_of self.new ≡ printing (turn_status_of self.old) (display.shown (conversion_of conversion) value)) }
     {
         let text = text_of(self.alloc, conversion, value)?;
         self.lines.push_str(text.as_str())
@@ -45,16 +45,16 @@ impl RunningTurn {
     fn print_piece<R: RegReader>(
         &mut self,
         ops: &[Op],
-        piece: &Shown,
+        piece: &LinePiece,
         reader: &mut R,
     ) -> Result<(), AllocError>
         requires { NamesDeclared R.registers ops.now }
-        ensures prints { OnOk result (PrintsPiece ops.now piece.now (status_of self.old) (status_of self.new)) }
+        ensures prints { OnOk result (PrintsPiece ops.now piece.now (turn_status_of self.old) (turn_status_of self.new)) }
         ensures reads { ReadsOn R.gave R.lasting result reader.old self.old.memory.reads.entries reader.new self.new.memory.reads.entries }
     {
         match piece {
-            Shown::Byte(byte) => self.print_byte(*byte),
-            Shown::Value { conversion, value } => {
+            LinePiece::Byte(byte) => self.print_byte(*byte),
+            LinePiece::Value { conversion, value } => {
                 self.compute(ops, *value, reader)?;
                 self.print_value(*conversion, self.stack.top)?;
                 Ok(())
@@ -66,11 +66,11 @@ impl RunningTurn {
     pub fn print_pieces<R: RegReader>(
         &mut self,
         ops: &[Op],
-        pieces: &[Shown],
+        pieces: &[LinePiece],
         reader: &mut R,
     ) -> Result<(), AllocError>
         requires { NamesDeclared R.registers ops.now }
-        ensures prints { OnOk result (Prints ops.now pieces.now (status_of self.old) (status_of self.new)) }
+        ensures prints { OnOk result (PrintsPieces ops.now pieces.now (turn_status_of self.old) (turn_status_of self.new)) }
         ensures reads { ReadsOn R.gave R.lasting result reader.old self.old.memory.reads.entries reader.new self.new.memory.reads.entries }
     {
         for piece in pieces {

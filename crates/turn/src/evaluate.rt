@@ -7,7 +7,7 @@ ghost use Rattle.design.specs.declared.code.Op.TheVariants.{Load, Pick, Unary, B
 ghost use Rattle.design.specs.Operate.{combined};
 ghost use Rattle.design.specs.ExpressionSteps.{topmost, below, act, run_ops, IsOpOf};
 ghost use Rattle.turn.specs.Reads.{ReadsOn};
-ghost use Rattle.turn.specs.Evaluate.{vectors, NamesDeclared, Holds, Acts, Ran, Evaluates};
+ghost use Rattle.turn.specs.Evaluate.{vectors, NamesDeclared, Holds, Acts, RunsSteps, Evaluates};
 
 use crate::memory::{Memory, RegReader};
 use crate::operate::{choose, combine_alike, join, unary};
@@ -358,7 +358,7 @@ fn go_on<R: RegReader>(
     stack: &mut Stack,
 ) -> Result<(), AllocError>
     requires { NamesDeclared R.registers ops.now }
-    ensures ran { OnOk result (NamesDeclared (length memory.old.known) ops.now → Ran ops.now memory.old.known memory.old.reads.entries (vectors stack.old) memory.new.known memory.new.reads.entries (vectors stack.new)) }
+    ensures ran { OnOk result (NamesDeclared (length memory.old.known) ops.now → RunsSteps ops.now memory.old.known memory.old.reads.entries (vectors stack.old) memory.new.known memory.new.reads.entries (vectors stack.new)) }
     ensures reads { ReadsOn R.gave R.lasting result reader.old memory.old.reads.entries reader.new memory.new.reads.entries }
 {
     for op in ops {

@@ -5,7 +5,7 @@
 //! 2. Expressions are steps on a stack of vectors. A register that the turn wrote has the value written; any other is
 //!    asked of a `RegReader` at its first use, and recorded.
 //! 3. A `TurnLog` says what was read, written and printed, which `$strobe` statements were met, what is left of the process,
-//!    and what that waits for. It has each write, and for each register the net of its writes, which is kept as the turn runs.
+//!    and what that waits for. It has each write, and for each register the turn change of its writes, which is kept as the turn runs.
 //! 4. A turn is filled into a log that its caller keeps, in the room that earlier turns left, so that a short turn takes no
 //!    memory once the log has grown, and no log is moved. `run_turn` makes a log for one turn.
 //! 5. `strobe_lines` makes the lines of `$strobe` statements once their time comes, by the same steps.
@@ -29,7 +29,7 @@ mod strobes;
 mod table;
 mod writes;
 
-pub use log::{FillFault, Nba, Net, Suspend, TurnFault, TurnLog};
+pub use log::{FillFault, Nba, Suspend, TurnChange, TurnFault, TurnLog};
 pub use memory::{RegReader, Seen};
 pub use owned::run_turn;
 pub use run::fill_turn;

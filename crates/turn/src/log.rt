@@ -1,7 +1,7 @@
 //! What a turn did.
 ghost use Rattle.std.specs.Prelude.{◌≡◌};
 ghost use Rattle.turn.specs.declared.log.FillFault.TheVariants as fault;
-ghost use Rattle.turn.specs.Nets.{nets_of};
+ghost use Rattle.turn.specs.TurnChanges.{turn_changes_of};
 
 use crate::memory::Seen;
 use crate::running_turn::{RunningTurn, put_state};
@@ -19,10 +19,10 @@ pub struct Nba {
     pub due: u64,
 }
 
-/// The net of a turn's writes of one register: the first value written, how many of the later writes changed it, and the last
+/// The turn change of a turn's writes of one register: the first value written, how many of the later writes changed it, and the last
 /// value.
 #[derive(Clone, Copy)]
-pub struct Net {
+pub struct TurnChange {
     pub register: RegId,
     pub first: Bits,
     pub changes: u64,
@@ -40,7 +40,7 @@ pub enum Suspend {
 }
 
 /// A turn that is over: the registers that it read, in the order of their first use, each with what it saw; its writes,
-/// its nonblocking assignments, its lines and the numbers of the `$strobe` statements that it met, each in order; the nets of
+/// its nonblocking assignments, its lines and the numbers of the `$strobe` statements that it met, each in order; the turn changes of
 /// its writes, in the order of the first write of each register; where the process goes on and what it waits for; whether it
 /// met `$finish`; and the number of its counted steps. The next turn is filled into the same log, in the room that it has.
 #[derive(Drop)]
@@ -92,12 +92,12 @@ impl TurnLog {
         self.running.writes.list()
     }
 
-    /// The net of the writes of each register, in the order of its first write.
-    pub fn nets(&self) -> &[Net]
-        ensures value { result.now ≡ self.entry.now.nets }
-        ensures of { result.now ≡ nets_of self.entry.now.writes }
+    /// The turn change of the writes of each register, in the order of its first write.
+    pub fn turn_changes(&self) -> &[TurnChange]
+        ensures value { result.now ≡ self.entry.now.turn_changes }
+        ensures of { result.now ≡ turn_changes_of self.entry.now.writes }
     {
-        self.running.writes.nets()
+        self.running.writes.turn_changes()
     }
 
     /// The nonblocking assignments, in order.

@@ -5,13 +5,13 @@ ghost use Rattle.turn.specs.declared.log.Suspend.TheVariants.{Ended};
 ghost use Rattle.turn.specs.declared.machine.Step.TheVariants.{Ends};
 ghost use Rattle.turn.specs.Reads.{ReadsOn};
 ghost use Rattle.turn.specs.Evaluate.{NamesDeclared};
-ghost use Rattle.turn.specs.RunningTurn.{status_of, at, wait_for};
-ghost use Rattle.turn.specs.TurnSteps.{TakesNode, Takes, IsAtEnd};
+ghost use Rattle.turn.specs.RunningTurn.{turn_status_of, at, wait_for};
+ghost use Rattle.turn.specs.TurnSteps.{TakesNode, TakesStep, IsAtEnd};
 
 use crate::log::Suspend;
 use crate::memory::RegReader;
 use crate::running_turn::RunningTurn;
-use design::code::{Node, Op, Shown};
+use design::code::{LinePiece, Node, Op};
 use model::tree::Task;
 use std::alloc::AllocError;
 
@@ -40,7 +40,7 @@ impl RunningTurn {
     #[inline(always)]
     fn wait(&mut self, next: usize, suspend: Suspend) -> Step
         ensures step { result ≡ Ends suspend false }
-        ensures status { status_of self.new ≡ at (status_of self.old) next }
+        ensures status { turn_status_of self.new ≡ at (turn_status_of self.old) next }
     {
         self.go(next);
         Step::Ends {
@@ -53,7 +53,7 @@ impl RunningTurn {
     #[inline(always)]
     fn finish(&mut self, next: usize) -> Step
         ensures step { result ≡ Ends Ended true }
-        ensures status { status_of self.new ≡ at (status_of self.old) next }
+        ensures status { turn_status_of self.new ≡ at (turn_status_of self.old) next }
     {
         self.go(next);
         Step::Ends {
@@ -66,14 +66,14 @@ impl RunningTurn {
     fn take_node<R: RegReader>(
         &mut self,
         ops: &[Op],
-        shown: &[Shown],
+        shown: &[LinePiece],
         now: u64,
         node: &Node,
         reader: &mut R,
     ) -> Result<Step, AllocError>
         requires now { now ≤ last_time }
         requires declared { NamesDeclared R.registers ops.now }
-        ensures takes { IfOk result (λ r. TakesNode ops.now shown.now now node.now (status_of self.old) r (status_of self.new)) }
+        ensures takes { IfOk result (λ r. TakesNode ops.now shown.now now node.now (turn_status_of self.old) r (turn_status_of self.new)) }
         ensures reads { ReadsOn R.gave R.lasting result reader.old self.old.memory.reads.entries reader.new self.new.memory.reads.entries }
     {
         match node {
@@ -128,13 +128,13 @@ impl RunningTurn {
         &mut self,
         nodes: &[Node],
         ops: &[Op],
-        shown: &[Shown],
+        shown: &[LinePiece],
         now: u64,
         reader: &mut R,
     ) -> Result<Step, AllocError>
         requires now { now ≤ last_time }
         requires declared { NamesDeclared R.registers ops.now }
-        ensures takes { IfOk result (λ r. Takes nodes.now ops.now shown.now now (status_of self.old) r (status_of self.new)) }
+        ensures takes { IfOk result (λ r. TakesStep nodes.now ops.now shown.now now (turn_status_of self.old) r (turn_status_of self.new)) }
         ensures reads { ReadsOn R.gave R.lasting result reader.old self.old.memory.reads.entries reader.new self.new.memory.reads.entries }
     {
         let place = self.state.place;

@@ -2,7 +2,7 @@
 ghost use Rattle.std.specs.Prelude.{◌≡◌, ◌<◌, ℕ, None, Some, [], replicate, nat_eq, slice_index_or, slice_set, OnOk, IfOk};
 ghost use Rattle.indexmap.specs.IndexMap.{insert_entry};
 ghost use Rattle.turn.specs.Reads.{ReadsOn};
-ghost use Rattle.turn.specs.Memory.{Looks};
+ghost use Rattle.turn.specs.Memory.{LooksUp};
 
 use crate::table::Known;
 use design::RegId;
@@ -94,7 +94,7 @@ impl Memory {
     ) -> Result<Bits, AllocError>
         requires declared { register < R.registers }
         requires unknown { slice_index_or self.old.known register None ≡ None }
-        ensures value { IfOk result (λ v. Looks self.old.known self.old.reads.entries register v self.new.known self.new.reads.entries) }
+        ensures value { IfOk result (λ v. LooksUp self.old.known self.old.reads.entries register v self.new.known self.new.reads.entries) }
         ensures reads { ReadsOn R.gave R.lasting result reader.old self.old.reads.entries reader.new self.new.reads.entries }
     {
         let seen = reader.read(register);
@@ -109,7 +109,7 @@ impl Memory {
         register: RegId,
     ) -> Result<Bits, AllocError>
         requires { register < R.registers }
-        ensures value { IfOk result (λ v. Looks self.old.known self.old.reads.entries register v self.new.known self.new.reads.entries) }
+        ensures value { IfOk result (λ v. LooksUp self.old.known self.old.reads.entries register v self.new.known self.new.reads.entries) }
         ensures reads { ReadsOn R.gave R.lasting result reader.old self.old.reads.entries reader.new self.new.reads.entries }
     {
         match self.known.peek(register) {

@@ -1,7 +1,7 @@
 //! A turn in a log of its own.
 ghost use Rattle.std.specs.Prelude.{◌≡◌, ◌≤◌, length, MatchResult};
 ghost use Rattle.model.specs.Runs.{last_time};
-ghost use Rattle.turn.specs.Reads.{GaveAll, Keeps};
+ghost use Rattle.turn.specs.Reads.{GaveAll, KeepsGiven};
 ghost use Rattle.turn.specs.TurnAnswers.{IsTurnLog, IsNoRun, reads_so_far};
 
 use crate::log::{FillFault, TurnFault, TurnLog};
@@ -24,7 +24,7 @@ pub fn run_turn<R: RegReader>(
     requires registers { length design.now.widths ≤ R.registers }
     ensures turn { MatchResult result (λ log. IsTurnLog design.now state.now now log) (IsNoRun design.now state.now now) }
     ensures gave { MatchResult result (λ log. GaveAll (R.gave reader.new) log.reads) (λ fault. GaveAll (R.gave reader.new) (reads_so_far fault)) }
-    ensures keeps { Keeps (R.gave reader.old) (R.gave reader.new) }
+    ensures keeps { KeepsGiven (R.gave reader.old) (R.gave reader.new) }
     ensures lasting { R.lasting reader.new ≡ R.lasting reader.old }
 {
     let mut log = TurnLog::new(alloc);

@@ -1,7 +1,7 @@
 //! A whole turn.
 ghost use Rattle.std.specs.Prelude.{◌≡◌, ◌≤◌, length, MatchResult};
 ghost use Rattle.model.specs.Runs.{last_time};
-ghost use Rattle.turn.specs.Reads.{GaveAll, Keeps};
+ghost use Rattle.turn.specs.Reads.{GaveAll, KeepsGiven};
 ghost use Rattle.turn.specs.declared.log.FillFault.TheVariants as fault_of;
 ghost use Rattle.turn.specs.TurnLogs.{log_of};
 ghost use Rattle.turn.specs.TurnAnswers.{IsTurnLog, IsNoTurn};
@@ -17,7 +17,7 @@ const MOST_STEPS: u32 = 65_536;
 
 // How a turn ended.
 #[derive(Clone, Copy)]
-struct Ending {
+struct TurnEnd {
     suspend: Suspend,
     finish: bool,
     count: u32,
@@ -30,12 +30,12 @@ fn run<R: RegReader>(
     state: &ProcState,
     now: u64,
     reader: &mut R,
-) -> Result<Ending, FillFault>
+) -> Result<TurnEnd, FillFault>
     requires registers { length design.now.widths ≤ R.registers }
     requires now { now ≤ last_time }
     ensures turn { MatchResult result (λ e. IsTurnLog design.now state.now now (log_of running.new e.suspend e.finish e.count)) (IsNoTurn design.now state.now now running.new.memory.reads.entries) }
     ensures gave { MatchResult result (λ _. GaveAll (R.gave reader.new) running.new.memory.reads.entries) (λ fault. fault ≡ fault_of.TooLong → GaveAll (R.gave reader.new) running.new.memory.reads.entries) }
-    ensures keeps { Keeps (R.gave reader.old) (R.gave reader.new) }
+    ensures keeps { KeepsGiven (R.gave reader.old) (R.gave reader.new) }
     ensures lasting { R.lasting reader.new ≡ R.lasting reader.old }
 {
     let nodes = design.nodes();
@@ -46,14 +46,14 @@ fn run<R: RegReader>(
         match running.take(nodes, ops, shown, now, reader)? {
             Step::Goes => {}
             Step::Over => {
-                return Ok(Ending {
+                return Ok(TurnEnd {
                     suspend: Suspend::Ended,
                     finish: false,
                     count,
                 });
             }
             Step::Ends { suspend, finish } => {
-                return Ok(Ending {
+                return Ok(TurnEnd {
                     suspend,
                     finish,
                     count: count + 1,
@@ -62,7 +62,7 @@ fn run<R: RegReader>(
         }
     }
     if running.is_over(nodes) {
-        Ok(Ending {
+        Ok(TurnEnd {
             suspend: Suspend::Ended,
             finish: false,
             count: MOST_STEPS,
@@ -87,7 +87,7 @@ pub fn fill_turn<R: RegReader>(
     requires registers { length design.now.widths ≤ R.registers }
     ensures turn { MatchResult result (λ _. IsTurnLog design.now state.now now log.new) (IsNoTurn design.now state.now now log.new.reads) }
     ensures gave { MatchResult result (λ _. GaveAll (R.gave reader.new) log.new.reads) (λ fault. fault ≡ fault_of.TooLong → GaveAll (R.gave reader.new) log.new.reads) }
-    ensures keeps { Keeps (R.gave reader.old) (R.gave reader.new) }
+    ensures keeps { KeepsGiven (R.gave reader.old) (R.gave reader.new) }
     ensures lasting { R.lasting reader.new ≡ R.lasting reader.old }
 {
     let ending = run(&mut log.running, design, state, now, reader)?;

@@ -1,9 +1,9 @@
 //! A turn under way.
 ghost use Rattle.std.specs.Prelude.{◌≡◌, ◌++◌, ◌∷◌, [], Some, None, slice_set, OnOk};
-ghost use Rattle.design.specs.ExpressionSteps.{piece};
+ghost use Rattle.design.specs.ExpressionSteps.{span_of};
 ghost use Rattle.turn.specs.Reads.{ReadsOn};
 ghost use Rattle.turn.specs.Evaluate.{NamesDeclared};
-ghost use Rattle.turn.specs.RunningTurn.{status_of, fresh, at, writing, holding, delaying, Valued};
+ghost use Rattle.turn.specs.RunningTurn.{turn_status_of, fresh, at, writing, holding, delaying, Valued};
 
 use crate::evaluate::compute;
 use crate::log::Nba;
@@ -11,7 +11,7 @@ use crate::memory::{Memory, RegReader, Seen};
 use crate::stack::Stack;
 use crate::writes::Writes;
 use design::code::{Op, Span};
-use design::{Halved, ProcState, RegId};
+use design::{PackedBits, ProcState, RegId};
 use indexmap::IndexMap;
 use logic4::bits::Bits;
 use std::alloc::{AllocError, Global};
@@ -39,7 +39,7 @@ fn no_part<T>(list: &[T]) -> &[T]
 
 /// The part of a list, or none where it isn't there.
 pub(crate) fn part<T>(list: &[T], span: Span) -> &[T]
-    ensures { result.now ≡ piece list.entry.now span }
+    ensures { result.now ≡ span_of list.entry.now span }
 {
     if span.from <= span.to && span.to <= list.len() {
         &list[span.from..span.to]
@@ -66,7 +66,7 @@ fn note_write(
 
 // Nothing is left over. Mostly nothing was, and then nothing is written.
 #[inline(always)]
-fn forget(pending: &mut Option<(RegId, Halved)>)
+fn forget(pending: &mut Option<(RegId, PackedBits)>)
     ensures { pending.new ≡ None }
 {
     if pending.is_some() {
@@ -76,7 +76,7 @@ fn forget(pending: &mut Option<(RegId, Halved)>)
 
 // Sets what is left over. Mostly nothing is, and then little is written.
 #[inline(always)]
-fn put_pending(pending: &mut Option<(RegId, Halved)>, from: &Option<(RegId, Halved)>)
+fn put_pending(pending: &mut Option<(RegId, PackedBits)>, from: &Option<(RegId, PackedBits)>)
     ensures { pending.new ≡ from.now }
 {
     if from.is_some() {
@@ -125,7 +125,7 @@ impl RunningTurn {
     /// A turn begins, over this many registers. What the room held counts for nothing.
     #[inline(always)]
     pub fn begin(&mut self, state: &ProcState, registers: u32) -> Result<(), AllocError>
-        ensures { OnOk result (status_of self.new ≡ fresh state.now registers) }
+        ensures { OnOk result (turn_status_of self.new ≡ fresh state.now registers) }
     {
         put_state(&mut self.state, state);
         self.memory.begin(registers)?;
@@ -139,7 +139,7 @@ impl RunningTurn {
 
     /// The process goes on at this place.
     pub fn go(&mut self, next: usize)
-        ensures { status_of self.new ≡ at (status_of self.old) next }
+        ensures { turn_status_of self.new ≡ at (turn_status_of self.old) next }
     {
         self.state.place = next;
         forget(&mut self.state.pending);
@@ -148,7 +148,7 @@ impl RunningTurn {
     /// Writes a register, which the rest of the turn sees. It stands apart, since few writes are left over by an earlier turn.
     #[inline(never)]
     pub fn write(&mut self, register: RegId, value: Bits, next: usize) -> Result<(), AllocError>
-        ensures { OnOk result (status_of self.new ≡ writing (status_of self.old) register value next) }
+        ensures { OnOk result (turn_status_of self.new ≡ writing (turn_status_of self.old) register value next) }
     {
         note_write(&mut self.memory, &mut self.writes, register, &value)?;
         self.go(next);
@@ -158,7 +158,7 @@ impl RunningTurn {
     /// Writes the topmost vector of the stack to a register.
     #[inline(always)]
     pub fn write_top(&mut self, register: RegId, next: usize) -> Result<(), AllocError>
-        ensures { OnOk result (status_of self.new ≡ writing (status_of self.old) register self.old.stack.top next) }
+        ensures { OnOk result (turn_status_of self.new ≡ writing (turn_status_of self.old) register self.old.stack.top next) }
     {
         note_write(
             &mut self.memory,
@@ -172,18 +172,18 @@ impl RunningTurn {
 
     /// Leaves the assignment of the topmost vector of the stack over for after the wait (9.7.7).
     pub fn hold(&mut self, register: RegId, next: usize)
-        ensures { status_of self.new ≡ holding (status_of self.old) register self.old.stack.top next }
+        ensures { turn_status_of self.new ≡ holding (turn_status_of self.old) register self.old.stack.top next }
     {
         self.state = ProcState {
             place: next,
-            pending: Some((register, Halved::new(self.stack.top))),
+            pending: Some((register, PackedBits::new(self.stack.top))),
         };
     }
 
     /// Makes a nonblocking assignment of the topmost vector of the stack, which is due at this time (9.2.2).
     #[inline(always)]
     pub fn assign_later(&mut self, register: RegId, due: u64, next: usize) -> Result<(), AllocError>
-        ensures { OnOk result (status_of self.new ≡ delaying (status_of self.old) (record { reg = register; value = self.old.stack.top; due = due }) next) }
+        ensures { OnOk result (turn_status_of self.new ≡ delaying (turn_status_of self.old) (record { reg = register; value = self.old.stack.top; due = due }) next) }
     {
         self.nbas.reserve(1)?;
         self.nbas.push_reserved(Nba {
@@ -203,7 +203,7 @@ impl RunningTurn {
         reader: &mut R,
     ) -> Result<(), AllocError>
         requires { NamesDeclared R.registers ops.now }
-        ensures value { OnOk result (Valued (piece ops.now span) (status_of self.old) self.new.stack.top (status_of self.new)) }
+        ensures value { OnOk result (Valued (span_of ops.now span) (turn_status_of self.old) self.new.stack.top (turn_status_of self.new)) }
         ensures reads { ReadsOn R.gave R.lasting result reader.old self.old.memory.reads.entries reader.new self.new.memory.reads.entries }
     {
         compute(part(ops, span), &mut self.memory, reader, &mut self.stack)

@@ -2,13 +2,13 @@
 ghost use Rattle.std.specs.Prelude.{◌≡◌, OnOk};
 ghost use Rattle.turn.specs.Reads.{ReadsOn};
 ghost use Rattle.turn.specs.Evaluate.{NamesDeclared};
-ghost use Rattle.turn.specs.RunningTurn.{status_of, chosen_place, strobing};
+ghost use Rattle.turn.specs.RunningTurn.{turn_status_of, chosen_place, strobing};
 ghost use Rattle.turn.specs.TurnSteps.{Assigns, Branches, Displays};
 
 use crate::memory::RegReader;
 use crate::running_turn::{RunningTurn, part};
 use design::RegId;
-use design::code::{Op, Shown, Span};
+use design::code::{LinePiece, Op, Span};
 use logic4::digit::Truth;
 use std::alloc::AllocError;
 
@@ -34,7 +34,7 @@ impl RunningTurn {
         reader: &mut R,
     ) -> Result<(), AllocError>
         requires { NamesDeclared R.registers ops.now }
-        ensures takes { OnOk result (Assigns ops.now value register next (status_of self.old) (status_of self.new)) }
+        ensures takes { OnOk result (Assigns ops.now value register next (turn_status_of self.old) (turn_status_of self.new)) }
         ensures reads { ReadsOn R.gave R.lasting result reader.old self.old.memory.reads.entries reader.new self.new.memory.reads.entries }
     {
         self.compute(ops, value, reader)?;
@@ -52,7 +52,7 @@ impl RunningTurn {
         missed: usize,
     ) -> Result<(), AllocError>
         requires { NamesDeclared R.registers ops.now }
-        ensures takes { OnOk result (Branches ops.now condition taken missed (status_of self.old) (status_of self.new)) }
+        ensures takes { OnOk result (Branches ops.now condition taken missed (turn_status_of self.old) (turn_status_of self.new)) }
         ensures reads { ReadsOn R.gave R.lasting result reader.old self.old.memory.reads.entries reader.new self.new.memory.reads.entries }
     {
         self.compute(ops, condition, reader)?;
@@ -65,13 +65,13 @@ impl RunningTurn {
     pub fn display<R: RegReader>(
         &mut self,
         ops: &[Op],
-        shown: &[Shown],
+        shown: &[LinePiece],
         pieces: Span,
         next: usize,
         reader: &mut R,
     ) -> Result<(), AllocError>
         requires { NamesDeclared R.registers ops.now }
-        ensures takes { OnOk result (Displays ops.now shown.now pieces next (status_of self.old) (status_of self.new)) }
+        ensures takes { OnOk result (Displays ops.now shown.now pieces next (turn_status_of self.old) (turn_status_of self.new)) }
         ensures reads { ReadsOn R.gave R.lasting result reader.old self.old.memory.reads.entries reader.new self.new.memory.reads.entries }
     {
         self.print_pieces(ops, part(shown, pieces), reader)?;
@@ -82,7 +82,7 @@ impl RunningTurn {
 
     /// `$strobe`: its number is kept, and nothing is read (17.1.2).
     pub fn strobe(&mut self, next: usize) -> Result<(), AllocError>
-        ensures { OnOk result (status_of self.new ≡ strobing (status_of self.old) next) }
+        ensures { OnOk result (turn_status_of self.new ≡ strobing (turn_status_of self.old) next) }
     {
         self.strobes.push(self.state.place)?;
         self.go(next);

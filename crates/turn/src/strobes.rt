@@ -1,14 +1,14 @@
 //! The lines of `$strobe` (17.1.2).
 ghost use Rattle.std.specs.Prelude.{◌≡◌, ◌≤◌, length, slice_get, string_bytes, OnOk, IfOk};
-ghost use Rattle.turn.specs.Reads.{GaveAll, Keeps, ReadsOn};
+ghost use Rattle.turn.specs.Reads.{GaveAll, KeepsGiven, ReadsOn};
 ghost use Rattle.turn.specs.Evaluate.{NamesDeclared};
-ghost use Rattle.turn.specs.RunningTurn.{status_of};
+ghost use Rattle.turn.specs.RunningTurn.{turn_status_of};
 ghost use Rattle.turn.specs.Strobes.{PrintsStrobe, AreStrobeLines};
 
 use crate::log::TurnLog;
 use crate::memory::RegReader;
 use crate::running_turn::{RunningTurn, part};
-use design::code::{Node, Op, Shown};
+use design::code::{LinePiece, Node, Op};
 use design::{Design, ProcState};
 use model::tree::Task;
 use std::alloc::{AllocError, Global};
@@ -20,12 +20,12 @@ impl RunningTurn {
         &mut self,
         nodes: &[Node],
         ops: &[Op],
-        shown: &[Shown],
+        shown: &[LinePiece],
         place: usize,
         reader: &mut R,
     ) -> Result<(), AllocError>
         requires { NamesDeclared R.registers ops.now }
-        ensures prints { OnOk result (PrintsStrobe ops.now shown.now (slice_get nodes.now place) (status_of self.old) (status_of self.new)) }
+        ensures prints { OnOk result (PrintsStrobe ops.now shown.now (slice_get nodes.now place) (turn_status_of self.old) (turn_status_of self.new)) }
         ensures reads { ReadsOn R.gave R.lasting result reader.old self.old.memory.reads.entries reader.new self.new.memory.reads.entries }
     {
         if let Some(
@@ -53,7 +53,7 @@ fn print_lines<R: RegReader>(
     requires registers { length design.now.widths ≤ R.registers }
     ensures lines { OnOk result (AreStrobeLines design.now places.now running.new.memory.reads.entries (string_bytes running.new.lines)) }
     ensures gave { OnOk result (GaveAll (R.gave reader.new) running.new.memory.reads.entries) }
-    ensures keeps { Keeps (R.gave reader.old) (R.gave reader.new) }
+    ensures keeps { KeepsGiven (R.gave reader.old) (R.gave reader.new) }
     ensures lasting { R.lasting reader.new ≡ R.lasting reader.old }
 {
     let nodes = design.nodes();
@@ -83,7 +83,7 @@ pub fn strobe_lines<R: RegReader>(
     requires registers { length design.now.widths ≤ R.registers }
     ensures lines { IfOk result (λ text. AreStrobeLines design.now places.now log.new.reads (string_bytes text)) }
     ensures gave { OnOk result (GaveAll (R.gave reader.new) log.new.reads) }
-    ensures keeps { Keeps (R.gave reader.old) (R.gave reader.new) }
+    ensures keeps { KeepsGiven (R.gave reader.old) (R.gave reader.new) }
     ensures lasting { R.lasting reader.new ≡ R.lasting reader.old }
 {
     print_lines(&mut log.running, design, places, reader)?;

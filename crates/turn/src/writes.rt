@@ -1,33 +1,33 @@
-//! What a turn wrote, and the net of the writes of each register.
+//! What a turn wrote, and the turn change of the writes of each register.
 ghost use Rattle.std.specs.Prelude.{◌≡◌, ℕ, ◌+◌, ◌<◌, ◌^◌, [], ◌∷◌, ◌++◌, true, length, Some, slice_get, MatchOption, OnOk, OnErr};
-ghost use Rattle.turn.specs.declared.log.Net.{Net};
-ghost use Rattle.turn.specs.Nets.{with_write, noted, nets_of, is_net_at, IsPlaced, HasNoNet};
+ghost use Rattle.turn.specs.declared.log.TurnChange.{TurnChange};
+ghost use Rattle.turn.specs.TurnChanges.{change_with_write, noted, turn_changes_of, is_turn_change_at, IsIndexOf, HasNoTurnChange};
 
-use crate::log::Net;
+use crate::log::TurnChange;
 use design::RegId;
 use logic4::bits::Bits;
 use std::alloc::{AllocError, Global};
 use std::marker::Model;
 
-/// The writes, in the order of the text, the net of each register that they write, and for each register the place of its
-/// net, if it has one.
+/// The writes, in the order of the text, the turn change of each register that they write, and for each register the place of its
+/// turn change, if it has one.
 #[derive(Drop)]
 pub(crate) struct Writes {
     list: Vec<(RegId, Bits)>,
-    nets: Vec<Net>,
+    turn_changes: Vec<TurnChange>,
     places: Vec<usize>,
 }
 
 impl Model for Writes {
     ghost use Rattle.std.specs.Prelude.{ℕ, List};
     ghost use Rattle.logic4.specs.Vector.{Vector};
-    ghost use Rattle.turn.specs.Nets.{AreNets};
+    ghost use Rattle.turn.specs.TurnChanges.{AreTurnChanges};
 
     ghost Value = { List (ℕ × Vector) };
 
     ghost view = { λ w. w.list.items };
 
-    ghost invariant = { λ w. AreNets w.list.items w.nets.items w.places.items };
+    ghost invariant = { λ w. AreTurnChanges w.list.items w.turn_changes.items w.places.items };
 }
 
 // A vector as it is, word by word. Beside a number it would be copied into the frame and out of it as a whole.
@@ -39,12 +39,12 @@ fn by_words(value: &Bits) -> Bits
     value.resize(value.width())
 }
 
-// Whether the net at a place is that of a register.
-fn is_net_at(nets: &[Net], place: usize, register: RegId) -> bool
-    ensures { result ≡ is_net_at nets.now place register }
+// Whether the turn change at a place is that of a register.
+fn is_turn_change_at(turn_changes: &[TurnChange], place: usize, register: RegId) -> bool
+    ensures { result ≡ is_turn_change_at turn_changes.now place register }
 {
-    match nets.get(place) {
-        Some(net) => net.register == register,
+    match turn_changes.get(place) {
+        Some(turn_change) => turn_change.register == register,
         None => false,
     }
 }
@@ -56,14 +56,18 @@ fn listed(places: &[usize], register: RegId) -> Option<usize>
     places.get(register as usize).copied()
 }
 
-// Where the net of a register stands, if it has one.
-fn place_of(nets: &[Net], places: &[usize], register: RegId) -> Option<usize>
-    requires { IsPlaced nets.now places.now }
-    ensures { MatchOption result (HasNoNet nets.now register) (λ place. is_net_at nets.now place register ≡ true) }
+// Where the turn change of a register stands, if it has one.
+fn turn_change_index(
+    turn_changes: &[TurnChange],
+    places: &[usize],
+    register: RegId,
+) -> Option<usize>
+    requires { IsIndexOf turn_changes.now places.now }
+    ensures { MatchOption result (HasNoTurnChange turn_changes.now register) (λ place. is_turn_change_at turn_changes.now place register ≡ true) }
 {
     match listed(places, register) {
         None => None,
-        Some(place) => if is_net_at(nets, place, register) {
+        Some(place) => if is_turn_change_at(turn_changes, place, register) {
             Some(place)
         } else {
             None
@@ -71,12 +75,12 @@ fn place_of(nets: &[Net], places: &[usize], register: RegId) -> Option<usize>
     }
 }
 
-impl Net {
+impl TurnChange {
     // One more write of the register.
     #[inline(always)]
     fn write(&mut self, value: &Bits)
         requires { self.old.changes + 1 < 2 ^ 64 }
-        ensures { self.new ≡ with_write self.old value.now }
+        ensures { self.new ≡ change_with_write self.old value.now }
     {
         if self.last != *value {
             self.changes += 1;
@@ -97,24 +101,24 @@ fn make_place(places: &mut Vec<usize>, register: RegId) -> Result<(), AllocError
     Ok(())
 }
 
-// Notes the first write of a register, which has no net yet. It stands apart from the common case, whose frame needs no room for
-// a net.
+// Notes the first write of a register, which has no turn change yet. It stands apart from the common case, whose frame needs no room for
+// a turn change.
 #[inline(never)]
 fn note_first(
     register: RegId,
     value: &Bits,
-    nets: &mut Vec<Net>,
+    turn_changes: &mut Vec<TurnChange>,
     places: &mut Vec<usize>,
 ) -> Result<(), AllocError>
-    requires placed { IsPlaced nets.old.items places.old.items }
-    requires none { HasNoNet nets.old.items register }
-    ensures noted { OnOk result (nets.new.items ≡ noted nets.old.items (register, value.now)) }
-    ensures err { OnErr result (nets.new.items ≡ nets.old.items) }
-    ensures placed { IsPlaced nets.new.items places.new.items }
+    requires placed { IsIndexOf turn_changes.old.items places.old.items }
+    requires none { HasNoTurnChange turn_changes.old.items register }
+    ensures noted { OnOk result (turn_changes.new.items ≡ noted turn_changes.old.items (register, value.now)) }
+    ensures err { OnErr result (turn_changes.new.items ≡ turn_changes.old.items) }
+    ensures placed { IsIndexOf turn_changes.new.items places.new.items }
 {
     make_place(places, register)?;
-    let at = nets.len();
-    nets.push(Net {
+    let at = turn_changes.len();
+    turn_changes.push(TurnChange {
         register,
         first: *value,
         changes: 0,
@@ -124,25 +128,25 @@ fn note_first(
     Ok(())
 }
 
-// Notes one more write. After a refusal of memory the nets are as before.
+// Notes one more write. After a refusal of memory the turn changes are as before.
 fn note(
-    nets: &mut Vec<Net>,
+    turn_changes: &mut Vec<TurnChange>,
     places: &mut Vec<usize>,
     register: RegId,
     value: &Bits,
 ) -> Result<(), AllocError>
-    requires placed { IsPlaced nets.old.items places.old.items }
-    requires counts { (place : ℕ) (n : Net) → slice_get nets.old.items place ≡ Some n → n.changes + 1 < 2 ^ 64 }
-    ensures noted { OnOk result (nets.new.items ≡ noted nets.old.items (register, value.now)) }
-    ensures err { OnErr result (nets.new.items ≡ nets.old.items) }
-    ensures placed { IsPlaced nets.new.items places.new.items }
+    requires placed { IsIndexOf turn_changes.old.items places.old.items }
+    requires counts { (place : ℕ) (n : TurnChange) → slice_get turn_changes.old.items place ≡ Some n → n.changes + 1 < 2 ^ 64 }
+    ensures noted { OnOk result (turn_changes.new.items ≡ noted turn_changes.old.items (register, value.now)) }
+    ensures err { OnErr result (turn_changes.new.items ≡ turn_changes.old.items) }
+    ensures placed { IsIndexOf turn_changes.new.items places.new.items }
 {
-    match place_of(nets, places, register) {
+    match turn_change_index(turn_changes, places, register) {
         Some(place) => {
-            nets[place].write(value);
+            turn_changes[place].write(value);
             Ok(())
         }
-        None => note_first(register, value, nets, places),
+        None => note_first(register, value, turn_changes, places),
     }
 }
 
@@ -153,7 +157,7 @@ impl Writes {
     {
         Writes {
             list: Vec::new(alloc),
-            nets: Vec::new(alloc),
+            turn_changes: Vec::new(alloc),
             places: Vec::new(alloc),
         }
     }
@@ -163,7 +167,7 @@ impl Writes {
         ensures { self.new ≡ [] }
     {
         self.list.clear();
-        self.nets.clear();
+        self.turn_changes.clear();
     }
 
     /// One more write.
@@ -172,7 +176,7 @@ impl Writes {
         ensures { OnOk result (self.new ≡ self.old ++ (register, value.now) ∷ []) }
     {
         self.list.reserve(1)?;
-        note(&mut self.nets, &mut self.places, register, value)?;
+        note(&mut self.turn_changes, &mut self.places, register, value)?;
         self.list.push_reserved((register, by_words(value)));
         Ok(())
     }
@@ -184,10 +188,10 @@ impl Writes {
         self.list.as_slice()
     }
 
-    /// The net of the writes of each register.
-    pub fn nets(&self) -> &[Net]
-        ensures { result.now ≡ nets_of self.entry.now }
+    /// The turn change of the writes of each register.
+    pub fn turn_changes(&self) -> &[TurnChange]
+        ensures { result.now ≡ turn_changes_of self.entry.now }
     {
-        self.nets.as_slice()
+        self.turn_changes.as_slice()
     }
 }

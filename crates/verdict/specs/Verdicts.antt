@@ -1,11 +1,11 @@
 -- What is said of the texts that were found.
 use Rattle.std.specs.Prelude.{ℕ, ◌+◌, ◌/◌, ◌%◌, ◌==◌, Bool, true, false, nat_lt, if◌then◌else◌, List, [], ◌∷◌, ◌++◌, Option, Some, None, codes, count_by, decimal}
 use Rattle.model.specs.Journal.{newline}
-use Rattle.verdict.specs.RaceLines.{journal_text}
+use Rattle.verdict.specs.RaceLines.{saved_journal_text}
 use Rattle.verdict.specs.declared.claim.Claim.{Claim}
 use Rattle.verdict.specs.declared.claim.Claim.TheVariants.{Every, SoFar, Sampled}
-use Rattle.verdict.specs.declared.claim.Met.{Met}
-use Rattle.verdict.specs.declared.claim.Met.TheVariants.{States, Texts, Entries, Megabytes, Memory}
+use Rattle.verdict.specs.declared.claim.SearchStop.{SearchStop}
+use Rattle.verdict.specs.declared.claim.SearchStop.TheVariants.{States, Texts, Entries, Megabytes, Memory}
 
 -- a comma, and the three digits of a number below a thousand
 abbrev pub group : ℕ → List ℕ
@@ -25,8 +25,8 @@ several_text count true = decimal count ++ codes " texts and ends"
 several_text count false = decimal count ++ codes " texts"
 
 -- so, with words for none and one
-abbrev pub count_text : ℕ → Bool → List ℕ
-count_text count ends = if count == 0 then codes "no text" else if count == 1 then codes "one text" else several_text count ends
+abbrev pub text_count_text : ℕ → Bool → List ℕ
+text_count_text count ends = if count == 0 then codes "no text" else if count == 1 then codes "one text" else several_text count ends
 
 -- up to this time
 abbrev pub up_to_time : ℕ → List ℕ
@@ -62,20 +62,20 @@ abbrev pub limit_text : ℕ → List ℕ → List ℕ → List ℕ
 limit_text most one many = codes "a limit was met (" ++ many_text most one many
 
 -- why a search stopped: the limit that was met, or want of memory
-abbrev pub met_text : Met → List ℕ
-met_text (States most) = limit_text most (codes " state)\n") (codes " states)\n")
-met_text (Texts most) = limit_text most (codes " text)\n") (codes " texts)\n")
-met_text (Entries most) = limit_text most (codes " entry)\n") (codes " entries)\n")
-met_text (Megabytes most) = limit_text most (codes " MB)\n") (codes " MB)\n")
-met_text Memory = codes "memory was refused\n"
+abbrev pub stop_text : SearchStop → List ℕ
+stop_text (States most) = limit_text most (codes " state)\n") (codes " states)\n")
+stop_text (Texts most) = limit_text most (codes " text)\n") (codes " texts)\n")
+stop_text (Entries most) = limit_text most (codes " entry)\n") (codes " entries)\n")
+stop_text (Megabytes most) = limit_text most (codes " MB)\n") (codes " MB)\n")
+stop_text Memory = codes "memory was refused\n"
 
 -- that there may be others: several texts are all that is known, and so is one or none so far
 abbrev pub open_text : ℕ → List ℕ
 open_text count = if nat_lt 1 count then codes " or more: " else codes " so far: "
 
 -- so it is, and why
-abbrev pub so_far_text : Met → ℕ → List ℕ
-so_far_text met count = open_text count ++ met_text met
+abbrev pub so_far_text : SearchStop → ℕ → List ℕ
+so_far_text stop count = open_text count ++ stop_text stop
 
 -- that random orders were tried
 abbrev pub sampled_text : ℕ → List ℕ
@@ -83,11 +83,11 @@ sampled_text orders = codes " in " ++ decimal orders ++ codes " random lawful or
 
 -- that no lawful run comes to an end, with the journal of one, where one is known
 abbrev pub none_every : Option ℕ → Option ℕ → Option (List ℕ) → List ℕ
-none_every until endless prefix = codes ": no lawful run" ++ up_to until ++ codes " comes to an end" ++ journal_text prefix endless ++ codes "\n"
+none_every until endless prefix = codes ": no lawful run" ++ up_to until ++ codes " comes to an end" ++ saved_journal_text prefix endless ++ codes "\n"
 
 -- that some lawful runs don't come to an end, with the journal of one
 abbrev pub some_endless : Option ℕ → Option (List ℕ) → List ℕ
-some_endless endless prefix = codes "some lawful runs don't come to an end" ++ journal_text prefix endless ++ codes "\n"
+some_endless endless prefix = codes "some lawful runs don't come to an end" ++ saved_journal_text prefix endless ++ codes "\n"
 
 -- so it is where one is known
 abbrev pub endless_text : Option ℕ → Option (List ℕ) → List ℕ
@@ -118,9 +118,9 @@ every_text states endless until count ends first prefix =
 -- what the texts are among those of all lawful runs
 abbrev pub claim_text : Claim → Option ℕ → ℕ → Bool → List ℕ → Option (List ℕ) → List ℕ
 claim_text (Every states endless) until count ends first prefix = every_text states endless until count ends first prefix
-claim_text (SoFar met) until count ends first prefix = so_far_text met count
+claim_text (SoFar stop) until count ends first prefix = so_far_text stop count
 claim_text (Sampled orders) until count ends first prefix = sampled_text orders
 
 -- what is said of the texts: how many there are, and what they are among those of all lawful runs
 abbrev pub verdict_text : Claim → Option ℕ → ℕ → Bool → List ℕ → Option (List ℕ) → List ℕ
-verdict_text claim until count ends first prefix = count_text count ends ++ claim_text claim until count ends first prefix
+verdict_text claim until count ends first prefix = text_count_text count ends ++ claim_text claim until count ends first prefix

@@ -2,7 +2,7 @@
 
 /// Why a search has stopped.
 #[derive(Clone, Copy, PartialEq, Eq, Debug)]
-pub enum Met {
+pub enum SearchStop {
     /// The most states were reached.
     States(u32),
     /// The most texts were shown.
@@ -26,7 +26,7 @@ pub enum Claim {
         endless: Option<usize>,
     },
     /// There may be others, since the search stopped.
-    SoFar(Met),
+    SoFar(SearchStop),
     /// There may be others, since this many random orders were tried.
     Sampled(u32),
 }

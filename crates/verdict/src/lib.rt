@@ -16,8 +16,11 @@ mod phrases;
 mod race;
 mod verdict;
 
-pub use claim::{Claim, Met};
-pub use cut::{Cut, push_cut};
+pub use claim::{Claim, SearchStop};
+pub use cut::{ListCut, push_cut};
 pub use difference::{Difference, first_difference};
-pub use race::{Process, Race, Role, Run, Site, push_race};
+pub use race::{
+    ProcessDescription, RaceDescription, RoleDescription, RunDescription, SiteDescription,
+    push_race,
+};
 pub use verdict::{Verdict, push_verdict};

@@ -1,9 +1,9 @@
 //! Parts of the lines on texts.
 
 ghost use Rattle.std.specs.Prelude.{◌≡◌, ◌<◌, ◌++◌, OnOk, decimal};
-ghost use Rattle.verdict.specs.Verdicts.{count_text, group, grouped, limit_text, lines_in, lines_text, many_text, met_text, several_text, states_text, these_lines, thousands, up_to, up_to_time};
+ghost use Rattle.verdict.specs.Verdicts.{text_count_text, group, grouped, limit_text, lines_in, lines_text, many_text, stop_text, several_text, states_text, these_lines, thousands, up_to, up_to_time};
 
-use crate::claim::Met;
+use crate::claim::SearchStop;
 use itoa::Buffer;
 use std::alloc::AllocError;
 
@@ -49,7 +49,7 @@ fn push_thousands(text: &mut Vec<u8>, number: u64) -> Result<(), AllocError>
 
 /// How many texts there are, and whether they are told apart by their ends too.
 pub(crate) fn push_count(text: &mut Vec<u8>, count: usize, ends: bool) -> Result<(), AllocError>
-    ensures { OnOk result (text.new.items ≡ text.old.items ++ count_text count ends) }
+    ensures { OnOk result (text.new.items ≡ text.old.items ++ text_count_text count ends) }
 {
     match count {
         0 => text.extend_from_slice(b"no text"),
@@ -148,14 +148,14 @@ pub(crate) fn push_limit(
 }
 
 /// Why a search stopped.
-pub(crate) fn push_met(text: &mut Vec<u8>, met: Met) -> Result<(), AllocError>
-    ensures { OnOk result (text.new.items ≡ text.old.items ++ met_text met) }
+pub(crate) fn push_stop(text: &mut Vec<u8>, stop: SearchStop) -> Result<(), AllocError>
+    ensures { OnOk result (text.new.items ≡ text.old.items ++ stop_text stop) }
 {
-    match met {
-        Met::States(most) => push_limit(text, most as u64, b" state)\n", b" states)\n"),
-        Met::Texts(most) => push_limit(text, most as u64, b" text)\n", b" texts)\n"),
-        Met::Entries(most) => push_limit(text, most as u64, b" entry)\n", b" entries)\n"),
-        Met::Megabytes(most) => push_limit(text, most as u64, b" MB)\n", b" MB)\n"),
-        Met::Memory => text.extend_from_slice(b"memory was refused\n"),
+    match stop {
+        SearchStop::States(most) => push_limit(text, most as u64, b" state)\n", b" states)\n"),
+        SearchStop::Texts(most) => push_limit(text, most as u64, b" text)\n", b" texts)\n"),
+        SearchStop::Entries(most) => push_limit(text, most as u64, b" entry)\n", b" entries)\n"),
+        SearchStop::Megabytes(most) => push_limit(text, most as u64, b" MB)\n", b" MB)\n"),
+        SearchStop::Memory => text.extend_from_slice(b"memory was refused\n"),
     }
 }

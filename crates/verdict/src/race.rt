@@ -1,7 +1,7 @@
 //! The lines on a race.
 
 ghost use Rattle.std.specs.Prelude.{◌≡◌, ◌++◌, OnOk, Some, option_map};
-ghost use Rattle.verdict.specs.RaceLines.{begin_text, in_quotes, journal_text, line_text, path_text, prefix_of, quoted_line, race_text, role_text, roles_text, run_text, runs_text, site_text, title_text};
+ghost use Rattle.verdict.specs.RaceLines.{begin_text, in_quotes, saved_journal_text, differing_line_text, path_text, prefix_of, quoted_line, race_text, role_text, roles_text, run_text, runs_text, site_text, race_title_text};
 
 use crate::phrases::push_number;
 use std::alloc::AllocError;
@@ -9,7 +9,7 @@ use std::alloc::AllocError;
 /// What two processes race for: a register, the order of the lines that they print, that of their strobes' lines, or the end of
 /// the run.
 #[derive(Clone, Copy, Debug)]
-pub enum Site<'a> {
+pub enum SiteDescription<'a> {
     Register(&'a str),
     Printing,
     Strobing,
@@ -18,23 +18,23 @@ pub enum Site<'a> {
 
 /// Where a process begins: whether with `always` or with `initial`, and in which line of the source, counted from 1.
 #[derive(Clone, Copy, Debug)]
-pub struct Process {
+pub struct ProcessDescription {
     pub always: bool,
     pub line: usize,
 }
 
 /// A process that races: its number, where it begins, if that is known, and what it does.
 #[derive(Clone, Copy, Debug)]
-pub struct Role<'a> {
+pub struct RoleDescription<'a> {
     pub number: u32,
-    pub begins: Option<Process>,
+    pub begins: Option<ProcessDescription>,
     pub does: &'a str,
 }
 
 /// One of the two runs of a race: the number of its journal, where that is saved, and the line in which the two differ
 /// first, with its newline, or nothing where its text has ended before.
 #[derive(Clone, Copy, Debug)]
-pub struct Run<'a> {
+pub struct RunDescription<'a> {
     pub journal: Option<usize>,
     pub line: &'a [u8],
 }
@@ -42,20 +42,20 @@ pub struct Run<'a> {
 /// A race: for what, at which time, of whom, where journals are saved, in which line the two runs differ, if not only in
 /// their ends, and the runs in which the first or the second comes first.
 #[derive(Clone, Copy, Debug)]
-pub struct Race<'a> {
+pub struct RaceDescription<'a> {
     pub number: usize,
-    pub site: Site<'a>,
+    pub site: SiteDescription<'a>,
     pub time: u64,
-    pub first: Role<'a>,
-    pub second: Role<'a>,
+    pub first: RoleDescription<'a>,
+    pub second: RoleDescription<'a>,
     pub prefix: Option<&'a str>,
     pub line: Option<usize>,
-    pub original: Run<'a>,
-    pub exchanged: Run<'a>,
+    pub original: RunDescription<'a>,
+    pub exchanged: RunDescription<'a>,
 }
 
 /// Puts the lines on a race behind a text.
-pub fn push_race(text: &mut Vec<u8>, race: &Race<'_>) -> Result<(), AllocError>
+pub fn push_race(text: &mut Vec<u8>, race: &RaceDescription<'_>) -> Result<(), AllocError>
     ensures { OnOk result (text.new.items ≡ text.old.items ++ race_text race.entry.now) }
 {
     push_title(text, race)?;
@@ -63,8 +63,8 @@ pub fn push_race(text: &mut Vec<u8>, race: &Race<'_>) -> Result<(), AllocError>
     push_runs(text, race)
 }
 
-fn push_title(text: &mut Vec<u8>, race: &Race<'_>) -> Result<(), AllocError>
-    ensures { OnOk result (text.new.items ≡ text.old.items ++ title_text race.entry.now) }
+fn push_title(text: &mut Vec<u8>, race: &RaceDescription<'_>) -> Result<(), AllocError>
+    ensures { OnOk result (text.new.items ≡ text.old.items ++ race_title_text race.entry.now) }
 {
     text.extend_from_slice(b"race ")?;
     push_number(text, race.number as u64)?;
@@ -73,36 +73,36 @@ fn push_title(text: &mut Vec<u8>, race: &Race<'_>) -> Result<(), AllocError>
     text.extend_from_slice(b"\n")
 }
 
-fn push_roles(text: &mut Vec<u8>, race: &Race<'_>) -> Result<(), AllocError>
+fn push_roles(text: &mut Vec<u8>, race: &RaceDescription<'_>) -> Result<(), AllocError>
     ensures { OnOk result (text.new.items ≡ text.old.items ++ roles_text race.entry.now) }
 {
     push_role(text, race.first)?;
     push_role(text, race.second)
 }
 
-fn push_runs(text: &mut Vec<u8>, race: &Race<'_>) -> Result<(), AllocError>
+fn push_runs(text: &mut Vec<u8>, race: &RaceDescription<'_>) -> Result<(), AllocError>
     ensures { OnOk result (text.new.items ≡ text.old.items ++ runs_text race.entry.now) }
 {
     push_run(text, race, b"  the first before the second", race.original)?;
     push_run(text, race, b"  the second before the first", race.exchanged)
 }
 
-fn push_site(text: &mut Vec<u8>, site: Site<'_>) -> Result<(), AllocError>
+fn push_site(text: &mut Vec<u8>, site: SiteDescription<'_>) -> Result<(), AllocError>
     ensures { OnOk result (text.new.items ≡ text.old.items ++ site_text site.entry) }
 {
     match site {
-        Site::Register(name) => {
+        SiteDescription::Register(name) => {
             text.extend_from_slice(b": register ")?;
             text.extend_from_slice(name.as_bytes())?;
             text.extend_from_slice(b", time ")
         }
-        Site::Printing => text.extend_from_slice(b": the order of lines, time "),
-        Site::Strobing => text.extend_from_slice(b": the order of strobes, time "),
-        Site::Finishing => text.extend_from_slice(b": the end of the run, time "),
+        SiteDescription::Printing => text.extend_from_slice(b": the order of lines, time "),
+        SiteDescription::Strobing => text.extend_from_slice(b": the order of strobes, time "),
+        SiteDescription::Finishing => text.extend_from_slice(b": the end of the run, time "),
     }
 }
 
-fn push_role(text: &mut Vec<u8>, role: Role<'_>) -> Result<(), AllocError>
+fn push_role(text: &mut Vec<u8>, role: RoleDescription<'_>) -> Result<(), AllocError>
     ensures { OnOk result (text.new.items ≡ text.old.items ++ role_text role.entry) }
 {
     text.extend_from_slice(b"  process ")?;
@@ -115,7 +115,7 @@ fn push_role(text: &mut Vec<u8>, role: Role<'_>) -> Result<(), AllocError>
     text.extend_from_slice(b"\n")
 }
 
-fn push_begin(text: &mut Vec<u8>, process: Process) -> Result<(), AllocError>
+fn push_begin(text: &mut Vec<u8>, process: ProcessDescription) -> Result<(), AllocError>
     ensures { OnOk result (text.new.items ≡ text.old.items ++ begin_text (Some process)) }
 {
     let word: &[u8] = match process.always {
@@ -128,9 +128,9 @@ fn push_begin(text: &mut Vec<u8>, process: Process) -> Result<(), AllocError>
 
 fn push_run(
     text: &mut Vec<u8>,
-    race: &Race<'_>,
+    race: &RaceDescription<'_>,
     order: &[u8],
-    run: Run<'_>,
+    run: RunDescription<'_>,
 ) -> Result<(), AllocError>
     ensures { OnOk result (text.new.items ≡ text.old.items ++ run_text race.entry.now order.now run.entry) }
 {
@@ -144,7 +144,7 @@ pub(crate) fn push_journal(
     prefix: Option<&str>,
     journal: Option<usize>,
 ) -> Result<(), AllocError>
-    ensures { OnOk result (text.new.items ≡ text.old.items ++ journal_text (option_map (λ path. path.now) prefix.entry) journal) }
+    ensures { OnOk result (text.new.items ≡ text.old.items ++ saved_journal_text (option_map (λ path. path.now) prefix.entry) journal) }
 {
     match (prefix, journal) {
         (Some(prefix), Some(number)) => push_path(text, prefix, number),
@@ -163,7 +163,7 @@ fn push_path(text: &mut Vec<u8>, prefix: &str, number: usize) -> Result<(), Allo
 }
 
 fn push_difference(text: &mut Vec<u8>, number: Option<usize>, line: &[u8]) -> Result<(), AllocError>
-    ensures { OnOk result (text.new.items ≡ text.old.items ++ line_text number line.now) }
+    ensures { OnOk result (text.new.items ≡ text.old.items ++ differing_line_text number line.now) }
 {
     match number {
         Some(number) => push_line(text, number, line),
@@ -172,7 +172,7 @@ fn push_difference(text: &mut Vec<u8>, number: Option<usize>, line: &[u8]) -> Re
 }
 
 fn push_line(text: &mut Vec<u8>, number: usize, line: &[u8]) -> Result<(), AllocError>
-    ensures { OnOk result (text.new.items ≡ text.old.items ++ line_text (Some number) line.now) }
+    ensures { OnOk result (text.new.items ≡ text.old.items ++ differing_line_text (Some number) line.now) }
 {
     text.extend_from_slice(b": line ")?;
     push_number(text, number as u64)?;

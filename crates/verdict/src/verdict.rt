@@ -3,9 +3,9 @@
 ghost use Rattle.std.specs.Prelude.{◌≡◌, ◌++◌, OnOk, option_map};
 ghost use Rattle.verdict.specs.Verdicts.{claim_text, endless_text, every_text, many_every, none_every, one_of_them, one_every, open_text, sampled_text, so_far_text, some_endless, verdict_text};
 
-use crate::claim::{Claim, Met};
+use crate::claim::{Claim, SearchStop};
 use crate::phrases::{
-    push_count, push_met, push_number, push_states, push_these_lines, push_up_to,
+    push_count, push_number, push_states, push_stop, push_these_lines, push_up_to,
 };
 use crate::race::push_journal;
 use std::alloc::AllocError;
@@ -39,17 +39,17 @@ fn push_claim(text: &mut Vec<u8>, verdict: &Verdict<'_>) -> Result<(), AllocErro
 {
     match verdict.claim {
         Claim::Every { states, endless } => push_every(text, verdict, states, endless),
-        Claim::SoFar(met) => push_so_far(text, met, verdict.count),
+        Claim::SoFar(stop) => push_so_far(text, stop, verdict.count),
         Claim::Sampled(orders) => push_sampled(text, orders),
     }
 }
 
 /// That there may be other texts, and why.
-fn push_so_far(text: &mut Vec<u8>, met: Met, count: usize) -> Result<(), AllocError>
-    ensures { OnOk result (text.new.items ≡ text.old.items ++ so_far_text met count) }
+fn push_so_far(text: &mut Vec<u8>, stop: SearchStop, count: usize) -> Result<(), AllocError>
+    ensures { OnOk result (text.new.items ≡ text.old.items ++ so_far_text stop count) }
 {
     text.extend_from_slice(open_text(count))?;
-    push_met(text, met)
+    push_stop(text, stop)
 }
 
 fn open_text(count: usize) -> &'static [u8]

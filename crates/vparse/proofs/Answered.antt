@@ -1,7 +1,7 @@
 -- What the parser of modules answers, by the grammar alone.
 use Rattle.std.proofs.Common.{◌≡◌, false, ℕ, ◌≤◌, [], length, Option, Some, None, IsSome, Err, refl, sym, ap, ◌∙◌}
-use Rattle.grammar.specs.declared.fault.Fault.{Fault}
-use Rattle.grammar.specs.declared.fault.Fault.TheVariants.{Syntax, Unsized, Deep, Memory}
+use Rattle.grammar.specs.declared.fault.GrammarFault.{GrammarFault}
+use Rattle.grammar.specs.declared.fault.GrammarFault.TheVariants.{Syntax, Unsized, Deep, Memory}
 use Rattle.vparse.specs.TextFaults.{is_syntax}
 use Rattle.grammar.specs.Cursor.{Reads}
 use Rattle.tokens.specs.Tokens.{PlainTokens}
@@ -19,14 +19,14 @@ pub none : (budget : ℕ) (m : Module) (ts : PlainTokens) → length ts ≤ budg
 none budget m ts w read d = let q = complete-source d budget w in cc
 
 -- where nothing nests too deep, the only refusal of what is spelled is want of memory
-pub memory : (stop : Option ℕ) (budget : ℕ) (fault : Fault) (m : Module) (ts us new : PlainTokens) → us ≡ ts → length ts ≤ budget → (IsSome stop → ⊥)
+pub memory : (stop : Option ℕ) (budget : ℕ) (fault : GrammarFault) (m : Module) (ts us new : PlainTokens) → us ≡ ts → length ts ≤ budget → (IsSome stop → ⊥)
     → Reads module_of stop (parse_source budget us) (Err fault) new → IsModule m ts → fault ≡ Memory
 memory stop budget Syntax m ts us new is w shallow read d = absurd (none budget m ts w (sym (ap (parse_source budget) is) ∙ read) d)
 memory stop budget Unsized m ts us new is w shallow read d = absurd (none budget m ts w (sym (ap (parse_source budget) is) ∙ read) d)
 memory stop budget Deep m ts us new is w shallow read d = absurd (shallow (rw read))
 memory stop budget Memory m ts us new is w shallow read d = refl
 
-pub syntax : (stop : Option ℕ) (budget : ℕ) (fault : Fault) (m : Module) (ts us new : PlainTokens) → us ≡ ts → length ts ≤ budget
+pub syntax : (stop : Option ℕ) (budget : ℕ) (fault : GrammarFault) (m : Module) (ts us new : PlainTokens) → us ≡ ts → length ts ≤ budget
     → Reads module_of stop (parse_source budget us) (Err fault) new → IsModule m ts → is_syntax fault ≡ false
 syntax stop budget Syntax m ts us new is w read d = absurd (none budget m ts w (sym (ap (parse_source budget) is) ∙ read) d)
 syntax stop budget Unsized m ts us new is w read d = absurd (none budget m ts w (sym (ap (parse_source budget) is) ∙ read) d)

@@ -1,8 +1,8 @@
 -- The token at which the tokens nest too deep first, by how many are left there.
 use Rattle.std.proofs.Common.{◌≡◌, ℕ, zero, suc, ◌+◌, ◌<◌, ◌≤◌, [], ◌∷◌, length, take, true, false, ◌||◌, nat_lt, inl, inr, Option, Some, Err, sym, refl, ap, ◌∙◌, arith}
 use Rattle.tokens.specs.Tokens.{PlainTokens}
-use Rattle.grammar.specs.declared.fault.Fault.{Fault}
-use Rattle.grammar.specs.declared.fault.Fault.TheVariants.{Syntax, Unsized, Deep, Memory}
+use Rattle.grammar.specs.declared.fault.GrammarFault.{GrammarFault}
+use Rattle.grammar.specs.declared.fault.GrammarFault.TheVariants.{Syntax, Unsized, Deep, Memory}
 use Rattle.grammar.specs.Cursor.{Reads}
 use Rattle.vparse.specs.Nesting.{limit, open_after, signs_after, passes, deep_left, IsDeepAt}
 use Rattle.model.specs.SourceTrees.{module_of}
@@ -57,7 +57,7 @@ deep_at stop ts left all token is some same count =
     let r = first 0 0 token left ts e (omega arith) in
     (r.there, λ k below deep. let no_deep = r.not_before k below in cc)
 
-pub refused_at : (stop : Option ℕ) (budget : ℕ) (fault : Fault) (ts us new : PlainTokens) (left all token : ℕ) → stop ≡ deep_left 0 0 ts → left ≡ length new → length ts ≡ all
+pub refused_at : (stop : Option ℕ) (budget : ℕ) (fault : GrammarFault) (ts us new : PlainTokens) (left all token : ℕ) → stop ≡ deep_left 0 0 ts → left ≡ length new → length ts ≡ all
     → (1 ≤ left → left ≤ all → token + left ≡ all + 1) → Reads module_of stop (parse_source budget us) (Err fault) new → fault ≡ Deep → IsDeepAt ts token
 refused_at stop budget Syntax ts us new left all token is len same count read h = absurd (cc)
 refused_at stop budget Unsized ts us new left all token is len same count read h = absurd (cc)

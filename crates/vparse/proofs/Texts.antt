@@ -9,8 +9,8 @@ use Rattle.vparse.specs.Spells.{Spells, IsUnspelledAt, IsDeepText}
 use Rattle.vparse.specs.TextFaults.{of_cut, of_tokens, is_syntax}
 use Rattle.tokens.specs.declared.cut.CutFault.{CutFault}
 use Rattle.tokens.specs.declared.cut.CutFault.TheVariants as cut_fault
-use Rattle.grammar.specs.declared.fault.Fault.{Fault}
-use Rattle.grammar.specs.declared.fault.Fault.TheVariants as fault
+use Rattle.grammar.specs.declared.fault.GrammarFault.{GrammarFault}
+use Rattle.grammar.specs.declared.fault.GrammarFault.TheVariants as fault
 use Rattle.vparse.specs.declared.parser.ParseFault.TheVariants.{Byte, Literal, Syntax, Unsized, Deep, Memory}
 use Rattle.tokens.proofs.Chain.{cut_once, cut_or_stops, stops_once}
 
@@ -66,7 +66,7 @@ cut_not cut_fault.Memory n = ((λ h. cc), (λ h. cc), (λ h. cc))
 
 -- ---- where the tokens are refused
 
-pub tokens_not : (bad : Fault) (n place : ℕ) → ((of_tokens bad n ≡ Byte place) → ⊥) × ((of_tokens bad n ≡ Literal place) → ⊥)
+pub tokens_not : (bad : GrammarFault) (n place : ℕ) → ((of_tokens bad n ≡ Byte place) → ⊥) × ((of_tokens bad n ≡ Literal place) → ⊥)
 tokens_not fault.Syntax n place = ((λ h. cc), (λ h. cc))
 tokens_not fault.Unsized n place = ((λ h. cc), (λ h. cc))
 tokens_not fault.Deep n place = ((λ h. cc), (λ h. cc))
@@ -76,27 +76,27 @@ tokens_not fault.Memory n place = ((λ h. cc), (λ h. cc))
 unspelled : (text : List ℕ) (ts : PlainTokens) (m n : ℕ) → Cut text ts → ((x : Module) → IsModule x ts → ⊥) → 1 ≤ m → m ≤ length ts + 1 → m ≡ n → IsUnspelledAt text n
 unspelled text ts m n d none counted within e = record { tokens = ts; cut = d; none = none; counted = omega (arith, counted, e); within = omega (arith, within, e) }
 
-pub tokens_syntax : (text : List ℕ) (ts : PlainTokens) (bad : Fault) (m n : ℕ) → Cut text ts → ((x : Module) → IsModule x ts → is_syntax bad ≡ false)
+pub tokens_syntax : (text : List ℕ) (ts : PlainTokens) (bad : GrammarFault) (m n : ℕ) → Cut text ts → ((x : Module) → IsModule x ts → is_syntax bad ≡ false)
     → 1 ≤ m → m ≤ length ts + 1 → of_tokens bad m ≡ Syntax n → IsUnspelledAt text n
 tokens_syntax text ts fault.Syntax m n d none counted within e = unspelled text ts m n d (λ x h. let no = none x h in cc) counted within (cc)
 tokens_syntax text ts fault.Unsized m n d none counted within e = absurd (cc)
 tokens_syntax text ts fault.Deep m n d none counted within e = absurd (cc)
 tokens_syntax text ts fault.Memory m n d none counted within e = absurd (cc)
 
-pub tokens_unsized : (text : List ℕ) (ts : PlainTokens) (bad : Fault) (m n : ℕ) → Cut text ts → ((x : Module) → IsModule x ts → is_syntax bad ≡ false)
+pub tokens_unsized : (text : List ℕ) (ts : PlainTokens) (bad : GrammarFault) (m n : ℕ) → Cut text ts → ((x : Module) → IsModule x ts → is_syntax bad ≡ false)
     → 1 ≤ m → m ≤ length ts + 1 → of_tokens bad m ≡ Unsized n → IsUnspelledAt text n
 tokens_unsized text ts fault.Syntax m n d none counted within e = absurd (cc)
 tokens_unsized text ts fault.Unsized m n d none counted within e = unspelled text ts m n d (λ x h. let no = none x h in cc) counted within (cc)
 tokens_unsized text ts fault.Deep m n d none counted within e = absurd (cc)
 tokens_unsized text ts fault.Memory m n d none counted within e = absurd (cc)
 
-pub tokens_deep : (bad : Fault) (n k : ℕ) → of_tokens bad n ≡ Deep k → bad ≡ fault.Deep
+pub tokens_deep : (bad : GrammarFault) (n k : ℕ) → of_tokens bad n ≡ Deep k → bad ≡ fault.Deep
 tokens_deep fault.Syntax n k h = cc
 tokens_deep fault.Unsized n k h = cc
 tokens_deep fault.Deep n k h = refl
 tokens_deep fault.Memory n k h = cc
 
-pub tokens_memory : (bad : Fault) (n : ℕ) → bad ≡ fault.Memory → of_tokens bad n ≡ Memory
+pub tokens_memory : (bad : GrammarFault) (n : ℕ) → bad ≡ fault.Memory → of_tokens bad n ≡ Memory
 tokens_memory fault.Syntax n h = cc
 tokens_memory fault.Unsized n h = cc
 tokens_memory fault.Deep n h = cc

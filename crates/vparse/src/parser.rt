@@ -11,7 +11,7 @@ ghost use Rattle.vparse.specs.Spells.{Spells, IsUnspelledAt, IsDeepText, IsDeepT
 ghost use Rattle.vparse.specs.TextFaults.{of_cut, of_tokens, is_syntax};
 
 use crate::nesting::too_deep;
-use grammar::{Cursor, Fault, Rules, parse_source};
+use grammar::{Cursor, GrammarFault, Rules, parse_source};
 use model::tree::Module;
 use std::alloc::Global;
 use thiserror::Error;
@@ -21,7 +21,7 @@ use tokens::token::Token;
 /// Why tokens aren't read, and at which one, counted from 1.
 #[derive(Clone, Copy)]
 struct Misfit {
-    fault: Fault,
+    fault: GrammarFault,
     token: usize,
 }
 
@@ -41,12 +41,12 @@ fn read_module(alloc: Global, tokens: &[Token<'_>]) -> Result<Module, Misfit>
 
     // Where a module spells the tokens and nests no deeper than the limit, it is answered.
     ensures answered { (m : tree.Module) → IsModule m (map plain_token tokens.now) → ¬ (IsDeep (map plain_token tokens.now))
-        → MatchResult result (λ found. module_of found ≡ m) (λ e. e.fault ≡ Fault.Memory) }
+        → MatchResult result (λ found. module_of found ≡ m) (λ e. e.fault ≡ GrammarFault.Memory) }
 
     // When each error comes.
     ensures syntax { (m : tree.Module) → IsModule m (map plain_token tokens.now) → MatchResult result (λ _. Unit {0}) (λ e. is_syntax e.fault ≡ false) }
-    ensures deep { MatchResult result (λ _. Unit {0}) (λ e. e.fault ≡ Fault.Deep → IsDeep (map plain_token tokens.now)) }
-    ensures deep_first { MatchResult result (λ _. Unit {0}) (λ e. e.fault ≡ Fault.Deep → IsDeepAt (map plain_token tokens.now) e.token) }
+    ensures deep { MatchResult result (λ _. Unit {0}) (λ e. e.fault ≡ GrammarFault.Deep → IsDeep (map plain_token tokens.now)) }
+    ensures deep_first { MatchResult result (λ _. Unit {0}) (λ e. e.fault ≡ GrammarFault.Deep → IsDeepAt (map plain_token tokens.now) e.token) }
     ensures counted { IfErr result (λ e. 1 ≤ e.token) }
     ensures within { IfErr result (λ e. e.token ≤ length tokens.now + 1) }
 {
@@ -62,7 +62,7 @@ fn read_module(alloc: Global, tokens: &[Token<'_>]) -> Result<Module, Misfit>
         Ok(found) => {
             if let Some(left) = stop {
                 return Err(Misfit {
-                    fault: Fault::Deep,
+                    fault: GrammarFault::Deep,
                     token: number(tokens.len(), left),
                 });
             }
@@ -105,14 +105,14 @@ fn of_cut(fault: CutFault) -> ParseFault
     }
 }
 
-fn of_tokens(fault: Fault, token: usize) -> ParseFault
+fn of_tokens(fault: GrammarFault, token: usize) -> ParseFault
     ensures { result ≡ of_tokens fault token }
 {
     match fault {
-        Fault::Syntax => ParseFault::Syntax(token),
-        Fault::Unsized => ParseFault::Unsized(token),
-        Fault::Deep => ParseFault::Deep(token),
-        Fault::Memory => ParseFault::Memory,
+        GrammarFault::Syntax => ParseFault::Syntax(token),
+        GrammarFault::Unsized => ParseFault::Unsized(token),
+        GrammarFault::Deep => ParseFault::Deep(token),
+        GrammarFault::Memory => ParseFault::Memory,
     }
 }
 

@@ -8,7 +8,7 @@ use Rattle.model.specs.declared.entry.Entry.{Entry}
 use Rattle.model.specs.declared.end.Limits.{Limits}
 use Rattle.model.specs.Design.{Design}
 use Rattle.model.specs.Runs.{Effect, joined, step, run_from, AreTimely}
-use Rattle.orders.specs.SearchLaws.{IsOneNode, EndsHere, Visited, FollowsEachTransition}
+use Rattle.orders.specs.SearchLaws.{IsOneNode, EndsHere, IsAmongVisited, FollowsEachTransition}
 use Rattle.orders.proofs.AlikeStates.{alike_states-same}
 use Rattle.orders.proofs.TimelyRuns.{timely_before}
 use Rattle.orders.proofs.SearchLaws.{each_transition_covers}
@@ -28,7 +28,7 @@ after_is : (design : Design) (e f : Effect) (moves : List Entry) → run_from de
 after_is design e f moves at_f = ap (λ (o : Option Effect). option_map_or (λ x. x) o e) at_f
 
 -- where a first part of the way comes to one of the nodes, it comes to one node with a way
-meets : (design : Design) (limits : Limits) (journal part : List Entry) (ways : List (List Entry)) (e f : Effect) → ComesOf design limits journal e → LeadOn design limits journal ways → ComesOf design limits (journal ++ part) f → Visited (nodes_after design e ways) f
+meets : (design : Design) (limits : Limits) (journal part : List Entry) (ways : List (List Entry)) (e f : Effect) → ComesOf design limits journal e → LeadOn design limits journal ways → ComesOf design limits (journal ++ part) f → IsAmongVisited (nodes_after design e ways) f
     → Any (λ way. ComeToOneNode design limits (journal ++ part) (journal ++ way)) ways
 meets design limits journal part ways e f at_e lead at_f (v, there, node) =
     any_with (λ way. after_moves design e way ≡ v) (λ way. (w : Effect) × ComesOf design limits (journal ++ way) w) (λ way. ComeToOneNode design limits (journal ++ part) (journal ++ way)) ways
@@ -50,7 +50,7 @@ nodes_of_ways design e f g ways way (k, within, at) at_g node =
 
 -- the node to which a move leads by itself
 lands : (design : Design) (e w : Effect) (ways : List (List Entry)) (other : Entry) → Contains ways (other ∷ []) → run_from design e (other ∷ []) ≡ Some w
-    → (g : Effect) × (step design e.state other ≡ Some g) × Visited (nodes_after design e ways) (joined e g)
+    → (g : Effect) × (step design e.state other ≡ Some g) × IsAmongVisited (nodes_after design e ways) (joined e g)
 lands design e w ways other there goes =
     option_and_then_some (λ x. run_from design (joined e x) []) (step design e.state other) w goes
     (λ g at_g later.

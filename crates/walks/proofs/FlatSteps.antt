@@ -15,7 +15,7 @@ use Rattle.model.specs.States.{State, Event, Action, Evaluate, updated, without,
 use Rattle.model.specs.Runs.{Effect, silent, joined, action_in, action_effect, update_effect, unless_refused, refusal, turn_of, step, run_from, IsTimely, AreTimely}
 use Rattle.model.specs.Laws.{evaluates, evaluations_in}
 use Rattle.model.proofs.RunLaws.{run_from-append}
-use Rattle.orders.specs.Alike.{Alike, Rises, IsInOrder, updates_in}
+use Rattle.orders.specs.Alike.{Alike, EventsRise, IsInOrder, updates_in}
 use Rattle.orders.specs.Apart.{given, all_given, WakesNone, wakes_any}
 use Rattle.orders.specs.Inert.{AreUpdates, IsInert, settled}
 use Rattle.orders.specs.Flat.{IsFlat, HasOneMaker}
@@ -26,7 +26,7 @@ use Rattle.orders.proofs.StatesInOrder.{run_is_in_order, run_from_in_order}
 use Rattle.orders.proofs.Stores.{change_quiet}
 use Rattle.orders.proofs.InertUpdates.{goes_on}
 use Rattle.walks.specs.Sole.{StandsForAll}
-use Rattle.walks.specs.Walking.{turns_of, updates_of}
+use Rattle.walks.specs.Walking.{turns_of, update_entries_of}
 use Rattle.walks.proofs.OneWay.{flat_way_covers, settled_way_covers}
 use Rattle.walks.proofs.RunParts.{runs_on}
 
@@ -39,7 +39,7 @@ each_timely : (limits : Limits) (es : List Event) → AreTimely limits (map (λ 
 each_timely limits [] = All-nil (IsTimely limits)
 each_timely limits (e ∷ es) = All-cons (IsTimely limits) (Update e.0) (map (λ e. Update e.0) es) tt (each_timely limits es)
 
-pub updates_timely : (limits : Limits) (es : List Event) → AreTimely limits (updates_of es)
+pub updates_timely : (limits : Limits) (es : List Event) → AreTimely limits (update_entries_of es)
 updates_timely limits es = All-cons (IsTimely limits) ActivateNba (map (λ e. Update e.0) es) tt (each_timely limits es)
 
 -- how much an action counts among the evaluations of a process
@@ -63,14 +63,14 @@ effect_is None e f is = cc
 effect_is (Some reason) e f is = cc
 
 -- the first of the active updates is taken, and wakes nobody
-updated_first : (s : State) (n r to : ℕ) (v : Vector) (es : List Event) → Rises (n + 1) es to → wakes_any s.store (r, v) s.processes ≡ false
+updated_first : (s : State) (n r to : ℕ) (v : Vector) (es : List Event) → EventsRise (n + 1) es to → wakes_any s.store (r, v) s.processes ≡ false
     → updated (record s { active = (n, Action.Update r v) ∷ es }) n r v ≡ record s { active = es; store = given s.store (r, v) }
 updated_first s n r to v es rises quiet =
     let left : without n es ≡ es = absent n (n + 1) to es rises (omega arith) in
     let own : (n == n) ≡ true = eq-eqb n n refl in
     rw (own, left) (change_quiet (record s { active = es }) (r, v) quiet)
 
-first_taken : (design : Design) (s : State) (n r to : ℕ) (v : Vector) (es : List Event) (f : Effect) → Rises (n + 1) es to → wakes_any s.store (r, v) s.processes ≡ false → step design (record s { active = (n, Action.Update r v) ∷ es }) (Update n) ≡ Some f
+first_taken : (design : Design) (s : State) (n r to : ℕ) (v : Vector) (es : List Event) (f : Effect) → EventsRise (n + 1) es to → wakes_any s.store (r, v) s.processes ≡ false → step design (record s { active = (n, Action.Update r v) ∷ es }) (Update n) ≡ Some f
     → (f.lines ≡ []) × (f.state ≡ record s { active = es; store = given s.store (r, v) })
 first_taken design s n r to v es f rises quiet is =
     let t : State = record s { active = (n, Action.Update r v) ∷ es } in
@@ -81,7 +81,7 @@ first_taken design s n r to v es f rises quiet is =
     (ap (λ (k : Effect). k.lines) (sym same), ap (λ (k : Effect). k.state) (sym same) ∙ updated_first s n r to v es rises quiet)
 
 -- updates that are active are taken, and wake nobody
-settles : (design : Design) (to : ℕ) (es : List Event) (s : State) (e g : Effect) → e.state ≡ record s { active = es } → Rises 0 es to → AreUpdates es → WakesNone s.store (updates_in es) s.processes → run_from design e (map (λ x. Update x.0) es) ≡ Some g
+settles : (design : Design) (to : ℕ) (es : List Event) (s : State) (e g : Effect) → e.state ≡ record s { active = es } → EventsRise 0 es to → AreUpdates es → WakesNone s.store (updates_in es) s.processes → run_from design e (map (λ x. Update x.0) es) ≡ Some g
     → (g.lines ≡ e.lines) × (g.state ≡ record s { active = []; store = all_given s.store (updates_in es) })
 settles design to [] s e g state rises none quiet is =
     let same : g ≡ e = cc in
@@ -99,7 +99,7 @@ settles design to ((n, Action.Update r v) ∷ es) s e g state rises none quiet i
     less n r v es none p = omega (arith, none p)
 
 -- updates that wake nobody, once they became active and were taken
-settled_after : (design : Design) (s : State) (y : Effect) → IsInOrder s → IsInert s → run_from design (silent s) (updates_of s.nonblocking) ≡ Some y → (y.lines ≡ []) × (y.state ≡ settled s)
+settled_after : (design : Design) (s : State) (y : Effect) → IsInOrder s → IsInert s → run_from design (silent s) (update_entries_of s.nonblocking) ≡ Some y → (y.lines ≡ []) × (y.state ≡ settled s)
 settled_after design s y order still is =
     option_and_then_some (λ x. run_from design (joined (silent s) x) (map (λ e. Update e.0) s.nonblocking)) (step design s ActivateNba) y is
     (λ x at_x later.
@@ -138,13 +138,13 @@ turns_stand design limits s turn maker x flat one some is =
     }
 
 -- the turns and the updates behind them stand for all where these wake nobody
-pub settled_stands : (design : Design) (limits : Limits) (s : State) (turn : ℕ → turns.Turn) (x y : Effect) → IsFlat design s turn → s.active ≢ [] → run_from design (silent s) (turns_of s.active) ≡ Some x → IsInert x.state → run_from design (silent x.state) (updates_of x.state.nonblocking) ≡ Some y
-    → StandsForAll design limits s (turns_of s.active ++ updates_of x.state.nonblocking)
+pub settled_stands : (design : Design) (limits : Limits) (s : State) (turn : ℕ → turns.Turn) (x y : Effect) → IsFlat design s turn → s.active ≢ [] → run_from design (silent s) (turns_of s.active) ≡ Some x → IsInert x.state → run_from design (silent x.state) (update_entries_of x.state.nonblocking) ≡ Some y
+    → StandsForAll design limits s (turns_of s.active ++ update_entries_of x.state.nonblocking)
 settled_stands design limits s turn x y flat some is still is' =
     record {
       covers = λ run e at_e same.
           let ts = turns_of s.active in
-          let us = updates_of x.state.nonblocking in
+          let us = update_entries_of x.state.nonblocking in
           let at_f : run_from design e ts ≡ Some (joined e x) = runs_on design e x ts (ap (λ (t : State). run_from design (silent t) ts) same ∙ is) in
           let order : IsInOrder x.state = run_from_in_order design e (joined e x) ts (run_is_in_order design run e at_e.0) at_f in
           let (lines, state) = settled_after design x.state y order still is' in

@@ -19,8 +19,8 @@ use Rattle.design.specs.Compiled.{Compiled, design_of}
 use Rattle.regions.specs.StepLogs.{IsTaken}
 use Rattle.regions.specs.Machine.{MachineView, state_at}
 use Rattle.regions.proofs.Given.{permitted_where}
-use Rattle.flat.specs.declared.turned.Turned.{Turned}
-use Rattle.flat.specs.Turned.{turn_in, event_of, IsTurned}
+use Rattle.flat.specs.declared.evaluated_turn.EvaluatedTurn.{EvaluatedTurn}
+use Rattle.flat.specs.EvaluatedTurns.{turn_in, event_of, IsTurned}
 use Rattle.flat.specs.Tests.{ArePair, AreQuiet, IsQuietTurn}
 use Rattle.flat.proofs.Evaluated.{turn_is}
 use Rattle.walks.specs.Walking.{HasTaken, turns_of}
@@ -127,10 +127,10 @@ later_futures s n p t u v none apart due later =
 
 -- an evaluation behind another that was taken
 
-abbrev behind : Compiled → State → Turned → State
+abbrev behind : Compiled → State → EvaluatedTurn → State
 behind code s t = turned s t.number t.process (turn_in code t.log)
 
-later_turned : (code : Compiled) (s : State) (t u : Turned) → IsQuietTurn code s t → ArePair code s t u → IsTurned code s u → IsTurned code (behind code s t) u
+later_turned : (code : Compiled) (s : State) (t u : EvaluatedTurn) → IsQuietTurn code s t → ArePair code s t u → IsTurned code s u → IsTurned code (behind code s t) u
 later_turned code s t u quiet pair h =
     let differ : (t.number == u.number) ≡ false = numbers_differ s.active t.number u.number t.process u.process (t.number == u.number) refl pair.processes quiet.is_turned.action h.action in
     let active : (behind code s t).active ≡ without t.number s.active = ap (λ (k : State). k.active) (turned_kept s t.number t.process (turn_in code t.log) quiet.wakes) in
@@ -143,7 +143,7 @@ later_turned code s t u quiet pair h =
       declared = h.declared;
     }
 
-later_one : (code : Compiled) (s : State) (t u : Turned) → IsQuietTurn code s t → ArePair code s t u → IsQuietTurn code s u → IsQuietTurn code (behind code s t) u
+later_one : (code : Compiled) (s : State) (t u : EvaluatedTurn) → IsQuietTurn code s t → ArePair code s t u → IsQuietTurn code s u → IsQuietTurn code (behind code s t) u
 later_one code s t u quiet pair h =
     record {
       is_turned = later_turned code s t u quiet pair h.is_turned;
@@ -151,7 +151,7 @@ later_one code s t u quiet pair h =
       wakes = later_quiet s t.number t.process (turn_in code t.log) (turn_in code u.log) pair.apart.keeps_off pair.apart.other_keeps_off;
     }
 
-later_pair : (code : Compiled) (s : State) (t u v : Turned) → IsQuietTurn code s t → ArePair code s t u → ArePair code s t v → ArePair code s u v → ArePair code (behind code s t) u v
+later_pair : (code : Compiled) (s : State) (t u v : EvaluatedTurn) → IsQuietTurn code s t → ArePair code s t u → ArePair code s t v → ArePair code s u v → ArePair code (behind code s t) u v
 later_pair code s t u v quiet a b pair =
     record {
       processes = pair.processes;
@@ -160,7 +160,7 @@ later_pair code s t u v quiet a b pair =
     }
 
 -- all that are left
-later_all : (code : Compiled) (s : State) (t : Turned) (ts : List Turned) → AreQuiet code s (t ∷ ts) → AreQuiet code (behind code s t) ts
+later_all : (code : Compiled) (s : State) (t : EvaluatedTurn) (ts : List EvaluatedTurn) → AreQuiet code s (t ∷ ts) → AreQuiet code (behind code s t) ts
 later_all code s t ts quiet =
     let first : IsQuietTurn code s t = quiet.each 0 t (omega arith) in
     record {
@@ -171,15 +171,15 @@ later_all code s t ts quiet =
     }
 
 -- the step that takes an evaluation
-turned_step : (code : Compiled) (s : State) (t : Turned) → IsTurned code s t → step (design_of code) s (entries.Turn t.number) ≡ Some (turn_effect s t.number t.process (turn_in code t.log))
+turned_step : (code : Compiled) (s : State) (t : EvaluatedTurn) → IsTurned code s t → step (design_of code) s (entries.Turn t.number) ≡ Some (turn_effect s t.number t.process (turn_in code t.log))
 turned_step code s t h = turn_step (design_of code) s t.number t.process (turn_in code t.log) h.running h.action (turn_is code s t h)
 
 -- a turn that was evaluated has a step
-has_step : (code : Compiled) (s : State) (t : Turned) → IsTurned code s t → IsSome (step (design_of code) s (entries.Turn t.number))
+has_step : (code : Compiled) (s : State) (t : EvaluatedTurn) → IsTurned code s t → IsSome (step (design_of code) s (entries.Turn t.number))
 has_step code s t h = ap is_some (turned_step code s t h)
 
 -- and is permitted
-pub is_permitted : (code : Compiled) (s : State) (t : Turned) → IsTurned code s t → refusal s (entries.Turn t.number) ≡ None
+pub is_permitted : (code : Compiled) (s : State) (t : EvaluatedTurn) → IsTurned code s t → refusal s (entries.Turn t.number) ≡ None
 is_permitted code s t h = permitted_where s.finished (action_in s.active t.number) t.process h.running h.action
 
 no_step : (o : Option Effect) → IsSome o → o ≡ None → ⊥
@@ -187,24 +187,24 @@ no_step None some none = cc
 no_step (Some e) some none = cc
 
 -- that a machine didn't take it leaves it so
-pub never_stuck : (old new : MachineView) (t : Turned) → IsTurned old.code (state_at old) t → new ≡ record old { made = new.made } → step (design_of new.code) (state_at new) (entries.Turn t.number) ≡ None → ⊥
+pub never_stuck : (old new : MachineView) (t : EvaluatedTurn) → IsTurned old.code (state_at old) t → new ≡ record old { made = new.made } → step (design_of new.code) (state_at new) (entries.Turn t.number) ≡ None → ⊥
 never_stuck old new t h same stuck =
     let there : step (design_of old.code) (state_at old) (entries.Turn t.number) ≡ None = ap (λ (p : MachineView). step (design_of p.code) (state_at p) (entries.Turn t.number)) (sym same) ∙ stuck in
     no_step (step (design_of old.code) (state_at old) (entries.Turn t.number)) (has_step old.code (state_at old) t h) there
 
 -- the next of the turns that are left is as it was evaluated
-pub next_turned : (code : Compiled) (s : State) (ts : List Turned) (k : ℕ) (t : Turned) → k < length ts → t ≡ get_or ts k t → AreQuiet code s (drop k ts) → IsTurned code s t
+pub next_turned : (code : Compiled) (s : State) (ts : List EvaluatedTurn) (k : ℕ) (t : EvaluatedTurn) → k < length ts → t ≡ get_or ts k t → AreQuiet code s (drop k ts) → IsTurned code s t
 next_turned code s ts k t within is quiet =
-    let parts : drop k ts ≡ t ∷ drop (suc k) ts = drop-cons ts k t within ∙ ap (λ (u : Turned). u ∷ drop (suc k) ts) (sym is) in
+    let parts : drop k ts ≡ t ∷ drop (suc k) ts = drop-cons ts k t within ∙ ap (λ (u : EvaluatedTurn). u ∷ drop (suc k) ts) (sym is) in
     let quiet' : AreQuiet code s (t ∷ drop (suc k) ts) = subst (AreQuiet code s) parts quiet in
     (quiet'.each 0 t (omega arith)).is_turned
 
 -- the turns that are left are quiet where the machine stands that took the first of them
-pub left_quiet : (old new : MachineView) (ts : List Turned) (k : ℕ) (t : Turned) → k < length ts → t ≡ get_or ts k t → AreQuiet old.code (state_at old) (drop k ts) → IsTaken old.code (state_at old) old.lines (entries.Turn t.number) (state_at new) new.lines → new.code ≡ old.code
+pub left_quiet : (old new : MachineView) (ts : List EvaluatedTurn) (k : ℕ) (t : EvaluatedTurn) → k < length ts → t ≡ get_or ts k t → AreQuiet old.code (state_at old) (drop k ts) → IsTaken old.code (state_at old) old.lines (entries.Turn t.number) (state_at new) new.lines → new.code ≡ old.code
     → AreQuiet new.code (state_at new) (drop (k + 1) ts)
 left_quiet old new ts k t within is quiet taken code =
     let s : State = state_at old in
-    let parts : drop k ts ≡ t ∷ drop (suc k) ts = drop-cons ts k t within ∙ ap (λ (u : Turned). u ∷ drop (suc k) ts) (sym is) in
+    let parts : drop k ts ≡ t ∷ drop (suc k) ts = drop-cons ts k t within ∙ ap (λ (u : EvaluatedTurn). u ∷ drop (suc k) ts) (sym is) in
     let quiet' : AreQuiet old.code s (t ∷ drop (suc k) ts) = subst (AreQuiet old.code s) parts quiet in
     let stepped : step (design_of old.code) s (entries.Turn t.number) ≡ Some (turn_effect s t.number t.process (turn_in old.code t.log)) =
     turned_step old.code s t (quiet'.each 0 t (omega arith)).is_turned in
@@ -217,9 +217,9 @@ left_quiet old new ts k t within is quiet taken code =
     (subst (λ (f : State). AreQuiet old.code f (drop (suc k) ts)) state (later_all old.code s t (drop (suc k) ts) quiet')))
 
 -- there is room for the next of the turns
-pub few_turns : (old m : MachineView) (ts : List Turned) (k most : ℕ) → k < length ts → old.core.entries + length ts ≤ most → HasTaken old (turns_of (map event_of (take k ts))) m → m.core.entries < most
+pub few_turns : (old m : MachineView) (ts : List EvaluatedTurn) (k most : ℕ) → k < length ts → old.core.entries + length ts ≤ most → HasTaken old (turns_of (map event_of (take k ts))) m → m.core.entries < most
 few_turns old m ts k most within few taken = omega (arith, taken.count, as_many (map event_of (take k ts)), length-map (take k ts) event_of, length-take k ts)
 
 -- as many entries as turns
-pub turns_within : (old new : MachineView) (ts : List Turned) (most : ℕ) → old.core.entries + length ts ≤ most → HasTaken old (turns_of (map event_of ts)) new → new.core.entries ≤ most
+pub turns_within : (old new : MachineView) (ts : List EvaluatedTurn) (most : ℕ) → old.core.entries + length ts ≤ most → HasTaken old (turns_of (map event_of ts)) new → new.core.entries ≤ most
 turns_within old new ts most few taken = omega (arith, taken.count, as_many (map event_of ts), length-map ts event_of)

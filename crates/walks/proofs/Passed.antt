@@ -15,11 +15,11 @@ use Rattle.combinational.specs.Found.{rank_in}
 use Rattle.regions.specs.Queue.{Core}
 use Rattle.regions.specs.Machine.{MachineView, state_at}
 use Rattle.settling.specs.Settling.{block_at, IsPhaseOf}
-use Rattle.flat.specs.declared.turned.Turned.{Turned}
-use Rattle.flat.specs.Turned.{event_of, turns_in, AreTurned}
+use Rattle.flat.specs.declared.evaluated_turn.EvaluatedTurn.{EvaluatedTurn}
+use Rattle.flat.specs.EvaluatedTurns.{event_of, turns_in, AreTurned}
 use Rattle.walks.specs.Sole.{StandsForAll}
 use Rattle.walks.specs.declared.trail.Trail.{Trail}
-use Rattle.walks.specs.Trails.{HasTried, IsMarked}
+use Rattle.walks.specs.Trails.{HasTried, HasMark}
 use Rattle.walks.specs.Walking.{HasTaken, IsSoleWay, turns_of}
 use Rattle.walks.specs.PhasePassing.{StandsInPhase, HasAdded, TakesEvents, HasPassed, HasPassedBehind, HasGoneBehind}
 use Rattle.walks.proofs.PhaseWays.{events_timely, behind_timely, phase_stands, flat_phase_stands}
@@ -82,7 +82,7 @@ phase_there code other s t network members same state phase =
 way_behind : (turns moves entries all : List Entry) → turns ≡ moves → (moves ++ ActivateNba ∷ []) ++ entries ≡ all → turns ++ ActivateNba ∷ entries ≡ all
 way_behind turns moves entries all same is = ap (λ (l : List Entry). l ++ ActivateNba ∷ entries) same ∙ (sym (append_assoc moves (ActivateNba ∷ []) entries) ∙ is)
 
-sole_behind : (m mid new : MachineView) (turns : List Turned) (moves after : List Entry) → moves ≡ turns_of (map event_of turns) → HasTaken m moves mid → mid.code ≡ m.code → HasPassedBehind mid new moves after → AreTurned m.code (state_at m) turns
+sole_behind : (m mid new : MachineView) (turns : List EvaluatedTurn) (moves after : List Entry) → moves ≡ turns_of (map event_of turns) → HasTaken m moves mid → mid.code ≡ m.code → HasPassedBehind mid new moves after → AreTurned m.code (state_at m) turns
     → IsFlat (design_of m.code) (state_at m) (turns_in (design_of m.code) (state_at m)) → turns ≢ [] → IsSoleWay m new after
 sole_behind m mid new turns moves after moves_are first code behind are flat some =
     let design = design_of m.code in
@@ -114,20 +114,20 @@ sole_behind m mid new turns moves after moves_are first code behind are flat som
     }
 
 -- either way behind the turns of a flat state
-pub sole_gone : (m copy mid new : MachineView) (turns : List Turned) (moves after : List Entry) → copy ≡ m → moves ≡ turns_of (map event_of turns) → HasTaken copy moves mid → mid.code ≡ copy.code → HasGoneBehind mid new moves after → AreTurned m.code (state_at m) turns
+pub sole_gone : (m copy mid new : MachineView) (turns : List EvaluatedTurn) (moves after : List Entry) → copy ≡ m → moves ≡ turns_of (map event_of turns) → HasTaken copy moves mid → mid.code ≡ copy.code → HasGoneBehind mid new moves after → AreTurned m.code (state_at m) turns
     → IsFlat (design_of m.code) (state_at m) (turns_in (design_of m.code) (state_at m)) → turns ≢ [] → IsSoleWay m new after
 sole_gone m copy mid new turns moves after same moves_are taken code (inl settled) are flat some = sole_settled m copy mid new turns moves after same moves_are taken code settled are flat some
 sole_gone m copy mid new turns moves after same moves_are taken code (inr behind) are flat some =
     sole_behind m mid new turns moves after moves_are (subst (λ (p : MachineView). HasTaken p moves mid) same taken) (code ∙ ap (λ (p : MachineView). p.code) same) behind are flat some
 
 -- the way through a phase was tried
-pub tried_phase : (trail : Trail) (m n : MachineView) (queue : Core) (all : Bool) (none way entries : List Entry) → IsMarked trail m → n.code ≡ m.code → none ≡ [] → StandsInPhase m → queue ≡ m.core → has_any queue.active ≡ true → (all ≡ true → HasPassed m n none entries) → way ≡ entries
+pub tried_phase : (trail : Trail) (m n : MachineView) (queue : Core) (all : Bool) (none way entries : List Entry) → HasMark trail m → n.code ≡ m.code → none ≡ [] → StandsInPhase m → queue ≡ m.core → has_any queue.active ≡ true → (all ≡ true → HasPassed m n none entries) → way ≡ entries
     → HasTried trail m n all way
 tried_phase trail m n queue all none way entries marked code none_is stands same some passed way_is =
     tried_way trail m n all way entries marked code (λ on. sole_phase m m n none entries refl none_is stands (some_active m.core queue same some) (passed on)) way_is
 
 -- the turns of a flat state with what comes behind them were tried
-pub tried_turns : (trail : Trail) (m mid n : MachineView) (turns : List Turned) (all : Bool) (moves after way : List Entry) → IsMarked trail m → moves ≡ turns_of (map event_of turns) → HasTaken m (turns_of (map event_of turns)) mid → mid.code ≡ m.code → n.code ≡ mid.code
+pub tried_turns : (trail : Trail) (m mid n : MachineView) (turns : List EvaluatedTurn) (all : Bool) (moves after way : List Entry) → HasMark trail m → moves ≡ turns_of (map event_of turns) → HasTaken m (turns_of (map event_of turns)) mid → mid.code ≡ m.code → n.code ≡ mid.code
     → (all ≡ true → HasGoneBehind mid n moves after) → way ≡ after → AreTurned m.code (state_at m) turns → IsFlat (design_of m.code) (state_at m) (turns_in (design_of m.code) (state_at m)) → turns ≢ [] → HasTried trail m n all way
 tried_turns trail m mid n turns all moves after way marked moves_are taken code code' behind way_is are flat some =
     tried_way trail m n all way after marked (code' ∙ code)

@@ -15,10 +15,10 @@ use Rattle.model.specs.Runs.{Effect, HasLongTurn, silent, joined, turn_of, run_f
 use Rattle.model.specs.Laws.{evaluations_in}
 use Rattle.model.proofs.RunLaws.{run_from-append}
 use Rattle.orders.specs.Flat.{IsFlat}
-use Rattle.orders.specs.SearchLaws.{EndsHere, Visited}
+use Rattle.orders.specs.SearchLaws.{EndsHere, IsAmongVisited}
 use Rattle.orders.proofs.AlikeStates.{alike_states-same}
 use Rattle.orders.proofs.InertUpdates.{goes_on}
-use Rattle.phases.specs.Phase.{Block, IsPending, HasSettled, IsPhase, TakesEvent, EndsPhase}
+use Rattle.phases.specs.Phase.{Block, IsTurnPending, HasSettled, IsPhase, TakesEvent, EndsPhase}
 use Rattle.phases.proofs.PhaseRuns.{phase_covers}
 use Rattle.phases.proofs.FlatPhases.{flat_phase_covers}
 use Rattle.walks.specs.JournalsInTime.{ComesOf}
@@ -50,7 +50,7 @@ events_timely limits (entry ∷ entries) all =
 covered : (design : Design) (limits : Limits) (journal way : List Entry) (e f : Effect) (members : List ℕ) (block : ℕ → Block) (rank : ℕ → ℕ) → ComesOf design limits journal e → IsPhase design e.state members block rank → way ≢ [] → EndsPhase design e way f
     → CoverRuns design limits journal (way ∷ [])
 covered design limits journal way e f members block rank at_e phase some ends =
-    let there : Visited (nodes_after design e (way ∷ [])) f = nodes_of_ways design e f f (way ∷ []) way (0, omega arith, refl) ends.1 (refl, alike_states-same f.state) in
+    let there : IsAmongVisited (nodes_after design e (way ∷ [])) f = nodes_of_ways design e f f (way ∷ []) way (0, omega arith, refl) ends.1 (refl, alike_states-same f.state) in
     one_covers design limits journal way e f at_e ends.1 (events_timely limits way ends.0)
     (phase_covers design limits (nodes_after design e (way ∷ [])) members block rank e f way (journal, at_e.0) phase some ends there)
 
@@ -69,7 +69,7 @@ no_long design s members block rank p phase (n, at, long) = short (phase.stands 
     member : contains members p ≡ true
     member = phase.inside p active
 
-    short : IsPending s p (block p) ⊎ HasSettled design s p (block p) → ⊥
+    short : IsTurnPending s p (block p) ⊎ HasSettled design s p (block p) → ⊥
     short (inl (one, continuation)) =
         let (t, at_t, computes) = (phase.blocks p member).turns s.store s.time in
         let is : turn_of design s p ≡ Some t = ap (λ (x : Continuation). short_turn design p x.remainder s.store s.time) continuation ∙ at_t in
@@ -117,7 +117,7 @@ flat_covered design limits journal entries e c d f turn members block rank at_e 
     let ts = turns_of e.state.active in
     let way = ts ++ ActivateNba ∷ entries in
     let at_f : run_from design e way ≡ Some f = whole design e c d f ts entries at_c at_d ends.1 in
-    let there : Visited (nodes_after design e (way ∷ [])) f = nodes_of_ways design e f f (way ∷ []) way (0, omega arith, refl) at_f (refl, alike_states-same f.state) in
+    let there : IsAmongVisited (nodes_after design e (way ∷ [])) f = nodes_of_ways design e f f (way ∷ []) way (0, omega arith, refl) at_f (refl, alike_states-same f.state) in
     one_covers design limits journal way e f at_e at_f (behind_timely limits e.state.active entries ends.0)
     (flat_phase_covers design limits (nodes_after design e (way ∷ [])) members block rank turn e c d f ts entries (journal, at_e.0) flat (as_many e.state.active) at_c at_d phase ends there)
 

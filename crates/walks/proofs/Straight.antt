@@ -13,7 +13,7 @@ use Rattle.model.specs.Runs.{Effect, joined, refused_where, entry_refusal, refus
 use Rattle.orders.specs.SearchLaws.{EndsHere}
 use Rattle.orders.proofs.AlikeStates.{alike_states-same}
 use Rattle.orders.proofs.SearchLaws.{then_some}
-use Rattle.seeded.proofs.Halts.{only_long_turns_end}
+use Rattle.runs.proofs.Halts.{only_long_turns_end}
 use Rattle.walks.specs.JournalsInTime.{ComesOf, ComeToOneNode}
 use Rattle.walks.specs.OnlyWay.{IsOnlyWay, OnlyWayCovers}
 use Rattle.walks.proofs.Serving.{comes_on, came_on}

@@ -13,7 +13,7 @@ use Rattle.regions.specs.Machine.{MachineView, state_at, most_entries}
 use Rattle.walks.specs.Walking.{HasCounted, HasTaken, HasWalked, IsSoleWay}
 use Rattle.walks.specs.Sole.{StandsForAll}
 use Rattle.walks.specs.declared.trail.Trail.{Trail}
-use Rattle.walks.specs.Trails.{HasTried, IsMarked, LeadsFrom, StandsAgain}
+use Rattle.walks.specs.Trails.{HasTried, HasMark, LeadsFrom, StandsAgain}
 use Rattle.walks.proofs.Walks.{counts_on, taken_both, taken_none, walked_ahead}
 
 -- a machine that stands again where it stood took no entry
@@ -131,5 +131,5 @@ pub few_before : (old m : MachineView) (entries : List Entry) (at : ℕ) → at 
 few_before old m entries at within few taken = omega (arith, taken.count, length-take at entries)
 
 -- a way that a machine tried, where its entries are known
-pub tried_way : (trail : Trail) (m n : MachineView) (all : Bool) (way entries : List Entry) → IsMarked trail m → n.code ≡ m.code → (all ≡ true → IsSoleWay m n entries) → way ≡ entries → HasTried trail m n all way
+pub tried_way : (trail : Trail) (m n : MachineView) (all : Bool) (way entries : List Entry) → HasMark trail m → n.code ≡ m.code → (all ≡ true → IsSoleWay m n entries) → way ≡ entries → HasTried trail m n all way
 tried_way trail m n all way entries marked code sole way_is = record { marked = marked; code = code; sole = λ on. subst (IsSoleWay m n) (sym way_is) (sole on) }

@@ -19,11 +19,11 @@ use Rattle.regions.specs.declared.machine.TakeFault.TheVariants as faults
 use Rattle.regions.specs.Machine.{MachineView, state_at, IsNotTaken}
 use Rattle.regions.specs.declared.queue.Update.{Update}
 use Rattle.regions.specs.Queue.{update_event}
-use Rattle.flat.specs.declared.turned.Turned.{Turned}
-use Rattle.flat.specs.Turned.{event_of}
+use Rattle.flat.specs.declared.evaluated_turn.EvaluatedTurn.{EvaluatedTurn}
+use Rattle.flat.specs.EvaluatedTurns.{event_of}
 use Rattle.walks.specs.OnlyWay.{IsOnlyWay}
 use Rattle.walks.specs.Sole.{StandsForAll}
-use Rattle.walks.specs.Walking.{IsOnlyEntry, HasCounted, HasTaken, HasWalked, IsSoleWay, turns_of, updates_of}
+use Rattle.walks.specs.Walking.{IsOnlyEntry, HasCounted, HasTaken, HasWalked, IsSoleWay, turns_of, update_entries_of}
 use Rattle.walks.proofs.RunParts.{runs_on}
 use Rattle.walks.proofs.Straight.{no_end, only_way_covers}
 use Rattle.walks.proofs.SoleWays.{sole_ways_go_on}
@@ -143,17 +143,17 @@ pub prefix_more : {X : Type 0} (xs : List X) (i : ℕ) (x : X) → i < length xs
 prefix_more xs i x within is = take_more xs i x within ∙ ap (λ y. take i xs ++ y ∷ []) (sym is)
 
 -- the entries of one turn more, and of one update more
-pub turns_more : (ts : List Turned) (at : ℕ) (t : Turned) (es more : List Entry) → at < length ts → t ≡ get_or ts at t → es ≡ turns_of (map event_of (take at ts)) → more ≡ es ++ Turn t.number ∷ [] → more ≡ turns_of (map event_of (take (at + 1) ts))
+pub turns_more : (ts : List EvaluatedTurn) (at : ℕ) (t : EvaluatedTurn) (es more : List Entry) → at < length ts → t ≡ get_or ts at t → es ≡ turns_of (map event_of (take at ts)) → more ≡ es ++ Turn t.number ∷ [] → more ≡ turns_of (map event_of (take (at + 1) ts))
 turns_more ts at t es more within is before longer =
     let both : turns_of (map event_of (take at ts ++ t ∷ [])) ≡ turns_of (map event_of (take at ts)) ++ Turn t.number ∷ [] =
     ap turns_of (map-append event_of (take at ts) (t ∷ [])) ∙ map-append (λ (e : Event). Turn e.0) (map event_of (take at ts)) (map event_of (t ∷ [])) in
-    longer ∙ (ap (λ (l : List Entry). l ++ Turn t.number ∷ []) before ∙ sym (ap (λ (l : List Turned). turns_of (map event_of l)) (prefix_more ts at t within is) ∙ both))
+    longer ∙ (ap (λ (l : List Entry). l ++ Turn t.number ∷ []) before ∙ sym (ap (λ (l : List EvaluatedTurn). turns_of (map event_of l)) (prefix_more ts at t within is) ∙ both))
 
-pub updates_more : (us : List Update) (at : ℕ) (u : Update) (es more : List Entry) → at < length us → u ≡ get_or us at u → es ≡ updates_of (map update_event (take at us)) → more ≡ es ++ Entry.Update u.number ∷ [] → more ≡ updates_of (map update_event (take (at + 1) us))
+pub updates_more : (us : List Update) (at : ℕ) (u : Update) (es more : List Entry) → at < length us → u ≡ get_or us at u → es ≡ update_entries_of (map update_event (take at us)) → more ≡ es ++ Entry.Update u.number ∷ [] → more ≡ update_entries_of (map update_event (take (at + 1) us))
 updates_more us at u es more within is before longer =
-    let both : updates_of (map update_event (take at us ++ u ∷ [])) ≡ updates_of (map update_event (take at us)) ++ Entry.Update u.number ∷ [] =
-    ap updates_of (map-append update_event (take at us) (u ∷ [])) ∙ ap (λ (l : List Entry). ActivateNba ∷ l) (map-append (λ (e : Event). Entry.Update e.0) (map update_event (take at us)) (map update_event (u ∷ []))) in
-    longer ∙ (ap (λ (l : List Entry). l ++ Entry.Update u.number ∷ []) before ∙ sym (ap (λ (l : List Update). updates_of (map update_event l)) (prefix_more us at u within is) ∙ both))
+    let both : update_entries_of (map update_event (take at us ++ u ∷ [])) ≡ update_entries_of (map update_event (take at us)) ++ Entry.Update u.number ∷ [] =
+    ap update_entries_of (map-append update_event (take at us) (u ∷ [])) ∙ ap (λ (l : List Entry). ActivateNba ∷ l) (map-append (λ (e : Event). Entry.Update e.0) (map update_event (take at us)) (map update_event (u ∷ []))) in
+    longer ∙ (ap (λ (l : List Entry). l ++ Entry.Update u.number ∷ []) before ∙ sym (ap (λ (l : List Update). update_entries_of (map update_event l)) (prefix_more us at u within is) ∙ both))
 
 -- why an entry wasn't taken stays so where only what entries made has changed
 still_not_taken : (old : MachineView) (made : List MadeEvent) (entry : Entry) (fault : TakeFault) → IsNotTaken old entry fault → IsNotTaken (record old { made = made }) entry fault

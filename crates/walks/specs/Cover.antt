@@ -8,7 +8,7 @@ use Rattle.model.specs.declared.end.End.{End}
 use Rattle.model.specs.Design.{Design}
 use Rattle.model.specs.Runs.{Effect, refusal, step, run_from, IsTimely}
 use Rattle.orders.specs.Alike.{transition_of}
-use Rattle.orders.specs.SearchLaws.{IsOneNode, EndsHere, Visited, Covers}
+use Rattle.orders.specs.SearchLaws.{IsOneNode, EndsHere, IsAmongVisited, Covers}
 use Rattle.walks.specs.JournalsInTime.{ComesOf, MayEnd, ComeToOneNode}
 
 -- what comes of an effect and further entries, and the effect itself where they aren't permitted
@@ -59,7 +59,7 @@ EndsAreTheStates =
 abbrev pub NodesOfWays : Type 0
 NodesOfWays =
     (design : Design) (e f g : Effect) (ways : List (List Entry)) (way : List Entry) → Contains ways way
-    → run_from design e way ≡ Some g → IsOneNode f g → Visited (nodes_after design e ways) f
+    → run_from design e way ≡ Some g → IsOneNode f g → IsAmongVisited (nodes_after design e ways) f
 
 -- where each entry that is permitted, and takes a step in time, is a way by itself, each transition is followed
 abbrev pub PermittedAreFollowed : Type 0

@@ -7,7 +7,7 @@ use Rattle.phases.specs.Phase.{TakesEvent}
 use Rattle.combinational.specs.declared.network.Network.{Network}
 use Rattle.regions.specs.Machine.{MachineView, state_at}
 use Rattle.settling.specs.Settling.{IsPhaseOf}
-use Rattle.walks.specs.Walking.{HasTaken, HasSettled}
+use Rattle.walks.specs.Walking.{HasTaken, HasTakenUpdates}
 
 -- where a machine stands is a phase of some combinational processes
 pub record StandsInPhase (m : MachineView) : Type 0 where
@@ -43,4 +43,4 @@ pub record HasPassedBehind (old new : MachineView) (before after : List Entry) :
 
 -- a machine took the nonblocking updates, which woke nobody, or went through the phase that begins with them
 abbrev pub HasGoneBehind : MachineView → MachineView → List Entry → List Entry → Type 0
-HasGoneBehind old new before after = HasSettled old new before after ⊎ HasPassedBehind old new before after
+HasGoneBehind old new before after = HasTakenUpdates old new before after ⊎ HasPassedBehind old new before after

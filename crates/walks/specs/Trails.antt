@@ -16,7 +16,7 @@ abbrev pub IsTrail : Trail → MachineView → Type 0
 IsTrail trail m = IfSome trail.mark (λ mark. LeadsFrom mark.value trail.marked trail.moves.items m)
 
 -- There is a mark from which the trail leads to where a machine stands, which took no more entries than it takes.
-pub record IsMarked (trail : Trail) (m : MachineView) : Type 0 where
+pub record HasMark (trail : Trail) (m : MachineView) : Type 0 where
   pub some : IsSome trail.mark
   pub leads : IsTrail trail m
   pub few : m.core.entries ≤ most_entries
@@ -30,6 +30,6 @@ pub record StandsAgain (old new : MachineView) : Type 0 where
 
 -- From where a trail led, a machine tried a way, which stands for all where the answer says so.
 pub record HasTried (trail : Trail) (old new : MachineView) (all : Bool) (way : List Entry) : Type 0 where
-  pub marked : IsMarked trail old
+  pub marked : HasMark trail old
   pub code : new.code ≡ old.code
   pub sole : all ≡ true → IsSoleWay old new way

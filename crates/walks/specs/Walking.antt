@@ -50,14 +50,14 @@ abbrev pub turns_of : List Event → List Entry
 turns_of events = map (λ e. Turn e.0) events
 
 -- the entries that take nonblocking updates: these become active, and each is taken
-abbrev pub updates_of : List Event → List Entry
-updates_of events = ActivateNba ∷ map (λ e. Update e.0) events
+abbrev pub update_entries_of : List Event → List Entry
+update_entries_of events = ActivateNba ∷ map (λ e. Update e.0) events
 
 -- Updates that wake nobody were taken: these are next, their entries stand behind those before them, and the machine took them.
-pub record HasSettled (old new : MachineView) (before after : List Entry) : Type 0 where
+pub record HasTakenUpdates (old new : MachineView) (before after : List Entry) : Type 0 where
   pub inert : IsInert (state_at old)
-  pub moves : after ≡ before ++ updates_of old.core.nonblocking
-  pub taken : HasTaken old (updates_of old.core.nonblocking) new
+  pub moves : after ≡ before ++ update_entries_of old.core.nonblocking
+  pub taken : HasTaken old (update_entries_of old.core.nonblocking) new
 
 -- A machine took these entries, and within any limits they are in time and stand for all.
 pub record IsSoleWay (old new : MachineView) (moves : List Entry) : Type 0 where

@@ -13,7 +13,7 @@ use combinational::Network;
 use model::end::Limits;
 use model::entry::Entry;
 use regions::{Evaluation, Machine};
-use settling::{Networked, phase_of};
+use settling::{AnalyzedDesign, phase_of};
 use std::alloc::{AllocError, Global};
 use std::collections::VecDeque;
 
@@ -88,13 +88,13 @@ fn have_logic(network: &Network, evaluations: &VecDeque<Evaluation>) -> bool {
 // Whether the state of a machine is a phase.
 fn is_phase(
     alloc: Global,
-    networked: &Networked<'_>,
+    analyzed_design: &AnalyzedDesign<'_>,
     machine: &Machine<'_>,
 ) -> Result<bool, AllocError>
-    requires code { machine.now.code ≡ networked.now }
+    requires code { machine.now.code ≡ analyzed_design.now }
     ensures { IfOk result (λ is. is ≡ true → StandsInPhase machine.now) }
 {
-    let network = networked.network();
+    let network = analyzed_design.network();
     if !have_logic(network, machine.state().active().1) {
         return Ok(false);
     }
@@ -105,18 +105,18 @@ fn is_phase(
 /// Activates the nonblocking updates, and takes them and what they cause, where that is a phase. Answers whether it did.
 pub(crate) fn take_phase(
     alloc: Global,
-    networked: &Networked<'_>,
+    analyzed_design: &AnalyzedDesign<'_>,
     machine: &mut Machine<'_>,
     moves: &mut Vec<Entry>,
 ) -> Result<bool, AllocError>
-    requires code { machine.old.code ≡ networked.now }
+    requires code { machine.old.code ≡ analyzed_design.now }
     ensures passed { IfOk result (λ all. all ≡ true → HasPassedBehind machine.old machine.new moves.old.items moves.new.items) }
     ensures code { machine.new.code ≡ machine.old.code }
 {
     if !take_one(machine, moves, Entry::ActivateNba)? {
         return Ok(false);
     }
-    if !is_phase(alloc, networked, machine)? {
+    if !is_phase(alloc, analyzed_design, machine)? {
         return Ok(false);
     }
     take_active(machine, moves)
@@ -125,12 +125,12 @@ pub(crate) fn take_phase(
 /// Goes on through a phase in which something is active, to its end, where the journal has room for it. Answers whether it did.
 pub(crate) fn phase_way<'d>(
     alloc: Global,
-    networked: &Networked<'_>,
+    analyzed_design: &AnalyzedDesign<'_>,
     limits: Limits,
     machine: &mut Machine<'d>,
     trail: &mut Trail<'d>,
 ) -> Result<bool, AllocError>
-    requires code { machine.old.code ≡ networked.now }
+    requires code { machine.old.code ≡ analyzed_design.now }
     requires leads { IsTrail trail.old machine.old }
     ensures walked { OnOk result ((s : State) → HasWalked limits s machine.old trail.old.moves.items → HasWalked limits s machine.new trail.new.moves.items) }
     ensures counted { OnOk result ((begun : ℕ) → HasCounted limits begun machine.old trail.old.moves.items → HasCounted limits begun machine.new trail.new.moves.items) }
@@ -140,7 +140,7 @@ pub(crate) fn phase_way<'d>(
     if !machine.state().is_active() {
         return Ok(false);
     }
-    if !is_phase(alloc, networked, machine)? {
+    if !is_phase(alloc, analyzed_design, machine)? {
         return Ok(false);
     }
     let mut way = Vec::new(alloc);

@@ -5,20 +5,20 @@ ghost use Rattle.model.specs.States.{State};
 ghost use Rattle.regions.specs.Machine.{most_entries, state_at};
 ghost use Rattle.regions.specs.Queue.{update_event};
 ghost use Rattle.regions.specs.StepLogs.{IsTaken};
-ghost use Rattle.flat.specs.Turned.{event_of, AreTurned, IsTurned};
+ghost use Rattle.flat.specs.EvaluatedTurns.{event_of, AreTurned, IsTurned};
 ghost use Rattle.flat.specs.Tests.{AreQuiet, IsFlatState, IsOneMaker};
 ghost use Rattle.walks.specs.PhasePassing.{HasGoneBehind};
 ghost use Rattle.walks.specs.Trails.{IsTrail};
-ghost use Rattle.walks.specs.Walking.{HasCounted, HasTaken, HasWalked, turns_of, updates_of};
+ghost use Rattle.walks.specs.Walking.{HasCounted, HasTaken, HasWalked, turns_of, update_entries_of};
 
 use crate::phase::take_phase;
 use crate::trail::Trail;
 use crate::walk::tell_long;
-use flat::{Logs, Turned, flat_turns, is_inert, one_maker};
+use flat::{EvaluatedTurn, Logs, flat_turns, is_inert, one_maker};
 use model::end::Limits;
 use model::entry::Entry;
 use regions::{Machine, TakeFault, Update};
-use settling::Networked;
+use settling::AnalyzedDesign;
 use std::alloc::{AllocError, Global};
 use std::collections::VecDeque;
 
@@ -39,7 +39,7 @@ pub(crate) fn take_all(machine: &mut Machine<'_>, entries: &[Entry]) -> Result<b
 }
 
 // Takes a turn that was evaluated where a machine stands.
-fn take_evaluated(machine: &mut Machine<'_>, turned: &Turned) -> Result<(), AllocError>
+fn take_evaluated(machine: &mut Machine<'_>, turned: &EvaluatedTurn) -> Result<(), AllocError>
     requires turned { IsTurned machine.old.code (state_at machine.old) turned.now }
     requires few { machine.old.core.entries < most_entries }
     ensures taken { IfOk result (λ done. IsTaken machine.old.code (state_at machine.old) machine.old.lines (Turn turned.now.number) (state_at machine.new) machine.new.lines) }
@@ -56,7 +56,7 @@ fn take_evaluated(machine: &mut Machine<'_>, turned: &Turned) -> Result<(), Allo
 }
 
 // Takes the turns of a flat state by their logs. Where one was taken, the others are as they were evaluated.
-fn take_turns(machine: &mut Machine<'_>, turns: &[Turned]) -> Result<(), AllocError>
+fn take_turns(machine: &mut Machine<'_>, turns: &[EvaluatedTurn]) -> Result<(), AllocError>
     requires quiet { AreQuiet machine.old.code (state_at machine.old) turns.now }
     requires few { machine.old.core.entries + length turns.now ≤ most_entries }
     ensures taken { IfOk result (λ done. HasTaken machine.old (turns_of (map event_of turns.now)) machine.new) }
@@ -69,7 +69,7 @@ fn take_turns(machine: &mut Machine<'_>, turns: &[Turned]) -> Result<(), AllocEr
 }
 
 // The entries that take these evaluations.
-fn turn_entries(alloc: Global, turns: &[Turned]) -> Result<Vec<Entry>, AllocError>
+fn turn_entries(alloc: Global, turns: &[EvaluatedTurn]) -> Result<Vec<Entry>, AllocError>
     ensures { IfOk result (λ entries. entries.items ≡ turns_of (map event_of turns.now)) }
 {
     let mut entries = Vec::with_capacity(alloc, turns.len())?;
@@ -81,7 +81,7 @@ fn turn_entries(alloc: Global, turns: &[Turned]) -> Result<Vec<Entry>, AllocErro
 
 // The entries that activate these nonblocking updates and take them.
 fn update_entries(alloc: Global, updates: &VecDeque<Update>) -> Result<Vec<Entry>, AllocError>
-    ensures { IfOk result (λ entries. entries.items ≡ updates_of (map update_event updates.now.items)) }
+    ensures { IfOk result (λ entries. entries.items ≡ update_entries_of (map update_event updates.now.items)) }
 {
     let mut entries = Vec::new(alloc);
     entries.push(Entry::ActivateNba)?;
@@ -97,15 +97,15 @@ fn update_entries(alloc: Global, updates: &VecDeque<Update>) -> Result<Vec<Entry
 fn take_behind(
     alloc: Global,
     machine: &mut Machine<'_>,
-    networked: &Networked<'_>,
+    analyzed_design: &AnalyzedDesign<'_>,
     moves: &mut Vec<Entry>,
 ) -> Result<bool, AllocError>
-    requires code { machine.old.code ≡ networked.now }
+    requires code { machine.old.code ≡ analyzed_design.now }
     ensures code { machine.new.code ≡ machine.old.code }
     ensures behind { IfOk result (λ all. all ≡ true → HasGoneBehind machine.old machine.new moves.old.items moves.new.items) }
 {
     if !is_inert(alloc, machine)? {
-        return take_phase(alloc, networked, machine, moves);
+        return take_phase(alloc, analyzed_design, machine, moves);
     }
     let updates = update_entries(alloc, machine.state().nonblocking())?;
     moves.extend_from_slice(&updates)?;
@@ -113,7 +113,7 @@ fn take_behind(
 }
 
 // Whether no more than one of the turns of a flat state makes nonblocking updates of now.
-fn has_one_maker(machine: &Machine<'_>, turns: &[Turned]) -> bool
+fn has_one_maker(machine: &Machine<'_>, turns: &[EvaluatedTurn]) -> bool
     requires turns { AreTurned machine.now.code (state_at machine.now) turns.now }
     ensures { result ≡ true → (maker : ℕ) × IsOneMaker machine.now.code (state_at machine.now) maker }
 {
@@ -136,13 +136,13 @@ fn has_room(limits: Limits, machine: &Machine<'_>, count: usize) -> bool
 // that no way back is needed there.
 fn turns_way<'d>(
     alloc: Global,
-    networked: &Networked<'_>,
+    analyzed_design: &AnalyzedDesign<'_>,
     limits: Limits,
-    turns: &[Turned],
+    turns: &[EvaluatedTurn],
     machine: &mut Machine<'d>,
     trail: &mut Trail<'d>,
 ) -> Result<bool, AllocError>
-    requires code { machine.old.code ≡ networked.now }
+    requires code { machine.old.code ≡ analyzed_design.now }
     requires flat { IsFlatState machine.old.code (state_at machine.old) }
     requires turns { AreTurned machine.old.code (state_at machine.old) turns.now }
     requires quiet { AreQuiet machine.old.code (state_at machine.old) turns.now }
@@ -162,7 +162,7 @@ fn turns_way<'d>(
     }
     trail.mark(alloc, machine)?;
     take_turns(machine, turns)?;
-    let all = take_behind(alloc, machine, networked, &mut way)?;
+    let all = take_behind(alloc, machine, analyzed_design, &mut way)?;
     trail.end_way(limits, machine, all, &way)
 }
 
@@ -170,13 +170,13 @@ fn turns_way<'d>(
 /// whether it did.
 pub(crate) fn flat_way<'d>(
     alloc: Global,
-    networked: &Networked<'_>,
+    analyzed_design: &AnalyzedDesign<'_>,
     limits: Limits,
     logs: &mut Logs,
     machine: &mut Machine<'d>,
     trail: &mut Trail<'d>,
 ) -> Result<bool, AllocError>
-    requires code { machine.old.code ≡ networked.now }
+    requires code { machine.old.code ≡ analyzed_design.now }
     requires leads { IsTrail trail.old machine.old }
     ensures walked { OnOk result ((s : State) → HasWalked limits s machine.old trail.old.moves.items → HasWalked limits s machine.new trail.new.moves.items) }
     ensures counted { OnOk result ((begun : ℕ) → HasCounted limits begun machine.old trail.old.moves.items → HasCounted limits begun machine.new trail.new.moves.items) }
@@ -193,7 +193,7 @@ pub(crate) fn flat_way<'d>(
     if !has_room(limits, machine, turns.len()) {
         return Ok(false);
     }
-    let gone = turns_way(alloc, networked, limits, &turns, machine, trail)?;
+    let gone = turns_way(alloc, analyzed_design, limits, &turns, machine, trail)?;
     logs.keep_all(turns)?;
     Ok(gone)
 }

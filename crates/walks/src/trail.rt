@@ -85,7 +85,7 @@ fn is_kept(limits: Limits, machine: &Machine<'_>, all: bool) -> bool
 }
 
 impl<'d> Trail<'d> {
-    ghost use Rattle.walks.specs.Trails.{HasTried, IsMarked, IsTrail, StandsAgain};
+    ghost use Rattle.walks.specs.Trails.{HasTried, HasMark, IsTrail, StandsAgain};
 
     /// No entry yet, and no mark.
     pub(crate) fn new(alloc: Global) -> Trail<'d>
@@ -118,7 +118,7 @@ impl<'d> Trail<'d> {
     /// Sees to it that there is a mark where a machine stands, or a little before.
     pub(crate) fn mark(&mut self, alloc: Global, machine: &Machine<'d>) -> Result<(), AllocError>
         requires leads { IsTrail self.old machine.now }
-        ensures marked { IfOk result (λ done. IsMarked self.new machine.now) }
+        ensures marked { IfOk result (λ done. HasMark self.new machine.now) }
         ensures same_moves { self.new.moves ≡ self.old.moves }
     {
         machine.stands();
@@ -133,9 +133,9 @@ impl<'d> Trail<'d> {
 
     // Puts a machine back where the trail leads. The mark is gone then.
     fn go_back(&mut self, machine: &mut Machine<'d>) -> Result<(), AllocError>
-        requires marked { (m : MachineView) × IsMarked self.old m }
-        ensures again { IfOk result (λ done. (m : MachineView) → IsMarked self.old m → StandsAgain m machine.new) }
-        ensures code { (m : MachineView) → IsMarked self.old m → machine.old.code ≡ m.code → machine.new.code ≡ m.code }
+        requires marked { (m : MachineView) × HasMark self.old m }
+        ensures again { IfOk result (λ done. (m : MachineView) → HasMark self.old m → StandsAgain m machine.new) }
+        ensures code { (m : MachineView) → HasMark self.old m → machine.old.code ≡ m.code → machine.new.code ≡ m.code }
         ensures no_mark { self.new.mark ≡ None }
         ensures same_moves { self.new.moves ≡ self.old.moves }
     {

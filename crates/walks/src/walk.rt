@@ -15,8 +15,8 @@ use flat::Logs;
 use model::end::Limits;
 use model::entry::Entry;
 use regions::{Machine, TakeFault};
-use seeded::halting::is_timely;
-use settling::Networked;
+use runs::halting::is_timely;
+use settling::AnalyzedDesign;
 use std::alloc::{AllocError, Global};
 
 // The most steps of one walk where less is pending: a search looks for a state that it has seen at the end of each. That takes as long as
@@ -124,13 +124,13 @@ fn step(
 // has room for it. Answers whether it did.
 fn go_on<'d>(
     alloc: Global,
-    networked: &Networked<'_>,
+    analyzed_design: &AnalyzedDesign<'_>,
     limits: Limits,
     logs: &mut Logs,
     machine: &mut Machine<'d>,
     trail: &mut Trail<'d>,
 ) -> Result<bool, AllocError>
-    requires code { machine.old.code ≡ networked.now }
+    requires code { machine.old.code ≡ analyzed_design.now }
     requires leads { IsTrail trail.old machine.old }
     ensures walked { OnOk result ((s : State) → HasWalked limits s machine.old trail.old.moves.items → HasWalked limits s machine.new trail.new.moves.items) }
     ensures counted { OnOk result ((begun : ℕ) → HasCounted limits begun machine.old trail.old.moves.items → HasCounted limits begun machine.new trail.new.moves.items) }
@@ -140,23 +140,23 @@ fn go_on<'d>(
     if step(limits, machine, trail)? {
         return Ok(true);
     }
-    if flat_way(alloc, networked, limits, logs, machine, trail)? {
+    if flat_way(alloc, analyzed_design, limits, logs, machine, trail)? {
         return Ok(true);
     }
-    phase_way(alloc, networked, limits, machine, trail)
+    phase_way(alloc, analyzed_design, limits, machine, trail)
 }
 
 /// Goes on from where a machine stands as long as one order stands for all, and never past the most entries: for some hundred steps at
 /// most, or as many as what is pending, if that is more. Answers the entries that the machine took. The logs are kept for the next walk.
 pub fn walk_on(
     alloc: Global,
-    networked: &Networked<'_>,
+    analyzed_design: &AnalyzedDesign<'_>,
     limits: Limits,
     logs: &mut Logs,
     machine: &mut Machine<'_>,
 ) -> Result<Vec<Entry>, AllocError>
     requires silent { machine.old.lines ≡ [] }
-    requires code { machine.old.code ≡ networked.now }
+    requires code { machine.old.code ≡ analyzed_design.now }
     ensures walked { IfOk result (λ moves. HasWalked limits (state_at machine.old) machine.new moves.items) }
     ensures counted { IfOk result (λ moves. HasCounted limits machine.old.core.entries machine.new moves.items) }
     ensures code { machine.new.code ≡ machine.old.code }
@@ -164,7 +164,7 @@ pub fn walk_on(
     let mut trail = Trail::new(alloc);
     let most = MOST_STEPS.max(pending(machine));
     for _ in 0..most {
-        if !go_on(alloc, networked, limits, logs, machine, &mut trail)? {
+        if !go_on(alloc, analyzed_design, limits, logs, machine, &mut trail)? {
             return Ok(trail.into_moves());
         }
     }

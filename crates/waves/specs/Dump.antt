@@ -3,7 +3,7 @@ use Rattle.std.specs.Prelude.{ℕ, ◌+◌, ◌==◌, if◌then◌else◌, List,
 use Rattle.logic4.specs.Vector.{Vector, unknown}
 use Rattle.logic4.specs.Display.{binary_text}
 use Rattle.model.specs.Syntax.{Text}
-use Rattle.waves.specs.declared.wave.Change.{Change}
+use Rattle.waves.specs.declared.wave.ValueChange.{ValueChange}
 use Rattle.waves.specs.IdentifierCodes.{code}
 
 -- the line of one digit: the digit and the code
@@ -27,7 +27,7 @@ abbrev pub new_time : ℕ → ℕ → List ℕ
 new_time standing time = if time == standing then [] else time_line time
 
 -- the lines of changes, behind those of a time, each time before its changes, and at last the end
-abbrev pub changes_text : ℕ → List Change → ℕ → List ℕ
+abbrev pub changes_text : ℕ → List ValueChange → ℕ → List ℕ
 changes_text standing [] end = new_time standing end
 changes_text standing (c ∷ cs) end = new_time standing c.time ++ (value_line c.register c.value ++ changes_text c.time cs end)
 
@@ -42,16 +42,16 @@ registers_text r (name ∷ names) (width ∷ widths) = register_line r name widt
 registers_text r _ _ = []
 
 -- the values of registers before their first change, from one number on
-abbrev pub unknown_text : ℕ → List ℕ → List ℕ
-unknown_text r [] = []
-unknown_text r (width ∷ widths) = value_line r (unknown width) ++ unknown_text (r + 1) widths
+abbrev pub unknown_values_text : ℕ → List ℕ → List ℕ
+unknown_values_text r [] = []
+unknown_values_text r (width ∷ widths) = value_line r (unknown width) ++ unknown_values_text (r + 1) widths
 
 -- what stands before the first change
 abbrev pub header_text : Text → List Text → List ℕ → List ℕ
 header_text scope names widths =
     codes "$timescale 1 ns $end\n$scope module " ++ scope ++ codes " $end\n" ++ registers_text 0 names widths
-    ++ codes "$upscope $end\n$enddefinitions $end\n#0\n$dumpvars\n" ++ unknown_text 0 widths ++ codes "$end\n"
+    ++ codes "$upscope $end\n$enddefinitions $end\n#0\n$dumpvars\n" ++ unknown_values_text 0 widths ++ codes "$end\n"
 
 -- the whole text, by the names of the module and of its registers, their widths, the changes, and the time of the end
-abbrev pub vcd_text : Text → List Text → List ℕ → List Change → ℕ → List ℕ
+abbrev pub vcd_text : Text → List Text → List ℕ → List ValueChange → ℕ → List ℕ
 vcd_text scope names widths changes end = header_text scope names widths ++ changes_text 0 changes end

@@ -7,11 +7,11 @@ use Rattle.model.specs.declared.entry.Entry.TheVariants.{Advance}
 use Rattle.model.specs.Design.{Design}
 use Rattle.model.specs.Expressions.{Store, value_of}
 use Rattle.model.specs.Runs.{Effect, refusal, run}
-use Rattle.waves.specs.declared.wave.Change.{Change}
+use Rattle.waves.specs.declared.wave.ValueChange.{ValueChange}
 use Rattle.waves.specs.declared.wave.Wave.{Wave}
 
 -- the values of the registers after changes, in order
-abbrev pub changed : Store → List Change → Store
+abbrev pub changed : Store → List ValueChange → Store
 changed store [] = store
 changed store (c ∷ cs) = changed (slice_set store c.register c.value) cs
 
@@ -20,12 +20,12 @@ abbrev pub unknown_store : Design → Store
 unknown_store design = map unknown design.widths
 
 -- the changes up to and with a time
-abbrev pub until : ℕ → List Change → List Change
+abbrev pub until : ℕ → List ValueChange → List ValueChange
 until time changes = filter (λ c. nat_le c.time time) changes
 
 -- The values that are read back at a time: of each register the value of the last change up to and with that time, and all x where
 -- there is none.
-abbrev pub values_at : Design → List Change → ℕ → Store
+abbrev pub values_at : Design → List ValueChange → ℕ → Store
 values_at design changes time = changed (unknown_store design) (until time changes)
 
 -- a time ends before this entry: it is an advance, or there is none
@@ -45,7 +45,7 @@ abbrev pub IsTimeOf : Design → List Entry → ℕ → Type 0
 IsTimeOf design journal time = (count : ℕ) × (e : Effect) × EndsTimeAt design journal count e × (e.state.time ≡ time)
 
 -- the changes are at times that end in a journal
-abbrev pub AreAtTimesOf : Design → List Entry → List Change → Type 0
+abbrev pub AreAtTimesOf : Design → List Entry → List ValueChange → Type 0
 AreAtTimesOf design journal [] = Unit {0}
 AreAtTimesOf design journal (c ∷ cs) = IsTimeOf design journal c.time × AreAtTimesOf design journal cs
 
@@ -55,12 +55,12 @@ IsNotBehind time r time' r' = (time < time') ⊎ ((time ≡ time') × (r ≤ r')
 
 -- Changes in the order of their times, and those of one time in the order of their registers, each at most once. They stand from
 -- one time and register on, and before another.
-abbrev pub AreInOrder : ℕ → ℕ → List Change → ℕ → ℕ → Type 0
-AreInOrder time r [] time' r' = IsNotBehind time r time' r'
-AreInOrder time r (c ∷ cs) time' r' = IsNotBehind time r c.time c.register × AreInOrder c.time (c.register + 1) cs time' r'
+abbrev pub AreChangesInOrder : ℕ → ℕ → List ValueChange → ℕ → ℕ → Type 0
+AreChangesInOrder time r [] time' r' = IsNotBehind time r time' r'
+AreChangesInOrder time r (c ∷ cs) time' r' = IsNotBehind time r c.time c.register × AreChangesInOrder c.time (c.register + 1) cs time' r'
 
 -- Each change gives a register another value of the same width than it had before.
-abbrev pub AreChanges : Store → List Change → Type 0
+abbrev pub AreChanges : Store → List ValueChange → Type 0
 AreChanges store [] = Unit {0}
 AreChanges store (c ∷ cs) =
     (c.register < length store) × (length c.value ≡ length (value_of store c.register))
@@ -73,7 +73,7 @@ pub record IsWaveOf (design : Design) (journal : List Entry) (wave : Wave) : Typ
   pub reads : (count : ℕ) (e : Effect) → EndsTimeAt design journal count e
       → values_at design wave.changes.items e.state.time ≡ e.state.store
   pub times : AreAtTimesOf design journal wave.changes.items
-  pub order : AreInOrder 0 0 wave.changes.items wave.end (length design.widths)
+  pub order : AreChangesInOrder 0 0 wave.changes.items wave.end (length design.widths)
   pub changes : AreChanges (unknown_store design) wave.changes.items
 
 -- Where a lawful journal goes on with an advance, that goes to a later time.

@@ -1,7 +1,7 @@
 //! The text of a dump.
 
 ghost use Rattle.std.specs.Prelude.{◌≡◌, ◌++◌, length, IfOk, OnOk};
-ghost use Rattle.waves.specs.Dump.{changes_text, header_text, registers_text, unknown_text, vcd_text};
+ghost use Rattle.waves.specs.Dump.{changes_text, header_text, registers_text, unknown_values_text, vcd_text};
 ghost use Rattle.design.specs.Meaning.{IsCompiled};
 
 use crate::lines::{push_new_time, push_register, push_value};
@@ -27,7 +27,7 @@ fn push_registers(text: &mut Vec<u8>, design: &Design) -> Result<(), AllocError>
 
 /// Puts the lines of registers that are all x behind a text.
 fn push_unknown(alloc: Global, text: &mut Vec<u8>, design: &Design) -> Result<(), AllocError>
-    ensures { OnOk result (text.new.items ≡ text.old.items ++ unknown_text 0 design.now.widths) }
+    ensures { OnOk result (text.new.items ≡ text.old.items ++ unknown_values_text 0 design.now.widths) }
 {
     for register in 0..design.registers() {
         push_value(alloc, text, register, Bits::unknown(design.width(register)))?;

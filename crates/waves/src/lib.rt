@@ -23,4 +23,4 @@ pub use dump::value_change_dump;
 pub use fault::WaveFault;
 pub use laws::{advances_rise, codes_differ};
 pub use recording::waves;
-pub use wave::{Change, Wave};
+pub use wave::{ValueChange, Wave};

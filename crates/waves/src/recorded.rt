@@ -4,7 +4,7 @@ ghost use Rattle.std.specs.Prelude.{◌≡◌, ◌++◌, [], length, OnOk};
 ghost use Rattle.logic4.specs.Operators.{same_vector};
 ghost use Rattle.waves.specs.Changes.{differences, with_change};
 
-use crate::wave::Change;
+use crate::wave::ValueChange;
 use logic4::bits::Bits;
 use regions::Machine;
 use std::alloc::AllocError;
@@ -12,12 +12,16 @@ use std::alloc::AllocError;
 /// The changes that were told, and the value of each register after them.
 #[derive(Drop)]
 pub(crate) struct Recorded {
-    pub(crate) changes: Vec<Change>,
+    pub(crate) changes: Vec<ValueChange>,
     pub(crate) values: Vec<Bits>,
 }
 
 // Tells of a change, unless the register has its value already.
-fn push_change(changes: &mut Vec<Change>, old: Bits, change: Change) -> Result<(), AllocError>
+fn push_change(
+    changes: &mut Vec<ValueChange>,
+    old: Bits,
+    change: ValueChange,
+) -> Result<(), AllocError>
     ensures { OnOk result (changes.new.items ≡ changes.old.items ++ with_change (same_vector old change.value) change []) }
 {
     if old == change.value {
@@ -29,7 +33,7 @@ fn push_change(changes: &mut Vec<Change>, old: Bits, change: Change) -> Result<(
 
 // Tells of each register whose value isn't the old one, at a time.
 fn push_changes(
-    changes: &mut Vec<Change>,
+    changes: &mut Vec<ValueChange>,
     time: u64,
     registers: u32,
     olds: &[Bits],
@@ -41,7 +45,7 @@ fn push_changes(
 {
     for register in 0..registers {
         let value = news[register as usize];
-        let change = Change {
+        let change = ValueChange {
             time,
             register,
             value,

@@ -5,7 +5,7 @@ use logic4::bits::Bits;
 
 /// A register has another value at the end of a time than before.
 #[derive(Clone, Copy)]
-pub struct Change {
+pub struct ValueChange {
     /// The time, in units of the source.
     pub time: u64,
     /// The number of the register.
@@ -18,7 +18,7 @@ pub struct Change {
 /// change a register is all x (4.2.2).
 #[derive(Drop)]
 pub struct Wave {
-    pub changes: Vec<Change>,
+    pub changes: Vec<ValueChange>,
     /// The time to which the run came.
     pub end: u64,
 }

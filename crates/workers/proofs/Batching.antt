@@ -13,12 +13,12 @@ use Rattle.eventpool.specs.Ends.{Owning, Stealing, thief_card}
 use Rattle.commitgate.specs.Seats.{SeatView}
 use Rattle.commitgate.specs.Named.{Named}
 use Rattle.workers.specs.declared.batch.Batch.{Batch}
-use Rattle.workers.specs.declared.next.Next.{Next}
-use Rattle.workers.specs.declared.next.Next.TheVariants.{GoesOn, Ends}
+use Rattle.workers.specs.declared.next_round.NextRound.{NextRound}
+use Rattle.workers.specs.declared.next_round.NextRound.TheVariants.{GoesOn, Ends}
 use Rattle.workers.specs.Batching.{IsOpen, Fills, Leads, filling_after}
-use Rattle.workers.specs.WorkerInvariant.{turns_of, Goes, OnlyPuts, SameEnds, OverUnless, got_by_ends, Serves}
+use Rattle.workers.specs.WorkerInvariant.{seat_turn_count, Goes, OnlyPuts, SameEnds, OverUnless, got_by_ends, ServesTicket}
 use Rattle.workers.specs.declared.worker.Worker.{Worker}
-use Rattle.workers.specs.Keeping.{weigh_got, GotOne, Extends, Within}
+use Rattle.workers.specs.Keeping.{weigh_got, GotOne, ExtendsWorker, Within}
 use Rattle.workers.proofs.Rounds.{got_kept}
 use Rattle.workers.proofs.Onward.{got_puts_all, later_puts, later_taken, later_more}
 
@@ -111,7 +111,7 @@ module _ {A : Type 0} where
     tickets_few = (let f = fills.tickets_few in let g = all (λ ticket. 1) in omega (arith, f, g));
     counted = λ k. fills.counted (
       rw seat k.0,
-      (λ lt. let t : turns_of b.seat ≡ turns_of a.seat = ap turns_of seat in let p = k.1 (omega (arith, same, lt)) in omega (arith, p, t, same)),
+      (λ lt. let t : seat_turn_count b.seat ≡ seat_turn_count a.seat = ap seat_turn_count seat in let p = k.1 (omega (arith, same, lt)) in omega (arith, p, t, same)),
       (let q = k.2 in omega (arith, q, got, same)),
     );
   }
@@ -133,13 +133,13 @@ module _ {A : Type 0} where
   fills_begun_more a b c turns more most f goes one few puts row = fills_more a b c turns 1 0 0 more 0 most 0 (fills_begun a b turns more goes one few puts row) f
 
   -- what comes of a ticket of which the gate was told: the batch is empty, or the run is over
-  pub leads_told : (n : Named) (after : Next) (batch : Batch A) (w : Worker A) → (after ≡ GoesOn → batch.tickets.items ≡ []) → OverUnless n after w.seat
+  pub leads_told : (n : Named) (after : NextRound) (batch : Batch A) (w : Worker A) → (after ≡ GoesOn → batch.tickets.items ≡ []) → OverUnless n after w.seat
       → Leads n (filling_after after) batch w
   leads_told n GoesOn batch w empty over = subst (λ (l : List TicketView). AreOffered n.code w.seat.fresh l batch.logs.items) (sym (empty refl)) tt
   leads_told n Ends batch w empty over = over refl
 
   -- a ticket is served where a batch that it began was filled and committed
-  pub serves_fills : (a b : Worker A) (taken left : ℕ) → Fills a b 0 1 taken left 0 → Serves a b
+  pub serves_fills : (a b : Worker A) (taken left : ℕ) → Fills a b 0 1 taken left 0 → ServesTicket a b
   serves_fills a b taken left f = record {
     worker = f.worker;
     ends = f.ends;

@@ -5,8 +5,8 @@ use Rattle.std.specs.List.{range_with_len, sum_by}
 use Rattle.std.proofs.lemmas.List.Sums.{sum_by-append}
 use native.Mathlib.Decide.{ℕ_discrete, dec_lt}
 use Rattle.model.specs.declared.entry.Entry.{Entry}
-use Rattle.workers.specs.Counting.{turn_count, turns_in, turn_count_at, turns_at}
-use Rattle.commitgate.specs.Closing.{times}
+use Rattle.workers.specs.Counting.{turn_count, journal_turn_count, turn_count_at, turns_at}
+use Rattle.commitgate.specs.Closing.{occurrences}
 
 sum_cons : {X : Type 0} (f : X → ℕ) (x : X) (xs : List X) → sum_by f (x ∷ xs) ≡ f x + sum_by f xs
 sum_cons f x xs = omega (arith, sum_by-append f (x ∷ []) xs)
@@ -14,18 +14,18 @@ sum_cons f x xs = omega (arith, sum_by-append f (x ∷ []) xs)
 -- the weights of the n numbers from a on, each as often as it stands in a list
 weigh : (ℕ → ℕ) → ℕ → ℕ → List ℕ → ℕ
 weigh w a zero ps = 0
-weigh w a (suc n) ps = times a ps * w a + weigh w (a + 1) n ps
+weigh w a (suc n) ps = occurrences a ps * w a + weigh w (a + 1) n ps
 
 weigh_none : (w : ℕ → ℕ) (a n : ℕ) → weigh w a n [] ≡ 0
 unfolding weigh
 weigh_none w a zero = refl
 weigh_none w a (suc n) = let rest = weigh_none w (a + 1) n in omega (arith, rest)
 
-times_hit : (a p : ℕ) (ps : List ℕ) → a ≡ p → times a (p ∷ ps) ≡ 1 + times a ps
-times_hit a p ps e = ap (λ b. (if b then 1 else 0) + times a ps) (eq-eqb a p e)
+times_hit : (a p : ℕ) (ps : List ℕ) → a ≡ p → occurrences a (p ∷ ps) ≡ 1 + occurrences a ps
+times_hit a p ps e = ap (λ b. (if b then 1 else 0) + occurrences a ps) (eq-eqb a p e)
 
-times_miss : (a p : ℕ) (ps : List ℕ) → a ≢ p → times a (p ∷ ps) ≡ times a ps
-times_miss a p ps e = ap (λ b. (if b then 1 else 0) + times a ps) (ne_eqb a p e) ∙ omega arith
+times_miss : (a p : ℕ) (ps : List ℕ) → a ≢ p → occurrences a (p ∷ ps) ≡ occurrences a ps
+times_miss a p ps e = ap (λ b. (if b then 1 else 0) + occurrences a ps) (ne_eqb a p e) ∙ omega arith
 
 one_more : (t x : ℕ) → (1 + t) * x ≡ x + t * x
 one_more t x = omega arith
@@ -46,11 +46,11 @@ weigh_in w a zero p ps low high = absurd (omega arith)
 weigh_in w a (suc n) p ps low high = elim (ℕ_discrete a p) [
   | yes same ↦
       (λ i. times_hit a p ps same i * w a + weigh_out w (a + 1) n p ps (omega arith) i)
-      ∙ hit_step w a p (times a ps) (weigh w (a + 1) n ps) same
+      ∙ hit_step w a p (occurrences a ps) (weigh w (a + 1) n ps) same
   | no other ↦
       (let rest = weigh_in w (a + 1) n p ps (omega arith) (omega arith) in
       (λ i. times_miss a p ps other i * w a + rest i)
-      ∙ (let x = w p in let y = times a ps * w a in let z = weigh w (a + 1) n ps in omega arith))
+      ∙ (let x = w p in let y = occurrences a ps * w a in let z = weigh w (a + 1) n ps in omega arith))
 ]
 
 -- the weights of the places of a list, added up
@@ -71,7 +71,7 @@ weights_weigh w n (p ∷ ps) h =
     (λ i. w p + rest i) ∙ sym (weigh_in w 0 n p ps (omega arith) low)
 
 -- a list is below a number where no greater one stands in it
-below_of : (n : ℕ) (ps : List ℕ) → ((q : ℕ) → n ≤ q → times q ps ≡ 0) → Below n ps
+below_of : (n : ℕ) (ps : List ℕ) → ((q : ℕ) → n ≤ q → occurrences q ps ≡ 0) → Below n ps
 unfolding Below
 below_of n [] h = tt
 below_of n (p ∷ ps) h = (
@@ -109,33 +109,33 @@ unfolding over
 over_none w a zero = refl
 over_none w a (suc n) = let rest = over_none w (a + 1) n in omega (arith, rest)
 
-weigh_over : (w : ℕ → ℕ) (a n : ℕ) (ps : List ℕ) → weigh w a n ps ≡ over w (λ q. times q ps) a n
+weigh_over : (w : ℕ → ℕ) (a n : ℕ) (ps : List ℕ) → weigh w a n ps ≡ over w (λ q. occurrences q ps) a n
 unfolding weigh over
 weigh_over w a zero ps = refl
-weigh_over w a (suc n) ps = (λ i. times a ps * w a + weigh_over w (a + 1) n ps i)
+weigh_over w a (suc n) ps = (λ i. occurrences a ps * w a + weigh_over w (a + 1) n ps i)
 
 AllBelow : ℕ → List (List ℕ) → Type 0
 AllBelow n [] = Unit {0}
 AllBelow n (ps ∷ xs) = Below n ps × AllBelow n xs
 
-sum_over : (w : ℕ → ℕ) (n : ℕ) (xs : List (List ℕ)) → AllBelow n xs → sum_by (λ ps. weights w ps) xs ≡ over w (λ q. sum_by (λ ps. times q ps) xs) 0 n
+sum_over : (w : ℕ → ℕ) (n : ℕ) (xs : List (List ℕ)) → AllBelow n xs → sum_by (λ ps. weights w ps) xs ≡ over w (λ q. sum_by (λ ps. occurrences q ps) xs) 0 n
 unfolding AllBelow
 sum_over w n [] h = sym (over_none w 0 n)
 sum_over w n (ps ∷ xs) h =
     sum_cons (λ (l : List ℕ). weights w l) ps xs
     ∙ (λ i. (weights_weigh w n ps h.0 ∙ weigh_over w 0 n ps) i + sum_over w n xs h.1 i)
-    ∙ sym (over_add w (λ q. times q ps) (λ q. sum_by (λ (l : List ℕ). times q l) xs) 0 n)
-    ∙ sym (over_same w (λ q. sum_by (λ (l : List ℕ). times q l) (ps ∷ xs)) (λ q. times q ps + sum_by (λ (l : List ℕ). times q l) xs) 0 n (λ q. sum_cons (λ (l : List ℕ). times q l) ps xs))
+    ∙ sym (over_add w (λ q. occurrences q ps) (λ q. sum_by (λ (l : List ℕ). occurrences q l) xs) 0 n)
+    ∙ sym (over_same w (λ q. sum_by (λ (l : List ℕ). occurrences q l) (ps ∷ xs)) (λ q. occurrences q ps + sum_by (λ (l : List ℕ). occurrences q l) xs) 0 n (λ q. sum_cons (λ (l : List ℕ). occurrences q l) ps xs))
 
-all_below : (n : ℕ) (xs : List (List ℕ)) → ((q : ℕ) → n ≤ q → sum_by (λ ps. times q ps) xs ≡ 0) → AllBelow n xs
+all_below : (n : ℕ) (xs : List (List ℕ)) → ((q : ℕ) → n ≤ q → sum_by (λ ps. occurrences q ps) xs ≡ 0) → AllBelow n xs
 unfolding AllBelow
 all_below n [] h = tt
 all_below n (ps ∷ xs) h = (
-  below_of n ps (λ q le. (none_of (λ (l : List ℕ). times q l) xs ps (h q le)).0),
-  all_below n xs (λ q le. (none_of (λ (l : List ℕ). times q l) xs ps (h q le)).1),
+  below_of n ps (λ q le. (none_of (λ (l : List ℕ). occurrences q l) xs ps (h q le)).0),
+  all_below n xs (λ q le. (none_of (λ (l : List ℕ). occurrences q l) xs ps (h q le)).1),
 )
 
-range_out : (q a n : ℕ) → a + n ≤ q → times q (range_with_len a n) ≡ 0
+range_out : (q a n : ℕ) → a + n ≤ q → occurrences q (range_with_len a n) ≡ 0
 range_out q a zero le = refl
 range_out q a (suc n) le = times_miss q a (range_with_len (a + 1) n) (λ e. absurd (omega arith)) ∙ range_out q (a + 1) n (omega arith)
 
@@ -147,7 +147,7 @@ shifted f g a b (suc n) e =
     let rest = shifted f g (a + 1) (b + 1) n (λ i. ap f (let z : a + 1 + i ≡ a + (1 + i) = omega arith in z) ∙ e (1 + i) ∙ ap g (let z : b + (1 + i) ≡ b + 1 + i = omega arith in z)) in
     (λ i. first i + rest i)
 
-all_turns : (journal : List Entry) → weights (λ p. turn_count_at (slice_get journal p)) (range_with_len 0 (length journal)) ≡ turns_in journal
+all_turns : (journal : List Entry) → weights (λ p. turn_count_at (slice_get journal p)) (range_with_len 0 (length journal)) ≡ journal_turn_count journal
 unfolding weights
 all_turns [] = refl
 all_turns (e ∷ es) =
@@ -165,8 +165,8 @@ sum_same f g [] e = refl
 sum_same f g (x ∷ xs) e = let a = sum_cons f x xs in let b = sum_cons g x xs in let c = e x in let r = sum_same f g xs e in omega (arith, a, b, c, r)
 
 pub turns_add_up : (journal : List Entry) (shares : List (List ℕ))
-    → ((place : ℕ) → sum_by (λ ps. times place ps) shares ≡ times place (range_with_len 0 (length journal)))
-    → sum_by (λ ps. turns_at journal ps) shares ≡ turns_in journal
+    → ((place : ℕ) → sum_by (λ ps. occurrences place ps) shares ≡ occurrences place (range_with_len 0 (length journal)))
+    → sum_by (λ ps. turns_at journal ps) shares ≡ journal_turn_count journal
 turns_add_up journal shares once =
     let w : ℕ → ℕ = λ p. turn_count_at (slice_get journal p) in
     let n : ℕ = length journal in
@@ -174,6 +174,6 @@ turns_add_up journal shares once =
     let whole : Below n (range_with_len 0 n) = below_of n (range_with_len 0 n) (λ q le. range_out q 0 n (omega arith)) in
     sum_same (λ ps. turns_at journal ps) (λ ps. weights w ps) shares (λ ps. at_weights journal ps)
     ∙ sum_over w n shares below
-    ∙ over_same w (λ q. sum_by (λ (l : List ℕ). times q l) shares) (λ q. times q (range_with_len 0 n)) 0 n once
+    ∙ over_same w (λ q. sum_by (λ (l : List ℕ). occurrences q l) shares) (λ q. occurrences q (range_with_len 0 n)) 0 n once
     ∙ sym (weights_weigh w n (range_with_len 0 n) whole ∙ weigh_over w 0 n (range_with_len 0 n))
     ∙ all_turns journal

@@ -6,10 +6,10 @@ use Rattle.commitgate.specs.Tickets.{TicketView}
 use Rattle.eventpool.specs.Ends.{Owning, Stealing}
 use Rattle.workers.specs.declared.batch.Filling.{Filling}
 use Rattle.workers.specs.declared.batch.Filling.TheVariants.{More, Enough, Over}
-use Rattle.workers.specs.declared.next.Next.{Next}
-use Rattle.workers.specs.declared.next.Next.TheVariants.{GoesOn, Ends}
+use Rattle.workers.specs.declared.next_round.NextRound.{NextRound}
+use Rattle.workers.specs.declared.next_round.NextRound.TheVariants.{GoesOn, Ends}
 use Rattle.workers.specs.declared.worker.Worker.{Worker}
-use Rattle.workers.specs.Keeping.{GotOne, GotNone, is_for, LosesNone, Keeps, KeepsAll, Within, HasLostNone}
+use Rattle.workers.specs.Keeping.{GotOne, GotNone, is_for, LosesNone, KeepsTickets, KeepsAll, Within, HasLostNone}
 use Rattle.workers.specs.Batching.{KeepsOn, filling_after}
 use Rattle.workers.specs.WorkerInvariant.{Goes}
 use Rattle.workers.proofs.Weighing.{weigh_append}
@@ -26,7 +26,7 @@ kept_goes n placed s s' o row due hand goes k = kept_looks n placed s s' o row d
 
 module _ {A : Type 0} where
   -- a worker of which only what is counted changed
-  pub keeps_row : (n : Named) (a b : Worker A) (hand hand' : List TicketView) → Keeps n a.seat a.owner hand b.seat b.owner hand' → b.row.items ≡ a.row.items → KeepsAll n a hand b hand'
+  pub keeps_row : (n : Named) (a b : Worker A) (hand hand' : List TicketView) → KeepsTickets n a.seat a.owner hand b.seat b.owner hand' → b.row.items ≡ a.row.items → KeepsAll n a hand b hand'
   keeps_row n a b hand hand' keeps row = record {
     all = λ placed k. subst (λ (r : List (Stealing TicketView)). LosesNone n placed b.seat b.owner r [] hand') (sym row) (keeps placed a.row.items k);
   }
@@ -82,13 +82,13 @@ module _ {A : Type 0} where
   }
 
   -- what comes of a ticket that the batch doesn't get
-  pub keeps_told : (n : Named) (after : Next) (a b : Worker A) (hand left : List TicketView) → (after ≡ GoesOn → left ≡ []) → (after ≡ GoesOn → KeepsAll n a hand b [])
+  pub keeps_told : (n : Named) (after : NextRound) (a b : Worker A) (hand left : List TicketView) → (after ≡ GoesOn → left ≡ []) → (after ≡ GoesOn → KeepsAll n a hand b [])
       → KeepsOn n (filling_after after) a hand b left
   keeps_told n GoesOn a b hand left none keeps = subst (λ (l : List TicketView). KeepsAll n a hand b l) (sym (none refl)) (keeps refl)
   keeps_told n Ends a b hand left none keeps = tt
 
   -- a ticket that goes back into the deque
-  pub keeps_back : (n : Named) (after : Next) (a b : Worker A) (tickets : List TicketView) (ticket : TicketView) → (after ≡ GoesOn → b.seat ≡ a.seat)
+  pub keeps_back : (n : Named) (after : NextRound) (a b : Worker A) (tickets : List TicketView) (ticket : TicketView) → (after ≡ GoesOn → b.seat ≡ a.seat)
       → (after ≡ GoesOn → b.owner.put ≡ a.owner.put ++ ticket ∷ []) → b.owner.taken ≡ a.owner.taken → b.row.items ≡ a.row.items
       → KeepsOn n (filling_after after) a (tickets ++ ticket ∷ []) b tickets
   keeps_back n GoesOn a b tickets ticket seat put taken row = record {
@@ -126,7 +126,7 @@ module _ {A : Type 0} where
   keeps_next n next next' a b c hand more left is f g = keeps_on n next' a b c hand more left (subst (λ (m : Filling). KeepsOn n m a hand b more) is f) g
 
   -- the gate is told of a turn that is too long
-  pub keeps_long : {turns : ℕ} (n : Named) (next : Filling) (after : Next) (a b c : Worker A) (tickets tickets' left : List TicketView) (ticket ticket' : TicketView)
+  pub keeps_long : {turns : ℕ} (n : Named) (next : Filling) (after : NextRound) (a b c : Worker A) (tickets tickets' left : List TicketView) (ticket ticket' : TicketView)
       → next ≡ (filling_after after) → Goes turns 0 a.seat b.seat → b.owner ≡ a.owner → b.row.items ≡ a.row.items → tickets' ≡ tickets → ticket' ≡ ticket
       → (after ≡ GoesOn → left ≡ []) → (after ≡ GoesOn → KeepsAll n b (tickets' ++ ticket' ∷ []) c []) → KeepsOn n next a (tickets ++ ticket ∷ []) c left
   keeps_long n next after a b c tickets tickets' left ticket ticket' is goes owner row same back empty keeps =
@@ -136,7 +136,7 @@ module _ {A : Type 0} where
       (subst (λ (p : List TicketView × TicketView). KeepsAll n b (p.0 ++ p.1 ∷ []) c []) (λ i. (same i, back i)) (keeps on))))
 
   -- a ticket that is to be evaluated under the lock goes back
-  pub keeps_held : (n : Named) (next : Filling) (after : Next) (a b : Worker A) (tickets : List TicketView) (ticket : TicketView) → next ≡ (filling_after after)
+  pub keeps_held : (n : Named) (next : Filling) (after : NextRound) (a b : Worker A) (tickets : List TicketView) (ticket : TicketView) → next ≡ (filling_after after)
       → (after ≡ GoesOn → b.seat ≡ a.seat) → (after ≡ GoesOn → b.owner.put ≡ a.owner.put ++ ticket ∷ []) → b.owner.taken ≡ a.owner.taken → b.row.items ≡ a.row.items
       → KeepsOn n next a (tickets ++ ticket ∷ []) b tickets
   keeps_held n next after a b tickets ticket is seat put taken row =

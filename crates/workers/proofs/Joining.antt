@@ -4,13 +4,13 @@ use Rattle.std.specs.Vec.Iter.{into_iter_items, into_iter_len}
 use Rattle.std.specs.declared.vec.IntoIter.{IntoIter}
 use Rattle.commitgate.specs.Named.{Named}
 use Rattle.workers.specs.declared.worker.Worker.{Worker}
-use Rattle.workers.specs.WorkerInvariant.{IsDone, AreDone}
+use Rattle.workers.specs.WorkerInvariant.{IsDoneWorker, AreDone}
 
 append_none : {X : Type 0} (xs : List X) → xs ++ [] ≡ xs
 append_none [] = refl
 append_none (x ∷ xs) = ap (λ l. x ∷ l) (append_none xs)
 
-pub done_more : {A : Type 0} (n : Named) (xs ys : List (Worker A)) (x y : Worker A) → AreDone n xs ys → IsDone n x y → AreDone n (xs ++ x ∷ []) (ys ++ y ∷ [])
+pub done_more : {A : Type 0} (n : Named) (xs ys : List (Worker A)) (x y : Worker A) → AreDone n xs ys → IsDoneWorker n x y → AreDone n (xs ++ x ∷ []) (ys ++ y ∷ [])
 done_more n [] [] x y h d = (d, tt)
 done_more n [] (v ∷ vs) x y h d = absurd h
 done_more n (w ∷ ws) [] x y h d = absurd h
@@ -26,7 +26,7 @@ module _ {A H : Type 0} where
   joined_none first before value n = ([], [], refl, sym (append_none before), tt)
 
   pub joined_more : (first rest rest' : List H) (before now now' : List (Worker A)) (value : H → Worker A) (n : Named) (h : H) (y : Worker A)
-      → Joined first rest before now value n → rest ≡ h ∷ rest' → IsDone n (value h) y → now' ≡ now ++ y ∷ [] → Joined first rest' before now' value n
+      → Joined first rest before now value n → rest ≡ h ∷ rest' → IsDoneWorker n (value h) y → now' ≡ now ++ y ∷ [] → Joined first rest' before now' value n
   joined_more first rest rest' before now now' value n h y j is d next = (
     j.0 ++ value h ∷ [],
     j.1 ++ y ∷ [],
@@ -36,7 +36,7 @@ module _ {A H : Type 0} where
   )
 
   pub joined_all : (first rest : List H) (before now others : List (Worker A)) (value : H → Worker A) (n : Named) (own own' : Worker A)
-      → Joined first rest before now value n → rest ≡ [] → map value first ≡ others → before ≡ own' ∷ [] → IsDone n own own' → AreDone n (own ∷ others) now
+      → Joined first rest before now value n → rest ≡ [] → map value first ≡ others → before ≡ own' ∷ [] → IsDoneWorker n own own' → AreDone n (own ∷ others) now
   joined_all first rest before now others value n own own' j none all one d =
       let done : j.0 ≡ others = sym (append_none j.0) ∙ ap (λ (l : List H). j.0 ++ map value l) (sym none) ∙ j.2 ∙ all in
       let given : now ≡ own' ∷ j.1 = j.3 ∙ ap (λ l. l ++ j.1) one in

@@ -9,10 +9,10 @@ use Rattle.turn.specs.declared.memory.Seen.{Seen}
 use Rattle.turn.specs.TurnLogs.{LogView}
 use Rattle.runstate.specs.Ledger.{Ledger, entries_of}
 use Rattle.commitgate.specs.Named.{Named}
-use Rattle.commitgate.specs.Seats.{SeatView, ReadsOn}
+use Rattle.commitgate.specs.Seats.{SeatView, SeatReadsOn}
 use Rattle.commitgate.specs.Tickets.{TicketView, again}
 use Rattle.commitgate.specs.GateAnswers.{IsRegionChange}
-use Rattle.commitgate.specs.SeatAnswers.{CommitCauses, IsAppended, IsRefused, IsGone, AnsweredTo, LongAnsweredTo, HeldAnsweredTo, IsUpdatedTo, IsChangedTo}
+use Rattle.commitgate.specs.SeatAnswers.{CommitCauses, IsAppended, IsRefused, IsSeenGone, AnsweredTo, LongAnsweredTo, HeldAnsweredTo, IsUpdatedTo, IsChangedTo}
 use Rattle.commitgate.specs.Batches.{AreUpdatedTo, UpdatesEndedTo, UpdatesAnsweredTo, AreAnsweredTo}
 use Rattle.commitgate.specs.declared.reply.Grant.{Grant}
 use Rattle.commitgate.specs.declared.reply.Reply.{Reply}
@@ -20,7 +20,7 @@ use Rattle.commitgate.specs.declared.reply.Reply.TheVariants.{Accepted, Stale, G
 use Rattle.commitgate.specs.declared.reply.UpdatesEnd.{UpdatesEnd}
 use Rattle.commitgate.specs.declared.reply.UpdatesEnd.TheVariants as ends
 use Rattle.eventpool.specs.Ends.{Owning, Stealing}
-use Rattle.workers.specs.Keeping.{weigh, GotOne, GotNone, is_for, tickets_for, is_turn, turned, granted, WasGone, LosesNone}
+use Rattle.workers.specs.Keeping.{weigh, GotOne, GotNone, is_for, tickets_for, is_turn, turn_entries_of_event, granted, WasGone, LosesNone}
 use Rattle.workers.specs.WorkerInvariant.{tickets_in, tickets_of, granted_by, IsSettled}
 use Rattle.workers.proofs.Seats.{begins_more, entries_begin, below_longer, begins_length, goes_appended}
 use Rattle.workers.proofs.Weighing.{weigh_append, turned_round}
@@ -85,7 +85,7 @@ module _ (n : Named) (placed : List TicketView) where
   kept_refused s s' o row due hand r k = kept_looks s s' o row due hand r.looks_on.follows.later r.looks_on.positions k
 
   pub kept_read : (s s' : SeatView) (o : Owning TicketView) (row : List (Stealing TicketView)) (due hand : List TicketView)
-      → ReadsOn s s' → LosesNone n placed s o row due hand → LosesNone n placed s' o row due hand
+      → SeatReadsOn s s' → LosesNone n placed s o row due hand → LosesNone n placed s' o row due hand
   kept_read s s' o row due hand r k = kept_looks s s' o row due hand ([], append-nil s.seen ∙ sym r.seen) r.positions k
 
   -- a seat that appended an entry: its tickets are to be put, and that of its turn isn't in hand any more
@@ -112,7 +112,7 @@ module _ (n : Named) (placed : List TicketView) where
 
   -- a ticket that was gone
   pub kept_gone : (s s' : SeatView) (o : Owning TicketView) (row : List (Stealing TicketView)) (ticket : TicketView) (due hand : List TicketView)
-      → IsGone n s ticket s' → LosesNone n placed s o row due (ticket ∷ hand) → LosesNone n placed s' o row due hand
+      → IsSeenGone n s ticket s' → LosesNone n placed s o row due (ticket ∷ hand) → LosesNone n placed s' o row due hand
   kept_gone s s' o row ticket due hand g k =
       let later = kept_refused s s' o row due (ticket ∷ hand) g.refused k in record {
         has_positions = later.has_positions;
@@ -187,7 +187,7 @@ module _ {A : Type 0} where
   abbrev pub Deals : Named → SeatView → TicketView → SeatView → Reply A → Type 0
   Deals n old ticket new (Accepted grant) = IsAppended n old (Turn ticket.event) grant.position grant.entry grant.tickets.items new
   Deals n old ticket new (Stale r back) = IsRefused n old new × (back ≡ again ticket)
-  Deals n old ticket new Gone = IsGone n old ticket new
+  Deals n old ticket new Gone = IsSeenGone n old ticket new
   Deals n old ticket new (Stopped why) = Unit {0}
   Deals n old ticket new (NoMemory back) = Unit {0}
 

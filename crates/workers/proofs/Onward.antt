@@ -4,7 +4,7 @@ use Rattle.commitgate.specs.Seats.{SeatView}
 use Rattle.commitgate.specs.Tickets.{TicketView}
 use Rattle.eventpool.specs.Ends.{Owning, Stealing}
 use Rattle.workers.specs.declared.worker.Worker.{Worker}
-use Rattle.workers.specs.Keeping.{weigh, weigh_got, GotOne, GotNone, Extends, Within}
+use Rattle.workers.specs.Keeping.{weigh, weigh_got, GotOne, GotNone, ExtendsWorker, Within}
 use Rattle.workers.specs.WorkerInvariant.{Goes, OnlyPuts}
 use Rattle.workers.proofs.Seats.{begins_more}
 use Rattle.workers.proofs.Told.{GoesOnce}
@@ -15,7 +15,7 @@ module _ {A : Type 0} where
       → weigh_got weight b.owner b.row.items ≡ weigh_got weight a.owner a.row.items
   got_puts_all a b weight puts row = (λ i. weigh weight (puts.1 i) + weigh (λ (t : Stealing TicketView). weigh weight t.stolen) (row i))
 
-  pub later_more : (a b c : Worker A) → Extends a b → Extends b c → Extends a c
+  pub later_more : (a b c : Worker A) → ExtendsWorker a b → ExtendsWorker b c → ExtendsWorker a c
   later_more a b c f g = record {
     seen = begins_more a.seat.seen b.seat.seen c.seat.seen f.seen g.seen;
     positions = begins_more a.seat.positions b.seat.positions c.seat.positions f.positions g.positions;
@@ -24,7 +24,7 @@ module _ {A : Type 0} where
   }
 
   -- a worker that puts tickets alone
-  pub later_puts : {turns entries : ℕ} (a b : Worker A) → Goes turns entries a.seat b.seat → OnlyPuts a.owner b.owner → b.row.items ≡ a.row.items → Extends a b
+  pub later_puts : {turns entries : ℕ} (a b : Worker A) → Goes turns entries a.seat b.seat → OnlyPuts a.owner b.owner → b.row.items ≡ a.row.items → ExtendsWorker a b
   later_puts a b goes puts row = record {
     seen = goes.seen;
     positions = goes.positions;
@@ -34,7 +34,7 @@ module _ {A : Type 0} where
 
   -- a worker that got a ticket
   pub later_taken : (a b : Worker A) (ticket : TicketView) → b.seat ≡ a.seat → b.owner.put ≡ a.owner.put
-      → GotOne a.owner a.row.items b.owner b.row.items ticket → Extends a b
+      → GotOne a.owner a.row.items b.owner b.row.items ticket → ExtendsWorker a b
   later_taken a b ticket seat put got = record {
     seen = ([], append-nil a.seat.seen ∙ ap (λ (s : SeatView). s.seen) (sym seat));
     positions = ([], append-nil a.seat.positions ∙ ap (λ (s : SeatView). s.positions) (sym seat));

@@ -15,7 +15,7 @@ use Rattle.commitgate.specs.Seats.{SeatView}
 use Rattle.commitgate.specs.Tickets.{TicketView}
 use Rattle.commitgate.specs.GateJournals.{AreTicketsOf, made_active}
 use Rattle.commitgate.specs.SeatAnswers.{IsAppended}
-use Rattle.workers.specs.Keeping.{weigh, tickets_for, is_turn, is_turn_at, turned_at, made_between, granted_at, over_own, turned, granted}
+use Rattle.workers.specs.Keeping.{weigh, tickets_for, is_turn, is_turn_at, turned_at, made_between, granted_at, over_own, turn_entries_of_event, granted}
 use Rattle.workers.proofs.Weighing.{weigh_snoc}
 use Rattle.workers.proofs.Seats.{get_before, get_last, entries_append, entries_begin, items_entry, begins_more}
 
@@ -45,7 +45,7 @@ over_same weight stable old new later positions h =
     ap (weigh (weight (entries_of new.seen))) positions ∙ over_later weight stable (entries_of old.seen) (entries_of new.seen) old.positions (entries_begin old.seen new.seen later) h
 
 pub turned_same : (event : ℕ) (old new : SeatView) → IsPrefix old.seen new.seen → new.positions ≡ old.positions
-    → AllByRecursion (λ p. p < length (entries_of old.seen)) old.positions → turned event new ≡ turned event old
+    → AllByRecursion (λ p. p < length (entries_of old.seen)) old.positions → turn_entries_of_event event new ≡ turn_entries_of_event event old
 turned_same event old new later positions h = over_same (turned_at event) (turned_stable event) old new later positions h
 
 pub granted_same : (n : Named) (event : ℕ) (old new : SeatView) → IsPrefix old.seen new.seen → new.positions ≡ old.positions
@@ -95,8 +95,8 @@ module _ (n : Named) (old : SeatView) (entry : Entry) (position : ℕ) (named : 
       ∙ tickets_made n.code a.to (made_active a.from.active a.to.active) tickets event a.tickets_are
 
   -- a seat that appended an entry
-  pub turned_more : (event : ℕ) → AllByRecursion (λ p. p < length (entries_of old.seen)) old.positions → turned event new ≡ turned event old + is_turn event entry
-  turned_more event h = over_one (turned_at event) (turned_stable event) h ∙ ap (λ k. turned event old + k) (turn_last event)
+  pub turned_more : (event : ℕ) → AllByRecursion (λ p. p < length (entries_of old.seen)) old.positions → turn_entries_of_event event new ≡ turn_entries_of_event event old + is_turn event entry
+  turned_more event h = over_one (turned_at event) (turned_stable event) h ∙ ap (λ k. turn_entries_of_event event old + k) (turn_last event)
 
   pub granted_more : (event : ℕ) → AllByRecursion (λ p. p < length (entries_of old.seen)) old.positions → granted n event new ≡ granted n event old + tickets_for event tickets
   granted_more event h = over_one (granted_at n event) (granted_stable n event) h ∙ ap (λ k. granted n event old + k) (granted_last event)

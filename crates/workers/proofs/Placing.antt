@@ -5,7 +5,7 @@ use Rattle.std.proofs.lemmas.Bool.{cond_below, cond_above}
 use native.Mathlib.Decide.{ℕ_discrete, dec_lt}
 use Rattle.eventpool.specs.Ends.{Owning}
 use Rattle.eventpool.proofs.Places.{below_at, there_at, one_at, set_here, set_there}
-use Rattle.workers.specs.WorkerInvariant.{every, ArePlaced}
+use Rattle.workers.specs.WorkerInvariant.{every, AreDealtRoundRobin}
 
 -- how many tickets go to others before the worker w gets one, where the next one goes to another worker
 pub ahead : ℕ → ℕ → ℕ → ℕ
@@ -97,7 +97,7 @@ module _ {T : Type 0} where
         ];
   }
 
-  pub gets_all : (n next : ℕ) (old now : List (Owning T)) (all rest : List T) → length old ≡ n → rest ≡ [] → Gets n next old now all rest → ArePlaced old all now
+  pub gets_all : (n next : ℕ) (old now : List (Owning T)) (all rest : List T) → length old ≡ n → rest ≡ [] → Gets n next old now all rest → AreDealtRoundRobin old all now
   gets_all n next old now all rest long none g w o at =
       let was = g.each w o at in
       was.1 ∙ ap (λ p. Some (record o { put = p })) (sym (append-nil was.0) ∙ ap (λ l. was.0 ++ every n (ahead n w next) l) (sym none) ∙ was.2 ∙ ap (λ k. o.put ++ every k w all) (sym long))

@@ -3,7 +3,7 @@ use Rattle.std.proofs.Common.{◌≡◌, ℕ, ◌+◌, ◌-◌, ◌^◌, min, Li
 use Rattle.eventpool.specs.Ends.{Owning, Stealing, owner_card, thief_card}
 use Rattle.eventpool.proofs.Cards.{one_card}
 use Rattle.commitgate.specs.Seats.{SeatView}
-use Rattle.workers.specs.WorkerInvariant.{HasPositions, turns_of, Goes, OnlyPuts, SameEnds, IsCounted, IsReady, got_by_ends, Serves, Works, IsFixed}
+use Rattle.workers.specs.WorkerInvariant.{HasPositions, seat_turn_count, Goes, OnlyPuts, SameEnds, IsCounted, IsReady, got_by_ends, ServesTicket, Works, IsFixed}
 use Rattle.workers.specs.declared.worker.Worker.{Worker}
 use Rattle.workers.proofs.Told.{GoesOnce}
 
@@ -51,7 +51,7 @@ module _ {A : Type 0} where
 
   -- a worker that got a ticket, and serves it
   pub works_served : (a b c : Worker A) → b.seat ≡ a.seat → SameEnds a.owner a.row.items b.owner b.row.items
-      → got_by_ends b.owner b.row.items ≡ got_by_ends a.owner a.row.items + 1 → b.evaluations ≡ a.evaluations → Serves b c → Works a c
+      → got_by_ends b.owner b.row.items ≡ got_by_ends a.owner a.row.items + 1 → b.evaluations ≡ a.evaluations → ServesTicket b c → Works a c
   works_served a b c seat ends got same serves = record {
     worker = serves.worker ∙ ap (λ s. s.worker) seat;
     ends = (serves.ends.0 ∙ ends.0, serves.ends.1 ∙ ends.1);
@@ -61,13 +61,13 @@ module _ {A : Type 0} where
       ready : IsCounted a.seat a.owner a.row.items a.evaluations → IsReady b.seat b.owner b.row.items b.evaluations
       ready k = (
         subst HasPositions (sym seat) k.0,
-        (λ lt. let p = k.1 (omega (arith, same, lt)) in let t : turns_of b.seat ≡ turns_of a.seat = ap turns_of seat in omega (arith, p, t, same)),
+        (λ lt. let p = k.1 (omega (arith, same, lt)) in let t : seat_turn_count b.seat ≡ seat_turn_count a.seat = ap seat_turn_count seat in omega (arith, p, t, same)),
         (let q = k.2 in omega (arith, q, got, same)),
       )
 
   -- a ticket is served by a worker that puts the new ones
   pub serves_puts : (a b : Worker A) → GoesOnce a.seat b.seat → OnlyPuts a.owner b.owner → b.row.items ≡ a.row.items
-      → b.evaluations ≡ min (a.evaluations + 1) (2 ^ 64 - 1) → Serves a b
+      → b.evaluations ≡ min (a.evaluations + 1) (2 ^ 64 - 1) → ServesTicket a b
   serves_puts a b goes puts row more = record {
     worker = goes.2.worker;
     ends = (puts.0, ap (map thief_card) row);

@@ -7,11 +7,11 @@ use Rattle.model.specs.declared.entry.Entry.{Entry}
 use Rattle.model.specs.declared.end.Why.{Why}
 use Rattle.commitgate.specs.Named.{Named}
 use Rattle.runstate.specs.Ledger.{Ledger, entries_of, entry_in, items_of}
-use Rattle.commitgate.specs.Seats.{SeatView, ReadsOn}
+use Rattle.commitgate.specs.Seats.{SeatView, SeatReadsOn}
 use Rattle.commitgate.specs.Tickets.{TicketView}
-use Rattle.commitgate.specs.SeatAnswers.{IsAppended, IsRefused, IsStopped, IsQuietTo, StoppedTo}
+use Rattle.commitgate.specs.SeatAnswers.{IsAppended, IsRefused, IsSeenStopped, IsQuietTo, StoppedTo}
 use Rattle.workers.specs.Counting.{turn_count, turn_count_at, turns_at}
-use Rattle.workers.specs.WorkerInvariant.{turns_of, Goes, IsOver}
+use Rattle.workers.specs.WorkerInvariant.{seat_turn_count, Goes, IsOver}
 
 -- beginnings
 module _ {A : Type 0} where
@@ -71,7 +71,7 @@ goes_kept old new worker later positions =
       few = (let l = ap length positions in omega (arith, l));
       has_positions = λ h. subst (λ ps. AllByRecursion (λ q. q < length (entries_of new.seen)) ps) (sym positions)
           (below_longer (length (entries_of old.seen)) (length (entries_of new.seen)) old.positions (begins_length (entries_of old.seen) (entries_of new.seen) p) h);
-      counted = λ h. ap (turns_at (entries_of new.seen)) positions ∙ turns_begin (entries_of old.seen) (entries_of new.seen) old.positions p h ∙ (let t = turns_of old in omega arith);
+      counted = λ h. ap (turns_at (entries_of new.seen)) positions ∙ turns_begin (entries_of old.seen) (entries_of new.seen) old.positions p h ∙ (let t = seat_turn_count old in omega arith);
     }
 
 pub goes_self : (s : SeatView) → Goes 0 0 s s
@@ -123,10 +123,10 @@ goes_appended n old entry position named tickets new a =
 pub goes_refused : (n : Named) (old new : SeatView) → IsRefused n old new → Goes 0 0 old new
 goes_refused n old new r = goes_kept old new r.looks_on.follows.worker r.looks_on.follows.later r.looks_on.positions
 
-pub goes_stopped : (n : Named) (causes : Why → Type 0) (old : SeatView) (why : Why) (new : SeatView) → IsStopped n causes old why new → Goes 0 0 old new
+pub goes_stopped : (n : Named) (causes : Why → Type 0) (old : SeatView) (why : Why) (new : SeatView) → IsSeenStopped n causes old why new → Goes 0 0 old new
 goes_stopped n causes old why new s = goes_kept old new s.follows.worker s.follows.later s.positions
 
-pub over_stopped : (n : Named) (causes : Why → Type 0) (old : SeatView) (why : Why) (new : SeatView) → IsStopped n causes old why new → IsOver n new
+pub over_stopped : (n : Named) (causes : Why → Type 0) (old : SeatView) (why : Why) (new : SeatView) → IsSeenStopped n causes old why new → IsOver n new
 over_stopped n causes old why new s = (s.stays, inl (subst (λ (o : Option Why). IsSome o) (sym s.end) refl))
 
 pub over_quiet : (n : Named) (old new : SeatView) → IsQuietTo n old new → IsOver n new
@@ -136,7 +136,7 @@ pub told : (n : Named) (old new : SeatView) → StoppedTo n old new → Goes 0 0
 told n old new s =
     ⊎_elim
     (λ (q : IsQuietTo n old new). (goes_refused n old new q.refused, over_quiet n old new q))
-    (λ (t : (why : Why) × IsStopped n _ old why new). (goes_stopped n _ old t.0 new t.1, over_stopped n _ old t.0 new t.1))
+    (λ (t : (why : Why) × IsSeenStopped n _ old why new). (goes_stopped n _ old t.0 new t.1, over_stopped n _ old t.0 new t.1))
     s
 
 -- it may append more
@@ -160,12 +160,12 @@ goes_first b d x y z f g = record {
   counted = λ h. let p = f.counted h in let q = g.counted (f.has_positions h) in omega (arith, p, q);
 }
 
-pub goes_read : (old new : SeatView) → ReadsOn old new → Goes 0 0 old new
+pub goes_read : (old new : SeatView) → SeatReadsOn old new → Goes 0 0 old new
 goes_read old new r = record {
   worker = r.worker;
   seen = ([], append-nil old.seen ∙ sym r.seen);
   positions = ([], append-nil old.positions ∙ sym r.positions);
   few = (let l = ap length r.positions in omega (arith, l));
   has_positions = λ h. subst (λ (p : Ledger × List ℕ). AllByRecursion (λ q. q < length (entries_of p.0)) p.1) (λ i. (sym r.seen i, sym r.positions i)) h;
-  counted = λ h. (λ i. turns_at (entries_of (r.seen i)) (r.positions i)) ∙ (let t = turns_of old in omega arith);
+  counted = λ h. (λ i. turns_at (entries_of (r.seen i)) (r.positions i)) ∙ (let t = seat_turn_count old in omega arith);
 }

@@ -11,7 +11,7 @@ use Rattle.commitgate.specs.declared.reply.Reply.TheVariants.{Accepted, Stale, G
 use Rattle.logic4.specs.Vector.{Vector}
 use Rattle.design.specs.Compiled.{Compiled}
 use Rattle.turn.specs.Reads.{GaveAll}
-use Rattle.regcells.specs.Meetings.{fresh_of, Rises}
+use Rattle.regcells.specs.Meetings.{fresh_of, HaveGrown}
 use Rattle.runstate.specs.Histories.{IsRead}
 use Rattle.runstate.proofs.Beginnings.{prefix_get}
 use Rattle.commitgate.proofs.Batches.{answered_follows}
@@ -115,23 +115,23 @@ answers_go n old (t ∷ ts) (l ∷ ls) (r ∷ rs) left new a =
     let most = more.1 in
     (one.0 + more.0, omega (arith, few, most), goes_more one.0 more.0 one.0 more.0 old a.0 new one.2 more.2)
 
-rises_self : (fresh : List (List Vector)) → Rises fresh fresh
+rises_self : (fresh : List (List Vector)) → HaveGrown fresh fresh
 rises_self fresh r = ([], append-nil (fresh_of fresh r))
 
-rises_both : (a b c : List (List Vector)) → Rises a b → Rises b c → Rises a c
+rises_both : (a b c : List (List Vector)) → HaveGrown a b → HaveGrown b c → HaveGrown a c
 rises_both a b c f g r = begins_more (fresh_of a r) (fresh_of b r) (fresh_of c r) (f r) (g r)
 
 -- a seat that was answered several tickets has seen of the registers all that it had seen
 pub answers_rise : {A : Type 0} → (n : Named) (old : SeatView) (tickets : List TicketView) (logs : List LogView) (replies : List (Reply A)) (left : List TicketView) (new : SeatView)
-    → AreAnsweredTo n old tickets logs replies left new → Rises old.fresh new.fresh
-answers_rise n old tickets logs [] left new same = subst (λ (s : SeatView). Rises old.fresh s.fresh) (sym same.1) (rises_self old.fresh)
+    → AreAnsweredTo n old tickets logs replies left new → HaveGrown old.fresh new.fresh
+answers_rise n old tickets logs [] left new same = subst (λ (s : SeatView). HaveGrown old.fresh s.fresh) (sym same.1) (rises_self old.fresh)
 answers_rise n old [] logs (r ∷ rs) left new a = absurd a
 answers_rise n old (t ∷ ts) [] (r ∷ rs) left new a = absurd a
 answers_rise n old (t ∷ ts) (l ∷ ls) (r ∷ rs) left new a =
     rises_both old.fresh a.0.fresh new.fresh (answered_follows n CommitCauses old t l.reads a.0 r a.1).rises (answers_rise n a.0 ts ls rs left new a.2)
 
 -- what was read stays so where more was seen of the registers
-pub gave_later : (code : Compiled) (fresh fresh' : List (List Vector)) (reads : List (ℕ × Seen)) → Rises fresh fresh'
+pub gave_later : (code : Compiled) (fresh fresh' : List (List Vector)) (reads : List (ℕ × Seen)) → HaveGrown fresh fresh'
     → GaveAll (IsRead code fresh) reads → GaveAll (IsRead code fresh') reads
 gave_later code fresh fresh' [] rises gave = tt
 gave_later code fresh fresh' (d ∷ ds) rises gave =

@@ -14,24 +14,24 @@ use Rattle.eventpool.specs.Ends.{Owning, Stealing}
 use Rattle.workers.specs.declared.batch.Batch.{Batch}
 use Rattle.workers.specs.declared.batch.Filling.{Filling}
 use Rattle.workers.specs.declared.batch.Filling.TheVariants.{More, Enough, Over}
-use Rattle.workers.specs.declared.next.Next.{Next}
-use Rattle.workers.specs.declared.next.Next.TheVariants.{GoesOn, Ends}
+use Rattle.workers.specs.declared.next_round.NextRound.{NextRound}
+use Rattle.workers.specs.declared.next_round.NextRound.TheVariants.{GoesOn, Ends}
 use Rattle.workers.specs.declared.worker.Worker.{Worker}
-use Rattle.workers.specs.Keeping.{weigh_got, Extends, KeepsAll}
-use Rattle.workers.specs.WorkerInvariant.{HasPositions, turns_of, SameEnds, IsOver, got_by_ends}
+use Rattle.workers.specs.Keeping.{weigh_got, ExtendsWorker, KeepsAll}
+use Rattle.workers.specs.WorkerInvariant.{HasPositions, seat_turn_count, SameEnds, IsOver, got_by_ends}
 
 -- the most of them
 abbrev pub most_turns : ℕ
 most_turns = 16
 
 -- a batch has room for the most turns: a log for each, their tickets, and their answers
-abbrev pub HasRoom : {A : Type 0} → Batch A → Type 0
-HasRoom batch =
+abbrev pub HasBatchRoom : {A : Type 0} → Batch A → Type 0
+HasBatchRoom batch =
     (length batch.logs.items ≡ most_turns) × (most_turns ≤ deque_capacity batch.tickets) × (most_turns ≤ deque_capacity batch.replies)
 
 -- its turns may be committed by a worker: their tickets and logs, by what the worker's seat has seen
-abbrev pub IsOffered : {A : Type 0} → Named → Batch A → Worker A → Type 0
-IsOffered n batch worker = AreOffered n.code worker.seat.fresh batch.tickets.items batch.logs.items
+abbrev pub MayBeCommitted : {A : Type 0} → Named → Batch A → Worker A → Type 0
+MayBeCommitted n batch worker = AreOffered n.code worker.seat.fresh batch.tickets.items batch.logs.items
 
 -- The turn of a ticket is too long, by the log behind those of the batch's turns. What was read in it stands in what a seat
 -- has seen of the registers.
@@ -41,14 +41,14 @@ IsLong n batch ticket s =
     → IsNoTurn n.code ticket.state ticket.time log.reads TooLong × GaveAll (IsRead n.code s.fresh) log.reads
 
 -- what comes of a ticket that the batch doesn't get
-abbrev pub filling_after : Next → Filling
+abbrev pub filling_after : NextRound → Filling
 filling_after GoesOn = Enough
 filling_after Ends = Over
 
 -- what comes of a ticket: the turns of the batch may be committed, or the run is over
 abbrev pub Leads : {A : Type 0} → Named → Filling → Batch A → Worker A → Type 0
-Leads n More batch worker = IsOffered n batch worker
-Leads n Enough batch worker = IsOffered n batch worker
+Leads n More batch worker = MayBeCommitted n batch worker
+Leads n Enough batch worker = MayBeCommitted n batch worker
 Leads n Over batch worker = IsOver n worker.seat
 
 -- a ticket that leads on is kept: where the worker had the first tickets in hand before, it has the others after it
@@ -61,14 +61,14 @@ KeepsOn n Over old hand new hand' = Unit {0}
 -- got no evaluation was begun.
 abbrev pub IsOpen : {T : Type 0} → SeatView → Owning T → List (Stealing T) → ℕ → ℕ → ℕ → Type 0
 IsOpen s owner row evaluations turns tickets =
-    HasPositions s × (evaluations < 2 ^ 64 - 1 → turns_of s + turns ≤ evaluations) × (evaluations + tickets ≤ got_by_ends owner row)
+    HasPositions s × (evaluations < 2 ^ 64 - 1 → seat_turn_count s + turns ≤ evaluations) × (evaluations + tickets ≤ got_by_ends owner row)
 
 -- A worker stays the same worker, and goes on to count: with so many turns and tickets before, and with these after. Its ends got at
 -- most so many tickets meanwhile, and each entry that it appended is of one of the turns or of the tickets.
 pub record Fills {A : Type 0} (old new : Worker A) (turns tickets taken more left : ℕ) : Type 0 where
   pub worker : new.seat.worker ≡ old.seat.worker
   pub ends : SameEnds old.owner old.row.items new.owner new.row.items
-  pub later : Extends old new
+  pub later : ExtendsWorker old new
   pub entries_few : length new.seat.positions + (more + left) ≤ length old.seat.positions + (turns + tickets + taken)
   pub tickets_few : weigh_got (λ ticket. 1) new.owner new.row.items ≤ weigh_got (λ ticket. 1) old.owner old.row.items + taken
   pub counted : IsOpen old.seat old.owner old.row.items old.evaluations turns tickets → IsOpen new.seat new.owner new.row.items new.evaluations more left

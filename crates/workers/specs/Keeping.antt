@@ -84,8 +84,8 @@ abbrev pub over_own : (List Entry → ℕ → ℕ) → SeatView → ℕ
 over_own weight s = weigh (weight (entries_of s.seen)) s.positions
 
 -- how many entries of the seat's own are the turn of this event
-abbrev pub turned : ℕ → SeatView → ℕ
-turned event s = over_own (turned_at event) s
+abbrev pub turn_entries_of_event : ℕ → SeatView → ℕ
+turn_entries_of_event event s = over_own (turned_at event) s
 
 -- how many evaluations with this event's number the seat's own entries made active
 abbrev pub granted : Named → ℕ → SeatView → ℕ
@@ -107,11 +107,11 @@ pub record LosesNone (n : Named) (placed : List TicketView) (s : SeatView) (owne
   pub gone : List TicketView
   pub were_gone : AllByRecursion (WasGone n s.seen) gone
   pub puts : (event : ℕ) → tickets_for event owner.put + tickets_for event due ≡ tickets_for event placed + granted n event s + tickets_for event back
-  pub gots : (event : ℕ) → weigh_got (is_for event) owner row ≡ turned event s + tickets_for event back + tickets_for event gone + tickets_for event hand
+  pub gots : (event : ℕ) → weigh_got (is_for event) owner row ≡ turn_entries_of_event event s + tickets_for event back + tickets_for event gone + tickets_for event hand
 
 -- A call that goes on loses none: where the worker had the first tickets in hand before, it has the others after it.
-abbrev pub Keeps : Named → SeatView → Owning TicketView → List TicketView → SeatView → Owning TicketView → List TicketView → Type 0
-Keeps n s owner hand s' owner' hand' =
+abbrev pub KeepsTickets : Named → SeatView → Owning TicketView → List TicketView → SeatView → Owning TicketView → List TicketView → Type 0
+KeepsTickets n s owner hand s' owner' hand' =
     (placed : List TicketView) (row : List (Stealing TicketView)) → LosesNone n placed s owner row [] hand → LosesNone n placed s' owner' row [] hand'
 
 -- the same of a worker
@@ -120,7 +120,7 @@ pub record KeepsAll {A : Type 0} (n : Named) (old : Worker A) (hand : List Ticke
 
 -- A worker that went on: it has seen, appended and put all that it had, with more behind it, and its ends got what they had got, with
 -- more tickets.
-pub record Extends {A : Type 0} (old new : Worker A) : Type 0 where
+pub record ExtendsWorker {A : Type 0} (old new : Worker A) : Type 0 where
   pub seen : IsPrefix old.seat.seen new.seat.seen
   pub positions : IsPrefix old.seat.positions new.seat.positions
   pub put : IsPrefix old.owner.put new.owner.put
@@ -128,7 +128,7 @@ pub record Extends {A : Type 0} (old new : Worker A) : Type 0 where
 
 -- It appended at most so many entries meanwhile, and got at most so many tickets.
 pub record Within {A : Type 0} (entries tickets : ℕ) (old new : Worker A) : Type 0 where
-  pub later : Extends old new
+  pub later : ExtendsWorker old new
   pub entries_few : length new.seat.positions ≤ length old.seat.positions + entries
   pub tickets_few : weigh_got (λ ticket. 1) new.owner new.row.items ≤ weigh_got (λ ticket. 1) old.owner old.row.items + tickets
 

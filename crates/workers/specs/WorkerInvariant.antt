@@ -16,9 +16,9 @@ use Rattle.eventpool.specs.Pools.{IsPool}
 use Rattle.commitgate.specs.GateJournals.{Stays}
 use Rattle.eventpool.specs.Ends.{Owning, Stealing, owner_card, thief_card}
 use Rattle.workers.specs.Counting.{turns_at}
-use Rattle.workers.specs.Keeping.{Extends, HasLostNone}
-use Rattle.workers.specs.declared.next.Next.{Next}
-use Rattle.workers.specs.declared.next.Next.TheVariants as next_of
+use Rattle.workers.specs.Keeping.{ExtendsWorker, HasLostNone}
+use Rattle.workers.specs.declared.next_round.NextRound.{NextRound}
+use Rattle.workers.specs.declared.next_round.NextRound.TheVariants as next_of
 use Rattle.workers.specs.declared.worker.Worker.{Worker}
 
 -- what the seat has seen is a journal that stays as it is: the run is stopped, or no event is left
@@ -26,7 +26,7 @@ abbrev pub IsOver : Named → SeatView → Type 0
 IsOver n s = Stays n s.seen × (IsSome (end_in s.seen) ⊎ Ends (design_of n.code) n.limits (entries_of s.seen) Quiet)
 
 -- a worker that doesn't go on has seen that the run is over
-abbrev pub OverUnless : Named → Next → SeatView → Type 0
+abbrev pub OverUnless : Named → NextRound → SeatView → Type 0
 OverUnless n next s = next ≡ next_of.Ends → IsOver n s
 
 -- the positions of the seat's entries are positions of the journal that it has seen
@@ -34,8 +34,8 @@ abbrev pub HasPositions : SeatView → Type 0
 HasPositions s = AllByRecursion (λ p. p < length (entries_of s.seen)) s.positions
 
 -- how many turns the seat appended
-abbrev pub turns_of : SeatView → ℕ
-turns_of s = turns_at (entries_of s.seen) s.positions
+abbrev pub seat_turn_count : SeatView → ℕ
+seat_turn_count s = turns_at (entries_of s.seen) s.positions
 
 -- the seat goes on, and has appended so many more turns, and at most so many more entries
 pub record Goes (turns entries : ℕ) (old new : SeatView) : Type 0 where
@@ -44,7 +44,7 @@ pub record Goes (turns entries : ℕ) (old new : SeatView) : Type 0 where
   pub positions : IsPrefix old.positions new.positions
   pub few : length new.positions ≤ length old.positions + entries
   pub has_positions : HasPositions old → HasPositions new
-  pub counted : HasPositions old → turns_of new ≡ turns_of old + turns
+  pub counted : HasPositions old → seat_turn_count new ≡ seat_turn_count old + turns
 
 -- the tickets that an answer of the gate gives: those that the entry made, or the one that comes back
 abbrev pub tickets_in : {A : Type 0} → Reply A → List TicketView
@@ -89,15 +89,15 @@ module _ {T : Type 0} where
   -- number isn't the greatest; and each evaluation was of a ticket that these ends got.
   abbrev pub IsCounted : SeatView → Owning T → List (Stealing T) → ℕ → Type 0
   IsCounted s owner row evaluations =
-      HasPositions s × (evaluations < 2 ^ 64 - 1 → turns_of s ≤ evaluations) × (evaluations ≤ got_by_ends owner row)
+      HasPositions s × (evaluations < 2 ^ 64 - 1 → seat_turn_count s ≤ evaluations) × (evaluations ≤ got_by_ends owner row)
 
   -- the same, and of one more ticket that these ends got no evaluation was begun
   abbrev pub IsReady : SeatView → Owning T → List (Stealing T) → ℕ → Type 0
   IsReady s owner row evaluations =
-      HasPositions s × (evaluations < 2 ^ 64 - 1 → turns_of s ≤ evaluations) × (evaluations + 1 ≤ got_by_ends owner row)
+      HasPositions s × (evaluations < 2 ^ 64 - 1 → seat_turn_count s ≤ evaluations) × (evaluations + 1 ≤ got_by_ends owner row)
 
 -- a worker with a ticket stays the same worker, and counts its evaluation
-pub record Serves {A : Type 0} (old new : Worker A) : Type 0 where
+pub record ServesTicket {A : Type 0} (old new : Worker A) : Type 0 where
   pub worker : new.seat.worker ≡ old.seat.worker
   pub ends : SameEnds old.owner old.row.items new.owner new.row.items
   pub counted : IsReady old.seat old.owner old.row.items old.evaluations → IsCounted new.seat new.owner new.row.items new.evaluations
@@ -110,16 +110,16 @@ pub record Works {A : Type 0} (old new : Worker A) : Type 0 where
 
 -- A worker that came to its end: what it had seen, appended, put and got it still has, with more behind it, and before its last round it lost
 -- no ticket.
-pub record IsDone {A : Type 0} (n : Named) (old new : Worker A) : Type 0 where
+pub record IsDoneWorker {A : Type 0} (n : Named) (old new : Worker A) : Type 0 where
   pub works : Works old new
-  pub later : Extends old new
+  pub later : ExtendsWorker old new
   pub kept : HasLostNone n old new
   pub over : IsOver n new.seat
 
 -- workers, each with what became of it
 abbrev pub AreDone : {A : Type 0} → Named → List (Worker A) → List (Worker A) → Type 0
 AreDone n [] [] = Unit {0}
-AreDone n (w ∷ ws) (v ∷ vs) = IsDone n w v × AreDone n ws vs
+AreDone n (w ∷ ws) (v ∷ vs) = IsDoneWorker n w v × AreDone n ws vs
 AreDone n _ _ = ⊥
 
 -- the owners are the same ends, and have taken the same
@@ -133,8 +133,8 @@ every n zero (x ∷ xs) = x ∷ every n (n - 1) xs
 every n (suc skipped) (x ∷ xs) = every n skipped xs
 
 -- of n owners each was put every n-th of the tickets, in order, from the one with its own number on
-abbrev pub ArePlaced : {T : Type 0} → List (Owning T) → List T → List (Owning T) → Type 0
-ArePlaced {T} old tickets new =
+abbrev pub AreDealtRoundRobin : {T : Type 0} → List (Owning T) → List T → List (Owning T) → Type 0
+AreDealtRoundRobin {T} old tickets new =
     (w : ℕ) (o : Owning T) → slice_get old w ≡ Some o → slice_get new w ≡ Some (record o { put = o.put ++ every (length old) w tickets })
 
 -- The workers of a run that begins: each has its seat, in order, with nothing seen; their ends of the deques are those of

@@ -3,19 +3,19 @@
 ghost use Rattle.std.specs.Prelude.{◌≡◌, ℕ, ◌+◌, ◌<◌, ◌≤◌, ◌++◌, List, [], ◌∷◌, length, IfOk, IfErr, MatchResult};
 ghost use Rattle.std.specs.List.{All};
 ghost use Rattle.commitgate.specs.Batches.{AreOffered};
-ghost use Rattle.regcells.specs.Meetings.{Rises};
+ghost use Rattle.regcells.specs.Meetings.{HaveGrown};
 ghost use Rattle.turn.specs.declared.log.FillFault.TheVariants.{TooLong};
 ghost use Rattle.commitgate.specs.Tickets.{TicketView, most_tries};
-ghost use Rattle.workers.specs.WorkerInvariant.{Goes, OverUnless, OnlyPuts, Serves, IsSettled, tickets_of};
+ghost use Rattle.workers.specs.WorkerInvariant.{Goes, OverUnless, OnlyPuts, ServesTicket, IsSettled, tickets_of};
 ghost use Rattle.workers.specs.Keeping.{KeepsAll, Within};
-ghost use Rattle.workers.specs.Batching.{most_turns, HasRoom, IsOffered, IsLong, Leads, KeepsOn, Fills, filling_after};
-ghost use Rattle.workers.specs.declared.next.Next.TheVariants.{GoesOn};
+ghost use Rattle.workers.specs.Batching.{most_turns, HasBatchRoom, MayBeCommitted, IsLong, Leads, KeepsOn, Fills, filling_after};
+ghost use Rattle.workers.specs.declared.next_round.NextRound.TheVariants.{GoesOn};
 
 use crate::deques::put;
-use crate::next::Next;
-use crate::pace::Pace;
+use crate::next_round::NextRound;
 use crate::probe::{EventAt, Probe};
 use crate::reads::WorkerReads;
+use crate::throttle::Throttle;
 use crate::worker::{RunContext, Worker, finish};
 use commitgate::{MAX_TRIES, Naming, Reply, Seat, Ticket, evaluate};
 use eventpool::Owner;
@@ -53,7 +53,7 @@ pub enum Filling {
 impl<K: Naming> Batch<K> {
     /// An empty batch, with room for the most turns.
     pub(crate) fn new(alloc: Global) -> Result<Batch<K>, AllocError>
-        ensures room { IfOk result (λ batch. HasRoom batch) }
+        ensures room { IfOk result (λ batch. HasBatchRoom batch) }
         ensures empty { IfOk result (λ batch. batch.tickets.items ≡ []) }
     {
         let tickets = VecDeque::with_capacity(alloc, MOST_TURNS)?;
@@ -80,12 +80,12 @@ fn add<K: Naming, P: Probe, R: Wait>(
     ticket: Ticket<K>,
 ) -> Result<u32, (Ticket<K>, FillFault)>
     requires design { run.now.design.now ≡ K.named.code }
-    requires room { HasRoom batch.old }
+    requires room { HasBatchRoom batch.old }
     requires few { length batch.old.tickets.items < most_turns }
     requires tries { ticket.tries < most_tries }
     requires offered { AreOffered K.named.code seat.old.fresh batch.old.tickets.items batch.old.logs.items }
     ensures goes { Goes 0 0 seat.old seat.new }
-    ensures room { HasRoom batch.new }
+    ensures room { HasBatchRoom batch.new }
     ensures offered { AreOffered K.named.code seat.new.fresh batch.new.tickets.items batch.new.logs.items }
     ensures added { MatchResult result (λ _. batch.new.tickets.items ≡ batch.old.tickets.items ++ ticket ∷ []) (λ e. (batch.new.tickets ≡ batch.old.tickets) × (e.0 ≡ ticket)) }
     ensures long { IfErr result (λ e. e.1 ≡ TooLong → IsLong K.named batch.new ticket seat.new) }
@@ -107,12 +107,12 @@ fn add<K: Naming, P: Probe, R: Wait>(
 }
 
 // What comes of a ticket that the batch doesn't get.
-fn after(next: Next) -> Filling
+fn after(next: NextRound) -> Filling
     ensures { result ≡ filling_after next }
 {
     match next {
-        Next::GoesOn => Filling::Enough,
-        Next::Ends => Filling::Over,
+        NextRound::GoesOn => Filling::Enough,
+        NextRound::Ends => Filling::Over,
     }
 }
 
@@ -139,16 +139,16 @@ impl<K: Naming> Batch<K> {
 fn tell_long<K: Naming, P: Probe, R: Wait>(
     run: &RunContext<'_, '_, K, P, R>,
     batch: &mut Batch<K>,
-    pace: &mut Pace,
+    throttle: &mut Throttle,
     worker: &mut Worker<K>,
     ticket: Ticket<K>,
-) -> Next
-    requires room { HasRoom batch.old }
+) -> NextRound
+    requires room { HasBatchRoom batch.old }
     requires few { length batch.old.tickets.items < most_turns }
     requires tries { ticket.tries < most_tries }
-    requires offered { IsOffered K.named batch.old worker.old }
+    requires offered { MayBeCommitted K.named batch.old worker.old }
     requires long { IsLong K.named batch.old ticket worker.old.seat }
-    ensures room { HasRoom batch.new }
+    ensures room { HasBatchRoom batch.new }
     ensures few { length batch.new.tickets.items ≤ length batch.old.tickets.items }
     ensures empty { result ≡ GoesOn → batch.new.tickets.items ≡ [] }
     ensures fills { Fills worker.old worker.new (length batch.old.tickets.items) 0 0 (length batch.new.tickets.items) 0 }
@@ -156,9 +156,9 @@ fn tell_long<K: Naming, P: Probe, R: Wait>(
     ensures over { OverUnless K.named result worker.new.seat }
 {
     let place = batch.tickets.len();
-    match commit(run, batch, pace, worker) {
-        Next::GoesOn => {}
-        Next::Ends => return Next::Ends,
+    match commit(run, batch, throttle, worker) {
+        NextRound::GoesOn => {}
+        NextRound::Ends => return NextRound::Ends,
     }
     let at = EventAt::of(&ticket);
     let (seat, owner) = (&mut worker.seat, &mut worker.owner);
@@ -173,15 +173,15 @@ fn tell_long<K: Naming, P: Probe, R: Wait>(
 fn begin<K: Naming, P: Probe, R: Wait>(
     run: &RunContext<'_, '_, K, P, R>,
     batch: &mut Batch<K>,
-    pace: &mut Pace,
+    throttle: &mut Throttle,
     worker: &mut Worker<K>,
     ticket: Ticket<K>,
 ) -> Filling
     requires design { run.now.design.now ≡ K.named.code }
-    requires room { HasRoom batch.old }
+    requires room { HasBatchRoom batch.old }
     requires few { length batch.old.tickets.items < most_turns }
-    requires offered { IsOffered K.named batch.old worker.old }
-    ensures room { HasRoom batch.new }
+    requires offered { MayBeCommitted K.named batch.old worker.old }
+    ensures room { HasBatchRoom batch.new }
     ensures few { length batch.new.tickets.items ≤ length batch.old.tickets.items + 1 }
     ensures fills { Fills worker.old worker.new (length batch.old.tickets.items) 1 0 (length batch.new.tickets.items) 0 }
     ensures keeps { KeepsOn K.named result worker.old (batch.old.tickets.items ++ ticket ∷ []) worker.new batch.new.tickets.items }
@@ -194,17 +194,17 @@ fn begin<K: Naming, P: Probe, R: Wait>(
             .evaluation(worker.seat.worker(), at.event, ticket.tries());
         match add(run, batch, &mut worker.seat, ticket) {
             Ok(count) => {
-                pace.note(count);
+                throttle.note(count);
                 batch.note(at, count);
-                if batch.is_enough(pace.turns()) {
+                if batch.is_enough(throttle.turns()) {
                     Filling::Enough
                 } else {
                     Filling::More
                 }
             }
             Err((ticket, FillFault::TooLong)) => {
-                pace.stay_alone();
-                after(tell_long(run, batch, pace, worker, ticket))
+                throttle.stay_alone();
+                after(tell_long(run, batch, throttle, worker, ticket))
             }
             Err((_, FillFault::Memory)) => {
                 run.gate.stop(run.rt, &mut worker.seat);
@@ -212,7 +212,7 @@ fn begin<K: Naming, P: Probe, R: Wait>(
             }
         }
     } else {
-        pace.stay_alone();
+        throttle.stay_alone();
         let (seat, owner) = (&mut worker.seat, &mut worker.owner);
         let next = put(run.rt, run.gate, seat, owner, ticket);
         after(next)
@@ -223,21 +223,21 @@ fn begin<K: Naming, P: Probe, R: Wait>(
 fn extend<K: Naming, P: Probe, R: Wait>(
     run: &RunContext<'_, '_, K, P, R>,
     batch: &mut Batch<K>,
-    pace: &mut Pace,
+    throttle: &mut Throttle,
     worker: &mut Worker<K>,
 ) -> Filling
     requires design { run.now.design.now ≡ K.named.code }
-    requires room { HasRoom batch.old }
+    requires room { HasBatchRoom batch.old }
     requires few { length batch.old.tickets.items < most_turns }
-    requires offered { IsOffered K.named batch.old worker.old }
-    ensures room { HasRoom batch.new }
+    requires offered { MayBeCommitted K.named batch.old worker.old }
+    ensures room { HasBatchRoom batch.new }
     ensures few { length batch.new.tickets.items ≤ length batch.old.tickets.items + 1 }
     ensures fills { Fills worker.old worker.new (length batch.old.tickets.items) 0 1 (length batch.new.tickets.items) 0 }
     ensures keeps { KeepsOn K.named result worker.old batch.old.tickets.items worker.new batch.new.tickets.items }
     ensures leads { Leads K.named result batch.new worker.new }
 {
     match worker.owner.take() {
-        Some(ticket) => begin(run, batch, pace, worker, ticket),
+        Some(ticket) => begin(run, batch, throttle, worker, ticket),
         None => Filling::Enough,
     }
 }
@@ -246,34 +246,34 @@ fn extend<K: Naming, P: Probe, R: Wait>(
 fn fill<K: Naming, P: Probe, R: Wait>(
     run: &RunContext<'_, '_, K, P, R>,
     batch: &mut Batch<K>,
-    pace: &mut Pace,
+    throttle: &mut Throttle,
     worker: &mut Worker<K>,
     ticket: Ticket<K>,
-) -> Next
+) -> NextRound
     requires design { run.now.design.now ≡ K.named.code }
-    requires room { HasRoom batch.old }
+    requires room { HasBatchRoom batch.old }
     requires empty { batch.old.tickets.items ≡ [] }
-    ensures room { HasRoom batch.new }
+    ensures room { HasBatchRoom batch.new }
     ensures few { length batch.new.tickets.items ≤ most_turns }
     ensures fills { (taken : ℕ) × (taken ≤ 15) × Fills worker.old worker.new 0 1 taken (length batch.new.tickets.items) 0 }
     ensures keeps { result ≡ GoesOn → KeepsAll K.named worker.old (ticket ∷ []) worker.new batch.new.tickets.items }
-    ensures offered { result ≡ GoesOn → IsOffered K.named batch.new worker.new }
+    ensures offered { result ≡ GoesOn → MayBeCommitted K.named batch.new worker.new }
     ensures over { OverUnless K.named result worker.new.seat }
 {
     batch.steps = 0;
-    let mut next = begin(run, batch, pace, worker, ticket);
+    let mut next = begin(run, batch, throttle, worker, ticket);
     for _place in 1..MOST_TURNS {
         match next {
             Filling::More => {}
-            Filling::Enough => return Next::GoesOn,
-            Filling::Over => return Next::Ends,
+            Filling::Enough => return NextRound::GoesOn,
+            Filling::Over => return NextRound::Ends,
         }
-        next = extend(run, batch, pace, worker);
+        next = extend(run, batch, throttle, worker);
     }
     match next {
-        Filling::More => Next::GoesOn,
-        Filling::Enough => Next::GoesOn,
-        Filling::Over => Next::Ends,
+        Filling::More => NextRound::GoesOn,
+        Filling::Enough => NextRound::GoesOn,
+        Filling::Over => NextRound::Ends,
     }
 }
 
@@ -282,13 +282,13 @@ fn fill<K: Naming, P: Probe, R: Wait>(
 fn settle_all<K: Naming, P: Probe, R: Wait>(
     run: &RunContext<'_, '_, K, P, R>,
     batch: &mut Batch<K>,
-    pace: &mut Pace,
+    throttle: &mut Throttle,
     seat: &mut Seat<K>,
     owner: &mut Owner<Ticket<K>>,
-) -> Next
-    requires room { HasRoom batch.old }
+) -> NextRound
+    requires room { HasBatchRoom batch.old }
     requires few { length batch.old.replies.items ≤ most_turns }
-    ensures room { HasRoom batch.new }
+    ensures room { HasBatchRoom batch.new }
     ensures tickets { batch.new.tickets ≡ batch.old.tickets }
     ensures logs { batch.new.logs ≡ batch.old.logs }
     ensures goes { Goes 0 0 seat.old seat.new }
@@ -301,32 +301,32 @@ fn settle_all<K: Naming, P: Probe, R: Wait>(
     for place in 0..MOST_TURNS {
         let at = batch.events[place];
         let Some(reply) = batch.replies.pop_front() else {
-            return Next::GoesOn;
+            return NextRound::GoesOn;
         };
-        pace.answered(&reply);
+        throttle.answered(&reply);
         match finish(run, seat, owner, at, reply) {
-            Next::GoesOn => {}
-            Next::Ends => return Next::Ends,
+            NextRound::GoesOn => {}
+            NextRound::Ends => return NextRound::Ends,
         }
     }
-    Next::GoesOn
+    NextRound::GoesOn
 }
 
 // Commits the turns of a batch in one holding of the lock, and settles the answers. Answers whether the worker goes on.
 fn commit<K: Naming, P: Probe, R: Wait>(
     run: &RunContext<'_, '_, K, P, R>,
     batch: &mut Batch<K>,
-    pace: &mut Pace,
+    throttle: &mut Throttle,
     worker: &mut Worker<K>,
-) -> Next
-    requires room { HasRoom batch.old }
+) -> NextRound
+    requires room { HasBatchRoom batch.old }
     requires few { length batch.old.tickets.items ≤ most_turns }
-    requires offered { IsOffered K.named batch.old worker.old }
-    ensures room { HasRoom batch.new }
+    requires offered { MayBeCommitted K.named batch.old worker.old }
+    ensures room { HasBatchRoom batch.new }
     ensures few { length batch.new.tickets.items ≤ length batch.old.tickets.items }
     ensures empty { result ≡ GoesOn → batch.new.tickets.items ≡ [] }
     ensures logs { batch.new.logs ≡ batch.old.logs }
-    ensures rises { result ≡ GoesOn → Rises worker.old.seat.fresh worker.new.seat.fresh }
+    ensures rises { result ≡ GoesOn → HaveGrown worker.old.seat.fresh worker.new.seat.fresh }
     ensures fills { Fills worker.old worker.new (length batch.old.tickets.items) 0 0 (length batch.new.tickets.items) 0 }
     ensures keeps { result ≡ GoesOn → (rest : List TicketView) → KeepsAll K.named worker.old (batch.old.tickets.items ++ rest) worker.new rest }
     ensures over { OverUnless K.named result worker.new.seat }
@@ -340,7 +340,7 @@ fn commit<K: Naming, P: Probe, R: Wait>(
     } = batch;
     run.gate
         .commit_all(run.rt, &mut worker.seat, tickets, logs, replies);
-    settle_all(run, batch, pace, &mut worker.seat, &mut worker.owner)
+    settle_all(run, batch, throttle, &mut worker.seat, &mut worker.owner)
 }
 
 /// Evaluates a ticket that the worker got, and more of its own deque, and commits their turns. Answers whether the worker goes
@@ -348,23 +348,23 @@ fn commit<K: Naming, P: Probe, R: Wait>(
 pub(crate) fn serve_several<K: Naming, P: Probe, R: Wait>(
     run: &RunContext<'_, '_, K, P, R>,
     batch: &mut Batch<K>,
-    pace: &mut Pace,
+    throttle: &mut Throttle,
     worker: &mut Worker<K>,
     ticket: Ticket<K>,
-) -> Next
+) -> NextRound
     requires design { run.now.design.now ≡ K.named.code }
-    requires room { HasRoom batch.old }
+    requires room { HasBatchRoom batch.old }
     requires empty { batch.old.tickets.items ≡ [] }
-    ensures room { HasRoom batch.new }
+    ensures room { HasBatchRoom batch.new }
     ensures empty { result ≡ GoesOn → batch.new.tickets.items ≡ [] }
-    ensures serves { Serves worker.old worker.new }
+    ensures serves { ServesTicket worker.old worker.new }
     ensures keeps { result ≡ GoesOn → KeepsAll K.named worker.old (ticket ∷ []) worker.new [] }
     ensures within { Within 16 15 worker.old worker.new }
     ensures over { OverUnless K.named result worker.new.seat }
 {
-    match fill(run, batch, pace, worker, ticket) {
-        Next::GoesOn => {}
-        Next::Ends => return Next::Ends,
+    match fill(run, batch, throttle, worker, ticket) {
+        NextRound::GoesOn => {}
+        NextRound::Ends => return NextRound::Ends,
     }
-    commit(run, batch, pace, worker)
+    commit(run, batch, throttle, worker)
 }

@@ -4,9 +4,9 @@ ghost use Rattle.std.specs.List.{sum_by};
 ghost use Rattle.eventpool.specs.Ends.{thief_card};
 ghost use Rattle.workers.specs.Keeping.{StoleOne, StoleNone, GotOne, GotNone};
 ghost use Rattle.workers.specs.WorkerInvariant.{Goes, OverUnless, OnlyPuts, SameEnds, got_by_ends};
-ghost use Rattle.workers.specs.declared.next.Next.TheVariants.{GoesOn};
+ghost use Rattle.workers.specs.declared.next_round.NextRound.TheVariants.{GoesOn};
 
-use crate::next::Next;
+use crate::next_round::NextRound;
 use commitgate::{Gate, Naming, Seat, Ticket};
 use crossbeam_utils::Backoff;
 use eventpool::{Owner, Stolen, Thief};
@@ -104,7 +104,7 @@ pub(crate) fn put<K: Naming, R: Wait>(
     seat: &mut Seat<K>,
     owner: &mut Owner<Ticket<K>>,
     ticket: Ticket<K>,
-) -> Next
+) -> NextRound
     ensures goes { Goes 0 0 seat.old seat.new }
     ensures kept { result ≡ GoesOn → seat.new ≡ seat.old }
     ensures puts { OnlyPuts owner.old owner.new }
@@ -112,10 +112,10 @@ pub(crate) fn put<K: Naming, R: Wait>(
     ensures over { OverUnless K.named result seat.new }
 {
     match owner.put(ticket) {
-        Ok(()) => Next::GoesOn,
+        Ok(()) => NextRound::GoesOn,
         Err(_) => {
             gate.stop(rt, seat);
-            Next::Ends
+            NextRound::Ends
         }
     }
 }
@@ -127,7 +127,7 @@ pub(crate) fn put_all<K: Naming, R: Wait>(
     seat: &mut Seat<K>,
     owner: &mut Owner<Ticket<K>>,
     mut tickets: Vec<Ticket<K>>,
-) -> Next
+) -> NextRound
     ensures goes { Goes 0 0 seat.old seat.new }
     ensures kept { result ≡ GoesOn → seat.new ≡ seat.old }
     ensures puts { OnlyPuts owner.old owner.new }
@@ -135,14 +135,14 @@ pub(crate) fn put_all<K: Naming, R: Wait>(
     ensures over { OverUnless K.named result seat.new }
 {
     if tickets.is_empty() {
-        return Next::GoesOn;
+        return NextRound::GoesOn;
     }
     for ticket in tickets.drain(..) {
         match put(rt, gate, seat, owner, ticket) {
-            Next::GoesOn => {}
-            Next::Ends => return Next::Ends,
+            NextRound::GoesOn => {}
+            NextRound::Ends => return NextRound::Ends,
         }
     }
     seat.keep_room(tickets);
-    Next::GoesOn
+    NextRound::GoesOn
 }

@@ -8,9 +8,9 @@
 //!    none is active it looks for a ticket for some microseconds more, and then asks for a change of the regions, for which
 //!    it may have to wait (`worker`).
 //! 3. Where a worker's turns are short, it takes tickets only while no other such worker does, since they would only meet at
-//!    the lock (`pace`). It evaluates several of them, one after another, and commits them in one holding of the lock, as long
+//!    the lock (`throttle`). It evaluates several of them, one after another, and commits them in one holding of the lock, as long
 //!    as none of them makes another stale (`batch`).
-//! 4. A worker ends where no event is left or the run is stopped (`next`); want of memory stops it. What the workers had is
+//! 4. A worker ends where no event is left or the run is stopped (`next_round`); want of memory stops it. What the workers had is
 //!    taken apart (`left_by_workers`).
 #![tactic(auto)]
 
@@ -18,16 +18,16 @@ mod batch;
 mod deques;
 mod fault;
 mod left_by_workers;
-mod next;
-mod pace;
+mod next_round;
 mod probe;
 mod reads;
 mod team;
+mod throttle;
 mod worker;
 
 pub use fault::SimFault;
 pub use left_by_workers::LeftByWorkers;
-pub use pace::Lane;
 pub use probe::{Probe, ReplyKind, Unobserved};
 pub use team::{gather, place, work_all};
+pub use throttle::Admission;
 pub use worker::{RunContext, Worker};

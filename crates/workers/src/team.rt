@@ -3,7 +3,7 @@ ghost use Rattle.std.specs.Prelude.{◌≡◌, ◌+◌, ◌<◌, ◌∷◌, map,
 ghost use Rattle.std.specs.List.{AllByRecursion};
 ghost use Rattle.std.specs.Thread.{IsSend, IsSync};
 ghost use Rattle.design.specs.contracts.design.Design as design_rows;
-ghost use Rattle.workers.specs.WorkerInvariant.{AreDone, ArePlaced, IsDone, IsFixed};
+ghost use Rattle.workers.specs.WorkerInvariant.{AreDone, AreDealtRoundRobin, IsDoneWorker, IsFixed};
 
 use crate::fault::SimFault;
 use crate::probe::Probe;
@@ -22,16 +22,16 @@ use std::thread::{Promise, Threads};
 struct ComesToEnd<K: Naming>(Snapshot<Worker<K>>);
 
 impl<K: Naming> Promise<Worker<K>> for ComesToEnd<K> {
-    ghost use Rattle.workers.specs.WorkerInvariant.{IsDone};
+    ghost use Rattle.workers.specs.WorkerInvariant.{IsDoneWorker};
 
-    ghost kept_by = { λ p r. IsDone K.named p.0.value r };
+    ghost kept_by = { λ p r. IsDoneWorker K.named p.0.value r };
 }
 
 /// Puts the first tickets into the deques: that of a process goes to the worker with its number, round and round.
 pub fn place<T: Drop>(owners: &mut Vec<Owner<T>>, tickets: Vec<T>) -> Result<(), SimFault>
     requires { 0 < length owners.old.items }
     ensures fixed { IsFixed owners.old.items owners.new.items }
-    ensures placed { IfOk result (λ _. ArePlaced owners.old.items tickets.items owners.new.items) }
+    ensures placed { IfOk result (λ _. AreDealtRoundRobin owners.old.items tickets.items owners.new.items) }
 {
     let workers = owners.len();
     let mut next = 0;
@@ -121,7 +121,7 @@ pub fn work_all<K: Naming + Send + Sync, P: Probe, R: Threads + Wait + Sync>(
                     promise,
                     move || -> Worker<K>
                         requires { run.now.design.now ≡ K.named.code }
-                        ensures { IsDone K.named worker result }
+                        ensures { IsDoneWorker K.named worker result }
                     { work(run, worker) },
                 ) {
                     Ok(handle) => handles.push(handle)?,

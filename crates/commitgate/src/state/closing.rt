@@ -20,7 +20,7 @@ impl<'d, K: Naming> GateState<'d, K> {
         ensures settled { Settled self.old.ledger seat }
     {
         let share = seat.share();
-        self.greet(context, &mut seat);
+        self.synchronize(context, &mut seat);
         share
     }
 

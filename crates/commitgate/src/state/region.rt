@@ -111,7 +111,7 @@ impl<'d, K: Naming> GateState<'d, K> {
         ensures seat { (MustWait self.old (length (entries_of seat.old.seen)) → ⊥) → RestAnsweredTo K.named seat.old seat.new result }
     {
         self.invariant_holds();
-        self.greet(context, seat);
+        self.synchronize(context, seat);
         match self.end() {
             End::Stopped(why) => return Rest::Stopped(why),
             End::Quiet => return Rest::Quiet,
@@ -146,7 +146,7 @@ impl<'d, K: Naming> GateState<'d, K> {
         ensures seat { StoppedTo K.named seat.old seat.new }
     {
         self.invariant_holds();
-        self.greet(context, seat);
+        self.synchronize(context, seat);
         match self.end() {
             End::Running => {
                 self.stop(context, seat, Why::Memory);

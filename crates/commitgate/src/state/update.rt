@@ -16,20 +16,20 @@ use model::entry::Entry;
 use std::sync::Wait;
 
 impl<'d, K: Naming> GateState<'d, K> {
-    /// The same as `apply_update`, with a seat that may have been greeted before, in this holding of the lock.
+    /// The same as `apply_update`, with a seat that may have been synchronized before, in this holding of the lock.
     fn update<R: Wait>(
         &mut self,
         context: &Context<'_, K, R>,
         seat: &mut Seat<K>,
-        greeted: bool,
+        synchronized: bool,
     ) -> UpdateReply<K>
-        requires { IsTrue greeted → seat.old.seen ≡ self.old.ledger }
+        requires { IsTrue synchronized → seat.old.seen ≡ self.old.ledger }
         ensures state { UpdateAnswered K.named.code K.named.limits seat.old.worker self.old self.new result }
         ensures seat { UpdateAnsweredTo K.named seat.old seat.new result }
         ensures seen { seat.new.seen ≡ self.new.ledger }
     {
         self.invariant_holds();
-        self.greet_unless(context, seat, greeted);
+        self.synchronize_unless(context, seat, synchronized);
         if let Some(why) = self.ended() {
             return UpdateReply::Stopped(why);
         }
@@ -79,11 +79,11 @@ impl<'d, K: Naming> GateState<'d, K> {
         ensures full { result ≡ NoRoom → vec_len grants.new ≡ vec_capacity grants.new }
     {
         grants.clear();
-        let mut greeted = false;
+        let mut synchronized = false;
         while grants.len() < grants.capacity() {
-            match self.update(context, seat, greeted) {
+            match self.update(context, seat, synchronized) {
                 UpdateReply::Accepted(grant) => {
-                    greeted = true;
+                    synchronized = true;
                     let is_quiet = grant.tickets.is_empty();
                     grants.push_reserved(grant);
                     if !is_quiet {

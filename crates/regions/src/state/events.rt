@@ -1,6 +1,6 @@
 //! The events of each region as they stand, and where each process goes on.
 ghost use Rattle.std.specs.Prelude.{◌≡◌, ◌++◌, map};
-ghost use Rattle.regions.specs.Queue.{evaluation_event, update_event, process_of};
+ghost use Rattle.regions.specs.Queue.{evaluation_event, update_event, process_wait_of};
 ghost use Rattle.regions.specs.Future.{due_event};
 
 use super::State;
@@ -55,7 +55,7 @@ impl State {
 
     /// Where each process goes on, and the event control that it waits at, by its number.
     pub fn processes(&self) -> &[Continuation]
-        ensures { map (process_of self.now.controls) result.now ≡ self.now.processes }
+        ensures { map (process_wait_of self.now.controls) result.now ≡ self.now.processes }
     {
         self.queue.processes.as_slice()
     }

@@ -10,7 +10,8 @@ use fixtures::RACE;
 use model::end::Limits;
 use model::entry::Entry;
 use progress::Untold;
-use seeded::run::{SeededRun, run_seeded};
+use runs::run::RunRecord;
+use seeded::run::run_seeded;
 use std::alloc::Global;
 use std::process::Abort;
 use std::sync::Wait;
@@ -51,7 +52,7 @@ fn lawful(alloc: Global, design: &Design, seed: u64) -> Vec<Entry> {
         until: None,
         max_entries: 20,
     };
-    let SeededRun {
+    let RunRecord {
         lines: _,
         journal,
         end: _,

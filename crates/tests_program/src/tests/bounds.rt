@@ -1,12 +1,12 @@
 //! Modules with as many registers and processes as there may be.
 
 use super::claims::holds;
-use super::{Pattern, design_of, repeated};
+use super::{TextPattern, design_of, repeated};
 use std::alloc::Global;
 use std::process::Abort;
 
 /// A module that declares so many registers.
-const REGISTERS: Pattern<'static> = Pattern {
+const REGISTERS: TextPattern<'static> = TextPattern {
     before: "module t;",
     numbered: &[" reg r"],
     last: ";",
@@ -14,7 +14,7 @@ const REGISTERS: Pattern<'static> = Pattern {
 };
 
 /// A module that has so many processes.
-const PROCESSES: Pattern<'static> = Pattern {
+const PROCESSES: TextPattern<'static> = TextPattern {
     before: "module t;",
     numbered: &[],
     last: " initial ;",

@@ -2,7 +2,7 @@
 
 use super::sources::{CLOCK, EMPTY, HI, NO_ENTRY, ONE_TURN};
 use super::{
-    CANNOT_WRITE, EXPLAIN, OLD, REPLAY, SAVE, Setting, WAVES, Wanted, assert_in, assert_made,
+    CANNOT_WRITE, EXPLAIN, Expected, OLD, REPLAY, SAVE, Setting, WAVES, assert_in, assert_made,
     over_journal, tells,
 };
 use std::alloc::Global;
@@ -38,7 +38,7 @@ fn assert_unflushed<R: Abort + Threads + Wait + Sync>(
         out_flushes: false,
         ..setting
     };
-    let wanted = Wanted {
+    let wanted = Expected {
         status: 1,
         out,
         err: CANNOT_WRITE,

@@ -4,7 +4,7 @@
 use super::claims::holds;
 use super::sources::{CLOCK, EMPTY, HI, NO_ENTRY, ONE_TURN};
 use super::{
-    CANNOT_WRITE, OLD, ONE_WORKER, REPLAY, SAVE, Setting, Wanted, assert_in, assert_made, over,
+    CANNOT_WRITE, Expected, OLD, ONE_WORKER, REPLAY, SAVE, Setting, assert_in, assert_made, over,
     over_journal, prints, tells,
 };
 use std::alloc::Global;
@@ -19,7 +19,7 @@ fn assert_journal<R: Abort + Threads + Wait + Sync>(
     line: &str,
     source: &str,
     journal: &[u8],
-    wanted: Wanted<'_>,
+    wanted: Expected<'_>,
 ) {
     assert_made(rt, alloc, line, &over(source), wanted, journal);
     let kept = over_journal(source, journal);
@@ -111,7 +111,7 @@ const JOURNALS: &[(&str, &str, u8, &str, &str, &[u8])] = &[
 #[test]
 fn a_journal_is_written_and_replayed(rt: HostRuntime) {
     for &(line, source, status, out, err, journal) in JOURNALS {
-        let wanted = Wanted { status, out, err };
+        let wanted = Expected { status, out, err };
         assert_journal(&rt, rt.alloc(), line, source, journal, wanted);
     }
 }
@@ -138,7 +138,7 @@ fn assert_journal_first<R: Abort + Threads + Wait + Sync>(rt: &R, alloc: Global,
         out_room: out.len(),
         ..over(HI)
     };
-    let wanted = Wanted {
+    let wanted = Expected {
         status: 1,
         out,
         err: CANNOT_WRITE,

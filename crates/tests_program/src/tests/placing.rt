@@ -13,15 +13,15 @@ use std::thread::Threads;
 
 /// What each of four workers evaluated, in order: a digit for each evaluation, which is the number of its event and one.
 #[derive(Drop)]
-struct Looked {
+struct HeldLook {
     workers: [Count; 4],
     evaluations: Count,
     given_up: Count,
 }
 
-impl Looked {
-    fn new() -> Looked {
-        Looked {
+impl HeldLook {
+    fn new() -> HeldLook {
+        HeldLook {
             workers: [Count::new(), Count::new(), Count::new(), Count::new()],
             evaluations: Count::new(),
             given_up: Count::new(),
@@ -52,7 +52,7 @@ impl Looked {
 #[derive(Drop)]
 struct HoldsEvaluations<'a> {
     begun: &'a [u64],
-    looked: Looked,
+    looked: HeldLook,
 }
 
 impl Probe for HoldsEvaluations<'_> {
@@ -78,7 +78,7 @@ fn assert_tally(rt: &impl Abort, source: &str, outcome: &Outcome, puts: u128, st
 
 /// A source, on how many workers, how long its evaluations are held, and what comes of it.
 #[derive(Clone, Copy)]
-struct Held<'a> {
+struct HeldRun<'a> {
     source: &'a str,
     workers: u32,
     begun: &'a [u64],
@@ -87,10 +87,10 @@ struct Held<'a> {
     steals: u128,
 }
 
-fn assert_held<R: Abort + Threads + Wait + Sync>(rt: &R, alloc: Global, held: &Held<'_>) {
+fn assert_held<R: Abort + Threads + Wait + Sync>(rt: &R, alloc: Global, held: &HeldRun<'_>) {
     let probe = HoldsEvaluations {
         begun: held.begun,
-        looked: Looked::new(),
+        looked: HeldLook::new(),
     };
     let outcome = run_source(rt, alloc, held.source, held.workers, &probe);
     probe.looked.assert(rt, held.digits);
@@ -98,7 +98,7 @@ fn assert_held<R: Abort + Threads + Wait + Sync>(rt: &R, alloc: Global, held: &H
 }
 
 /// The same comes of each of a hundred runs.
-fn assert_all_held<R: Abort + Threads + Wait + Sync>(rt: &R, alloc: Global, held: &Held<'_>) {
+fn assert_all_held<R: Abort + Threads + Wait + Sync>(rt: &R, alloc: Global, held: &HeldRun<'_>) {
     for _ in 0..100u32 {
         assert_held(rt, alloc, held);
     }
@@ -107,9 +107,9 @@ fn assert_all_held<R: Abort + Threads + Wait + Sync>(rt: &R, alloc: Global, held
 const EIGHT_PROCESSES: &str =
     "module t; initial ; initial ; initial ; initial ; initial ; initial ; initial ; initial ; endmodule";
 
-const HELD_RUNS: &[Held<'static>] = &[
+const HELD_RUNS: &[HeldRun<'static>] = &[
     // first tickets are placed round and round
-    Held {
+    HeldRun {
         source: EIGHT_PROCESSES,
         workers: 4,
         begun: &[4, 4, 4, 4, 8, 8, 8, 8],
@@ -118,7 +118,7 @@ const HELD_RUNS: &[Held<'static>] = &[
         steals: 0,
     },
     // a worker steals from the next one first
-    Held {
+    HeldRun {
         source: EIGHT_PROCESSES,
         workers: 4,
         begun: &[8, 8, 4, 8],
@@ -127,7 +127,7 @@ const HELD_RUNS: &[Held<'static>] = &[
         steals: 3,
     },
     // a later ticket goes to the worker that made it
-    Held {
+    HeldRun {
         source: "module t; reg a; initial a=1'b1; initial @(a) ; initial ; initial ; endmodule",
         workers: 2,
         begun: &[3, 0, 0, 5],
@@ -148,7 +148,7 @@ fn each_ticket_is_got_in_its_one_way(rt: HostRuntime) {
 /// and event 2's evaluation until event 1 is evaluated again.
 #[derive(Drop)]
 struct HoldsOther {
-    looked: Looked,
+    looked: HeldLook,
     reads: Count,
 }
 
@@ -175,7 +175,7 @@ fn assert_stale<R: Abort + Threads + Wait + Sync>(rt: &R, alloc: Global) {
     let source =
         "module t; reg a, b; initial begin a=1'b0; b=1'b0; end initial if (a!==b) begin end initial ; endmodule";
     let probe = HoldsOther {
-        looked: Looked::new(),
+        looked: HeldLook::new(),
         reads: Count::new(),
     };
     let outcome = run_source(rt, alloc, source, 2, &probe);

@@ -6,7 +6,7 @@ use super::counts::Count;
 use super::running::{outcome_of, run_on};
 use super::sources::{COPIES, DISPLAYS};
 use super::threads::total;
-use super::{Texts, design_of, replayed};
+use super::{EitherText, design_of, replayed};
 use design::{Design, RegId};
 use model::end::End;
 use simulate::{Outcome, Probe, ReplyKind};
@@ -21,7 +21,7 @@ struct Raced<'a> {
     source: &'a str,
     entries: usize,
     evaluations: u64,
-    texts: Texts<'a>,
+    texts: EitherText<'a>,
 }
 
 /// A run ended by itself after so many entries, and printed one of the texts: the one that its journal replays to.
@@ -116,7 +116,7 @@ const OVERLAPS: &[Raced<'static>] = &[
         source: DISPLAYS,
         entries: 2,
         evaluations: 2,
-        texts: Texts {
+        texts: EitherText {
             one: "x\ny\n",
             other: "y\nx\n",
         },
@@ -126,7 +126,7 @@ const OVERLAPS: &[Raced<'static>] = &[
         source: COPIES,
         entries: 9,
         evaluations: 28,
-        texts: Texts {
+        texts: EitherText {
             one: "1 1\n",
             other: "0 0\n",
         },
@@ -171,7 +171,7 @@ const MOMENTS: Raced<'static> = Raced {
     source: "module t; reg a, b; initial begin a=1'b0; b=1'b0; end initial while (a!==b) begin end endmodule",
     entries: 2,
     evaluations: 3,
-    texts: Texts { one: "", other: "" },
+    texts: EitherText { one: "", other: "" },
 };
 
 /// The turn whose two reads are of two moments is evaluated again.

@@ -26,23 +26,23 @@ const PIECE: usize = 64 << 10;
 
 /// How many runs had no memory to begin with, and how many were stopped for want of it.
 #[derive(Clone, Copy)]
-struct Refused {
+struct RefusedRuns {
     begins: u32,
     stops: u32,
 }
 
 /// How far a run came.
 #[derive(Clone, Copy)]
-enum Reached {
+enum RunReach {
     Nothing,
     Stop,
     End,
 }
 
-fn how_far(end: End) -> Reached {
+fn how_far(end: End) -> RunReach {
     match end {
-        End::Quiet => Reached::End,
-        _ => Reached::Stop,
+        End::Quiet => RunReach::End,
+        _ => RunReach::Stop,
     }
 }
 
@@ -92,7 +92,7 @@ fn try_within<R: Abort + Threads + Wait + Sync>(
     whole: &[Entry],
     hoard: &mut Hoard,
     room: usize,
-) -> Reached {
+) -> RunReach {
     match run_within(rt, alloc, design, hoard, room) {
         Ok(outcome) => {
             let reached = how_far(outcome.closed.end());
@@ -105,7 +105,7 @@ fn try_within<R: Abort + Threads + Wait + Sync>(
                 fault == SimFault::Memory,
                 "memory before the first worker",
             );
-            Reached::Nothing
+            RunReach::Nothing
         }
     }
 }
@@ -116,18 +116,18 @@ fn run_starved<R: Abort + Threads + Wait + Sync>(
     alloc: Global,
     design: &Design,
     whole: &[Entry],
-) -> Refused {
+) -> RefusedRuns {
     let mut hoard = Hoard::new(alloc, 2 * ROOMS, PIECE).expect(rt, "memory");
-    let mut refused = Refused {
+    let mut refused = RefusedRuns {
         begins: 0,
         stops: 0,
     };
     for count in 0..ROOMS {
         let room = count.saturating_mul(STEP);
         match try_within(rt, alloc, design, whole, &mut hoard, room) {
-            Reached::End => return refused,
-            Reached::Stop => refused.stops = refused.stops.saturating_add(1),
-            Reached::Nothing => refused.begins = refused.begins.saturating_add(1),
+            RunReach::End => return refused,
+            RunReach::Stop => refused.stops = refused.stops.saturating_add(1),
+            RunReach::Nothing => refused.begins = refused.begins.saturating_add(1),
         }
         hoard.shut();
     }

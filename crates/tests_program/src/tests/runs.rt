@@ -4,8 +4,8 @@
 use super::claims::holds;
 use super::sources::{COPIES, DISPLAYS, FINISHES, LONGEST_WAITS, WAITERS, WRITERS};
 use super::{
-    ONE_WORKER, SAVE, Texts, Wanted, assert_left, assert_replayed, assert_texts, either, prints,
-    run_line, tells,
+    EitherText, Expected, ONE_WORKER, SAVE, assert_left, assert_replayed, assert_texts, either,
+    prints, run_line, tells,
 };
 use std::alloc::Global;
 use std::process::Abort;
@@ -14,16 +14,16 @@ use std::thread::Threads;
 
 /// A source, and the two texts that it may print.
 #[derive(Clone, Copy)]
-struct Race<'a> {
+struct RacingSource<'a> {
     source: &'a str,
-    texts: Texts<'a>,
+    texts: EitherText<'a>,
 }
 
 /// A run by this line prints one of the texts, and its journal replays to the same.
 fn assert_run_by<R: Abort + Threads + Wait + Sync>(
     rt: &R,
     alloc: Global,
-    race: Race<'_>,
+    race: RacingSource<'_>,
     line: &str,
 ) {
     let left = run_line(rt, alloc, line, race.source);
@@ -35,7 +35,7 @@ fn assert_run_by<R: Abort + Threads + Wait + Sync>(
 fn assert_race<R: Abort + Threads + Wait + Sync>(
     rt: &R,
     alloc: Global,
-    race: Race<'_>,
+    race: RacingSource<'_>,
     times: u32,
 ) {
     for _ in 0..times {
@@ -64,7 +64,7 @@ const RACES: &[(&str, &str, &str, u32)] = &[
 fn prints_a_race_in_one_of_its_orders(rt: HostRuntime) {
     for &(source, one, other, times) in RACES {
         let texts = either(one, other);
-        assert_race(&rt, rt.alloc(), Race { source, texts }, times);
+        assert_race(&rt, rt.alloc(), RacingSource { source, texts }, times);
     }
 }
 
@@ -97,7 +97,7 @@ fn assert_first_process<R: Abort + Threads + Wait + Sync>(rt: &R, alloc: Global)
     let wanted = if left.status == 0 {
         prints("a\n")
     } else {
-        Wanted {
+        Expected {
             status: 4,
             out: "c\n",
             err: "vsimtx: stopped: entries\n",
@@ -123,7 +123,7 @@ const EVERY_NUMBER: &[&str] = &[
 /// The source of the folder `examples` that may print two texts.
 #[test]
 fn two_writers_end_on_every_number_of_workers(rt: HostRuntime) {
-    let race = Race {
+    let race = RacingSource {
         source: "module two_writers; reg a; initial begin a = 1'b1; $display(\"x\"); end initial begin a = 1'b0; $display(\"y\"); end endmodule",
         texts: either("x\ny\n", "y\nx\n"),
     };

@@ -8,7 +8,7 @@
 use super::claims::{fail, holds, holds_as, holds_of};
 use super::sources::NO_ENTRY;
 use super::{
-    EXPLAIN, ONE_WORKER, Pattern, REPLAY, Shared, Target, WAVES, Wanted, repeated, status_of,
+    EXPLAIN, Expected, ONE_WORKER, REPLAY, Shared, Target, TextPattern, WAVES, repeated, status_of,
     tells, words_of,
 };
 use files::Files;
@@ -48,14 +48,14 @@ const STOPPED: &[u8] = b"vsimtx: stopped: memory\n";
 
 /// The marks that a command passes, and all memory, which it loses at one of them but for a rest.
 #[derive(Clone, Copy)]
-struct Marks<'a> {
+struct PassedMarks<'a> {
     passed: &'a Shared,
     hoard: &'a RefCell<Hoard>,
     loss: u8,
     rest: usize,
 }
 
-impl Marks<'_> {
+impl PassedMarks<'_> {
     fn pass(&self, mark: u8) {
         if mark == NEVER {
             return;
@@ -76,7 +76,7 @@ struct Marked<'a> {
     bytes: &'a [u8],
     first: u8,
     end: u8,
-    marks: Marks<'a>,
+    marks: PassedMarks<'a>,
 }
 
 /// The mark that is passed now, if it wasn't before.
@@ -99,14 +99,14 @@ impl Read for Marked<'_> {
 
 /// FILE and the place of OUT. JOURNAL has no entry, and takes no memory but that of its text.
 #[derive(Drop)]
-struct Starved<'a> {
+struct StarvedFiles<'a> {
     source: &'a [u8],
     journal: &'a [u8],
     made: Shared,
-    marks: Marks<'a>,
+    marks: PassedMarks<'a>,
 }
 
-impl<'a> Files for Starved<'a> {
+impl<'a> Files for StarvedFiles<'a> {
     type Source = Marked<'a>;
 
     type Target = Target;
@@ -251,7 +251,7 @@ fn leave(hoard: &RefCell<Hoard>, rest: usize) {
 struct MarkedTarget<'a> {
     target: Target,
     first: u8,
-    marks: Marks<'a>,
+    marks: PassedMarks<'a>,
 }
 
 impl Write for MarkedTarget<'_> {
@@ -296,9 +296,9 @@ fn status_at<R: Abort + Threads + Wait + Sync>(
     words: &[String],
     asked: Asked<'_>,
     places: &Places,
-    marks: Marks<'_>,
+    marks: PassedMarks<'_>,
 ) -> u8 {
-    let mut files = Starved {
+    let mut files = StarvedFiles {
         source: asked.source.as_bytes(),
         journal: NO_ENTRY,
         made: places.made.clone().expect(rt, "a count"),
@@ -324,7 +324,7 @@ fn status_with<R: Abort + Threads + Wait + Sync>(
     clear_all(places);
     open_all(rt, &places.hoard, asked.pieces);
     let words = words_of(rt, alloc, asked.line);
-    let marks = Marks {
+    let marks = PassedMarks {
         passed: &places.passed,
         hoard: &places.hoard,
         loss: asked.loss,
@@ -359,7 +359,7 @@ const LOSSES: &[(&str, u8, &str, &str)] = &[
 ];
 
 /// A command passed these marks, and left this and no OUT.
-fn assert_passed(rt: &impl Abort, places: &Places, passed: &str, status: u8, wanted: Wanted<'_>) {
+fn assert_passed(rt: &impl Abort, places: &Places, passed: &str, status: u8, wanted: Expected<'_>) {
     holds_of(rt, status == wanted.status, "the status", passed);
     let is_passed = has(&places.passed, passed.as_bytes());
     holds_of(rt, is_passed, "the marks", passed);
@@ -376,7 +376,7 @@ fn assert_lost<R: Abort + Threads + Wait + Sync>(
     asked: Asked<'_>,
     places: &Places,
     passed: &str,
-    wanted: Wanted<'_>,
+    wanted: Expected<'_>,
 ) {
     let status = status_with(rt, alloc, asked, places);
     assert_passed(rt, places, passed, status, wanted);
@@ -410,7 +410,7 @@ fn tells_that_no_worker_starts(rt: HostRuntime) {
 const RACE: &str = "module t; reg a; initial a = 1'b1; initial $display(\"%b\", a); endmodule";
 
 /// What is told of the race before the search, and that memory was refused.
-const NAMED: Wanted<'static> = Wanted {
+const NAMED: Expected<'static> = Expected {
     status: 6,
     out: "race 1: register a, time 0\n  process 0, initial at line 1, writes it\n  process 1, initial at line 1, reads it\n  the first before the second: line 1 is `1`\n  the second before the first: line 1 is `x`\n",
     err: "vsimtx: memory\n",
@@ -541,7 +541,7 @@ const OF_A_SOURCE: &[(&str, &str)] = &[
 ];
 
 /// A process that prints a long line.
-const LONG: Pattern<'static> = Pattern {
+const LONG: TextPattern<'static> = TextPattern {
     before: "module t; initial $display(\"",
     numbered: &[],
     last: "h",

@@ -5,7 +5,7 @@ use super::claims::{holds, holds_of};
 use super::counts::Evaluations;
 use super::running::{outcome_of, run_on};
 use super::sources::{CLOCK, COPIES, FINISHES, SWAP, WAITERS};
-use super::{Texts, design_of, either, replayed};
+use super::{EitherText, design_of, either, replayed};
 use commitgate::Closed;
 use design::Design;
 use model::entry::Entry;
@@ -72,7 +72,7 @@ fn assert_outcome(
     design: &Design,
     outcome: &Outcome,
     evaluations: &Evaluations,
-    texts: Texts<'_>,
+    texts: EitherText<'_>,
 ) {
     let closed = &outcome.closed;
     let is_one = texts.has(closed.lines().as_bytes());
@@ -90,7 +90,7 @@ fn assert_run<R: Abort + Threads + Wait + Sync>(
     alloc: Global,
     design: &Design,
     workers: u32,
-    texts: Texts<'_>,
+    texts: EitherText<'_>,
 ) {
     let evaluations = Evaluations::new(rt, alloc, EVENTS);
     let answer = run_on(rt, alloc, design, workers, Some(25), &evaluations);
@@ -105,7 +105,7 @@ fn assert_runs<R: Abort + Threads + Wait + Sync>(
     design: &Design,
     workers: u32,
     runs: u32,
-    texts: Texts<'_>,
+    texts: EitherText<'_>,
 ) {
     for _ in 0..runs {
         assert_run(rt, alloc, design, workers, texts);
@@ -117,7 +117,7 @@ fn assert_source<R: Abort + Threads + Wait + Sync>(
     rt: &R,
     alloc: Global,
     source: &str,
-    texts: Texts<'_>,
+    texts: EitherText<'_>,
     runs_on: &[(u32, u32)],
 ) {
     let design = design_of(rt, alloc, source);

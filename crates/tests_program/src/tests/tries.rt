@@ -3,7 +3,7 @@
 use super::claims::{holds, holds_as};
 use super::counts::{Count, Evaluations};
 use super::running::run_source;
-use super::{Pattern, repeated};
+use super::{TextPattern, repeated};
 use design::RegId;
 use model::end::{End, Why};
 use simulate::{Probe, ReplyKind};
@@ -75,7 +75,7 @@ impl Probe for Mixes {
 
 /// So many times two processes, of which the second one writes the same number to both registers, and one that loops where they
 /// differ.
-const MIXED: Pattern<'static> = Pattern {
+const MIXED: TextPattern<'static> = TextPattern {
     before: "module t; reg [7:0] a, b;",
     numbered: &[" initial ; initial begin a=8'd", "; b=8'd"],
     last: "; end",
@@ -83,7 +83,7 @@ const MIXED: Pattern<'static> = Pattern {
 };
 
 /// So many processes that do nothing, and one that loops for ever.
-const ENDLESS: Pattern<'static> = Pattern {
+const ENDLESS: TextPattern<'static> = TextPattern {
     before: "module t;",
     numbered: &[],
     last: " initial ;",

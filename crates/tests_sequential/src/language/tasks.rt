@@ -2,15 +2,15 @@
 
 use crate::claims::{fail, holds_at};
 use elaborate::{ElabFault, elaborate};
-use model::tree::{Module, Process, Statement, Task};
+use model::tree::{Module, SourceProcess, SourceStatement, Task};
 use std::alloc::Global;
 use std::process::Abort;
 
 /// A module whose one process shows a line of one byte. A source spells it only where the byte is one of ASCII.
 fn showing(rt: &impl Abort, alloc: Global, byte: u8) -> Module {
     let format = vec![in alloc; byte].ok().expect(rt, "memory");
-    let body = Statement::Print(Task::Display, format, Vec::new(alloc));
-    let process = Process {
+    let body = SourceStatement::Print(Task::Display, format, Vec::new(alloc));
+    let process = SourceProcess {
         repeats: false,
         body,
     };

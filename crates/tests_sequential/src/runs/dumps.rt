@@ -14,14 +14,14 @@ use waves::{WaveFault, value_change_dump, waves};
 
 /// A source with the name of its module, and the beginning of all of its dumps: what is declared, and the values before the first entry.
 #[derive(Clone, Copy)]
-pub struct Scope<'a> {
+pub struct DumpScope<'a> {
     name: &'a str,
     source: &'a [u8],
     head: &'a str,
 }
 
 /// A register of one digit that is changed twice at time 0, and one of four that is changed at times 0 and 5.
-const TWO: Scope<'static> = Scope {
+const TWO: DumpScope<'static> = DumpScope {
     name: "two",
     source: b"module two; reg a; reg [3:0] b; initial begin a=1'b0; a=1'b1; b=4'b1x0z; #5 b=4'h3; end endmodule",
     head: "$timescale 1 ns $end\n$scope module two $end\n$var reg 1 ! a $end\n$var reg 4 \" b $end\n$upscope $end\n$enddefinitions $end\n#0\n$dumpvars\nx!\nbxxxx \"\n$end\n",
@@ -29,17 +29,17 @@ const TWO: Scope<'static> = Scope {
 
 /// Registers that have several values at one time: the first two end at a new one, the third at its old one, and at time 3 the
 /// first does so too. Nothing is changed at time 7.
-const LAST: Scope<'static> = Scope {
+const LAST: DumpScope<'static> = DumpScope {
     name: "last",
     source: b"module last; reg a; reg [1:0] b; reg c; initial begin a=1'b0; a=1'b1; b=2'bx1; b<=2'b1z; c=1'b1; c=1'bx; #3 a=1'b0; a=1'b1; b=2'b00; #4 ; end endmodule",
     head: "$timescale 1 ns $end\n$scope module last $end\n$var reg 1 ! a $end\n$var reg 2 \" b $end\n$var reg 1 # c $end\n$upscope $end\n$enddefinitions $end\n#0\n$dumpvars\nx!\nbxx \"\nx#\n$end\n",
 };
 
 /// A design, a journal, and what its dump has behind the beginning.
-pub type Row<'a> = (Scope<'a>, &'a [Entry], &'a str);
+pub type Row<'a> = (DumpScope<'a>, &'a [Entry], &'a str);
 
 /// Two processes that change one register at time 5, in either order.
-const ORDER: Scope<'static> = Scope {
+const ORDER: DumpScope<'static> = DumpScope {
     name: "order",
     source: b"module order; reg a; initial #5 a=1'b1; initial #5 a=1'b0; endmodule",
     head: "$timescale 1 ns $end\n$scope module order $end\n$var reg 1 ! a $end\n$upscope $end\n$enddefinitions $end\n#0\n$dumpvars\nx!\n$end\n",
@@ -60,7 +60,7 @@ pub const DUMPS: &[Row<'static>] = &[
     (ORDER, &[T0, T1, A5, T3, T2], "#5\n1!\n"),
     // a register of 128 digits, which has each digit, and is all z for the longest delay
     (
-        Scope {
+        DumpScope {
             name: "wide",
             source: b"module wide; reg [127:0] w; initial begin w=128'h8000000000000000000000000000zx01; #1 w=128'bz; #4294967295 w=128'd1; end endmodule",
             head: "$timescale 1 ns $end\n$scope module wide $end\n$var reg 128 ! w $end\n$upscope $end\n$enddefinitions $end\n#0\n$dumpvars\nbxxxxxxxxxxxxxxxxxxxxxxxxxxxxxxxxxxxxxxxxxxxxxxxxxxxxxxxxxxxxxxxxxxxxxxxxxxxxxxxxxxxxxxxxxxxxxxxxxxxxxxxxxxxxxxxxxxxxxxxxxxxxxxxx !\n$end\n",
@@ -70,7 +70,7 @@ pub const DUMPS: &[Row<'static>] = &[
     ),
     // no register
     (
-        Scope {
+        DumpScope {
             name: "none",
             source: b"module none; initial ; endmodule",
             head: "$timescale 1 ns $end\n$scope module none $end\n$upscope $end\n$enddefinitions $end\n#0\n$dumpvars\n$end\n",

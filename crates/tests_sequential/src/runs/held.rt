@@ -11,22 +11,22 @@ use turn::{RegReader, Seen, TurnFault, TurnLog, run_turn};
 
 /// The version and the value of each register by its number, and how many were read.
 #[derive(Drop)]
-pub struct Held {
+pub struct HeldRegisters {
     pub registers: [Seen; 4],
     pub reads: u64,
 }
 
-impl Held {
+impl HeldRegisters {
     /// Every register has the same value, at version 0.
-    pub fn all(value: Bits) -> Held {
-        Held {
+    pub fn all(value: Bits) -> HeldRegisters {
+        HeldRegisters {
             registers: [Seen { version: 0, value }; 4],
             reads: 0,
         }
     }
 }
 
-impl RegReader for Held {
+impl RegReader for HeldRegisters {
     ghost use Rattle.std.specs.Prelude.{ℕ};
     ghost use Rattle.turn.specs.declared.memory.Seen.{Seen};
 
@@ -86,7 +86,7 @@ fn turn_of(
     design: &Design,
     state: &ProcState,
     now: u32,
-    held: &mut Held,
+    held: &mut HeldRegisters,
 ) -> Result<TurnLog, TurnFault> {
     // The answer tells that there are at most 1,024, which is what the reader takes.
     let _registers = design.registers();
@@ -99,7 +99,7 @@ pub fn try_first_turn(
     alloc: Global,
     source: &[u8],
     now: u32,
-    held: &mut Held,
+    held: &mut HeldRegisters,
 ) -> Result<TurnLog, TurnFault> {
     let design = design_of(rt, alloc, source);
     let state = beginning(rt, &design);
@@ -122,7 +122,7 @@ pub fn turn_from(
     design: &Design,
     state: ProcState,
     now: u32,
-    held: &mut Held,
+    held: &mut HeldRegisters,
 ) -> TurnLog {
     short(rt, turn_of(alloc, design, &state, now, held))
 }
@@ -130,13 +130,13 @@ pub fn turn_from(
 /// A turn, and the registers that it read.
 #[derive(Drop)]
 pub struct Taken {
-    pub held: Held,
+    pub held: HeldRegisters,
     pub log: TurnLog,
 }
 
 /// The first turn of the first process of a source, at time 7, where every register has the same value.
 pub fn first_turn(rt: &impl Abort, alloc: Global, source: &[u8], value: Bits) -> Taken {
-    let mut held = Held::all(value);
+    let mut held = HeldRegisters::all(value);
     let turn = try_first_turn(rt, alloc, source, 7, &mut held);
     Taken {
         log: short(rt, turn),

@@ -7,10 +7,10 @@ use super::scarce::Scarce;
 use crate::claims::{fail, holds};
 use design::Design;
 use explore::{Bounds, Explored, Shown, Stopped};
+use lawful::lawful_orders;
 use model::end::{End, Limits};
 use model::entry::Entry;
 use progress::Untold;
-use races::lawful_orders;
 use std::alloc::Global;
 use std::process::Abort;
 

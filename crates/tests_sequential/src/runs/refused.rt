@@ -71,7 +71,7 @@ const ROWS: &[Row<'static>] = &[
 
 /// A call, with a row where it has one.
 #[derive(Clone, Copy)]
-enum Call<'a> {
+enum RefusedCall<'a> {
     Design(&'a Row<'a>),
     Read(&'a Row<'a>),
     Write(&'a Row<'a>),
@@ -167,14 +167,14 @@ fn is_replayed(rt: &impl Abort, memory: &mut Scarce, row: &Row<'_>) -> bool {
 }
 
 // Whether a call is done in so much memory. If not, it tells of memory.
-fn is_done(rt: &impl Abort, memory: &mut Scarce, call: Call<'_>) -> bool {
+fn is_done(rt: &impl Abort, memory: &mut Scarce, call: RefusedCall<'_>) -> bool {
     match call {
-        Call::Design(row) => is_design(rt, memory, row),
-        Call::Read(row) => is_journal(rt, memory, row),
-        Call::Write(row) => is_written(rt, memory, row),
-        Call::Replay(row) => is_replayed(rt, memory, row),
-        Call::Dump(row) => is_dumped(rt, memory, row),
-        Call::Fault => {
+        RefusedCall::Design(row) => is_design(rt, memory, row),
+        RefusedCall::Read(row) => is_journal(rt, memory, row),
+        RefusedCall::Write(row) => is_written(rt, memory, row),
+        RefusedCall::Replay(row) => is_replayed(rt, memory, row),
+        RefusedCall::Dump(row) => is_dumped(rt, memory, row),
+        RefusedCall::Fault => {
             memory.leave(rt);
             is_told(rt, memory.alloc)
         }
@@ -182,7 +182,7 @@ fn is_done(rt: &impl Abort, memory: &mut Scarce, call: Call<'_>) -> bool {
 }
 
 // A call gets more and more memory, of which there is too little at first.
-fn assert_done(rt: &impl Abort, alloc: Global, call: Call<'_>) {
+fn assert_done(rt: &impl Abort, alloc: Global, call: RefusedCall<'_>) {
     let mut memory = Scarce::new(rt, alloc, STEP, 3 * ROOMS, PIECE);
     for count in 0..ROOMS {
         memory.steps = count;
@@ -197,23 +197,23 @@ fn assert_done(rt: &impl Abort, alloc: Global, call: Call<'_>) {
 #[test]
 fn sources_and_journals_are_read_or_refused_memory(rt: HostRuntime) {
     for row in ROWS {
-        assert_done(&rt, rt.alloc(), Call::Design(row));
-        assert_done(&rt, rt.alloc(), Call::Read(row));
+        assert_done(&rt, rt.alloc(), RefusedCall::Design(row));
+        assert_done(&rt, rt.alloc(), RefusedCall::Read(row));
     }
 }
 
 #[test]
 fn journals_are_written_and_replayed_or_refused_memory(rt: HostRuntime) {
     for row in ROWS {
-        assert_done(&rt, rt.alloc(), Call::Write(row));
-        assert_done(&rt, rt.alloc(), Call::Replay(row));
+        assert_done(&rt, rt.alloc(), RefusedCall::Write(row));
+        assert_done(&rt, rt.alloc(), RefusedCall::Replay(row));
     }
 }
 
 #[test]
 fn dumps_and_faults_are_told_or_refused_memory(rt: HostRuntime) {
     for row in DUMPS {
-        assert_done(&rt, rt.alloc(), Call::Dump(row));
+        assert_done(&rt, rt.alloc(), RefusedCall::Dump(row));
     }
-    assert_done(&rt, rt.alloc(), Call::Fault);
+    assert_done(&rt, rt.alloc(), RefusedCall::Fault);
 }

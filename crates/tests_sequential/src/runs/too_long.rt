@@ -1,7 +1,7 @@
 //! Turns that are too long: what they read. And the most steps that a turn has.
 
 use super::compare::{assert_length, assert_number, assert_text};
-use super::held::{Held, assert_read_at, first_turn, try_first_turn};
+use super::held::{HeldRegisters, assert_read_at, first_turn, try_first_turn};
 use super::turns::DIFFER;
 use crate::claims::{fail, holds_at, repeated};
 use design::RegId;
@@ -16,7 +16,7 @@ fn too_long(
     rt: &impl Abort,
     alloc: Global,
     source: &[u8],
-    held: &mut Held,
+    held: &mut HeldRegisters,
 ) -> IndexMap<RegId, Seen> {
     match try_first_turn(rt, alloc, source, 3, held) {
         Err(TurnFault::TooLong(reads)) => reads,
@@ -52,7 +52,7 @@ fn assert_both_seen(rt: &impl Abort, reads: &IndexMap<RegId, Seen>, first: &Seen
 }
 
 // A turn that loops until two registers are the same, which they aren't, read both.
-fn assert_differ(rt: &impl Abort, alloc: Global, held: &mut Held) {
+fn assert_differ(rt: &impl Abort, alloc: Global, held: &mut HeldRegisters) {
     let [first, second, _, _] = held.registers;
     let reads = too_long(rt, alloc, DIFFER.as_bytes(), held);
     assert_both_seen(rt, &reads, &first, &second);
@@ -68,7 +68,7 @@ fn reads_before_it_is_too_long(rt: HostRuntime) {
         version: 0,
         value: Bits::from_u64(1, 1),
     };
-    let mut held = Held::all(Bits::unknown(1));
+    let mut held = HeldRegisters::all(Bits::unknown(1));
     held.registers[0] = first;
     held.registers[1] = second;
     assert_differ(&rt, rt.alloc(), &mut held);
@@ -89,7 +89,7 @@ fn assert_longest(rt: &impl Abort, alloc: Global, source: &[u8]) {
 
 // The first turn of a process is too long, and reads no register.
 fn assert_reads_nothing(rt: &impl Abort, alloc: Global, source: &[u8]) {
-    let reads = too_long(rt, alloc, source, &mut Held::all(Bits::unknown(1)));
+    let reads = too_long(rt, alloc, source, &mut HeldRegisters::all(Bits::unknown(1)));
     assert_length(rt, reads.len(), 0);
 }
 

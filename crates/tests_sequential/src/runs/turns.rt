@@ -7,17 +7,19 @@ ghost use Rattle.design.specs.Operate.{joined_two};
 ghost use Rattle.model.specs.Expressions.{Store};
 ghost use Rattle.model.specs.declared.tree.BinaryOperator.TheVariants.{Add};
 ghost use Rattle.design.specs.declared.code.Op.TheVariants.{Load, BinaryRegister};
-ghost use Rattle.design.specs.ExpressionSteps.{below, piece, run_ops};
+ghost use Rattle.design.specs.ExpressionSteps.{below, span_of, run_ops};
 
 use super::compare::{assert_length, assert_number, assert_text};
-use super::held::{Held, Taken, assert_read_at, beginning, design_of, first_turn, turn_from};
+use super::held::{
+    HeldRegisters, Taken, assert_read_at, beginning, design_of, first_turn, turn_from,
+};
 use crate::claims::{fail, holds};
-use design::{Design, Halved, ProcState, RegId};
+use design::{Design, PackedBits, ProcState, RegId};
 use hoard::Hoard;
 use logic4::bits::Bits;
 use std::alloc::Global;
 use std::process::Abort;
-use turn::{FillFault, Net, Suspend, TurnLog, fill_turn};
+use turn::{FillFault, Suspend, TurnChange, TurnLog, fill_turn};
 
 /// The first turn of the first process of a source, which ends with it.
 #[derive(Clone, Copy)]
@@ -33,11 +35,11 @@ struct Row<'a> {
     /// The registers that were read, in the order of their first use, and the strobes.
     reads: &'a [RegId],
     strobes: &'a [usize],
-    /// How many writes and nets there are. Where they are told: the register, the number of digits and the number of each
-    /// write, and the register, the first value, the number of changes and the last value of each net, of four digits.
+    /// How many writes and turn changes there are. Where they are told: the register, the number of digits and the number of each
+    /// write, and the register, the first value, the number of changes and the last value of each turn change, of four digits.
     sizes: (usize, usize),
     writes: &'a [(RegId, u32, u64)],
-    nets: &'a [(RegId, u64, u64, u64)],
+    turn_changes: &'a [(RegId, u64, u64, u64)],
 }
 
 /// Where every register is unknown, nothing is read or written, and nothing is printed later.
@@ -52,7 +54,7 @@ const PLAIN: Row<'static> = Row {
     strobes: &[],
     sizes: (0, 0),
     writes: &[],
-    nets: &[],
+    turn_changes: &[],
 };
 
 const TURNS: &[Row<'static>] = &[
@@ -179,14 +181,14 @@ const TURNS: &[Row<'static>] = &[
         sizes: (1, 1),
         ..PLAIN
     },
-    // nets of two registers, in the order of their first writes
+    // turn changes of two registers, in the order of their first writes
     Row {
         source: "module t; reg [3:0] a, b; initial begin b = 4'd5; a = 4'd1; b = 4'd5; b = 4'd6; a = 4'd1; b = 4'd5; end endmodule",
         held: Some((4, 3)),
         count: 6,
         place: 6,
         sizes: (6, 2),
-        nets: &[(1, 5, 2, 5), (0, 1, 0, 1)],
+        turn_changes: &[(1, 5, 2, 5), (0, 1, 0, 1)],
         ..PLAIN
     },
     // a line
@@ -258,29 +260,29 @@ fn assert_writes(rt: &impl Abort, log: &TurnLog, wanted: &[(RegId, u32, u64)]) {
     }
 }
 
-// A net is of this register, first value, number of changes, and last value.
-fn assert_net(rt: &impl Abort, net: &Net, wanted: &(RegId, u64, u64, u64)) {
-    assert_number(rt, u64::from(net.register), u64::from(wanted.0));
+// A turn change is of this register, first value, number of changes, and last value.
+fn assert_turn_change(rt: &impl Abort, turn_change: &TurnChange, wanted: &(RegId, u64, u64, u64)) {
+    assert_number(rt, u64::from(turn_change.register), u64::from(wanted.0));
     holds(
         rt,
-        net.first == Bits::from_u64(4, wanted.1),
+        turn_change.first == Bits::from_u64(4, wanted.1),
         "another first value",
     );
-    assert_number(rt, net.changes, wanted.2);
+    assert_number(rt, turn_change.changes, wanted.2);
     holds(
         rt,
-        net.last == Bits::from_u64(4, wanted.3),
+        turn_change.last == Bits::from_u64(4, wanted.3),
         "another last value",
     );
 }
 
-// A turn has so many writes and nets, and these where they are told.
+// A turn has so many writes and turn changes, and these where they are told.
 fn assert_wrote(rt: &impl Abort, log: &TurnLog, row: &Row<'_>) {
     assert_length(rt, log.writes().len(), row.sizes.0);
-    assert_length(rt, log.nets().len(), row.sizes.1);
+    assert_length(rt, log.turn_changes().len(), row.sizes.1);
     assert_writes(rt, log, row.writes);
-    for (net, wanted) in log.nets().iter().zip(row.nets) {
-        assert_net(rt, net, wanted);
+    for (turn_change, wanted) in log.turn_changes().iter().zip(row.turn_changes) {
+        assert_turn_change(rt, turn_change, wanted);
     }
 }
 
@@ -305,8 +307,8 @@ fn one_value_is_left()
     ensures { (values : Store) → below (run_ops values (Load 1 8 ∷ BinaryRegister Add 8 8 0 8 ∷ BinaryRegister Add 8 8 1 8 ∷ []) []) ≡ [] }
 {}
 
-fn three() -> Held {
-    Held::all(Bits::from_u64(4, 3))
+fn three() -> HeldRegisters {
+    HeldRegisters::all(Bits::from_u64(4, 3))
 }
 
 // Fills a log that is kept with the first turn of the first process, if memory suffices.
@@ -314,7 +316,7 @@ fn fill(
     rt: &impl Abort,
     log: &mut TurnLog,
     design: &Design,
-    held: &mut Held,
+    held: &mut HeldRegisters,
 ) -> Result<(), FillFault> {
     let state = beginning(rt, design);
     let _registers = design.registers();
@@ -322,7 +324,13 @@ fn fill(
 }
 
 // The first turn of the first process of a source, in a log that is kept.
-fn turn_in(rt: &impl Abort, alloc: Global, log: &mut TurnLog, source: &str, held: &mut Held) {
+fn turn_in(
+    rt: &impl Abort,
+    alloc: Global,
+    log: &mut TurnLog,
+    source: &str,
+    held: &mut HeldRegisters,
+) {
     let design = design_of(rt, alloc, source.as_bytes());
     match fill(rt, log, &design, held) {
         Ok(()) => {}
@@ -339,12 +347,12 @@ const TWO: &str =
 const FULL: &str =
     "module t; reg [3:0] q, a; initial begin q = a; q <= #2 4'd3; $display(\"3\"); end endmodule";
 
-// How many reads, writes, nets, nonblocking assignments and bytes a log has.
+// How many reads, writes, turn changes, nonblocking assignments and bytes a log has.
 fn sizes(log: &TurnLog) -> [usize; 5] {
     [
         log.reads().len(),
         log.writes().len(),
-        log.nets().len(),
+        log.turn_changes().len(),
         log.nbas().len(),
         log.lines().len(),
     ]
@@ -355,7 +363,7 @@ fn assert_sizes(rt: &impl Abort, log: &TurnLog, wanted: [usize; 5]) {
     holds(rt, sizes(log) == wanted, "other sizes");
 }
 
-/// Turns of sources one behind the other in a log that is kept: how many reads were made by then, how many reads, writes, nets,
+/// Turns of sources one behind the other in a log that is kept: how many reads were made by then, how many reads, writes, turn changes,
 /// nonblocking assignments and bytes the log then has, and its lines. Each reads anew, and none leaves anything.
 const KEPT: &[(&str, u64, [usize; 5], &str)] = &[
     (TWO, 1, [1, 1, 1, 0, 4], "5 3\n"),
@@ -380,7 +388,7 @@ const KEPT: &[(&str, u64, [usize; 5], &str)] = &[
 ];
 
 // The turns of these rows, in one log.
-fn assert_kept(rt: &impl Abort, alloc: Global, log: &mut TurnLog, held: &mut Held) {
+fn assert_kept(rt: &impl Abort, alloc: Global, log: &mut TurnLog, held: &mut HeldRegisters) {
     for &(source, reads, sizes, lines) in KEPT {
         turn_in(rt, alloc, log, source, held);
         assert_sizes(rt, log, sizes);
@@ -439,9 +447,9 @@ fn takes_no_memory_in_a_log_that_has_grown(rt: HostRuntime) {
 /// The steps of an expression are a part of all steps: none where its ends are turned, or past the last step. More than 128
 /// digits aren't joined. No design has such a part, or such digits.
 fn parts_are_known()
-    ensures inside { piece {A = ℕ} (1 ∷ 2 ∷ 3 ∷ []) (record { from = 1; to = 3 }) ≡ 2 ∷ 3 ∷ [] }
-    ensures turned { piece {A = ℕ} (1 ∷ 2 ∷ 3 ∷ []) (record { from = 2; to = 1 }) ≡ [] }
-    ensures past { piece {A = ℕ} (1 ∷ 2 ∷ 3 ∷ []) (record { from = 1; to = 4 }) ≡ [] }
+    ensures inside { span_of {A = ℕ} (1 ∷ 2 ∷ 3 ∷ []) (record { from = 1; to = 3 }) ≡ 2 ∷ 3 ∷ [] }
+    ensures turned { span_of {A = ℕ} (1 ∷ 2 ∷ 3 ∷ []) (record { from = 2; to = 1 }) ≡ [] }
+    ensures past { span_of {A = ℕ} (1 ∷ 2 ∷ 3 ∷ []) (record { from = 1; to = 4 }) ≡ [] }
     ensures joined { joined_two (vector 120 7) (vector 9 2) ≡ vector 120 7 }
 {}
 
@@ -463,7 +471,7 @@ fn assert_waits(rt: &impl Abort, log: &TurnLog) {
 }
 
 // The first turn, at time 7, waits until time 10. This is where the process goes on.
-fn wait(rt: &impl Abort, alloc: Global, design: &Design, held: &mut Held) -> ProcState {
+fn wait(rt: &impl Abort, alloc: Global, design: &Design, held: &mut HeldRegisters) -> ProcState {
     let state = beginning(rt, design);
     let log = turn_from(rt, alloc, design, state, 7, held);
     assert_waits(rt, &log);
@@ -479,7 +487,7 @@ fn assert_pending(rt: &impl Abort, log: &TurnLog) {
     );
     holds(
         rt,
-        log.next().pending == Some((1, Halved::new(Bits::from_u64(4, 3)))),
+        log.next().pending == Some((1, PackedBits::new(Bits::from_u64(4, 3)))),
         "another assignment",
     );
 }
@@ -490,7 +498,7 @@ fn assert_assigns_later(
     alloc: Global,
     design: &Design,
     state: ProcState,
-    held: &mut Held,
+    held: &mut HeldRegisters,
 ) {
     let log = turn_from(rt, alloc, design, state, 10, held);
     assert_number(rt, first_due(&log), 12);

@@ -9,8 +9,8 @@ returns c =
     let found = found_of c.args.matches.now in
     let file : c.get_str.result ≡ Some c.unwrap.result = search rules in
     record {
-      in_range = c.extent.ensures.fit;
+      in_range = c.search_options.ensures.fit;
       file = sym (first_value-rows found (codes "FILE")) ∙ (sym c.get_str.ensures ∙ ap (option_map (λ (s : Bor (List ℕ)). s.now)) file);
-      extent = c.extent.ensures.given;
+      search_options = c.search_options.ensures.given;
       journals = sym (first_value-rows found (codes "journals")) ∙ sym c.get_str-2.ensures;
     }

@@ -5,7 +5,7 @@ use Rattle.diagnosis.proofs.lexemes.string_len.Given as goal
 
 abbrev pub invariant-loop-left : goal.invariant-loop-left
 invariant-loop-left l = record {
-  value : spec.string_len 0 false l.text ≡ spec.string_len l.n l.after l.left;
+  value : spec.lexeme_string_len 0 false l.text ≡ spec.lexeme_string_len l.n l.after l.left;
   within : l.n + length l.left ≡ length l.text;
 }
 

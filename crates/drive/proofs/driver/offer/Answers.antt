@@ -2,7 +2,7 @@
 use Rattle.std.proofs.Common.{List, [], ◌∷◌, refl, ap}
 use mathlib.Core.List.{IsPrefix}
 use Rattle.commitgate.specs.Named.{Named}
-use Rattle.commitgate.specs.Seats.{SeatView, ReadsOn}
+use Rattle.commitgate.specs.Seats.{SeatView, SeatReadsOn}
 use Rattle.commitgate.specs.Tickets.{TicketView}
 use Rattle.commitgate.specs.SeatAnswers.{HeldAnsweredTo}
 use Rattle.commitgate.specs.declared.reply.Reply.{Reply}
@@ -15,7 +15,7 @@ prefix_self : {A : Type 0} (xs : List A) → IsPrefix xs xs
 prefix_self [] = ([], refl)
 prefix_self (x ∷ xs) = (let r = prefix_self xs in r.0, ap (λ ys. x ∷ ys) (prefix_self xs).1)
 
-nothing_read : (s : SeatView) → ReadsOn s s
+nothing_read : (s : SeatView) → SeatReadsOn s s
 nothing_read s = record { worker = refl; seen = refl; positions = refl; stored = refl; rises = λ r. prefix_self (fresh_of s.fresh r) }
 
 held_replied : {A : Type 0} (n : Named) (old : SeatView) (ticket : TicketView) (new : SeatView) (reply : Reply A) → HeldAnsweredTo n old ticket new reply → IsReplied n ticket old new reply

@@ -22,8 +22,8 @@ returns-in_err-told-clause-fault c =
     let same : c.in_ok-names.names ≡ declared m = c.in_ok-names.ensures.registers ∙ ap (λ ds. all_declared (map declaration_of ds)) c.as_slice.ensures.value in
     let none : found_names [] (declared m) ≡ None =
     subst (λ ds. found_names [] (all_declared (map declaration_of ds)) ≡ None) c.as_slice.ensures.value c.in_ok-names.ensures.allowed in
-    let q : found_among c.in_ok-names.names (map trees.process_of c.as_slice-2.result.now) ≡ found_among (declared m) m.processes =
-    ap (λ ps. found_among c.in_ok-names.names (map trees.process_of ps)) c.as_slice-2.ensures.value ∙ ap (λ ds. found_among ds m.processes) same in
+    let q : found_among c.in_ok-names.names (map trees.source_process_of c.as_slice-2.result.now) ≡ found_among (declared m) m.processes =
+    ap (λ ps. found_among c.in_ok-names.names (map trees.source_process_of ps)) c.as_slice-2.ensures.value ∙ ap (λ ds. found_among ds m.processes) same in
     let is = told_first m c.in_err-told.field-0.0 (of_processes m c.in_err-told.field-0.0 none (subst (IsFirstOf c.in_err-told.field-0.0) q c.in_err-told.ensures.fault)) in
     search rules
 
@@ -34,7 +34,7 @@ returns-clause-small c =
     let none : found_names [] (declared m) ≡ None =
     subst (λ ds. found_names [] (all_declared (map declaration_of ds)) ≡ None) c.as_slice.ensures.value c.in_ok-names.ensures.allowed in
     let among : found_among c.in_ok-names.names m.processes ≡ None =
-    subst (λ ps. found_among c.in_ok-names.names (map trees.process_of ps) ≡ None) c.as_slice-2.ensures.value c.in_ok-told.ensures.none in
+    subst (λ ps. found_among c.in_ok-names.names (map trees.source_process_of ps) ≡ None) c.as_slice-2.ensures.value c.in_ok-told.ensures.none in
     small_processes m c.in_ok-names.names same none among
 
 pub returns-clause-sound : goal.returns-clause-sound
@@ -44,8 +44,8 @@ returns-clause-sound c =
     let none : found_names [] (declared m) ≡ None =
     subst (λ ds. found_names [] (all_declared (map declaration_of ds)) ≡ None) c.as_slice.ensures.value c.in_ok-names.ensures.allowed in
     let among : found_among c.in_ok-names.names m.processes ≡ None =
-    subst (λ ps. found_among c.in_ok-names.names (map trees.process_of ps) ≡ None) c.as_slice-2.ensures.value c.in_ok-told.ensures.none in
-    let formed : AreFormedProcesses m.processes = subst (λ ps. AreFormedProcesses (map trees.process_of ps)) c.as_slice-2.ensures.value c.in_ok-told.ensures.formed in
+    subst (λ ps. found_among c.in_ok-names.names (map trees.source_process_of ps) ≡ None) c.as_slice-2.ensures.value c.in_ok-told.ensures.none in
+    let formed : AreFormedProcesses m.processes = subst (λ ps. AreFormedProcesses (map trees.source_process_of ps)) c.as_slice-2.ensures.value c.in_ok-told.ensures.formed in
     sound_module m c.in_ok-names.names same none among formed
 
 pub returns-clause-faultless : goal.returns-clause-faultless
@@ -55,7 +55,7 @@ returns-clause-faultless c =
     let none : found_names [] (declared m) ≡ None =
     subst (λ ds. found_names [] (all_declared (map declaration_of ds)) ≡ None) c.as_slice.ensures.value c.in_ok-names.ensures.allowed in
     let among : found_among c.in_ok-names.names m.processes ≡ None =
-    subst (λ ps. found_among c.in_ok-names.names (map trees.process_of ps) ≡ None) c.as_slice-2.ensures.value c.in_ok-told.ensures.none in
+    subst (λ ps. found_among c.in_ok-names.names (map trees.source_process_of ps) ≡ None) c.as_slice-2.ensures.value c.in_ok-told.ensures.none in
     faultless m c.in_ok-names.names same none among
 
 pub returns-clause-names : goal.returns-clause-names

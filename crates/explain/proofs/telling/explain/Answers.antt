@@ -2,7 +2,7 @@
 use Rattle.std.proofs.Common.{List, OnOk, subst}
 use Rattle.model.specs.declared.entry.Entry.{Entry}
 use Rattle.explain.specs.ExplainedText.{Explains, ExplainsFault}
-use Rattle.explain.specs.Explained.{IfReplay}
+use Rattle.explain.specs.Explained.{IfExplainReplay}
 use Rattle.explain.proofs.Ends.{no_source_if, no_read_if, begun_if, text_if, text_fault_if, lawful_if, replay_if}
 use Rattle.explain.proofs.telling.explain.Goals as goal
 
@@ -24,7 +24,7 @@ pub returns-clause-stopped : goal.returns-clause-stopped
 returns-clause-stopped g c =
     text_fault_if _ c.args.source.now c.in-Ok.design c.args.window c.in-Ok-read_journal.entries.items _ (g.W.Write.contents c.args.out.now) (g.W.Write.contents c.explain_on.new.out)
     (record { is_design = c.in-Ok.ensures.design; is_journal = c.in-Ok-read_journal.ensures.journal })
-    (subst (λ (es : List Entry). IfReplay c.explain_on.result (ExplainsFault c.args.source.now c.in-Ok.design c.args.window es (g.W.Write.contents c.args.out.now) (g.W.Write.contents c.explain_on.new.out)))
+    (subst (λ (es : List Entry). IfExplainReplay c.explain_on.result (ExplainsFault c.args.source.now c.in-Ok.design c.args.window es (g.W.Write.contents c.args.out.now) (g.W.Write.contents c.explain_on.new.out)))
     c.deref.ensures.value c.explain_on.ensures.stopped)
 
 pub returns-clause-source : goal.returns-clause-source
@@ -37,7 +37,7 @@ pub returns-clause-replay : goal.returns-clause-replay
 returns-clause-replay g c =
     replay_if _ c.args.source.now c.in-Ok.design c.args.window c.in-Ok-read_journal.entries.items _ (g.W.Write.contents c.args.out.now) (g.W.Write.contents c.explain_on.new.out)
     (record { is_design = c.in-Ok.ensures.design; is_journal = c.in-Ok-read_journal.ensures.journal })
-    (subst (λ (es : List Entry). IfReplay c.explain_on.result (ExplainsFault c.args.source.now c.in-Ok.design c.args.window es (g.W.Write.contents c.args.out.now) (g.W.Write.contents c.explain_on.new.out)))
+    (subst (λ (es : List Entry). IfExplainReplay c.explain_on.result (ExplainsFault c.args.source.now c.in-Ok.design c.args.window es (g.W.Write.contents c.args.out.now) (g.W.Write.contents c.explain_on.new.out)))
     c.deref.ensures.value c.explain_on.ensures.stopped)
 
 pub returns-clause-nothing : goal.returns-clause-nothing

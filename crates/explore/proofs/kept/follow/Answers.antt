@@ -8,7 +8,7 @@ use Rattle.explore.specs.Visited.{IsThere, visits}
 use Rattle.explore.specs.SearchKept.{IsText}
 use Rattle.explore.specs.declared.kept.Reached.{Reached}
 use Rattle.explore.specs.declared.recent.Placed.{Placed}
-use Rattle.explore.specs.declared.links.Edge.{Edge}
+use Rattle.explore.specs.declared.links.SearchEdge.{SearchEdge}
 use Rattle.explore.proofs.Keeping.{AreKept-texts, Grows-texts, IsText-next, IsVisited-next, IsPlaced-next, AreKept-push, Grows-push}
 use Rattle.explore.proofs.Continuing.{found_at, there_leads, pushed_leads, never_false}
 use Rattle.explore.proofs.Edges.{unmarked_before}
@@ -89,7 +89,7 @@ returns-clause-grows g c =
     let p : Reached = record { number = c.len-number.result; text = c.in_ok-text.text } in
     let added : ways c.push.new.self ≡ grown (ways old.lineage) c.args.from.number next.moves.items = c.in_ok-push.ensures.ways ∙ ap (λ (l : List g.row.O-Move.Denot). grown (ways old.lineage) c.args.from.number l) c.deref-2.ensures.value in
     let steps : Extends (pieces old.lineage.steps) (pieces c.push.new.self.steps) = ((c.args.from.number, c.deref-2.result.now) ∷ [], c.in_ok-push.ensures.steps) in
-    let edges : Extends old.links.edges.items c.add-2.new.self.edges.items = subst (λ (l : List Edge). Extends old.links.edges.items l) (sym c.in_ok-add.ensures.edges) c.in_ok-joined.ensures.edges in
+    let edges : Extends old.links.edges.items c.add-2.new.self.edges.items = subst (λ (l : List SearchEdge). Extends old.links.edges.items l) (sym c.in_ok-add.ensures.edges) c.in_ok-joined.ensures.edges in
     Grows-push old _ c.args.from.number next.moves.items p added steps edges c.in_ok-text.ensures.grows c.in_ok-push-3.ensures.items c.len-number.ensures
 
 pub returns-clause-unmarked : goal.returns-clause-unmarked

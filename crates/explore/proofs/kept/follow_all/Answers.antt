@@ -3,9 +3,9 @@ use Rattle.std.proofs.lemmas.List.Elements.{All-pop, All-nil}
 use Rattle.std.proofs.lemmas.List.{append-nil}
 use Rattle.std.specs.List.{All}
 use Rattle.explore.specs.SearchKept.{LeadsOn}
-use Rattle.explore.specs.Search.{IsNext}
+use Rattle.explore.specs.Search.{IsSuccessor}
 use Rattle.explore.specs.Lineage.{ways}
-use Rattle.explore.specs.declared.Next.{Next}
+use Rattle.explore.specs.declared.Successor.{Successor}
 use Rattle.explore.proofs.Growing.{get_or-extends, length-extends}
 use Rattle.explore.proofs.Complete.{taken_more, all_taken, both_true}
 use Rattle.explore.proofs.Keeping.{Grows-itself, Grows-through}
@@ -23,7 +23,7 @@ loop-next-init g c =
       unmarked = λ k none. none;
       full = λ no_it_is_not. never_false no_it_is_not;
       left = c.requires.successors;
-      done = ([], sym (append-nil c.args.successors.items), λ _. All-nil (λ (next : Next g.row.O-Node.Denot g.row.O-Move.Denot). LeadsOn runs c.args.kept.now c.args.from.number (way ++ next.moves.items)));
+      done = ([], sym (append-nil c.args.successors.items), λ _. All-nil (λ (next : Successor g.row.O-Node.Denot g.row.O-Move.Denot). LeadsOn runs c.args.kept.now c.args.from.number (way ++ next.moves.items)));
     }
 
 pub follow-requires-clause-next : goal.follow-requires-clause-next
@@ -31,8 +31,8 @@ follow-requires-clause-next g c =
     let runs = g.O.Orders.runs c.args.orders.now in
     let way = get_or (ways c.args.kept.now.lineage) c.args.from.number [] in
     let next = c.in-Some.next in
-    subst (λ (l : List g.row.O-Move.Denot). IsNext runs l next) (sym (get_or-extends (ways c.args.kept.now.lineage) (ways c.loop-next.kept.lineage) c.args.from.number [] c.loop-next.invariant.grows.lineage c.requires.from.way))
-    (All-pop (IsNext runs way) c.loop-next.left.items c.pop.new.self.items (Some next) c.in-Some.ensures.items c.loop-next.invariant.left).1
+    subst (λ (l : List g.row.O-Move.Denot). IsSuccessor runs l next) (sym (get_or-extends (ways c.args.kept.now.lineage) (ways c.loop-next.kept.lineage) c.args.from.number [] c.loop-next.invariant.grows.lineage c.requires.from.way))
+    (All-pop (IsSuccessor runs way) c.loop-next.left.items c.pop.new.self.items (Some next) c.in-Some.ensures.items c.loop-next.invariant.left).1
 
 pub loop-next-preserved : goal.loop-next-preserved
 loop-next-preserved g c =
@@ -54,7 +54,7 @@ loop-next-preserved g c =
         | inl before_it ↦ let at : length (ways c.loop-next.kept.lineage) ≡ c.args.scope.bounds.nodes = c.loop-next.invariant.full before_it in omega (arith, at, longer, room)
         | inr now ↦ c.in_ok-there.ensures.full now
       ];
-      left = (All-pop (IsNext runs way) c.loop-next.left.items c.pop.new.self.items (Some next) popped c.loop-next.invariant.left).0;
+      left = (All-pop (IsSuccessor runs way) c.loop-next.left.items c.pop.new.self.items (Some next) popped c.loop-next.invariant.left).0;
       done = (
         next ∷ before.0,
         taken_more c.args.successors.items c.loop-next.left.items c.pop.new.self.items before.0 next before.1 popped,
@@ -71,4 +71,4 @@ returns-clause-leads g c all =
     let done = c.loop-next.invariant.done in
     let none : length c.loop-next.left.items ≡ 0 = omega (arith, c.in_default.ensures.cases.0) in
     let same = all_taken c.args.successors.items c.loop-next.left.items done.0 done.1 none in
-    subst (λ (xs : List (Next g.row.O-Node.Denot g.row.O-Move.Denot)). All (λ next. LeadsOn runs c.loop-next.kept c.args.from.number (way ++ next.moves.items)) xs) (sym same) (done.2 all)
+    subst (λ (xs : List (Successor g.row.O-Node.Denot g.row.O-Move.Denot)). All (λ next. LeadsOn runs c.loop-next.kept c.args.from.number (way ++ next.moves.items)) xs) (sym same) (done.2 all)

@@ -1,8 +1,8 @@
 use Rattle.std.proofs.Common.{◌≡◌, ◌≤◌, ◌++◌, [], List, length, get_or, false, IsTrue}
 use Rattle.std.specs.List.{All}
-use Rattle.explore.specs.declared.Next.{Next}
+use Rattle.explore.specs.declared.Successor.{Successor}
 use Rattle.explore.specs.SearchKept.{AreKept, Grows, LeadsOn, StayUnmarked}
-use Rattle.explore.specs.Search.{IsNext}
+use Rattle.explore.specs.Search.{IsSuccessor}
 use Rattle.explore.specs.Lineage.{ways}
 use Rattle.explore.proofs.kept.follow_all.Given as goal
 
@@ -16,8 +16,8 @@ invariant-loop-next g l =
       room : length (ways l.kept.lineage) ≤ l.scope.bounds.nodes;
       unmarked : StayUnmarked l.fn.kept l.kept;
       full : l.all ≡ false → length (ways l.kept.lineage) ≡ l.scope.bounds.nodes;
-      left : All (IsNext runs way) l.left.items;
-      done : (did : List (Next g.row.O-Node.Denot g.row.O-Move.Denot)) × (l.fn.successors.items ≡ l.left.items ++ did)
+      left : All (IsSuccessor runs way) l.left.items;
+      done : (did : List (Successor g.row.O-Node.Denot g.row.O-Move.Denot)) × (l.fn.successors.items ≡ l.left.items ++ did)
           × (IsTrue l.all → All (λ next. LeadsOn runs l.kept l.from.number (way ++ next.moves.items)) did);
     }
 

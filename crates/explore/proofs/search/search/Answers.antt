@@ -47,18 +47,18 @@ node_at-requires-clause-within g c =
 pub node_at-requires-clause-stood : goal.node_at-requires-clause-stood
 node_at-requires-clause-stood g c k within = stood_at (g.O.Orders.runs c.args.orders.now) (g.O.Orders.has_key c.args.orders.now) c.loop-reached.kept k c.loop-reached.invariant.kept within
 
-pub turn-requires-clause-kept : goal.turn-requires-clause-kept
-turn-requires-clause-kept g c =
+pub expand_node-requires-clause-kept : goal.expand_node-requires-clause-kept
+expand_node-requires-clause-kept g c =
     let old = c.loop-reached.kept in
     (AreKept-pop (g.O.Orders.runs c.args.orders.now) (g.O.Orders.has_key c.args.orders.now) old (record { lineage = old.lineage; texts = old.texts; visited = old.visited; links = old.links; pending = c.pop.new.self; nodes = c.node_at.new.nodes; key = old.key }) c.in-Some.reached c.loop-reached.invariant.kept refl refl refl c.in-Some.ensures.items c.in_ok-node.ensures.placed).0
 
-pub turn-requires-clause-continued : goal.turn-requires-clause-continued
-turn-requires-clause-continued g c =
+pub expand_node-requires-clause-continued : goal.expand_node-requires-clause-continued
+expand_node-requires-clause-continued g c =
     let old = c.loop-reached.kept in
     AreContinued-more (g.O.Orders.runs c.args.orders.now) old (record { lineage = old.lineage; texts = old.texts; visited = old.visited; links = old.links; pending = c.pop.new.self; nodes = c.node_at.new.nodes; key = old.key }) (Extends-itself (ways old.lineage)) (Extends-itself (pieces old.lineage.steps)) (Extends-itself old.links.edges.items) (λ k none. none) c.loop-reached.invariant.continued
 
-pub turn-requires-clause-at : goal.turn-requires-clause-at
-turn-requires-clause-at g c =
+pub expand_node-requires-clause-at : goal.expand_node-requires-clause-at
+expand_node-requires-clause-at g c =
     let old = c.loop-reached.kept in
     record {
       stands = c.in_ok-node.ensures.node;
@@ -70,7 +70,7 @@ loop-reached-preserved g c =
     let runs = g.O.Orders.runs c.args.orders.now in
     let before = c.loop-reached.invariant in
     let old = ways c.loop-reached.kept.lineage in
-    let new = ways c.turn.new.kept.lineage in
+    let new = ways c.expand_node.new.kept.lineage in
     let more = c.in_ok-left.ensures.grows.lineage in
     let longer : length old ≤ length new = length-extends old new more in
     let room = c.in_ok-left.ensures.room in
@@ -94,7 +94,7 @@ loop-reached-preserved g c =
       distinct = c.in_ok-left.ensures.distinct;
       followed = λ none k less.
           let both = c.earlier-stopped.ensures.none none in
-          known_more runs c.loop-reached.kept (record { lineage = c.loop-reached.kept.lineage; texts = c.loop-reached.kept.texts; visited = c.loop-reached.kept.visited; links = c.loop-reached.kept.links; pending = c.pop.new.self; nodes = c.node_at.new.nodes; key = c.loop-reached.kept.key }) c.turn.new.kept c.in-Some.reached c.loop-reached.shown.items c.turn.new.shown.items k refl c.in-Some.ensures.items
+          known_more runs c.loop-reached.kept (record { lineage = c.loop-reached.kept.lineage; texts = c.loop-reached.kept.texts; visited = c.loop-reached.kept.visited; links = c.loop-reached.kept.links; pending = c.pop.new.self; nodes = c.node_at.new.nodes; key = c.loop-reached.kept.key }) c.expand_node.new.kept c.in-Some.reached c.loop-reached.shown.items c.expand_node.new.shown.items k refl c.in-Some.ensures.items
           c.in_ok-left.ensures.grows c.in_ok-left.ensures.shown (c.in_ok-left.ensures.followed both.1) (before.followed both.0) less;
     }
 
@@ -107,8 +107,8 @@ pub returns-in_err-left-clause-counted : goal.returns-in_err-left-clause-counted
 returns-in_err-left-clause-counted g c =
     let before = c.loop-reached.invariant in
     let runs = g.O.Orders.runs c.args.orders.now in
-    subst (λ (s : Option Stopped). AreCounted runs c.turn.new.shown.items s c.loop-reached.nodes) (sym (by_memory c.from_residual-in_err-left.result _ c.from_residual-in_err-left.ensures.1))
-    (counted runs (g.O.Orders.has_key c.args.orders.now) c.loop-reached.kept c.turn.new.shown.items (Some stop.Memory) c.loop-reached.nodes before.kept before.nodes before.some before.starts (λ none. absurd (some_none stop.Memory none)))
+    subst (λ (s : Option Stopped). AreCounted runs c.expand_node.new.shown.items s c.loop-reached.nodes) (sym (by_memory c.from_residual-in_err-left.result _ c.from_residual-in_err-left.ensures.1))
+    (counted runs (g.O.Orders.has_key c.args.orders.now) c.loop-reached.kept c.expand_node.new.shown.items (Some stop.Memory) c.loop-reached.nodes before.kept before.nodes before.some before.starts (λ none. absurd (some_none stop.Memory none)))
 
 pub returns-in_err-endless-clause-counted : goal.returns-in_err-endless-clause-counted
 returns-in_err-endless-clause-counted g c =
@@ -121,10 +121,10 @@ pub returns-then-is_full-clause-counted : goal.returns-then-is_full-clause-count
 returns-then-is_full-clause-counted g c =
     let before = c.loop-reached.invariant in
     let old = ways c.loop-reached.kept.lineage in
-    let new = ways c.turn.new.kept.lineage in
+    let new = ways c.expand_node.new.kept.lineage in
     let more = c.in_ok-left.ensures.grows.lineage in
     let longer : length old ≤ length new = length-extends old new more in
-    counted (g.O.Orders.runs c.args.orders.now) (g.O.Orders.has_key c.args.orders.now) c.turn.new.kept c.turn.new.shown.items c.in_ok-left.left c.len-count.result c.in_ok-left.ensures.kept c.len-count.ensures
+    counted (g.O.Orders.runs c.args.orders.now) (g.O.Orders.has_key c.args.orders.now) c.expand_node.new.kept c.expand_node.new.shown.items c.in_ok-left.left c.len-count.result c.in_ok-left.ensures.kept c.len-count.ensures
     (omega (arith, before.some, longer)) (get_or-extends old new 0 [] more before.some ∙ before.starts) (λ none. absurd (some_none stop.Shown (sym (c.is_full.ensures.full c.if-is_full.true) ∙ none)))
 
 pub returns-then-bytes-scope-clause-counted : goal.returns-then-bytes-scope-clause-counted

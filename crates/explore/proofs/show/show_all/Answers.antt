@@ -2,8 +2,8 @@ use Rattle.std.proofs.Common.{◌≡◌, length, arith, [], ◌∷◌, ◌++◌,
 use Rattle.std.proofs.lemmas.List.Elements.{All-pop, All-nil}
 use Rattle.std.proofs.lemmas.List.{append-nil}
 use Rattle.std.specs.List.{All}
-use Rattle.explore.specs.declared.Ended.{Ended}
-use Rattle.explore.specs.Search.{IsEnded, IsShown}
+use Rattle.explore.specs.declared.EndedPath.{EndedPath}
+use Rattle.explore.specs.Search.{IsEndedPath, IsShown}
 use Rattle.explore.specs.Lineage.{ways}
 use Rattle.explore.proofs.Growing.{Extends-itself, Extends-through}
 use Rattle.explore.proofs.Complete.{taken_more, all_taken}
@@ -20,14 +20,14 @@ loop-one-init g c =
       few = c.requires.few;
       grows = Extends-itself c.args.shown.now.items;
       left = c.requires.ended;
-      done = ([], sym (append-nil c.args.ended.items), All-nil (λ (one : Ended g.row.O-Move.Denot g.row.O-End.Denot). IsShown c.args.shown.now.items (runs.text way ++ one.printed.items) one.end));
+      done = ([], sym (append-nil c.args.ended.items), All-nil (λ (one : EndedPath g.row.O-Move.Denot g.row.O-End.Denot). IsShown c.args.shown.now.items (runs.text way ++ one.printed.items) one.end));
     }
 
 pub show-requires-clause-ended : goal.show-requires-clause-ended
 show-requires-clause-ended g c =
     let runs = g.O.Orders.runs c.args.orders.now in
     let way = get_or (ways c.args.run.lineage.now) c.args.run.reached.number [] in
-    (All-pop (IsEnded runs way) c.loop-one.left.items c.pop.new.self.items (Some c.in-Some.one) c.in-Some.ensures.items c.loop-one.invariant.left).1
+    (All-pop (IsEndedPath runs way) c.loop-one.left.items c.pop.new.self.items (Some c.in-Some.one) c.in-Some.ensures.items c.loop-one.invariant.left).1
 
 pub loop-one-preserved : goal.loop-one-preserved
 loop-one-preserved g c =
@@ -41,11 +41,11 @@ loop-one-preserved g c =
       distinct = c.in_ok-there.ensures.distinct;
       few = c.in_ok-there.ensures.few;
       grows = Extends-through c.args.shown.now.items c.loop-one.shown.items c.show.new.shown.items c.loop-one.invariant.grows c.in_ok-there.ensures.grows;
-      left = (All-pop (IsEnded runs way) c.loop-one.left.items c.pop.new.self.items (Some one) popped c.loop-one.invariant.left).0;
+      left = (All-pop (IsEndedPath runs way) c.loop-one.left.items c.pop.new.self.items (Some one) popped c.loop-one.invariant.left).0;
       done = (
         one ∷ before.0,
         taken_more c.args.ended.items c.loop-one.left.items c.pop.new.self.items before.0 one before.1 popped,
-        there_more (λ (x : Ended g.row.O-Move.Denot g.row.O-End.Denot). runs.text way ++ x.printed.items) (λ (x : Ended g.row.O-Move.Denot g.row.O-End.Denot). x.end) before.0 one c.loop-one.shown.items c.show.new.shown.items c.in_ok-there.ensures.grows before.2
+        there_more (λ (x : EndedPath g.row.O-Move.Denot g.row.O-End.Denot). runs.text way ++ x.printed.items) (λ (x : EndedPath g.row.O-Move.Denot g.row.O-End.Denot). x.end) before.0 one c.loop-one.shown.items c.show.new.shown.items c.in_ok-there.ensures.grows before.2
             (c.in_ok-there.ensures.there c.if-not-there.false),
       );
     }
@@ -57,4 +57,4 @@ returns-clause-there g c _ =
     let done = c.loop-one.invariant.done in
     let none : length c.loop-one.left.items ≡ 0 = omega (arith, c.in_default.ensures.cases.0) in
     let same = all_taken c.args.ended.items c.loop-one.left.items done.0 done.1 none in
-    subst (λ (xs : List (Ended g.row.O-Move.Denot g.row.O-End.Denot)). All (λ one. IsShown c.loop-one.shown.items (runs.text way ++ one.printed.items) one.end) xs) (sym same) done.2
+    subst (λ (xs : List (EndedPath g.row.O-Move.Denot g.row.O-End.Denot)). All (λ one. IsShown c.loop-one.shown.items (runs.text way ++ one.printed.items) one.end) xs) (sym same) done.2

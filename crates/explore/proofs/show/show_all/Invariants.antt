@@ -1,8 +1,8 @@
 use Rattle.std.proofs.Common.{◌≡◌, ◌≤◌, ◌++◌, [], List, length, get_or}
 use Rattle.std.specs.List.{All, AllPairs}
-use Rattle.explore.specs.declared.Ended.{Ended}
+use Rattle.explore.specs.declared.EndedPath.{EndedPath}
 use Rattle.explore.specs.Grown.{Extends}
-use Rattle.explore.specs.Search.{IsOfRun, IsEnded, AreDistinct, IsShown}
+use Rattle.explore.specs.Search.{IsOfRun, IsEndedPath, AreDistinct, IsShown}
 use Rattle.explore.specs.Lineage.{ways}
 use Rattle.explore.proofs.show.show_all.Given as goal
 
@@ -15,8 +15,8 @@ invariant-loop-one g l =
       distinct : AllPairs AreDistinct l.shown.items;
       few : length l.shown.items ≤ l.most;
       grows : Extends l.fn.shown.items l.shown.items;
-      left : All (IsEnded runs way) l.left.items;
-      done : (did : List (Ended g.row.O-Move.Denot g.row.O-End.Denot)) × (l.fn.ended.items ≡ l.left.items ++ did)
+      left : All (IsEndedPath runs way) l.left.items;
+      done : (did : List (EndedPath g.row.O-Move.Denot g.row.O-End.Denot)) × (l.fn.ended.items ≡ l.left.items ++ did)
           × All (λ one. IsShown l.shown.items (runs.text way ++ one.printed.items) one.end) did;
     }
 

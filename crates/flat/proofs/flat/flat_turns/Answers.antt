@@ -3,7 +3,7 @@ use Rattle.std.proofs.Common.{◌≡◌, ◌≤◌, ◌==◌, ℕ, Bool, true, l
 use Rattle.std.proofs.lemmas.Bool.{eqb-true}
 use Rattle.std.specs.VecDeque.{deque_len}
 use Rattle.regions.specs.Machine.{state_at}
-use Rattle.flat.specs.Turned.{event_of}
+use Rattle.flat.specs.EvaluatedTurns.{event_of}
 use Rattle.flat.proofs.Evaluated.{all_active}
 use Rattle.flat.proofs.Flatness.{flat_from, are_turned}
 use Rattle.flat.proofs.flat.flat_turns.Goals as goal

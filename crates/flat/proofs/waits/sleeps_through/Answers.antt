@@ -4,7 +4,7 @@ use Rattle.std.proofs.lemmas.List.{take_more}
 use Rattle.logic4.specs.Vector.{Vector}
 use Rattle.orders.specs.Apart.{WakesNone}
 use Rattle.std.specs.Prelude.{slice_index_or}
-use Rattle.flat.specs.Tests.{waiting}
+use Rattle.flat.specs.Tests.{waiting_continuation}
 use Rattle.flat.proofs.Sleeping.{sleeps_unwritten, wakes_more}
 use Rattle.flat.proofs.waits.sleeps_through.Goals as goal
 
@@ -16,5 +16,5 @@ loop-place-preserved c =
     let writes = c.args.writes.now in
     let place = c.loop-place.place in
     let d : ℕ × Vector = (0, []) in
-    subst (λ (ws : List (ℕ × Vector)). WakesNone c.args.store.now ws (waiting c.args.control.now ∷ [])) (sym (take_more writes place d (omega arith)))
-    (wakes_more c.args.store.now (take place writes) (slice_index_or writes place d) (waiting c.args.control.now ∷ []) c.loop-place.invariant (c.sleeps_at.ensures c.if-not-sleeps_at.false d))
+    subst (λ (ws : List (ℕ × Vector)). WakesNone c.args.store.now ws (waiting_continuation c.args.control.now ∷ [])) (sym (take_more writes place d (omega arith)))
+    (wakes_more c.args.store.now (take place writes) (slice_index_or writes place d) (waiting_continuation c.args.control.now ∷ []) c.loop-place.invariant (c.sleeps_at.ensures c.if-not-sleeps_at.false d))

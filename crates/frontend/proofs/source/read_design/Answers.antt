@@ -5,7 +5,7 @@ use Rattle.tokens.specs.Lexing.{Stops, stray, bad_number}
 use Rattle.vparse.specs.Spells.{IsUnspelledAt, IsDeepTextAt}
 use Rattle.vparse.specs.declared.parser.ParseFault.{ParseFault}
 use Rattle.vparse.specs.declared.parser.ParseFault.TheVariants.{Byte, Syntax, Literal, Deep, Unsized, Memory}
-use Rattle.frontend.specs.Sources.{IsTextFault}
+use Rattle.frontend.specs.Sources.{IsParseFaultOf}
 use Rattle.frontend.proofs.source.read_design.Goals as goal
 
 text_fault : {X : Type 0} (source : List ℕ) (result : Result X ParseFault) (fault : ParseFault) → result ≡ Err fault
@@ -13,7 +13,7 @@ text_fault : {X : Type 0} (source : List ℕ) (result : Result X ParseFault) (fa
     → ((place : ℕ) → result ≡ Err (Literal place) → Stops source bad_number place)
     → ((n : ℕ) → result ≡ Err (Syntax n) → IsUnspelledAt source n)
     → ((n : ℕ) → result ≡ Err (Unsized n) → IsUnspelledAt source n)
-    → ((n : ℕ) → result ≡ Err (Deep n) → IsDeepTextAt source n) → IsTextFault source fault
+    → ((n : ℕ) → result ≡ Err (Deep n) → IsDeepTextAt source n) → IsParseFaultOf source fault
 text_fault source result (Byte place) is byte literal syntax no_size deep = byte place is
 text_fault source result (Literal place) is byte literal syntax no_size deep = literal place is
 text_fault source result (Syntax token) is byte literal syntax no_size deep = syntax token is

@@ -5,7 +5,7 @@ use Rattle.grammar.specs.Cursor.{left_of, sees}
 use Rattle.tokens.specs.Tokens.{PlainTokens}
 use Rattle.tokens.specs.declared.token.Kind.TheVariants.{Question}
 use Rattle.model.specs.Syntax.{Text, Expression}
-use Rattle.model.specs.SourceTrees.{expression_of}
+use Rattle.model.specs.SourceTrees.{source_expression_of}
 use Rattle.grammar.specs.Nodes.{expressions_view}
 use Rattle.grammar.specs.Reading as spec
 use Rattle.grammar.specs.Reading.{parse_operators, parse_level, parse_list}
@@ -15,7 +15,7 @@ use Rattle.grammar.proofs.expression.+expression.Goals as goal
 pub parse_operators-loop-turn-preserved : goal.parse_operators-loop-turn-preserved
 unfolding parse_operators
 parse_operators-loop-turn-preserved t c =
-    let e = one_more (λ n. parse_operators (spec.parse_expression c.args.budget) n c.args.level (expression_of c.loop-turn.left) (left_of c.loop-turn.tokens)) c.args.budget c.loop-turn._turn c.loop-turn-test.true c.loop-turn.invariant in
+    let e = one_more (λ n. parse_operators (spec.parse_expression c.args.budget) n c.args.level (source_expression_of c.loop-turn.left) (left_of c.loop-turn.tokens)) c.args.budget c.loop-turn._turn c.loop-turn-test.true c.loop-turn.invariant in
     grind (arith, common_steps)
 
 conditional_at_0 : (inner : ℕ → spec.Parser (Expression Text)) (budget level : ℕ) (first left : Expression Text) (ts us vs : PlainTokens)

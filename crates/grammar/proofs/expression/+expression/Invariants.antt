@@ -1,7 +1,7 @@
 -- Each call from an expression back to an expression has a smaller budget.
 use Rattle.std.proofs.Common.{◌≡◌, ◌+◌, ◌-◌, ◌*◌}
 use Rattle.grammar.specs.Cursor.{left_of}
-use Rattle.model.specs.SourceTrees.{expression_of}
+use Rattle.model.specs.SourceTrees.{source_expression_of}
 use Rattle.grammar.specs.Nodes.{expressions_view}
 use Rattle.grammar.specs.Reading as spec
 use Rattle.grammar.proofs.expression.+expression.Given as goal
@@ -33,8 +33,8 @@ decreases-parse_operators l = 5 * l.budget + 1
 -- what is read from here with the turns that are left is what is read in all
 abbrev pub invariant-parse_operators-loop-turn : goal.invariant-parse_operators-loop-turn
 invariant-parse_operators-loop-turn l =
-    spec.parse_operators (spec.parse_expression l.budget) l.budget l.level (expression_of l.fn.left) (left_of l.fn.tokens)
-    ≡ spec.parse_operators (spec.parse_expression l.budget) (l.budget - l._turn) l.level (expression_of l.left) (left_of l.tokens)
+    spec.parse_operators (spec.parse_expression l.budget) l.budget l.level (source_expression_of l.fn.left) (left_of l.fn.tokens)
+    ≡ spec.parse_operators (spec.parse_expression l.budget) (l.budget - l._turn) l.level (source_expression_of l.left) (left_of l.tokens)
 
 abbrev pub invariant-parse_list-loop-turn : goal.invariant-parse_list-loop-turn
 invariant-parse_list-loop-turn l =

@@ -1,5 +1,5 @@
 use Rattle.std.proofs.Common.{◌≡◌, ◌+◌, ◌<◌, List, length, get_or, subst, option_map}
-use Rattle.conflicts.specs.declared.told.Race.{Race}
+use Rattle.races.specs.declared.told.Race.{Race}
 use Rattle.naming.specs.Naming.{IsRaceTold}
 use Rattle.naming.proofs.Races.{tells_more}
 use Rattle.naming.proofs.naming.push_each.Goals as goal

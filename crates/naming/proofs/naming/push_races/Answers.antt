@@ -7,5 +7,5 @@ pub returns : goal.returns
 returns c =
     let names = c.args.names.now in
     let of_source = subst (AreProcessesOf names.source.now) (sym c.deref.ensures.value) c.in_ok-processes.ensures in
-    tells_behind c.push_end.result names.source.now c.deref.result.now names.design.now names.shown.now (option_map (λ path. path.now) names.prefix) names.tries c.args.found.now c.args.text.now.items c.push_each.new.text.items
+    tells_behind c.push_end.result names.source.now c.deref.result.now names.design.now names.shown.now (option_map (λ path. path.now) names.prefix) names.race_bounds c.args.found.now c.args.text.now.items c.push_each.new.text.items
     c.push_end.new.text.items of_source c.in_ok-push_each.ensures c.push_end.ensures

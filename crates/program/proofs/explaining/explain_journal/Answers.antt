@@ -1,12 +1,12 @@
 -- The window is that of the request.
 use Rattle.std.proofs.Common.{◌≡◌, subst, IfErr, rules}
 use Rattle.explain.specs.declared.telling.Window.{Window}
-use Rattle.program.specs.declared.fault.Fault.{Fault}
+use Rattle.program.specs.declared.fault.CommandFault.{CommandFault}
 use Rattle.program.specs.Printed.{HasExplainedSome}
 use Rattle.program.specs.Program.{status_of}
 use Rattle.program.proofs.explaining.explain_journal.Goals as goal
 
 pub returns-clause-refused : goal.returns-clause-refused
 returns-clause-refused g c =
-    subst (λ (w : Window). IfErr c.explain_bytes.result (λ (fault : Fault). status_of fault ≡ 5 → HasExplainedSome (g.F.Files.held c.args.files.now) c.args.request.now.file.now c.args.request.now.journal.now w (g.O.Write.contents c.args.out.now) (g.O.Write.contents c.explain_bytes.new.out) fault))
+    subst (λ (w : Window). IfErr c.explain_bytes.result (λ (fault : CommandFault). status_of fault ≡ 5 → HasExplainedSome (g.F.Files.held c.args.files.now) c.args.request.now.file.now c.args.request.now.journal.now w (g.O.Write.contents c.args.out.now) (g.O.Write.contents c.explain_bytes.new.out) fault))
     c.between.ensures (c.explain_bytes.ensures.refused (g.F.Files.held c.args.files.now) c.args.request.now.file.now c.args.request.now.journal.now (search rules) (search rules))

@@ -10,7 +10,7 @@ use Rattle.model.specs.declared.end.End.{End}
 use Rattle.explore.specs.declared.Shown.{Shown}
 use Rattle.explore.specs.Search.{IsShown}
 use Rattle.explore.proofs.Growing.{Extends-through}
-use Rattle.program.specs.Findings.{IsLawful}
+use Rattle.program.specs.Findings.{IsLawfulShown}
 use Rattle.program.proofs.Knowing.{there_still}
 use Rattle.program.proofs.known.add_all.Goals as goal
 
@@ -23,7 +23,7 @@ loop-one-preserved c =
       few = c.in_ok-there.ensures.few;
       distinct = c.in_ok-there.ensures.distinct;
       grows = Extends-through c.args.shown.now.items c.loop-one.shown.items c.add.new.shown.items c.loop-one.invariant.grows c.in_ok-there.ensures.grows;
-      lawful = λ code limits all known. c.in_ok-there.ensures.lawful code limits (subst (IsLawful code limits) (sym t.1) (all (length c.loop-one.yielded) one t.0)) (c.loop-one.invariant.lawful code limits all known);
+      lawful = λ code limits all known. c.in_ok-there.ensures.lawful code limits (subst (IsLawfulShown code limits) (sym t.1) (all (length c.loop-one.yielded) one t.0)) (c.loop-one.invariant.lawful code limits all known);
       there = All-push (λ (s : Shown Entry End). IsShown c.add.new.shown.items s.text.items s.end) c.loop-one.yielded one
           (there_still c.loop-one.shown.items c.add.new.shown.items c.loop-one.yielded c.in_ok-there.ensures.grows c.loop-one.invariant.there) (c.in_ok-there.ensures.there c.if-not-there.false);
     }
@@ -39,11 +39,11 @@ returns-in_err-there-clause-lawful c = λ code limits all known.
     let gives = c.into_iter-one-iterator.ensures.into_iter_gives in
     let one = c.in-Some.one in
     let t = YieldsList-turn (YieldsList-from_vec {s = c.into_iter-one-iterator.result} c.args.others.items gives.0 (gives.1 ∙ c.args.others.ok.0)) c.loop-one.yielded c.loop-one.one-iterator c.loop-one.yielded_by c.next.result c.next.new.self one c.in-Some.is c.next.ensures.steps in
-    c.in_err-there.ensures.lawful code limits (subst (IsLawful code limits) (sym t.1) (all (length c.loop-one.yielded) one t.0)) (c.loop-one.invariant.lawful code limits all known)
+    c.in_err-there.ensures.lawful code limits (subst (IsLawfulShown code limits) (sym t.1) (all (length c.loop-one.yielded) one t.0)) (c.loop-one.invariant.lawful code limits all known)
 
 pub returns-then-not-there-clause-lawful : goal.returns-then-not-there-clause-lawful
 returns-then-not-there-clause-lawful c = λ code limits all known.
     let gives = c.into_iter-one-iterator.ensures.into_iter_gives in
     let one = c.in-Some.one in
     let t = YieldsList-turn (YieldsList-from_vec {s = c.into_iter-one-iterator.result} c.args.others.items gives.0 (gives.1 ∙ c.args.others.ok.0)) c.loop-one.yielded c.loop-one.one-iterator c.loop-one.yielded_by c.next.result c.next.new.self one c.in-Some.is c.next.ensures.steps in
-    c.in_ok-there.ensures.lawful code limits (subst (IsLawful code limits) (sym t.1) (all (length c.loop-one.yielded) one t.0)) (c.loop-one.invariant.lawful code limits all known)
+    c.in_ok-there.ensures.lawful code limits (subst (IsLawfulShown code limits) (sym t.1) (all (length c.loop-one.yielded) one t.0)) (c.loop-one.invariant.lawful code limits all known)

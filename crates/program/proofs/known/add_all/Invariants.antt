@@ -4,7 +4,7 @@ use Rattle.model.specs.declared.end.Limits.{Limits}
 use Rattle.design.specs.Compiled.{Compiled}
 use Rattle.explore.specs.Grown.{Extends}
 use Rattle.explore.specs.Search.{AreDistinct, IsShown}
-use Rattle.program.specs.Findings.{IsLawful}
+use Rattle.program.specs.Findings.{IsLawfulShown}
 use Rattle.program.proofs.known.add_all.Given as goal
 
 abbrev pub invariant-loop-one : goal.invariant-loop-one
@@ -12,6 +12,6 @@ invariant-loop-one l = record {
   few : length l.shown.items ≤ l.most;
   distinct : AllPairs AreDistinct l.shown.items;
   grows : Extends l.fn.shown.items l.shown.items;
-  lawful : (code : Compiled) (limits : Limits) → All (IsLawful code limits) l.fn.others.items → All (IsLawful code limits) l.fn.shown.items → All (IsLawful code limits) l.shown.items;
+  lawful : (code : Compiled) (limits : Limits) → All (IsLawfulShown code limits) l.fn.others.items → All (IsLawfulShown code limits) l.fn.shown.items → All (IsLawfulShown code limits) l.shown.items;
   there : All (λ s. IsShown l.shown.items s.text.items s.end) l.yielded;
 }

@@ -1,6 +1,6 @@
 use Rattle.std.proofs.Common.{subst, sym, arith}
-use Rattle.seeded.specs.SeededRun.{IsRun}
-use Rattle.conflicts.specs.declared.told.Race.{Race}
+use Rattle.runs.specs.RunRecords.{IsRun}
+use Rattle.races.specs.declared.told.Race.{Race}
 use Rattle.explore.proofs.Growing.{Extends-through}
 use Rattle.program.proofs.Knowing.{known_each}
 use Rattle.program.proofs.known.add_races.Goals as goal

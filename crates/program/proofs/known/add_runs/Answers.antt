@@ -1,5 +1,5 @@
 use Rattle.std.proofs.Common.{subst, sym}
-use Rattle.seeded.specs.SeededRun.{IsRun}
+use Rattle.runs.specs.RunRecords.{IsRun}
 use Rattle.explore.proofs.Growing.{Extends-through}
 use Rattle.program.proofs.known.add_runs.Goals as goal
 

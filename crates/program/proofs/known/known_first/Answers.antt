@@ -4,25 +4,25 @@ use Rattle.std.proofs.lemmas.List.Elements.{All-nil}
 use Rattle.model.specs.declared.entry.Entry.{Entry}
 use Rattle.model.specs.declared.end.End.{End}
 use Rattle.explore.specs.declared.Shown.{Shown}
-use Rattle.seeded.specs.SeededRun.{IsRun}
-use Rattle.seeded.specs.declared.run.SeededRun.{SeededRun}
-use Rattle.conflicts.specs.declared.told.Race.{Race}
-use Rattle.program.specs.Findings.{IsKnown, IsLawful, limits_in}
+use Rattle.runs.specs.RunRecords.{IsRun}
+use Rattle.runs.specs.declared.run.RunRecord.{RunRecord}
+use Rattle.races.specs.declared.told.Race.{Race}
+use Rattle.program.specs.Findings.{IsKnown, IsLawfulShown, limits_in}
 use Rattle.program.proofs.Knowing.{all_known, races_run}
 use Rattle.program.proofs.known.known_first.Goals as goal
 
 pub returns : goal.returns
 returns g c =
     let code = c.args.design.now in
-    let extent = c.args.extent in
-    let limits = limits_in extent in
+    let search_options = c.args.search_options in
+    let limits = limits_in search_options in
     let found = c.args.found.now in
     let races = c.requires.races.1 in
-    let begun = subst (λ (ss : List (Shown Entry End)). All (IsLawful code limits) ss) (sym c.new-known.ensures.items) (All-nil (IsLawful code limits)) in
+    let begun = subst (λ (ss : List (Shown Entry End)). All (IsLawfulShown code limits) ss) (sym c.new-known.ensures.items) (All-nil (IsLawfulShown code limits)) in
     let one = c.in_ok-add_run.ensures.lawful code limits races.original begun in
     let shown = subst (λ (rs : List Race). All (λ (race : Race). IsRun code limits race.exchanged) rs) (sym c.as_slice.ensures.value) (races_run code limits c.requires.races.0 found races) in
     let two = c.in_ok-add_races.ensures.lawful code limits shown one in
-    let runs = subst (λ (rs : List SeededRun). All (IsRun code limits) rs) (sym c.as_slice-2.ensures.value) c.random_orders-others.ensures in
-    let told = subst (λ (rs : List Race). All (λ (race : Race). IsKnown extent.max_texts c.add_races.new.shown.items race.exchanged) rs) c.as_slice.ensures.value c.in_ok-add_races.ensures.known in
-    all_known code extent found c.add_run.new.shown.items c.add_races.new.shown.items c.add_runs.new.shown.items c.requires.all (c.in_ok-add_runs.ensures.lawful code limits runs two) c.in_ok-add_runs.ensures.distinct
+    let runs = subst (λ (rs : List RunRecord). All (IsRun code limits) rs) (sym c.as_slice-2.ensures.value) c.random_orders-others.ensures in
+    let told = subst (λ (rs : List Race). All (λ (race : Race). IsKnown search_options.max_texts c.add_races.new.shown.items race.exchanged) rs) c.as_slice.ensures.value c.in_ok-add_races.ensures.known in
+    all_known code search_options found c.add_run.new.shown.items c.add_races.new.shown.items c.add_runs.new.shown.items c.requires.all (c.in_ok-add_runs.ensures.lawful code limits runs two) c.in_ok-add_runs.ensures.distinct
     c.in_ok-add_runs.ensures.few c.in_ok-add_races.ensures.few c.in_ok-add_races.ensures.grows c.in_ok-add_runs.ensures.grows c.in_ok-add_run.ensures.known told

@@ -3,7 +3,7 @@ use Rattle.std.proofs.Common.{◌≡◌, ◌⊎◌, ◌≤◌, ◌∙◌, inr, s
 use Rattle.journal.specs.Counted.{held}
 use Rattle.arguments.specs.CommandWords.{texts_of}
 use Rattle.program.specs.Printed.{IsUnprinted, untouched}
-use Rattle.program.specs.StandardError.{IsTold}
+use Rattle.program.specs.StandardError.{IsReported}
 use Rattle.program.proofs.Ended.{IsSourceStatus, done_by_status, right_by_status, faulty_by_status, refused_by_status, stopped_by_status, wanting_by_status, several_by_status, nothing_by_status, unsaved_by_status, silent_by_status, source_status, told_by_status, refused_done, kept}
 use Rattle.program.proofs.Statuses.{at_most_seven}
 use Rattle.program.proofs.program.command.Goals as goal
@@ -58,7 +58,7 @@ returns-in-Ok-clause-silent g c = λ e.
 
 pub returns-in-Ok-clause-told : goal.returns-in-Ok-clause-told
 returns-in-Ok-clause-told g c =
-    subst (IsTold g.E.Write.contents c.args.err.now c.finish.new.err (texts_of c.args.words.now)) (sym c.finish.ensures.status)
+    subst (IsReported g.E.Write.contents c.args.err.now c.finish.new.err (texts_of c.args.words.now)) (sym c.finish.ensures.status)
     (told_by_status (g.F.Files.held c.args.files.now) g.E.Write.contents c.args.err.now c.finish.new.err (texts_of c.args.words.now) (g.O.Write.contents (held c.args.out.now)) (g.O.Write.contents (held c.perform-ended.new.out))
     (g.F.Files.made c.args.files.now) (g.F.Files.made c.perform-ended.new.files) c.perform-ended.result (c.perform-ended.ensures.ended (texts_of c.args.words.now) c.in-Ok.ensures.asked) c.finish.ensures.told)
 

@@ -1,6 +1,6 @@
 -- What is told of words that make no request.
 use Rattle.std.proofs.Common.{refl}
-use Rattle.program.specs.declared.fault.Fault.TheVariants as fault
+use Rattle.program.specs.declared.fault.CommandFault.TheVariants as fault
 use Rattle.program.specs.StandardError.{of_fault, of_words}
 use Rattle.program.proofs.Ended.{wrong_usage}
 use Rattle.program.proofs.program.refuse.Goals as goal

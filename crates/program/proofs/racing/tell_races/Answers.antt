@@ -4,7 +4,7 @@ use Rattle.std.specs.Io.KnownBytes.{Appends}
 use Rattle.model.specs.declared.entry.Entry.{Entry}
 use Rattle.model.specs.declared.end.End.{End}
 use Rattle.explore.specs.declared.Shown.{Shown}
-use Rattle.conflicts.specs.declared.told.Tries.{Tries}
+use Rattle.races.specs.declared.told.RaceBounds.{RaceBounds}
 use Rattle.naming.specs.Naming.{TellsRaces}
 use Rattle.program.proofs.racing.tell_races.Goals as goal
 
@@ -14,16 +14,16 @@ returns-clause-told g c =
     let design = c.args.design.now in
     let request = c.args.request.now in
     let prefix = option_map (λ path. path.now) request.journals in
-    let tries : Tries = record { pairs = 1000; races = 64; entries = 20000000 } in
+    let race_bounds : RaceBounds = record { pairs = 1000; races = 64; entries = 20000000 } in
     let found = c.races_of-found.result in
     let first = c.in_ok-lines.lines.items in (
       first,
       record {
-        tries = tries;
+        race_bounds = race_bounds;
         found = found;
         are_races = c.races_of-found.ensures;
         are_known = c.in_ok-known.ensures;
-        tells = subst (λ (ss : List (Shown Entry End)). TellsRaces source design ss prefix tries found first) c.as_slice.ensures.value c.in_ok-lines.ensures;
+        tells = subst (λ (ss : List (Shown Entry End)). TellsRaces source design ss prefix race_bounds found first) c.as_slice.ensures.value c.in_ok-lines.ensures;
       },
       subst (λ (l : List ℕ). Appends (g.O.Write.contents c.args.out.now) (g.O.Write.contents c.show_bytes.new.out) l) c.as_slice-2.ensures.value c.in_ok-show_bytes.ensures.written,
     )

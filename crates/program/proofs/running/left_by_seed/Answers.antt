@@ -1,7 +1,7 @@
 -- The run by a seed, and that it has ended.
 use Rattle.std.proofs.Common.{refl, rules}
 use Rattle.design.specs.Compiled.{design_of}
-use Rattle.program.specs.Printed.{limits_of}
+use Rattle.program.specs.Printed.{run_limits_of}
 use Rattle.program.proofs.Endings.{ended}
 use Rattle.program.proofs.running.left_by_seed.Goals as goal
 
@@ -17,4 +17,4 @@ returns-clause-left g c = λ holding file described. record {
 pub returns-clause-ended : goal.returns-clause-ended
 returns-clause-ended g c =
     let run = c.run_seeded-run.result in
-    ended (design_of c.args.design.now) (limits_of c.args.request.now.options) run.journal.items run.end c.run_seeded-run.ensures.run.ends
+    ended (design_of c.args.design.now) (run_limits_of c.args.request.now.options) run.journal.items run.end c.run_seeded-run.ensures.run.ends

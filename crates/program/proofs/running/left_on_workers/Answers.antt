@@ -2,7 +2,7 @@
 use Rattle.std.proofs.Common.{rules, subst, sym}
 use Rattle.design.specs.Compiled.{design_of}
 use Rattle.model.specs.declared.end.End.{End}
-use Rattle.program.specs.Printed.{limits_of}
+use Rattle.program.specs.Printed.{run_limits_of}
 use Rattle.program.specs.Program.{IsEnded}
 use Rattle.program.proofs.Endings.{ended}
 use Rattle.program.proofs.running.left_on_workers.Goals as goal
@@ -20,4 +20,4 @@ pub returns-in-Ok-clause-ended : goal.returns-in-Ok-clause-ended
 returns-in-Ok-clause-ended g c =
     let closed = c.in-Ok.outcome.closed in
     subst (λ (end : End). IsEnded end) (sym c.into_parts-journal.ensures.end)
-    (ended (design_of c.args.design.now) (limits_of c.args.options) closed.entries closed.end c.in-Ok.ensures.ends)
+    (ended (design_of c.args.design.now) (run_limits_of c.args.options) closed.entries closed.end c.in-Ok.ensures.ends)

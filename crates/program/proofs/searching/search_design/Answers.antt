@@ -15,7 +15,7 @@ returns-clause-shown g c = λ holding file held.
     let prefix = option_map (λ path. path.now) request.journals in
     let begun = g.O.Write.contents c.tell_races.new.out in
     let end = g.O.Write.contents c.tell_texts.new.out in
-    texts_shown holding file c.args.source.now c.args.design.now request.extent prefix c.in_ok-known.known.items texts.claim texts.shown.items (option_map (λ journal. journal.items) texts.endless) (g.O.Write.contents c.args.out.now) begun end
+    texts_shown holding file c.args.source.now c.args.design.now request.search_options prefix c.in_ok-known.known.items texts.claim texts.shown.items (option_map (λ journal. journal.items) texts.endless) (g.O.Write.contents c.args.out.now) begun end
     (g.F.Files.made c.args.files.now) (g.F.Files.made c.try_first.new.files) (g.F.Files.made c.tell_texts.new.files) c.in_ok-last.last.items c.tell_texts.result held c.requires c.in_ok-known.ensures.told c.in_ok-texts.ensures.found
     c.in_ok-texts.ensures.grown c.in_ok-last.ensures c.in_ok-try_first.ensures.kept (subst (λ (l : List ℕ). OnOk c.tell_texts.result (Appends begun end l)) c.as_slice.ensures.value c.tell_texts.ensures.told)
     c.tell_texts.ensures.saved c.tell_texts.ensures.finding
@@ -30,7 +30,7 @@ returns-clause-wanting g c = λ holding file held.
     let tried = g.F.Files.made c.try_first.new.files in
     let saved = g.F.Files.made c.tell_texts.new.files in
     let endless = option_map (λ journal. journal.items) texts.endless in
-    texts_left holding file c.args.source.now c.args.design.now request.extent prefix c.in_ok-known.known.items texts.claim texts.shown.items endless (g.O.Write.contents c.args.out.now) begun end (g.F.Files.made c.args.files.now) tried saved
+    texts_left holding file c.args.source.now c.args.design.now request.search_options prefix c.in_ok-known.known.items texts.claim texts.shown.items endless (g.O.Write.contents c.args.out.now) begun end (g.F.Files.made c.args.files.now) tried saved
     c.in_ok-last.last.items c.tell_texts.result held c.requires c.in_ok-known.ensures.told c.in_ok-texts.ensures.found c.in_ok-texts.ensures.grown c.in_ok-last.ensures c.in_ok-try_first.ensures.kept
     (subst (λ (l : List ℕ). IfErr c.tell_texts.result (λ f. status_of f ≡ 6 → (Keeps begun end × KeepsFiles tried saved) ⊎ (Appends begun end l × SavesSomeWhereAsked tried saved prefix (journals_of texts.shown.items endless))))
     c.as_slice.ensures.value c.tell_texts.ensures.wanting)
@@ -41,11 +41,11 @@ returns-in_err-try_first-clause-wanting g c = λ holding file held. if_err _ c.f
 pub returns-in_err-texts-clause-wanting : goal.returns-in_err-texts-clause-wanting
 returns-in_err-texts-clause-wanting g c = λ holding file held.
     if_err _ c.from_residual-in_err-texts.result
-    (λ f six. search_begun holding file c.args.source.now c.args.design.now c.args.request.now.extent (option_map (λ path. path.now) c.args.request.now.journals) c.in_ok-known.known.items (g.O.Write.contents c.args.out.now) (g.O.Write.contents c.tell_races.new.out)
+    (λ f six. search_begun holding file c.args.source.now c.args.design.now c.args.request.now.search_options (option_map (λ path. path.now) c.args.request.now.journals) c.in_ok-known.known.items (g.O.Write.contents c.args.out.now) (g.O.Write.contents c.tell_races.new.out)
     (g.F.Files.made c.args.files.now) (g.F.Files.made c.try_first.new.files) held c.requires c.in_ok-known.ensures.told c.in_ok-try_first.ensures.kept)
 
 pub returns-in_err-last-clause-wanting : goal.returns-in_err-last-clause-wanting
 returns-in_err-last-clause-wanting g c = λ holding file held.
     if_err _ c.from_residual-in_err-last.result
-    (λ f six. search_begun holding file c.args.source.now c.args.design.now c.args.request.now.extent (option_map (λ path. path.now) c.args.request.now.journals) c.in_ok-known.known.items (g.O.Write.contents c.args.out.now) (g.O.Write.contents c.tell_races.new.out)
+    (λ f six. search_begun holding file c.args.source.now c.args.design.now c.args.request.now.search_options (option_map (λ path. path.now) c.args.request.now.journals) c.in_ok-known.known.items (g.O.Write.contents c.args.out.now) (g.O.Write.contents c.tell_races.new.out)
     (g.F.Files.made c.args.files.now) (g.F.Files.made c.try_first.new.files) held c.requires c.in_ok-known.ensures.told c.in_ok-try_first.ensures.kept)

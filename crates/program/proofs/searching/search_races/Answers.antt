@@ -7,7 +7,7 @@ use Rattle.program.proofs.searching.search_races.Goals as goal
 
 pub returns-clause-shown : goal.returns-clause-shown
 returns-clause-shown g c =
-    shown_on (g.F.Files.held c.args.files.now) c.args.request.now.file.now c.args.request.now.extent _ (g.O.Write.contents c.args.out.now) (g.O.Write.contents c.search_design.new.out) (g.F.Files.made c.args.files.now) (g.F.Files.made c.read_file.new.files) (g.F.Files.made c.search_design.new.files) c.search_design.result c.read_file.ensures.kept
+    shown_on (g.F.Files.held c.args.files.now) c.args.request.now.file.now c.args.request.now.search_options _ (g.O.Write.contents c.args.out.now) (g.O.Write.contents c.search_design.new.out) (g.F.Files.made c.args.files.now) (g.F.Files.made c.read_file.new.files) (g.F.Files.made c.search_design.new.files) c.search_design.result c.read_file.ensures.kept
     (c.search_design.ensures.shown (g.F.Files.held c.args.files.now) c.args.request.now.file.now (subst (IsHeld (g.F.Files.held c.args.files.now) c.args.request.now.file.now) (sym c.as_slice-text.ensures.value) c.in_ok-source.ensures.read))
 
 pub returns-clause-unsaved : goal.returns-clause-unsaved
@@ -28,5 +28,5 @@ returns-in_err-design-clause-wanting g c = if_err _ c.from_residual-in_err-desig
 
 pub returns-clause-wanting : goal.returns-clause-wanting
 returns-clause-wanting g c =
-    search_left_on (g.F.Files.held c.args.files.now) c.args.request.now.file.now c.args.request.now.extent _ (g.O.Write.contents c.args.out.now) (g.O.Write.contents c.search_design.new.out) (g.F.Files.made c.args.files.now) (g.F.Files.made c.read_file.new.files) (g.F.Files.made c.search_design.new.files) c.search_design.result c.read_file.ensures.kept
+    search_left_on (g.F.Files.held c.args.files.now) c.args.request.now.file.now c.args.request.now.search_options _ (g.O.Write.contents c.args.out.now) (g.O.Write.contents c.search_design.new.out) (g.F.Files.made c.args.files.now) (g.F.Files.made c.read_file.new.files) (g.F.Files.made c.search_design.new.files) c.search_design.result c.read_file.ensures.kept
     (c.search_design.ensures.wanting (g.F.Files.held c.args.files.now) c.args.request.now.file.now (subst (IsHeld (g.F.Files.held c.args.files.now) c.args.request.now.file.now) (sym c.as_slice-text.ensures.value) c.in_ok-source.ensures.read))

@@ -2,7 +2,8 @@
 use Rattle.std.proofs.Common.{◌≡◌, ◌≤◌, ◌⊎◌, vec_len}
 use Rattle.std.specs.Prelude.{vec_capacity}
 use Rattle.std.specs.List.{All, AllPairs, Contains}
-use Rattle.seeded.specs.Samples.{AreApart, AreStillIn, GivesWay}
+use Rattle.runs.specs.Compared.{AreDifferentRuns}
+use Rattle.seeded.specs.Samples.{AreStillIn, GivesWay}
 use Rattle.seeded.proofs.samples.give_way.Given as goal
 
 abbrev pub decreases-loop-place : goal.decreases-loop-place
@@ -10,8 +11,8 @@ decreases-loop-place l = vec_len l.kept
 
 abbrev pub invariant-loop-place : goal.invariant-loop-place
 invariant-loop-place l = record {
-  other : All (λ one. AreApart one l.run ⊎ GivesWay one l.run) l.kept.items;
-  apart : AllPairs AreApart l.kept.items;
+  other : All (λ one. AreDifferentRuns one l.run ⊎ GivesWay one l.run) l.kept.items;
+  apart : AllPairs AreDifferentRuns l.kept.items;
   from : All (Contains l.fn.kept.items) l.kept.items;
   whole : AreStillIn l.fn.kept.items l.kept.items;
   few : vec_len l.kept ≤ vec_len l.fn.kept;

@@ -1,9 +1,9 @@
 -- What is kept once a run more was made.
 use Rattle.std.proofs.Common.{ℕ, ◌+◌, ◌%◌, ◌^◌, ap, arith}
 use Rattle.std.proofs.lemmas.Grind.{common_steps}
-use Rattle.seeded.specs.declared.run.SeededRun.{SeededRun}
-use Rattle.seeded.specs.SeededRun.{IsRun}
-use Rattle.seeded.specs.Samples.{WantsNoMemory}
+use Rattle.runs.specs.declared.run.RunRecord.{RunRecord}
+use Rattle.runs.specs.RunRecords.{IsRun}
+use Rattle.runs.specs.Compared.{WantsNoMemory}
 use Rattle.seeded.proofs.Keeping.{all_from}
 use Rattle.seeded.proofs.Sampling.{of_seed, sampled_more}
 use Rattle.seeded.proofs.samples.sample.Goals as goal
@@ -11,7 +11,7 @@ use Rattle.seeded.proofs.samples.sample.Goals as goal
 pub loop-made-preserved : goal.loop-made-preserved
 loop-made-preserved g c =
     let before = c.loop-made.invariant in
-    let run : SeededRun = c.run_seeded-run.result in
+    let run : RunRecord = c.run_seeded-run.result in
     record {
       runs = all_from (IsRun c.args.design.now c.args.limits) c.loop-made.kept.items c.keep.new.kept.items run before.runs c.run_seeded-run.ensures.run c.keep.ensures.from;
       apart = c.keep.ensures.apart;

@@ -1,6 +1,6 @@
 -- A run that came to its end, and isn't like a kept one.
 use Rattle.std.proofs.Common.{◌≡◌, true, false, sym, ◌∙◌}
-use Rattle.seeded.proofs.Parting.{unlike_other}
+use Rattle.seeded.proofs.GivingWay.{unlike_other}
 use Rattle.seeded.proofs.samples.stands_for.Goals as goal
 
 pub returns-then-is_whole-clause-other : goal.returns-then-is_whole-clause-other

@@ -1,6 +1,6 @@
 -- The chunks so far and what is left are the bytes, and each chunk so far has 32 bytes or more.
 use Rattle.std.proofs.Common.{◌≡◌, ◌+◌, ◌*◌, ◌≤◌, ◌++◌, length}
-use Rattle.sharing.specs.Parts.{chunks, joined, AreChunks, AreThere, Extends}
+use Rattle.sharing.specs.Parts.{chunks, joined_chunks, AreChunks, AreThere, Extends}
 use Rattle.sharing.specs.declared.chunks.Unknown.TheVariants as Unknown
 use Rattle.sharing.proofs.cut.cut.Given as goal
 
@@ -10,7 +10,7 @@ invariant-chunks l = record {
   grows : Extends (chunks l.fn.held) (chunks l.held);
   same : l.unknown ≡ Unknown.Missed → chunks l.held ≡ chunks l.fn.held;
   there : AreThere (chunks l.held) l.numbers.items;
-  joined : joined (chunks l.held) l.numbers.items ++ l.rest ≡ l.bytes;
+  joined : joined_chunks (chunks l.held) l.numbers.items ++ l.rest ≡ l.bytes;
   few : 32 * length l.numbers.items + length l.rest ≤ length l.bytes;
 }
 

@@ -3,7 +3,7 @@ use Rattle.std.proofs.lemmas.Result.{on_ok_weaker}
 use Rattle.design.specs.declared.code.ProcState.{ProcState}
 use Rattle.statekeys.specs.KeyCodes.{nat_code, bool_code, pair_code, list_code, vector_code}
 use Rattle.statekeys.specs.Keys.{KeyContent, IsToldOf, IsKey, process_code, update_code, key_code}
-use Rattle.statekeys.specs.KeyParts.{going_on, assignment, due_assignment}
+use Rattle.statekeys.specs.KeyParts.{going_on, unnumbered_update, due_assignment}
 use Rattle.statekeys.proofs.Events.{active_told, inactive_told, nonblocking_told, future_inactive_told, future_nonblocking_told, processes_told}
 use Rattle.statekeys.proofs.keys.key.Goals as goal
 
@@ -15,10 +15,10 @@ told c =
       finished = c.is_finished.result;
       values = c.values.result.now;
       processes = map going_on c.processes.result.now;
-      updates = map assignment c.active.result.0.now.items;
+      updates = map unnumbered_update c.active.result.0.now.items;
       evaluations = c.put_evaluations.new.processes.items;
       inactive = c.put_evaluations-2.new.processes.items;
-      nonblocking = map assignment c.nonblocking.result.now.items;
+      nonblocking = map unnumbered_update c.nonblocking.result.now.items;
       monitor = c.monitor.result.now;
       future_times = map (λ d. d.time) c.future_evaluations-future.result.now.items;
       future_evaluations = c.put_future_evaluations.new.processes.items;

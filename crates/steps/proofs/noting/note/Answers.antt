@@ -6,7 +6,7 @@ use Rattle.model.specs.Runs.{Effect, step}
 use Rattle.design.specs.Compiled.{design_of}
 use Rattle.regions.specs.Machine.{state_at}
 use Rattle.steps.specs.Accounts.{account_of}
-use Rattle.steps.specs.Cells.{values_at}
+use Rattle.steps.specs.Cells.{cell_values}
 use Rattle.steps.specs.ExplainerStanding.{IsLogFilled, IsNoted, IsSoundState}
 use Rattle.steps.proofs.Notes.{other_noted, other_sound}
 use Rattle.steps.proofs.noting.note.Goals as goal
@@ -14,7 +14,7 @@ use Rattle.steps.proofs.noting.note.Goals as goal
 pub returns-in-Turn-clause-noted : goal.returns-in-Turn-clause-noted
 returns-in-Turn-clause-noted c =
     let p = c.args.machine.now in
-    subst (λ (e : Entry). OnOk c.note_turn.result ((effect : Effect) → values_at c.args.cells.now.items ≡ p.values → step (design_of p.code) (state_at p) e ≡ Some effect → IsNoted p.code (state_at p) c.args.cells.now.items e effect c.note_turn.new.cells.items (account_of c.note_turn.new.told)))
+    subst (λ (e : Entry). OnOk c.note_turn.result ((effect : Effect) → cell_values c.args.cells.now.items ≡ p.values → step (design_of p.code) (state_at p) e ≡ Some effect → IsNoted p.code (state_at p) c.args.cells.now.items e effect c.note_turn.new.cells.items (account_of c.note_turn.new.told)))
     (sym c.in-Turn.is) c.note_turn.ensures.noted
 
 pub returns-in-Turn-clause-sound : goal.returns-in-Turn-clause-sound
@@ -31,7 +31,7 @@ returns-in-Turn-clause-given c =
 pub returns-in_ok-note_update-in-Update-clause-noted : goal.returns-in_ok-note_update-in-Update-clause-noted
 returns-in_ok-note_update-in-Update-clause-noted c =
     let p = c.args.machine.now in
-    subst (λ (e : Entry). (effect : Effect) → values_at c.args.cells.now.items ≡ p.values → step (design_of p.code) (state_at p) e ≡ Some effect → IsNoted p.code (state_at p) c.args.cells.now.items e effect c.note_update.new.cells.items (account_of c.note_update.new.told))
+    subst (λ (e : Entry). (effect : Effect) → cell_values c.args.cells.now.items ≡ p.values → step (design_of p.code) (state_at p) e ≡ Some effect → IsNoted p.code (state_at p) c.args.cells.now.items e effect c.note_update.new.cells.items (account_of c.note_update.new.told))
     (sym c.in-Update.is) c.in_ok-note_update-in-Update.ensures.noted
 
 pub returns-in_ok-note_update-in-Update-clause-sound : goal.returns-in_ok-note_update-in-Update-clause-sound
@@ -46,7 +46,7 @@ returns-in_default c =
     record {
       noted = λ effect values is.
           other_noted p.code (state_at p) c.args.entry c.args.cells.now.items (account_of c.clear.new.told) c.in_default.not-Turn c.in_default.not-Update
-          c.requires.sound c.clear.ensures.deed c.clear.ensures.cleared.reads c.clear.ensures.cleared.changes c.clear.ensures.cleared.assigned effect is;
+          c.requires.sound c.clear.ensures.actor c.clear.ensures.cleared.reads c.clear.ensures.cleared.changes c.clear.ensures.cleared.assigned effect is;
       sound = λ effect is. other_sound p.code (state_at p) c.args.entry c.in_default.not-Turn c.in_default.not-Update c.requires.sound effect is;
       given = search rules;
       registers = search rules;

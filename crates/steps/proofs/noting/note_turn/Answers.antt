@@ -15,7 +15,7 @@ returns-in_ok-tell_turn-in-Ok-Some-clause-noted c = λ effect values is.
     let process = c.in-Ok-Some.process in
     let logged : IsTurnLogged p.code (state_at p) c.args.number process log = subst (λ (o : Option ℕ). IsEvaluated p.code (state_at p) c.args.number log o) c.in-Ok-Some.field-0-is c.in-Ok-Some.ensures in
     let told = c.in_ok-tell_turn-in-Ok-Some.ensures in
-    turn_noted p.code (state_at p) c.args.number process log c.args.cells.now.items c.tell_turn.new.cells.items (account_of c.tell_turn.new.told) logged told.deed told.reads told.assigned told.written
+    turn_noted p.code (state_at p) c.args.number process log c.args.cells.now.items c.tell_turn.new.cells.items (account_of c.tell_turn.new.told) logged told.actor told.reads told.assigned told.written
     effect values is
 
 pub returns-in_ok-tell_turn-in-Ok-Some-clause-sound : goal.returns-in_ok-tell_turn-in-Ok-Some-clause-sound

@@ -3,7 +3,7 @@ use Rattle.std.proofs.Common.{◌≡◌, true, false, length, rules}
 use Rattle.std.proofs.lemmas.Iterator.{YieldsList-from_chars}
 use Rattle.std.proofs.lemmas.Iterator.Consumers.{YieldsList-turn, YieldsList-end}
 use Rattle.std.specs.Str.{chars}
-use Rattle.telling.specs.FaultLines.{IsWhole, shown_letter, spelled}
+use Rattle.telling.specs.FaultLines.{IsWrittenWhole, shown_letter, spelled}
 use Rattle.telling.proofs.Sent.{one_sent, one_broken, all_sent, whole_sent}
 use Rattle.telling.proofs.telling.send_path.Goals as goal
 

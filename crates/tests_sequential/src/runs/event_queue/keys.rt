@@ -1,6 +1,6 @@
 //! Keys of states that two orders of turns lead to.
 
-use super::{Known, apply_all, assert_after};
+use super::{KnownRun, apply_all, assert_after};
 use crate::claims::holds;
 use fixtures::entries::{T0, T1};
 use model::entry::Entry;
@@ -96,6 +96,6 @@ pub(super) fn assert_keys(rt: &impl Abort, alloc: Global, run: &mut Machine<'_>,
 #[test]
 fn keys_of_two_orders(rt: HostRuntime) {
     for &(source, wanted) in ROWS {
-        assert_after(&rt, rt.alloc(), source, &[], Known::HasOneKey(wanted));
+        assert_after(&rt, rt.alloc(), source, &[], KnownRun::HasOneKey(wanted));
     }
 }

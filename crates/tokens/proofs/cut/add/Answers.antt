@@ -2,7 +2,7 @@
 use Rattle.std.proofs.Common.{◌≡◌, ℕ, List, [], ◌∷◌, ◌++◌, map, ap, ◌∙◌, refl, sym}
 use Rattle.std.proofs.lemmas.List.{map-append}
 use Rattle.tokens.specs.declared.token.Kind.{Kind}
-use Rattle.tokens.specs.Literals.{worth_of, token_value, token_digits}
+use Rattle.tokens.specs.Literals.{literal_value_of, token_value, token_digits}
 use Rattle.tokens.specs.Tokens.{PlainToken, plain_token}
 use Rattle.tokens.specs.Lexing.{kind_of}
 use Rattle.tokens.proofs.Chain.{reading_one, reading_none}
@@ -20,7 +20,7 @@ returns-then-branch c = reading_none c.args.piece.now c.in_ok-is_bad_number.fiel
 pub returns : goal.returns
 returns c = (
   made (kind_of c.args.piece.now) c.args.piece.now ∷ [],
-  reading_one c.args.piece.now (worth_of c.args.piece.now) c.in_ok-is_bad_number.field-0 (sym c.is_skipped.ensures ∙ c.if-is_skipped.false)
+  reading_one c.args.piece.now (literal_value_of c.args.piece.now) c.in_ok-is_bad_number.field-0 (sym c.is_skipped.ensures ∙ c.if-is_skipped.false)
       refl c.in_ok-is_bad_number.ensures c.if-branch.false,
   ap (map plain_token) c.in_ok-push.ensures.items ∙ map-append plain_token c.args.found.now.items _
       ∙ ap (λ t. map plain_token c.args.found.now.items ++ t ∷ []) (same _ _ _ _ c.kind_of-kind.ensures c.text_of-text.ensures),

@@ -3,7 +3,7 @@ use Rattle.std.proofs.Common.{List, [], ◌∷◌, ◌++◌, map, take, refl, su
 use Rattle.model.specs.declared.entry.Entry.{Entry}
 use Rattle.model.specs.declared.entry.Entry.TheVariants.{Turn}
 use Rattle.regions.specs.Machine.{state_at, most_entries}
-use Rattle.flat.specs.Turned.{event_of}
+use Rattle.flat.specs.EvaluatedTurns.{event_of}
 use Rattle.walks.specs.Walking.{HasTaken, turns_of}
 use Rattle.walks.proofs.LaterTurns.{few_turns, left_quiet, next_turned}
 use Rattle.walks.proofs.Walks.{taken_none, taken_more, turns_more}

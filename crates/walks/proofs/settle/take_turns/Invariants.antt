@@ -1,7 +1,7 @@
 -- The turns so far were taken, and the others are as they were evaluated.
 use Rattle.std.proofs.Common.{◌≡◌, map, take, drop}
 use Rattle.regions.specs.Machine.{state_at}
-use Rattle.flat.specs.Turned.{event_of}
+use Rattle.flat.specs.EvaluatedTurns.{event_of}
 use Rattle.flat.specs.Tests.{AreQuiet}
 use Rattle.walks.specs.Walking.{HasTaken, turns_of}
 use Rattle.walks.proofs.settle.take_turns.Given as goal

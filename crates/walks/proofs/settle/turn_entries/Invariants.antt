@@ -1,6 +1,6 @@
 -- The entries of the turns so far.
 use Rattle.std.proofs.Common.{◌≡◌, map, take}
-use Rattle.flat.specs.Turned.{event_of}
+use Rattle.flat.specs.EvaluatedTurns.{event_of}
 use Rattle.walks.specs.Walking.{turns_of}
 use Rattle.walks.proofs.settle.turn_entries.Given as goal
 

@@ -1,6 +1,6 @@
 -- The pieces of the header, one after another.
 use Rattle.std.proofs.Common.{◌≡◌, ◌++◌, ◌∙◌, ap, ℕ, List, codes}
-use Rattle.waves.specs.Dump.{registers_text, unknown_text}
+use Rattle.waves.specs.Dump.{registers_text, unknown_values_text}
 use Rattle.waves.proofs.Pieces.{joined, joined_last}
 use Rattle.waves.proofs.dump.push_header.Goals as goal
 
@@ -9,7 +9,7 @@ returns c =
     let old = c.args.text.now.items in
     let scope = c.args.scope.now in
     let registers = registers_text 0 c.args.design.now.names c.args.design.now.widths in
-    let unknown = unknown_text 0 c.args.design.now.widths in
+    let unknown = unknown_values_text 0 c.args.design.now.widths in
     let first : List ℕ = codes "$timescale 1 ns $end\n$scope module " in
     let second : List ℕ = codes " $end\n" in
     let third : List ℕ = codes "$upscope $end\n$enddefinitions $end\n#0\n$dumpvars\n" in

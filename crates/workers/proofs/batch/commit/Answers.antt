@@ -1,7 +1,7 @@
 -- At most as many turns are appended as the batch had.
 use Rattle.std.proofs.Common.{length, ◌∙◌, ap, arith, refl, sym, subst}
 use Rattle.commitgate.specs.Seats.{SeatView}
-use Rattle.regcells.specs.Meetings.{Rises}
+use Rattle.regcells.specs.Meetings.{HaveGrown}
 use Rattle.workers.proofs.Batching.{fills_goes}
 use Rattle.workers.proofs.Seats.{goes_then}
 use Rattle.workers.proofs.Told.{answers_go, answers_rise, few_answers, none_left}
@@ -33,7 +33,7 @@ returns-clause-few g c =
 
 pub returns-clause-rises : goal.returns-clause-rises
 returns-clause-rises g c goes_on =
-    subst (λ (s : SeatView). Rises c.args.worker.now.seat.fresh s.fresh) (sym (c.settle_all.ensures.kept goes_on))
+    subst (λ (s : SeatView). HaveGrown c.args.worker.now.seat.fresh s.fresh) (sym (c.settle_all.ensures.kept goes_on))
     (answers_rise g.K.Naming.named _ _ _ _ _ _ c.commit_all.ensures.answered)
 
 pub returns-clause-keeps : goal.returns-clause-keeps

@@ -1,14 +1,14 @@
 use Rattle.std.proofs.Common.{◌≡◌, ◌+◌, ◌≤◌, ◌++◌}
 use Rattle.std.specs.List.{All}
 use Rattle.std.specs.VecDeque.{deque_len}
-use Rattle.workers.specs.Batching.{HasRoom, most_turns}
+use Rattle.workers.specs.Batching.{HasBatchRoom, most_turns}
 use Rattle.workers.specs.WorkerInvariant.{Goes, OnlyPuts, IsSettled, tickets_of}
 use Rattle.workers.proofs.batch.settle_all.Given as goal
 
 -- the answers that were taken are settled
 abbrev pub invariant-loop-place : goal.invariant-loop-place
 invariant-loop-place g l = record {
-  room : HasRoom l.batch;
+  room : HasBatchRoom l.batch;
   tickets : l.batch.tickets ≡ l.fn.batch.tickets;
   logs : l.batch.logs ≡ l.fn.batch.logs;
   goes : Goes 0 0 l.fn.seat l.seat;

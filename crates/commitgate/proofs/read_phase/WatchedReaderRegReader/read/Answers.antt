@@ -1,11 +1,11 @@
 -- The seat has read on, since it began.
 use Rattle.std.proofs.Common.{◌∙◌}
 use Rattle.regcells.specs.Meetings.{fresh_of}
-use Rattle.commitgate.specs.Seats.{SeatView, ReadsOn}
+use Rattle.commitgate.specs.Seats.{SeatView, SeatReadsOn}
 use Rattle.runstate.proofs.Beginnings.{prefix_trans}
 use Rattle.commitgate.proofs.read_phase.WatchedReaderRegReader.read.Goals as goal
 
-reads_on_more : (a b c : SeatView) → ReadsOn a b → ReadsOn b c → ReadsOn a c
+reads_on_more : (a b c : SeatView) → SeatReadsOn a b → SeatReadsOn b c → SeatReadsOn a c
 reads_on_more a b c p q = record {
   worker = q.worker ∙ p.worker;
   seen = q.seen ∙ p.seen;

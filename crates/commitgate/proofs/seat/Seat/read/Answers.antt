@@ -3,13 +3,13 @@ use Rattle.crossbeam_utils.specs.Seq.{cell_view}
 use Rattle.runstate.specs.declared.mark.MarkView.{MarkView}
 use Rattle.regcells.specs.CellSeats as regs
 use Rattle.regcells.specs.Meetings.{fresh_of}
-use Rattle.commitgate.specs.Seats.{SeatView, ReadsOn}
+use Rattle.commitgate.specs.Seats.{SeatView, SeatReadsOn}
 use Rattle.commitgate.proofs.Meetings.{rises_set}
 use Rattle.commitgate.proofs.seat.Seat.read.Goals as goal
 
 pub returns-clause-reads_on : goal.returns-clause-reads_on
 returns-clause-reads_on g c =
-    subst (λ (v : SeatView). ReadsOn v (record {
+    subst (λ (v : SeatView). SeatReadsOn v (record {
       worker = c.self.inside.worker;
       seen = (cell_view {V = MarkView} c.self.inside.pass).seen;
       positions = (cell_view {V = MarkView} c.self.inside.pass).positions;

@@ -22,7 +22,7 @@ loop-self-preserved g c =
       quiet = subst (All IsQuiet) (sym items) (All-push IsQuiet at.grants.items grant at.invariant.quiet (grind (arith, common_steps, c.is_empty-is_quiet.ensures, c.if-not-is_quiet.false)));
       worker = c.in-Accepted.ensures.seat.appended.follows.worker ∙ at.invariant.worker;
       capacity = c.push_reserved.ensures.capacity ∙ at.invariant.capacity;
-      greeted = λ _. c.update.ensures.seen;
+      synchronized = λ _. c.update.ensures.seen;
     }
 
 pub returns-then-not-is_quiet-clause-state : goal.returns-then-not-is_quiet-clause-state

@@ -12,7 +12,7 @@ invariant-loop-self g l = record {
   quiet : All IsQuiet l.grants.items;
   worker : l.seat.worker ≡ l.fn.seat.worker;
   capacity : vec_capacity l.grants ≡ vec_capacity l.fn.grants;
-  greeted : IsTrue l.greeted → l.seat.seen ≡ l.self.ledger;
+  synchronized : IsTrue l.synchronized → l.seat.seen ≡ l.self.ledger;
 }
 
 abbrev pub decreases-loop-self : goal.decreases-loop-self

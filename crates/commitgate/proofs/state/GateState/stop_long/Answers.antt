@@ -7,7 +7,7 @@ use Rattle.design.specs.Compiled.{design_of}
 use Rattle.runstate.specs.declared.ledger.Item.TheVariants.{Ended}
 use Rattle.runstate.specs.Ledger.{Ledger}
 use Rattle.runstate.specs.GateState.{GateState, state_in}
-use Rattle.regcells.specs.Meetings.{Rises}
+use Rattle.regcells.specs.Meetings.{HaveGrown}
 use Rattle.commitgate.specs.Seats.{SeatView}
 use Rattle.commitgate.proofs.AtLock.{long_ends}
 use Rattle.commitgate.proofs.Guards.{unfinished}
@@ -35,7 +35,7 @@ returns-clause-seat g c =
     (record {
       worker = ap (λ (v : SeatView). v.worker) stop.seat;
       later = ((old.worker, Ended why) ∷ [], ap (λ (l : Ledger). l ++ (old.worker, Ended why) ∷ []) c.requires.seen ∙ sym (seen ∙ ledger));
-      rises = subst (λ f. Rises old.fresh f) (sym (ap (λ (v : SeatView). v.fresh) stop.seat)) (rises_self old.fresh);
+      rises = subst (λ f. HaveGrown old.fresh f) (sym (ap (λ (v : SeatView). v.fresh) stop.seat)) (rises_self old.fresh);
     })
     (ap (λ (v : SeatView). v.positions) stop.seat)
     seen

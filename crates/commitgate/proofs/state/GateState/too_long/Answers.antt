@@ -4,7 +4,7 @@ use Rattle.std.proofs.lemmas.List.{length-map}
 use Rattle.turn.specs.Reads.{GaveAll}
 use Rattle.design.specs.Compiled.{design_of}
 use Rattle.runstate.specs.GateState.{GateState}
-use Rattle.regcells.specs.Meetings.{fresh_of, Rises}
+use Rattle.regcells.specs.Meetings.{fresh_of, HaveGrown}
 use Rattle.commitgate.specs.Seats.{SeatView}
 use Rattle.runstate.specs.Histories.{hist, IsRead, IsFirstMovedIn}
 use Rattle.runstate.specs.Evaluated.{turn_at}
@@ -31,9 +31,9 @@ pub stale-requires-clause-recorded : goal.stale-requires-clause-recorded
 stale-requires-clause-recorded g c =
     let code = g.K.Naming.named.code in
     let same = of_none c.barred.result _ c.barred.ensures.same c.in_default.is in
-    let greeted = of_none c.barred.result _ c.barred.ensures.greeted c.in_default.is in
+    let synchronized = of_none c.barred.result _ c.barred.ensures.synchronized c.in_default.is in
     subst (λ (h : GateState). GaveAll (IsRecorded code h.histories c.barred.new.seat.fresh) c.args.reads.now.entries) (sym same)
-    (subst (λ (v : SeatView). GaveAll (IsRecorded code c.args.self.now.histories v.fresh) c.args.reads.now.entries) (sym greeted) c.requires.recorded)
+    (subst (λ (v : SeatView). GaveAll (IsRecorded code c.args.self.now.histories v.fresh) c.args.reads.now.entries) (sym synchronized) c.requires.recorded)
 
 pub returns-in-Some-stale-clause-state : goal.returns-in-Some-stale-clause-state
 returns-in-Some-stale-clause-state g c =
@@ -51,12 +51,12 @@ returns-in-Some-stale-clause-seat g c =
     let n = g.K.Naming.named in
     let r = c.in-Some-stale.register in
     let same = of_none c.barred.result _ c.barred.ensures.same c.in_default.is in
-    let greeted = of_none c.barred.result _ c.barred.ensures.greeted c.in_default.is in
+    let synchronized = of_none c.barred.result _ c.barred.ensures.synchronized c.in_default.is in
     let may = of_none c.barred.result _ c.barred.ensures.may c.in_default.is in
     let new = c.stale.new.seat in
     tell_stale n c.args.seat.now c.args.self.now c.invariant_holds.ensures.guarded c.invariant_holds.ensures.kept c.barred.ensures.later c.args.ticket c.again.result c.args.reads.now.entries r new
-    (c.stale.ensures.seat ∙ ap (λ (v : SeatView). record v { fresh = new.fresh }) greeted)
-    (subst (λ (v : SeatView). Rises v.fresh new.fresh) greeted c.stale.ensures.rises)
+    (c.stale.ensures.seat ∙ ap (λ (v : SeatView). record v { fresh = new.fresh }) synchronized)
+    (subst (λ (v : SeatView). HaveGrown v.fresh new.fresh) synchronized c.stale.ensures.rises)
     may.running
     c.again.ensures
     (subst (λ (h : GateState). IsFirstMovedIn (design_of n.code) h.journal c.args.reads.now.entries r) same c.in-Some-stale.ensures.moved)
@@ -65,8 +65,8 @@ returns-in-Some-stale-clause-seat g c =
 pub stop_long-requires-clause-seen : goal.stop_long-requires-clause-seen
 stop_long-requires-clause-seen g c =
     let same = c.stale.ensures.same ∙ of_none c.barred.result _ c.barred.ensures.same c.in_default.is in
-    let greeted = of_none c.barred.result _ c.barred.ensures.greeted c.in_default.is in
-    ap (λ (v : SeatView). v.seen) c.stale.ensures.seat ∙ ap (λ (v : SeatView). v.seen) greeted ∙ ap (λ (h : GateState). h.ledger) (sym same)
+    let synchronized = of_none c.barred.result _ c.barred.ensures.synchronized c.in_default.is in
+    ap (λ (v : SeatView). v.seen) c.stale.ensures.seat ∙ ap (λ (v : SeatView). v.seen) synchronized ∙ ap (λ (h : GateState). h.ledger) (sym same)
 
 pub stop_long-requires-clause-may : goal.stop_long-requires-clause-may
 stop_long-requires-clause-may g c =
@@ -95,7 +95,7 @@ returns-clause-state g c =
     let may = of_none c.barred.result _ c.barred.ensures.may c.in_default.is in
     let current = subst (λ (h : GateState). AreCurrent n.code h reads) barred (of_none c.stale.result _ c.stale.ensures.none c.in_default-stale.is) in
     let read = subst (λ (h : GateState). GaveAll (IsRead n.code h.histories) reads) barred (of_none c.stale.result _ c.stale.ensures.read c.in_default-stale.is) in
-    let worker = ap (λ (v : SeatView). v.worker) c.stale.ensures.seat ∙ ap (λ (v : SeatView). v.worker) (of_none c.barred.result _ c.barred.ensures.greeted c.in_default.is) in
+    let worker = ap (λ (v : SeatView). v.worker) c.stale.ensures.seat ∙ ap (λ (v : SeatView). v.worker) (of_none c.barred.result _ c.barred.ensures.synchronized c.in_default.is) in
     read_stopped n.code n.limits c.args.seat.now.worker held c.args.ticket reads c.stop_long.result c.stop_long.new.self c.stop_long.ensures.why
     may current
     (long_by n held c.args.ticket reads c.invariant_holds.ensures.kept may.current c.invariant_holds-2.ensures.own c.requires.turn read current (sym (length-map held.values length) ∙ ap length c.invariant_holds.ensures.guarded.store))
@@ -106,8 +106,8 @@ returns-clause-seat g c =
     let n = g.K.Naming.named in
     let old = c.args.seat.now in
     let fresh = c.stale.new.seat.fresh in
-    let greeted = of_none c.barred.result _ c.barred.ensures.greeted c.in_default.is in
-    let seat = c.stale.ensures.seat ∙ ap (λ (v : SeatView). record v { fresh = fresh }) greeted in
+    let synchronized = of_none c.barred.result _ c.barred.ensures.synchronized c.in_default.is in
+    let seat = c.stale.ensures.seat ∙ ap (λ (v : SeatView). record v { fresh = fresh }) synchronized in
     let reads = c.args.reads.now.entries in
     let new = c.stop_long.new.seat in
     let causes = told.ReadCauses n c.args.ticket.process reads new in
@@ -117,5 +117,5 @@ returns-clause-seat g c =
     (c.stop_long.ensures.state ∙ ap (stopped c.stale.new.seat.worker c.stop_long.result) same) c.stop_long.ensures.seen
     (subst (λ (h : GateState). AreCurrent n.code h reads) barred (of_none c.stale.result _ c.stale.ensures.none c.in_default-stale.is)) in
     let long = stopped_for n (λ why. why ≡ c.stop_long.result) causes c.stale.new.seat c.stop_long.result new (λ _. inr (c.stop_long.ensures.why, current)) c.stop_long.ensures.seat in
-    stopped_first n old c.args.self.now.ledger c.barred.ensures.later fresh (subst (λ (v : SeatView). Rises v.fresh fresh) greeted c.stale.ensures.rises) causes c.stop_long.result new
-    (subst (λ (v : SeatView). told.IsStopped n causes v c.stop_long.result new) seat long)
+    stopped_first n old c.args.self.now.ledger c.barred.ensures.later fresh (subst (λ (v : SeatView). HaveGrown v.fresh fresh) synchronized c.stale.ensures.rises) causes c.stop_long.result new
+    (subst (λ (v : SeatView). told.IsSeenStopped n causes v c.stop_long.result new) seat long)

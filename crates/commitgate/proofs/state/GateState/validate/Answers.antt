@@ -3,7 +3,7 @@ use Rattle.std.proofs.Common.{◌≡◌, ℕ, length, sym, ap, ◌∙◌, subst}
 use Rattle.turn.specs.Reads.{GaveAll}
 use Rattle.runstate.specs.GateState.{GateState}
 use Rattle.design.specs.Compiled.{design_of}
-use Rattle.regcells.specs.Meetings.{fresh_of, Rises, AreReadsIn, HasMetReads}
+use Rattle.regcells.specs.Meetings.{fresh_of, HaveGrown, AreReadsIn, HasMetReads}
 use Rattle.commitgate.specs.Seats.{SeatView}
 use Rattle.runstate.specs.Histories.{hist, IsRead, IsFirstMovedIn}
 use Rattle.commitgate.specs.GateAnswers.{IsRecorded, MayCommit, AreCurrent}
@@ -33,10 +33,10 @@ pub stale-requires-clause-recorded : goal.stale-requires-clause-recorded
 stale-requires-clause-recorded g c =
     let code = g.K.Naming.named.code in
     let same = of_none c.barred.result _ c.barred.ensures.same c.in_default.is in
-    let greeted = of_none c.barred.result _ c.barred.ensures.greeted c.in_default.is in
+    let synchronized = of_none c.barred.result _ c.barred.ensures.synchronized c.in_default.is in
     subst (λ rs. GaveAll (IsRecorded code c.barred.new.self.histories c.barred.new.seat.fresh) rs) (sym c.reads.ensures)
     (subst (λ (h : GateState). GaveAll (IsRecorded code h.histories c.barred.new.seat.fresh) c.args.log.now.reads) (sym same)
-    (subst (λ (v : SeatView). GaveAll (IsRecorded code c.args.self.now.histories v.fresh) c.args.log.now.reads) (sym greeted) c.requires.recorded))
+    (subst (λ (v : SeatView). GaveAll (IsRecorded code c.args.self.now.histories v.fresh) c.args.log.now.reads) (sym synchronized) c.requires.recorded))
 
 pub returns-in-Some-stale-clause-state : goal.returns-in-Some-stale-clause-state
 returns-in-Some-stale-clause-state g c =
@@ -55,12 +55,12 @@ returns-in-Some-stale-clause-seat g c =
     let n = g.K.Naming.named in
     let r = c.in-Some-stale.register in
     let same = of_none c.barred.result _ c.barred.ensures.same c.in_default.is in
-    let greeted = of_none c.barred.result _ c.barred.ensures.greeted c.in_default.is in
+    let synchronized = of_none c.barred.result _ c.barred.ensures.synchronized c.in_default.is in
     let may = of_none c.barred.result _ c.barred.ensures.may c.in_default.is in
     let new = c.stale.new.seat in
     tell_stale n c.args.seat.now c.args.self.now c.invariant_holds.ensures.guarded c.invariant_holds.ensures.kept c.barred.ensures.later c.args.ticket c.again.result c.args.log.now.reads r new
-    (c.stale.ensures.seat ∙ ap (λ (v : SeatView). record v { fresh = new.fresh }) greeted)
-    (subst (λ (v : SeatView). Rises v.fresh new.fresh) greeted c.stale.ensures.rises)
+    (c.stale.ensures.seat ∙ ap (λ (v : SeatView). record v { fresh = new.fresh }) synchronized)
+    (subst (λ (v : SeatView). HaveGrown v.fresh new.fresh) synchronized c.stale.ensures.rises)
     may.running
     c.again.ensures
     (subst (λ (h : GateState). IsFirstMovedIn (design_of n.code) h.journal c.args.log.now.reads r) same
@@ -70,8 +70,8 @@ returns-in-Some-stale-clause-seat g c =
 pub accept-requires-clause-seen : goal.accept-requires-clause-seen
 accept-requires-clause-seen g c =
     let same = of_none c.barred.result _ c.barred.ensures.same c.in_default.is in
-    let greeted = of_none c.barred.result _ c.barred.ensures.greeted c.in_default.is in
-    ap (λ (v : SeatView). v.seen) c.stale.ensures.seat ∙ ap (λ (v : SeatView). v.seen) greeted ∙ ap (λ (h : GateState). h.ledger) (sym (c.stale.ensures.same ∙ same))
+    let synchronized = of_none c.barred.result _ c.barred.ensures.synchronized c.in_default.is in
+    ap (λ (v : SeatView). v.seen) c.stale.ensures.seat ∙ ap (λ (v : SeatView). v.seen) synchronized ∙ ap (λ (h : GateState). h.ledger) (sym (c.stale.ensures.same ∙ same))
 
 pub accept-requires-clause-may : goal.accept-requires-clause-may
 accept-requires-clause-may g c =
@@ -97,7 +97,7 @@ pub returns-clause-state : goal.returns-clause-state
 returns-clause-state g c =
     let n = g.K.Naming.named in
     let same = c.stale.ensures.same ∙ of_none c.barred.result _ c.barred.ensures.same c.in_default.is in
-    let worker = ap (λ (v : SeatView). v.worker) c.stale.ensures.seat ∙ ap (λ (v : SeatView). v.worker) (of_none c.barred.result _ c.barred.ensures.greeted c.in_default.is) in
+    let worker = ap (λ (v : SeatView). v.worker) c.stale.ensures.seat ∙ ap (λ (v : SeatView). v.worker) (of_none c.barred.result _ c.barred.ensures.synchronized c.in_default.is) in
     subst (λ (h : GateState). Answered n.code n.limits c.args.seat.now.worker h c.args.ticket c.args.log.now.reads c.accept.new.self c.accept.result) same
     (subst (λ (w : ℕ). Answered n.code n.limits w c.stale.new.self c.args.ticket c.args.log.now.reads c.accept.new.self c.accept.result) worker c.accept.ensures.state)
 
@@ -106,13 +106,13 @@ returns-clause-seat g c =
     let n = g.K.Naming.named in
     let old = c.args.seat.now in
     let fresh = c.stale.new.seat.fresh in
-    let greeted = of_none c.barred.result _ c.barred.ensures.greeted c.in_default.is in
-    let seat = c.stale.ensures.seat ∙ ap (λ (v : SeatView). record v { fresh = fresh }) greeted in
-    answered_first n old c.args.self.now.ledger c.barred.ensures.later fresh (subst (λ (v : SeatView). Rises v.fresh fresh) greeted c.stale.ensures.rises) CommitCauses c.args.ticket c.args.log.now.reads c.accept.new.seat c.accept.result
+    let synchronized = of_none c.barred.result _ c.barred.ensures.synchronized c.in_default.is in
+    let seat = c.stale.ensures.seat ∙ ap (λ (v : SeatView). record v { fresh = fresh }) synchronized in
+    answered_first n old c.args.self.now.ledger c.barred.ensures.later fresh (subst (λ (v : SeatView). HaveGrown v.fresh fresh) synchronized c.stale.ensures.rises) CommitCauses c.args.ticket c.args.log.now.reads c.accept.new.seat c.accept.result
     (subst (λ (v : SeatView). AnsweredTo n CommitCauses v c.args.ticket c.args.log.now.reads c.accept.new.seat c.accept.result) seat c.accept.ensures.seat)
 
 pub returns-in-Some-stale-clause-seen : goal.returns-in-Some-stale-clause-seen
 returns-in-Some-stale-clause-seen g c =
     let same = of_none c.barred.result _ c.barred.ensures.same c.in_default.is in
-    let greeted = of_none c.barred.result _ c.barred.ensures.greeted c.in_default.is in
-    ap (λ (v : SeatView). v.seen) c.stale.ensures.seat ∙ ap (λ (v : SeatView). v.seen) greeted ∙ ap (λ (h : GateState). h.ledger) (sym (c.stale.ensures.same ∙ same))
+    let synchronized = of_none c.barred.result _ c.barred.ensures.synchronized c.in_default.is in
+    ap (λ (v : SeatView). v.seen) c.stale.ensures.seat ∙ ap (λ (v : SeatView). v.seen) synchronized ∙ ap (λ (h : GateState). h.ledger) (sym (c.stale.ensures.same ∙ same))

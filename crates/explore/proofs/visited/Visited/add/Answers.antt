@@ -1,7 +1,7 @@
 -- A visit more, or one that was there.
 use Rattle.std.proofs.Common.{◌≡◌, ◌∷◌, ◌++◌, [], List, ℕ, map, ap, sym, subst, ◌∙◌, Some}
 use Rattle.std.specs.Prelude.{slice_get}
-use Rattle.sharing.specs.Parts.{parts}
+use Rattle.sharing.specs.Parts.{chunk_table}
 use Rattle.explore.specs.Visited.{visit, visits}
 use Rattle.explore.specs.declared.visited.Visit.{Visit}
 use Rattle.explore.proofs.Visits.{AreHeld, AreHeld-extends, AreHeld-push, visits-extends, visits-push, visit_at, row_added, row_stayed, same_visit}
@@ -22,8 +22,8 @@ returns-then-is_new-clause-whole c =
     let one = pushed c ∙ ap (λ (v : Visit). rows ++ v ∷ []) c.visit_of.ensures in
     record {
       are_parts = c.in_ok-key.ensures.whole;
-      held_keys = AreHeld-push (parts c.shorten.new.self) rows c.insert_full.new.self.keys row one
-          (AreHeld-extends (parts c.args.self.now.parts) (parts c.shorten.new.self) rows c.in_ok-key.ensures.grows c.requires.whole.held_keys) c.in_ok-key.ensures.held;
+      held_keys = AreHeld-push (chunk_table c.shorten.new.self) rows c.insert_full.new.self.keys row one
+          (AreHeld-extends (chunk_table c.args.self.now.parts) (chunk_table c.shorten.new.self) rows c.in_ok-key.ensures.grows c.requires.whole.held_keys) c.in_ok-key.ensures.held;
     }
 
 pub returns-then-is_new-clause-added : goal.returns-then-is_new-clause-added
@@ -31,24 +31,24 @@ returns-then-is_new-clause-added c _ =
     let row : Visit = record { text = c.args.text; number = c.in_ok-key.key.number; levels = c.in_ok-key.key.levels } in
     let rows = c.args.self.now.rows.keys in
     let one = pushed c ∙ ap (λ (v : Visit). rows ++ v ∷ []) c.visit_of.ensures in
-    visits-push (parts c.shorten.new.self) rows c.insert_full.new.self.keys row c.args.key.now one c.in_ok-key.ensures.told
-    ∙ ap (λ (vs : List (ℕ × List ℕ)). vs ++ (c.args.text, c.args.key.now) ∷ []) (visits-extends (parts c.args.self.now.parts) (parts c.shorten.new.self) rows c.in_ok-key.ensures.grows c.requires.whole.held_keys)
+    visits-push (chunk_table c.shorten.new.self) rows c.insert_full.new.self.keys row c.args.key.now one c.in_ok-key.ensures.told
+    ∙ ap (λ (vs : List (ℕ × List ℕ)). vs ++ (c.args.text, c.args.key.now) ∷ []) (visits-extends (chunk_table c.args.self.now.parts) (chunk_table c.shorten.new.self) rows c.in_ok-key.ensures.grows c.requires.whole.held_keys)
 
 pub returns-clause-whole : goal.returns-clause-whole
 returns-clause-whole c =
     record {
       are_parts = c.in_ok-key.ensures.whole;
-      held_keys = subst (AreHeld (parts c.shorten.new.self)) (sym (stayed c))
-          (AreHeld-extends (parts c.args.self.now.parts) (parts c.shorten.new.self) c.args.self.now.rows.keys c.in_ok-key.ensures.grows c.requires.whole.held_keys);
+      held_keys = subst (AreHeld (chunk_table c.shorten.new.self)) (sym (stayed c))
+          (AreHeld-extends (chunk_table c.args.self.now.parts) (chunk_table c.shorten.new.self) c.args.self.now.rows.keys c.in_ok-key.ensures.grows c.requires.whole.held_keys);
     }
 
 pub returns-clause-there : goal.returns-clause-there
 returns-clause-there c =
     let row : Visit = record { text = c.args.text; number = c.in_ok-key.key.number; levels = c.in_ok-key.key.levels } in
-    let new = parts c.shorten.new.self in
+    let new = chunk_table c.shorten.new.self in
     let same : map (visit new) c.insert_full.new.self.keys ≡ visits c.args.self.now =
     ap (λ (l : List Visit). map (visit new) l) (stayed c)
-    ∙ visits-extends (parts c.args.self.now.parts) new c.args.self.now.rows.keys c.in_ok-key.ensures.grows c.requires.whole.held_keys in
+    ∙ visits-extends (chunk_table c.args.self.now.parts) new c.args.self.now.rows.keys c.in_ok-key.ensures.grows c.requires.whole.held_keys in
     let found = c.in_ok-number.ensures.stored in
     let at : slice_get c.insert_full.new.self.keys c.in_ok-number.number ≡ Some row = found.1 ∙ ap (λ (v : Visit). Some v) (sym (same_visit c.visit_of.result found.0 found.2) ∙ c.visit_of.ensures) in
     (same, ap (λ (vs : List (ℕ × List ℕ)). slice_get vs c.in_ok-number.number) (sym same) ∙ visit_at new c.insert_full.new.self.keys c.in_ok-number.number row c.args.key.now at c.in_ok-key.ensures.told)

@@ -4,7 +4,7 @@ use Rattle.std.specs.Prelude.{slice_get, IfSome}
 use Rattle.std.proofs.lemmas.List.Quantifiers.{position-Some}
 use Rattle.std.proofs.lemmas.Option.{get_or_from_slice_get}
 use Rattle.std.proofs.Math.Dec.{eqb}
-use Rattle.sharing.specs.Parts.{parts, whole}
+use Rattle.sharing.specs.Parts.{chunk_table, unshortened}
 use Rattle.explore.specs.Visited.{visits}
 use Rattle.explore.specs.declared.visited.Visit.{Visit}
 use Rattle.explore.proofs.Visits.{visit_at, same_visit}
@@ -22,5 +22,5 @@ returns-in-Some-get_full-clause-there c =
     same_visit c.visit_of.result found
     (ap (λ (v : Visit). eqb c.visit_of.result.text v.text && (eqb c.visit_of.result.number v.number && eqb c.visit_of.result.levels v.levels)) (sym (get_or_from_slice_get rows number found found stored)) ∙ tested) in
     let at : slice_get rows number ≡ Some row = stored ∙ ap (λ (v : Visit). Some v) (sym same ∙ c.visit_of.ensures) in
-    let told : whole (parts c.find.new.self) c.in-Some.key ≡ c.args.key.now = subst (λ o. IfSome o (λ short. whole (parts c.find.new.self) short ≡ c.args.key.now)) c.in-Some.is c.in_ok-key.ensures.told in
-    visit_at (parts c.args.self.now.parts) rows number row c.args.key.now at (ap (λ (chunks : List (List ℕ)). whole chunks c.in-Some.key) (sym c.in_ok-key.ensures.same) ∙ told)
+    let told : unshortened (chunk_table c.find.new.self) c.in-Some.key ≡ c.args.key.now = subst (λ o. IfSome o (λ short. unshortened (chunk_table c.find.new.self) short ≡ c.args.key.now)) c.in-Some.is c.in_ok-key.ensures.told in
+    visit_at (chunk_table c.args.self.now.parts) rows number row c.args.key.now at (ap (λ (chunks : List (List ℕ)). unshortened chunks c.in-Some.key) (sym c.in_ok-key.ensures.same) ∙ told)

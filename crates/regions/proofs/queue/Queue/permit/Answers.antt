@@ -10,13 +10,13 @@ use Rattle.model.specs.Runs.{refusal}
 use Rattle.design.specs.declared.code.ProcState.{ProcState}
 use Rattle.regions.specs.declared.queue.Evaluation.{Evaluation}
 use Rattle.regions.specs.Queue.{core_of, state_of}
-use Rattle.regions.specs.Find.{IsAt}
+use Rattle.regions.specs.Find.{IsEvaluationAt}
 use Rattle.regions.proofs.queue.Queue.permit.Goals as goal
 
 -- the place of the evaluation with a number is that of the entry that takes it
-placed : (es : List Evaluation) (entry : Entry) (number : ℕ) (result : Result ℕ Refusal) → entry ≡ entries.Turn number → IfOk result (IsAt es number)
-    → IfOk result (λ at. (n : ℕ) → entry ≡ entries.Turn n → IsAt es n at)
-placed es entry number (Ok at) is there = λ n is_n. let same : number ≡ n = cc in subst (λ (m : ℕ). IsAt es m at) same there
+placed : (es : List Evaluation) (entry : Entry) (number : ℕ) (result : Result ℕ Refusal) → entry ≡ entries.Turn number → IfOk result (IsEvaluationAt es number)
+    → IfOk result (λ at. (n : ℕ) → entry ≡ entries.Turn n → IsEvaluationAt es n at)
+placed es entry number (Ok at) is there = λ n is_n. let same : number ≡ n = cc in subst (λ (m : ℕ). IsEvaluationAt es m at) same there
 placed es entry number (Err r) is there = tt
 
 pub returns-in-Turn-clause-refused : goal.returns-in-Turn-clause-refused

@@ -3,13 +3,13 @@ use Rattle.std.proofs.Common.{◌≡◌, ◌∷◌, ◌++◌, [], ap, sym, ◌�
 use Rattle.std.specs.Prelude.{slice_get}
 use Rattle.std.proofs.lemmas.List.{length-map}
 use Rattle.sharing.specs.Parts.{chunk, chunks}
-use Rattle.sharing.specs.declared.chunks.Row.{Row}
+use Rattle.sharing.specs.declared.chunks.ChunkSpan.{ChunkSpan}
 use Rattle.sharing.proofs.Rows.{chunks_of, chunks-push, last_added}
 use Rattle.sharing.proofs.chunks.Chunks.push.Goals as goal
 
 pushed : (c : goal.After-put) → chunks_of c.extend_from_slice.new.self.items c.push.new.self.items ≡ chunks c.args.self.now ++ c.args.bytes.now ∷ []
 pushed c =
-    let row : Row = record { begin = c.len-begin.result; length = length c.args.bytes.now } in
+    let row : ChunkSpan = record { begin = c.len-begin.result; length = length c.args.bytes.now } in
     let first : c.len-begin.result ≡ length c.widen.new.self.arena.items = omega (arith, c.len-begin.ensures) in
     chunks-push c.args.self.now.arena.items c.args.bytes.now c.extend_from_slice.new.self.items c.args.self.now.rows.items c.push.new.self.items row c.requires.whole
     (c.in_ok-extend_from_slice.ensures.items ∙ ap (λ v. v.items ++ c.args.bytes.now) c.widen.ensures.arena)

@@ -4,7 +4,7 @@ use Rattle.std.proofs.lemmas.List.{length-map}
 use Rattle.model.specs.States.{State}
 use Rattle.design.specs.Compiled.{Compiled}
 use Rattle.regions.specs.Machine.{state_at}
-use Rattle.steps.specs.declared.cells.Cell.{Cell}
+use Rattle.steps.specs.declared.cells.VersionedValue.{VersionedValue}
 use Rattle.steps.specs.Cells.{first_cell}
 use Rattle.steps.specs.ExplainerStanding.{standing_of, IsSoundState}
 use Rattle.steps.proofs.Writes.{values_start, versions_start}
@@ -19,7 +19,7 @@ invariant_of-result c =
     let sound : IsSoundState code (state_at m) = subst (λ (s : State). IsSoundState code s) (sym c.in_ok-machine.ensures.state) (sound_start code) in
     record {
       registers =
-          ap (λ (l : List Cell). length l) c.in_ok-cells.ensures ∙ length-map code.widths first_cell ∙ ap (λ (k : Compiled). length k.widths) (sym c.in_ok-machine.ensures.code);
+          ap (λ (l : List VersionedValue). length l) c.in_ok-cells.ensures ∙ length-map code.widths first_cell ∙ ap (λ (k : Compiled). length k.widths) (sym c.in_ok-machine.ensures.code);
       sound = subst (λ (k : Compiled). IsSoundState k (state_at m)) (sym c.in_ok-machine.ensures.code) sound;
     }
 

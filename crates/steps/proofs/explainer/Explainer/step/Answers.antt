@@ -1,7 +1,7 @@
 -- What was noted is told once the entry is taken.
 use Rattle.std.proofs.Common.{refl, sym, ◌∙◌, subst}
 use Rattle.steps.specs.Accounts.{account_of}
-use Rattle.steps.specs.ExplainerStanding.{Standing, standing_of, IsBehind, IsExplained}
+use Rattle.steps.specs.ExplainerStanding.{Standing, standing_of, IsExplainerBehind, IsExplained}
 use Rattle.steps.proofs.Stepped.{step_kept, step_told}
 use Rattle.steps.proofs.explainer.Explainer.step.Goals as goal
 
@@ -18,5 +18,5 @@ returns-clause-told c = λ journal behind.
     subst (λ (x : Standing). IsExplained journal c.args.entry x (standing_of c.take_lines.new.self c.note.new.cells.items told)) c.self.view_is
     (step_told m.machine c.take_noted.new.machine c.take_lines.new.self c.args.entry c.take_noted.ensures.code c.take_lines.ensures.rest c.in-Ok.ensures.taken
     journal m.cells.items c.note.new.cells.items (account_of m.told) (account_of c.note.new.told) (account_of told) c.in_ok-number.ensures.noted
-    (record { deed = refl; reads = refl; changes = refl; assigned = refl }) c.take_lines.ensures.lines c.time-self-inside.ensures
-    (subst (λ (x : Standing). IsBehind journal x) (sym c.self.view_is) behind))
+    (record { actor = refl; reads = refl; changes = refl; assigned = refl }) c.take_lines.ensures.lines c.time-self-inside.ensures
+    (subst (λ (x : Standing). IsExplainerBehind journal x) (sym c.self.view_is) behind))

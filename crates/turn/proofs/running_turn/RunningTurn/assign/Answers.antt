@@ -1,5 +1,5 @@
-use Rattle.turn.specs.RunningTurn.{status_of}
+use Rattle.turn.specs.RunningTurn.{turn_status_of}
 use Rattle.turn.proofs.running_turn.RunningTurn.assign.Goals as goal
 
 pub returns-clause-takes : goal.returns-clause-takes
-returns-clause-takes g c = (c.compute.new.self.stack.top, (status_of c.compute.new.self, (c.in_ok-compute.ensures.value, c.in_ok-write_top.ensures)))
+returns-clause-takes g c = (c.compute.new.self.stack.top, (turn_status_of c.compute.new.self, (c.in_ok-compute.ensures.value, c.in_ok-write_top.ensures)))

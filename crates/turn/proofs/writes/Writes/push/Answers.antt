@@ -1,8 +1,8 @@
 use Rattle.std.proofs.Common.{◌≡◌, ◌∙◌, ℕ, ◌<◌, ◌++◌, ◌∷◌, [], sym, ap, subst, Some, length, arith}
 use Rattle.std.specs.Prelude.{slice_get}
 use Rattle.logic4.specs.Vector.{Vector}
-use Rattle.turn.specs.Nets.{noted, nets_of}
-use Rattle.turn.proofs.Nets.{few_changes, nets_of_more}
+use Rattle.turn.specs.TurnChanges.{noted, turn_changes_of}
+use Rattle.turn.proofs.TurnChanges.{few_changes, turn_changes_of_more}
 use Rattle.turn.proofs.writes.Writes.push.Goals as goal
 
 pub note-requires-clause-counts : goal.note-requires-clause-counts
@@ -15,9 +15,9 @@ pub invariant_of-self-2 : goal.invariant_of-self-2
 invariant_of-self-2 c =
     let w : ℕ × Vector = (c.args.register, c.args.value.now) in
     let items : c.push_reserved.new.self.items ≡ c.self.inside.list.items ++ w ∷ [] = c.push_reserved.ensures.items ∙ ap (λ l. l ++ (c.args.register, c.by_words.result) ∷ []) c.reserve.ensures.items ∙ ap (λ v. c.self.inside.list.items ++ (c.args.register, v) ∷ []) c.by_words.ensures in
-    let all : c.note.new.nets.items ≡ nets_of (c.self.inside.list.items ++ w ∷ []) =
-    c.in_ok-note.ensures.noted ∙ ap (λ l. noted l w) c.self.invariant.all ∙ sym (nets_of_more c.self.inside.list.items w) in
+    let all : c.note.new.turn_changes.items ≡ turn_changes_of (c.self.inside.list.items ++ w ∷ []) =
+    c.in_ok-note.ensures.noted ∙ ap (λ l. noted l w) c.self.invariant.all ∙ sym (turn_changes_of_more c.self.inside.list.items w) in
     record {
-      all = all ∙ ap nets_of (sym items);
+      all = all ∙ ap turn_changes_of (sym items);
       placed = c.note.ensures.placed;
     }

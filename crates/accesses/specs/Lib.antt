@@ -1,0 +1,3 @@
+pub mod AccessLogs
+pub mod Roles
+pub mod ExchangedEntries

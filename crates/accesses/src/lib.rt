@@ -1,0 +1,23 @@
+//! What the entries of a run do.
+//!
+//! 1. `role` has the words: a site, which is a register, where lines are printed, or where the run ends, and what an entry does there.
+//! 2. `accesses` tells what a turn does at a site, by its log.
+//! 3. `pair` is two entries of a journal with what each is said to do. `split` finds them in it, and in that of a second run, where
+//!    they come the other way round; where one of them finishes the run, one journal may have it alone.
+//! 4. `observer` leads a machine to both and sees whether they do it, and `confirm` asks it of both journals.
+//!
+//! What the layer above uses: `lead`, and the contract of `is_confirmed`, `is_cut_off` and `is_held_back`, whose `HasBothOrders` of
+//! `specs/Roles` speaks of the journals alone.
+#![tactic(auto)]
+
+mod accesses;
+mod confirm;
+mod observer;
+mod pair;
+mod role;
+mod split;
+
+pub use confirm::{is_confirmed, is_cut_off, is_held_back};
+pub use observer::lead;
+pub use pair::Pair;
+pub use role::{Does, Role, Site};

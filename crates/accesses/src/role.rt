@@ -1,0 +1,49 @@
+//! What the entries of a run do, and for what two of them race.
+ghost use Rattle.std.specs.Prelude.{◌≡◌, IsTrue};
+ghost use Rattle.accesses.specs.declared.role.Does.TheVariants.{Finishes};
+
+use design::RegId;
+
+/// What two entries race for: a register, the order of the lines that they print, the order of the lines of their `$strobe`
+/// statements, or whether the run is finished before the other one comes.
+#[derive(Clone, Copy, PartialEq, Eq, Hash)]
+pub enum Site {
+    Register(RegId),
+    Printing,
+    Strobing,
+    Finishing,
+}
+
+/// What an entry does where it races. An update is that of an earlier turn's nonblocking assignment, and a turn runs whatever
+/// else it does.
+#[derive(Clone, Copy)]
+pub enum Does {
+    Writes,
+    Assigns,
+    Updates,
+    Reads,
+    Waits,
+    Prints,
+    Strobes,
+    Finishes,
+    Runs,
+}
+
+/// A process, and what it does.
+#[derive(Clone, Copy)]
+pub struct Role {
+    pub process: u32,
+    pub does: Does,
+}
+
+impl Role {
+    /// Whether it is said to finish the run.
+    pub(crate) fn finishes(self) -> bool
+        ensures { IsTrue result → self.does ≡ Finishes }
+    {
+        match self.does {
+            Does::Finishes => true,
+            _ => false,
+        }
+    }
+}

@@ -1,0 +1,71 @@
+//! The tasks of the program, each of which one word asks for.
+
+ghost use Rattle.std.specs.Prelude.{◌≡◌};
+ghost use Rattle.arguments.specs.CommandWords.{every_task, word_of};
+
+/// What the word after the program's name may ask for, besides the program's version.
+#[derive(Clone, Copy)]
+pub enum CommandTask {
+    Run,
+    Replay,
+    Races,
+    Check,
+    Explain,
+    Waves,
+}
+
+impl CommandTask {
+    pub fn every() -> &'static [CommandTask]
+        ensures { result.now ≡ every_task }
+    {
+        &[
+            CommandTask::Run,
+            CommandTask::Replay,
+            CommandTask::Races,
+            CommandTask::Check,
+            CommandTask::Explain,
+            CommandTask::Waves,
+        ]
+    }
+
+    /// The word that asks for it.
+    pub fn word<'a>(self) -> &'a str
+        ensures { result.now ≡ word_of self }
+    {
+        match self {
+            CommandTask::Run => "run",
+            CommandTask::Replay => "replay",
+            CommandTask::Races => "races",
+            CommandTask::Check => "check",
+            CommandTask::Explain => "explain",
+            CommandTask::Waves => "waves",
+        }
+    }
+
+    /// What help calls it.
+    pub fn title<'a>(self) -> &'a str {
+        match self {
+            CommandTask::Run => "vsimtx run",
+            CommandTask::Replay => "vsimtx replay",
+            CommandTask::Races => "vsimtx races",
+            CommandTask::Check => "vsimtx check",
+            CommandTask::Explain => "vsimtx explain",
+            CommandTask::Waves => "vsimtx waves",
+        }
+    }
+
+    /// What help says of it.
+    pub fn about<'a>(self) -> &'a str {
+        match self {
+            CommandTask::Run => "Simulates FILE and prints its lines",
+            CommandTask::Replay => "Replays JOURNAL on FILE and prints its lines",
+            CommandTask::Races =>
+                "Searches the lawful orders of FILE and shows where its runs differ",
+            CommandTask::Check => "Reads FILE and tells what is wrong with it",
+            CommandTask::Explain => "Tells the entries of JOURNAL on FILE in words",
+            CommandTask::Waves => {
+                "Writes the registers of JOURNAL on FILE over time as a value change dump"
+            }
+        }
+    }
+}

@@ -1,2 +1,0 @@
--- Lemmas of lists, and of races beside others.
-pub mod Kept

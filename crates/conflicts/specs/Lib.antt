@@ -1,2 +1,0 @@
-pub mod RunEndings
-pub mod Races

@@ -1,3 +1,0 @@
-pub mod DeedLogs
-pub mod Roles
-pub mod Witnesses

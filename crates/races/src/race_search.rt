@@ -1,0 +1,26 @@
+//! What second runs are made from.
+ghost use Rattle.std.specs.Prelude.{◌≤◌};
+ghost use Rattle.std.specs.Option.{ForSome};
+ghost use Rattle.model.specs.Runs.{last_time};
+ghost use Rattle.runs.specs.Compared.{WantsNoMemory};
+
+use crate::told::RaceBounds;
+use crate::transitions::RunTransition;
+use design::Design;
+use model::end::Limits;
+use runs::run::RunRecord;
+use std::alloc::Global;
+
+/// A search: its design, limits and bounds, and its first run with the transitions of that. The limit of time isn't past the last time, and the first
+/// run wants no memory.
+#[derive(Clone, Copy)]
+pub(crate) struct RaceSearch<'a> {
+    pub(crate) alloc: Global,
+    pub(crate) design: &'a Design,
+    pub(crate) limits: Limits,
+    pub(crate) bounds: RaceBounds,
+    pub(crate) original: &'a RunRecord,
+    pub(crate) transitions: &'a [RunTransition],
+    ghost until: { ForSome limits.until (λ until. until ≤ last_time) },
+    ghost remembered: { WantsNoMemory original.now },
+}

@@ -1,0 +1,378 @@
+//! The first run, and what its entries do.
+ghost use Rattle.std.specs.Prelude.{◌≡◌, ◌<◌, List, length, IfSome, None};
+ghost use Rattle.model.specs.declared.entry.Entry.{Entry};
+ghost use Rattle.model.specs.declared.entry.Entry.TheVariants.{Turn};
+ghost use Rattle.model.specs.declared.end.Limits.{Limits};
+ghost use Rattle.model.specs.Runs.{refusal};
+ghost use Rattle.regions.specs.Machine.{state_at};
+ghost use Rattle.runs.specs.Halting.{GoesOn};
+ghost use Rattle.runs.specs.RunRecords.{HasComeTo, IsRun};
+ghost use Rattle.races.specs.RunEndings.{HasTimeLimit, EndsAt};
+
+use crate::conflicts::Conflicts;
+use crate::journaled_machine::JournaledMachine;
+use crate::segment::{Actor, Segment};
+use crate::told::{Bound, RaceBounds};
+use crate::transitions::{RunTransition, first_entry};
+use accesses::{Does, Role, Site};
+use design::Design;
+use model::end::{End, Limits, Why};
+use model::entry::Entry;
+use progress::{Progress, tell_entries};
+use regions::Machine;
+use runs::run::RunRecord;
+use std::alloc::Global;
+use turn::{Suspend, TurnLog};
+
+// The most events that are looked at which a run leaves behind as it finishes.
+const MOST_LEFT: usize = 1_024;
+
+/// Who made an event: the process of a turn, or that of the turn that made an update, and its place in the journal.
+#[derive(Clone, Copy)]
+struct EventOrigin {
+    process: u32,
+    place: usize,
+}
+
+/// What is noted of the entries of a run.
+#[derive(Drop)]
+pub(crate) struct RunRecorder {
+    /// Room for the turn of an event that the run leaves behind as it finishes.
+    left: TurnLog,
+    segment: Segment,
+    /// The number of the first event that an entry made.
+    first_made: u64,
+    /// Who made it and those that follow it, in the order of their numbers.
+    origins: Vec<EventOrigin>,
+    pub(crate) transitions: Vec<RunTransition>,
+    pub(crate) conflicts: Conflicts,
+}
+
+/// An entry that is about to be taken: its transition, the process that it is of where it is a turn or an update, and how many events
+/// it makes apart from those of the processes that it wakes.
+#[derive(Clone, Copy)]
+pub(crate) struct Noted {
+    wanted: RunTransition,
+    process: Option<u32>,
+    own: u64,
+}
+
+impl RunRecorder {
+    pub(crate) fn start(alloc: Global, design: &Design, bounds: RaceBounds) -> RunRecorder {
+        RunRecorder {
+            left: TurnLog::new(alloc),
+            segment: Segment::new(alloc),
+            first_made: u64::from(design.processes()),
+            origins: Vec::new(alloc),
+            transitions: Vec::new(alloc),
+            conflicts: Conflicts::new(alloc, bounds),
+        }
+    }
+
+    // Who made an event.
+    fn origin(&self, number: u64) -> Option<EventOrigin> {
+        let place = number.checked_sub(self.first_made)?;
+        self.origins.get(place as usize).copied()
+    }
+
+    // Notes what a turn read, and what it wrote.
+    fn note_values(&mut self, machine: &Machine<'_>, log: &TurnLog) {
+        for (register, _) in log.reads() {
+            self.segment
+                .access(Site::Register(*register), Does::Reads, false);
+        }
+        for turn_change in log.turn_changes() {
+            let changes = turn_change.changes > 0
+                || machine.value(turn_change.register) != Some(turn_change.first);
+            self.segment.access(Site::Register(turn_change.register), Does::Writes, changes);
+        }
+        for nba in log.nbas() {
+            self.segment.assign(nba.reg, nba.value, nba.due);
+        }
+    }
+
+    // Notes what a turn printed.
+    fn note_lines(&mut self, log: &TurnLog) {
+        if !log.lines().is_empty() {
+            self.segment.access(Site::Printing, Does::Prints, true);
+        }
+        if !log.strobes().is_empty() {
+            self.segment.access(Site::Strobing, Does::Strobes, true);
+        }
+    }
+
+    // Notes the registers for which the process of a turn begins to wait.
+    fn note_wait(&mut self, machine: &Machine<'_>, log: &TurnLog) {
+        if let Suspend::Event(control) = log.suspend() {
+            if let Some(control) = machine.design().event_controls().get(control) {
+                for trigger in control.triggers() {
+                    self.segment
+                        .access(Site::Register(trigger.1), Does::Waits, false);
+                }
+            }
+        }
+    }
+
+    // Notes a turn of a process by its log.
+    fn note_turn(
+        &mut self,
+        machine: &Machine<'_>,
+        number: u64,
+        process: u32,
+        log: &TurnLog,
+    ) -> Noted {
+        if !self.segment.is_full() {
+            let origin = self.origin(number).map(|origin| origin.place);
+            self.segment.step(Actor::Turn(process), origin);
+            self.note_values(machine, log);
+            self.note_lines(log);
+            self.note_wait(machine, log);
+        }
+        if log.is_finish() {
+            self.note_finish(machine, number);
+        }
+        Noted {
+            wanted: RunTransition::Turn(process),
+            process: Some(process),
+            own: own_events(log),
+        }
+    }
+
+    // Notes that the turn of the last step finishes the run, and which events it leaves behind.
+    fn note_finish(&mut self, machine: &Machine<'_>, number: u64) {
+        if self.segment.is_full() {
+            return;
+        }
+        self.segment.finish();
+        for place in 0..machine.choices().len().min(MOST_LEFT) {
+            match machine.choices().get(place) {
+                Some(Entry::Turn(other)) => if other != number {
+                    self.note_left_turn(machine, other);
+                },
+                Some(Entry::Update(other)) => self.note_left_update(machine, other),
+                _ => {}
+            }
+        }
+    }
+
+    // Notes an evaluation that is left behind.
+    fn note_left_turn(&mut self, machine: &Machine<'_>, number: u64) {
+        let process = match machine.evaluate(&mut self.left, number, 0) {
+            Ok(Some(process)) => process,
+            _ => return,
+        };
+        let does = if self.left.lines().is_empty() {
+            Does::Runs
+        } else {
+            Does::Prints
+        };
+        self.segment.add_held_back(
+            &mut self.conflicts,
+            Site::Finishing,
+            Role { process, does },
+            Entry::Turn(number),
+        );
+    }
+
+    // Notes an update that is left behind.
+    fn note_left_update(&mut self, machine: &Machine<'_>, number: u64) {
+        let process = match self.origin(number) {
+            Some(origin) => origin.process,
+            None => return,
+        };
+        if let Some((register, _)) = machine.state().first_updated() {
+            self.segment.add_held_back(
+                &mut self.conflicts,
+                Site::Register(register),
+                Role {
+                    process,
+                    does: Does::Updates,
+                },
+                Entry::Update(number),
+            );
+        }
+    }
+
+    // Notes an update. None where there is none.
+    fn note_update(&mut self, machine: &Machine<'_>, number: u64) -> Option<Noted> {
+        let origin = self.origin(number)?;
+        let (register, value) = machine.state().first_updated()?;
+        if !self.segment.is_full() {
+            let changes = machine.value(register) != Some(value);
+            self.segment
+                .step(Actor::Update(origin.process), Some(origin.place));
+            self.segment
+                .access(Site::Register(register), Does::Updates, changes);
+        }
+        Some(Noted {
+            wanted: RunTransition::Update,
+            process: Some(origin.process),
+            own: 0,
+        })
+    }
+
+    // Notes a change of the regions, at which the conflicts of the entries before it are found.
+    fn note_change(&mut self, change: Entry) -> Noted {
+        self.segment.find_conflicts(&mut self.conflicts);
+        Noted {
+            wanted: RunTransition::Change(change),
+            process: None,
+            own: 0,
+        }
+    }
+
+    // Notes who made so many events more. The answer is whether that could be noted.
+    fn note_made(&mut self, origin: EventOrigin, made: u64) -> bool {
+        let count = (self.origins.len() as u64).saturating_add(made);
+        self.origins.resize(count as usize, origin).is_ok()
+    }
+
+    // Notes that an entry was taken: its transition, and the events that it made. The answer is whether it could be noted.
+    fn note_taken(&mut self, machine: &Machine<'_>, noted: Option<Noted>) -> bool {
+        let noted = match noted {
+            Some(noted) => noted,
+            None => return false,
+        };
+        let place = self.transitions.len();
+        let is_kept = self.transitions.push(noted.wanted).is_ok();
+        match noted.process {
+            Some(process) => {
+                let made = noted.own.saturating_add(machine.made().len() as u64);
+                is_kept & self.note_made(EventOrigin { process, place }, made)
+            }
+            None => {
+                self.segment.begin(place.saturating_add(1), machine.time());
+                is_kept
+            }
+        }
+    }
+
+    // Notes that an entry was taken. Where it can't be noted, the run ends for want of memory.
+    fn taken(&mut self, machine: &Machine<'_>, noted: Option<Noted>) -> Option<End>
+        ensures { (limits : Limits) (journal : List Entry) → IfSome result (EndsAt limits journal machine.now) }
+    {
+        if self.note_taken(machine, noted) {
+            None
+        } else {
+            Some(End::Stopped(Why::Memory))
+        }
+    }
+
+    /// Finds the conflicts of the last entries.
+    pub(crate) fn finish(&mut self) {
+        self.segment.find_conflicts(&mut self.conflicts);
+        self.segment.find_cut_off(&mut self.conflicts);
+    }
+}
+
+// How many events a turn makes apart from those of the processes that it wakes: its updates, and that of its own wait.
+fn own_events(log: &TurnLog) -> u64 {
+    let updates = log.nbas().len() as u64;
+    match log.suspend() {
+        Suspend::Inactive | Suspend::Until(_) => updates.saturating_add(1),
+        Suspend::Ended | Suspend::Event(_) => updates,
+    }
+}
+
+// Takes an entry of which this is noted, or else answers how the run ends here.
+fn recorder_step(
+    run: &mut JournaledMachine<'_>,
+    limits: Limits,
+    recorder: &mut RunRecorder,
+    entry: Entry,
+    noted: Option<Noted>,
+) -> Option<End>
+    requires come { HasComeTo limits run.old.journal.items run.old.machine }
+    requires few { length run.old.journal.items < limits.max_entries }
+    requires goes_on { GoesOn limits (state_at run.old.machine) }
+    requires permitted { refusal (state_at run.old.machine) entry ≡ None }
+    ensures come { HasComeTo limits run.new.journal.items run.new.machine }
+    ensures code { run.new.machine.code ≡ run.old.machine.code }
+    ensures ends { IfSome result (EndsAt limits run.new.journal.items run.new.machine) }
+{
+    if let Some(end) = run.step(limits, entry) {
+        return Some(end);
+    }
+    recorder.taken(&run.machine, noted)
+}
+
+// Evaluates a turn into a log, notes it, and takes it by that log, or else answers how the run ends here. One that can't be evaluated
+// is taken without: that tells the end.
+fn recorder_turn(
+    run: &mut JournaledMachine<'_>,
+    limits: Limits,
+    recorder: &mut RunRecorder,
+    log: &mut TurnLog,
+    number: u64,
+) -> Option<End>
+    requires come { HasComeTo limits run.old.journal.items run.old.machine }
+    requires few { length run.old.journal.items < limits.max_entries }
+    requires goes_on { GoesOn limits (state_at run.old.machine) }
+    requires permitted { refusal (state_at run.old.machine) (Turn number) ≡ None }
+    ensures come { HasComeTo limits run.new.journal.items run.new.machine }
+    ensures code { run.new.machine.code ≡ run.old.machine.code }
+    ensures ends { IfSome result (EndsAt limits run.new.journal.items run.new.machine) }
+{
+    let process = match run.machine.evaluate(log, number, 0) {
+        Ok(Some(process)) => process,
+        _ => return recorder_step(run, limits, recorder, Entry::Turn(number), None),
+    };
+    let noted = recorder.note_turn(&run.machine, number, process, log);
+    if let Some(end) = run.step_turn(limits, number, log) {
+        return Some(end);
+    }
+    recorder.taken(&run.machine, Some(noted))
+}
+
+// Takes the first entry that may be next, or else answers how the run ends here.
+fn record_entry(
+    run: &mut JournaledMachine<'_>,
+    limits: Limits,
+    recorder: &mut RunRecorder,
+    log: &mut TurnLog,
+) -> Option<End>
+    requires until { HasTimeLimit limits }
+    requires come { HasComeTo limits run.old.journal.items run.old.machine }
+    ensures come { HasComeTo limits run.new.journal.items run.new.machine }
+    ensures code { run.new.machine.code ≡ run.old.machine.code }
+    ensures ends { IfSome result (EndsAt limits run.new.journal.items run.new.machine) }
+{
+    if let Some(end) = run.end(limits) {
+        return Some(end);
+    }
+    let entry = match first_entry(&run.machine) {
+        Some(entry) => entry,
+        None => return Some(End::Stopped(Why::Memory)),
+    };
+    let noted = match entry {
+        Entry::Turn(number) => return recorder_turn(run, limits, recorder, log, number),
+        Entry::Update(number) => recorder.note_update(&run.machine, number),
+        change => Some(recorder.note_change(change)),
+    };
+    recorder_step(run, limits, recorder, entry, noted)
+}
+
+/// Makes the first run, which takes the first entry that may be next at each choice, from its start.
+pub(crate) fn record_run<P: Progress>(
+    alloc: Global,
+    design: &Design,
+    run: &mut JournaledMachine<'_>,
+    limits: Limits,
+    recorder: &mut RunRecorder,
+    progress: &P,
+) -> RunRecord
+    requires until { HasTimeLimit limits }
+    requires come { HasComeTo limits run.old.journal.items run.old.machine }
+    requires code { run.old.machine.code ≡ design.now }
+    ensures { IsRun design.now limits result }
+{
+    let mut log = TurnLog::new(alloc);
+    for _ in 0..limits.max_entries {
+        if let Some(end) = record_entry(run, limits, recorder, &mut log) {
+            return run.told(alloc, limits, end);
+        }
+        tell_entries(progress, run.journal.len() as u64, run.machine.time());
+    }
+    let end = run.last_end(limits);
+    run.told(alloc, limits, end)
+}

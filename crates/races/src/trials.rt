@@ -1,0 +1,374 @@
+//! The tries of conflicts, and the races that they show.
+ghost use Rattle.std.specs.Prelude.{◌≡◌, ◌<◌, ◌≤◌, [], false, IfOk, IfNone, IfSome, IsTrue, Some, vec_len};
+ghost use Rattle.std.specs.List.{All, AllPairs};
+ghost use Rattle.runs.specs.Compared.{WantsNoMemory};
+ghost use Rattle.accesses.specs.Roles.{HasBothOrders};
+ghost use Rattle.design.specs.Compiled.{design_of};
+ghost use Rattle.races.specs.Races.{AreOfSame, AreOthers, IsNewBeside, IsRaceOf, IsSecond, IsShownRace, IsWithinBounds};
+ghost use Rattle.races.specs.declared.told.Bound.TheVariants.{Races, Pairs};
+
+use crate::conflicts::{Conflict, Conflicts, Turning};
+use crate::exchange::{Order, exchange};
+use crate::race_search::RaceSearch;
+use crate::told::{Bound, Race};
+use accesses::{Pair, Site, is_confirmed, is_cut_off, is_held_back};
+use model::end::{End, Why};
+use progress::Progress;
+use runs::compared::are_apart;
+use runs::run::RunRecord;
+use std::alloc::AllocError;
+
+/// What came of the tries so far: the races, how many second runs were made, how many entries may still be taken for them, and by what
+/// the list of races was cut, the first that was met.
+#[derive(Drop)]
+pub(crate) struct Trials {
+    pub(crate) races: Vec<Race>,
+    pub(crate) tried: usize,
+    pub(crate) left: u64,
+    pub(crate) cut: Option<Bound>,
+}
+
+fn is_same_site(one: Site, other: Site) -> bool
+    ensures { one ≡ other → IsTrue result }
+{
+    one == other
+}
+
+// Whether a race is for the site of a pair, and of the same two processes.
+fn is_of(race: &Race, pair: Pair) -> bool
+    ensures { result ≡ false → race.now.site ≡ pair.site → AreOfSame race.now.first race.now.second pair.first pair.second → ⊥ }
+{
+    let (one, other) = (race.first.process, race.second.process);
+    let (first, second) = (pair.first.process, pair.second.process);
+    let is_same = (one == first && other == second) || (one == second && other == first);
+    is_same && is_same_site(race.site, pair.site)
+}
+
+// Whether a race of a pair's site and processes is told.
+fn is_told(races: &[Race], pair: Pair) -> bool
+    ensures { result ≡ false → IsNewBeside races.now pair }
+{
+    for race in races {
+        if is_of(race, pair) {
+            return true;
+        }
+    }
+    false
+}
+
+// Whether a run ended for want of memory.
+pub(crate) fn wants_memory(run: &RunRecord) -> bool
+    ensures { result ≡ false → WantsNoMemory run.now }
+{
+    match run.end {
+        End::Stopped(Why::Memory) => true,
+        _ => false,
+    }
+}
+
+// How many entries a second run has between the one that it takes in a place and the first run's entry of that place.
+fn count_between(one: &RunRecord, other: &RunRecord, place: usize) -> usize {
+    let last = match one.journal.get(place).copied() {
+        Some(last) => last,
+        None => return 0,
+    };
+    let from = place.saturating_add(1);
+    for at in from..other.journal.len() {
+        if other.journal[at] == last {
+            return at - from;
+        }
+    }
+    0
+}
+
+// Whether the two runs of a conflict have its entries in both orders.
+fn has_both_orders(
+    task: RaceSearch<'_>,
+    conflict: &Conflict,
+    exchanged: &RunRecord,
+) -> Result<bool, AllocError>
+    ensures { IfOk result (λ has. IsTrue has → HasBothOrders (design_of task.entry.design.now) task.entry.original.now.journal.items exchanged.now.journal.items conflict.now.pair.site conflict.now.pair.time conflict.now.pair.first conflict.now.pair.second) }
+{
+    let (alloc, design, pair) = (task.alloc, task.design, conflict.pair);
+    let (one, other) = (&task.original.journal, &exchanged.journal);
+    let before = conflict.before.steps.count();
+    match conflict.turning {
+        Turning::Swapped => is_confirmed(alloc, design, one, other, pair, before),
+        Turning::CutOff => is_cut_off(alloc, design, one, other, pair, before),
+        Turning::HeldBack(_) => {
+            let between = count_between(task.original, exchanged, pair.earlier);
+            is_held_back(alloc, design, one, other, pair, between)
+        }
+    }
+}
+
+// What cut the list of conflicts: none of the bounds of the tries.
+fn cut_before(conflicts: &Conflicts) -> Option<Bound>
+    ensures races { result ≡ Some Races → ⊥ }
+    ensures pairs { result ≡ Some Pairs → ⊥ }
+{
+    match conflicts.cut {
+        Some(Bound::Steps) => Some(Bound::Steps),
+        Some(_) => Some(Bound::Memory),
+        None => None,
+    }
+}
+
+// A second run of a conflict with its entries in this order, if it is apart from another run. Fails where it wants memory.
+fn apart_run<P: Progress>(
+    task: RaceSearch<'_>,
+    conflict: &Conflict,
+    order: Order,
+    from: &RunRecord,
+    left: &mut u64,
+    progress: &P,
+) -> Result<Option<RunRecord>, AllocError>
+    ensures { IfOk result (λ made. IfSome made (IsSecond task.entry.design.now task.entry.limits from.now)) }
+{
+    match exchange(task, conflict, order, left, progress) {
+        Ok(Some(exchanged)) => {
+            if wants_memory(&exchanged) {
+                Err(AllocError)
+            } else if are_apart(from, &exchanged) {
+                Ok(Some(exchanged))
+            } else {
+                Ok(None)
+            }
+        }
+        Ok(None) => Ok(None),
+        Err(error) => Err(error),
+    }
+}
+
+// The race that a conflict's second run shows, if the two runs have its entries in both orders.
+fn race_of(
+    task: RaceSearch<'_>,
+    conflict: &Conflict,
+    exchanged: RunRecord,
+) -> Result<Option<Race>, AllocError>
+    requires { IsSecond task.design.now task.limits task.original.now exchanged }
+    ensures shown { IfOk result (λ race. IfSome race (IsShownRace task.entry.design.now task.entry.limits task.entry.original.now)) }
+    ensures of { IfOk result (λ race. IfSome race (IsRaceOf conflict.now.pair)) }
+{
+    match has_both_orders(task, conflict, &exchanged) {
+        Ok(true) => Ok(Some(Race {
+            site: conflict.pair.site,
+            time: conflict.pair.time,
+            first: conflict.pair.first,
+            second: conflict.pair.second,
+            exchanged,
+        })),
+        Ok(false) => Ok(None),
+        Err(error) => Err(error),
+    }
+}
+
+impl Trials {
+    pub(crate) fn new(task: RaceSearch<'_>, conflicts: &Conflicts) -> Trials
+        ensures within { IsWithinBounds task.entry.bounds result.races.items result.tried result.cut }
+        ensures none { result.races.items ≡ [] }
+    {
+        Trials {
+            races: Vec::new(task.alloc),
+            tried: 0,
+            left: task.bounds.entries,
+            cut: cut_before(conflicts),
+        }
+    }
+
+    // Notes by what the list of races is cut, unless something cut it before.
+    fn cut_by(&mut self, task: RaceSearch<'_>, bound: Bound)
+        requires within { IsWithinBounds task.bounds self.old.races.items self.old.tried self.old.cut }
+        requires races { bound ≡ Races → vec_len self.old.races ≡ task.bounds.races }
+        requires pairs { bound ≡ Pairs → self.old.tried ≡ task.bounds.pairs }
+        ensures within { IsWithinBounds task.entry.bounds self.new.races.items self.new.tried self.new.cut }
+        ensures same { self.new ≡ record self.old { cut = self.new.cut } }
+    {
+        if self.cut.is_none() {
+            self.cut = Some(bound);
+        }
+    }
+
+    // The bound of the tries that is met, if one is.
+    fn met(&self, task: RaceSearch<'_>) -> Option<Bound>
+        requires within { IsWithinBounds task.bounds self.now.races.items self.now.tried self.now.cut }
+        ensures races { IfSome result (λ b. b ≡ Races → vec_len self.now.races ≡ task.entry.bounds.races) }
+        ensures pairs { IfSome result (λ b. b ≡ Pairs → self.now.tried ≡ task.entry.bounds.pairs) }
+        ensures room { IfNone result (vec_len self.now.races < task.entry.bounds.races) }
+        ensures more { IfNone result (self.now.tried < task.entry.bounds.pairs) }
+    {
+        if self.races.len() >= task.bounds.races {
+            return Some(Bound::Races);
+        }
+        if self.tried >= task.bounds.pairs {
+            return Some(Bound::Pairs);
+        }
+        if self.left == 0 {
+            return Some(Bound::Entries);
+        }
+        None
+    }
+
+    // Makes a second run, if one is left. None where it isn't apart from another run.
+    fn second_run<P: Progress>(
+        &mut self,
+        task: RaceSearch<'_>,
+        conflict: &Conflict,
+        order: Order,
+        from: &RunRecord,
+        progress: &P,
+    ) -> Result<Option<RunRecord>, AllocError>
+        requires within { IsWithinBounds task.bounds self.old.races.items self.old.tried self.old.cut }
+        ensures within { IsWithinBounds task.entry.bounds self.new.races.items self.new.tried self.new.cut }
+        ensures same { self.new.races ≡ self.old.races }
+        ensures made { IfOk result (λ made. IfSome made (IsSecond task.entry.design.now task.entry.limits from.now)) }
+        ensures room { IfOk result (λ made. IfSome made (λ _. vec_len self.new.races < task.entry.bounds.races)) }
+        ensures more { IfOk result (λ made. IfSome made (λ _. vec_len self.new.races < self.new.tried)) }
+        ensures grown { self.old.tried ≤ self.new.tried }
+    {
+        if let Some(bound) = self.met(task) {
+            self.cut_by(task, bound);
+            return Ok(None);
+        }
+        self.tried += 1;
+        let made = apart_run(task, conflict, order, from, &mut self.left, progress)?;
+        if made.is_none() && self.left == 0 {
+            self.cut_by(task, Bound::Entries);
+        }
+        Ok(made)
+    }
+
+    // Whether the run in which the entries of a conflict are turned is apart from that in which they keep their order behind the same
+    // entries. Where nothing ties the two together, that is the first run.
+    fn is_apart_kept<P: Progress>(
+        &mut self,
+        task: RaceSearch<'_>,
+        conflict: &Conflict,
+        turned: &RunRecord,
+        progress: &P,
+    ) -> Result<bool, AllocError>
+        requires within { IsWithinBounds task.bounds self.old.races.items self.old.tried self.old.cut }
+        ensures within { IsWithinBounds task.entry.bounds self.new.races.items self.new.tried self.new.cut }
+        ensures same { self.new.races ≡ self.old.races }
+        ensures grown { self.old.tried ≤ self.new.tried }
+    {
+        if !conflict.before.is_tied {
+            return Ok(true);
+        }
+        let made = self.second_run(task, conflict, Order::Kept, turned, progress)?;
+        Ok(made.is_some())
+    }
+
+    // The race that a conflict shows by its second run, if it shows one.
+    fn race_by<P: Progress>(
+        &mut self,
+        task: RaceSearch<'_>,
+        conflict: &Conflict,
+        turned: RunRecord,
+        progress: &P,
+    ) -> Result<Option<Race>, AllocError>
+        requires within { IsWithinBounds task.bounds self.old.races.items self.old.tried self.old.cut }
+        requires second { IsSecond task.design.now task.limits task.original.now turned }
+        ensures within { IsWithinBounds task.entry.bounds self.new.races.items self.new.tried self.new.cut }
+        ensures same { self.new.races ≡ self.old.races }
+        ensures grown { self.old.tried ≤ self.new.tried }
+        ensures shown { IfOk result (λ race. IfSome race (IsShownRace task.entry.design.now task.entry.limits task.entry.original.now)) }
+        ensures of { IfOk result (λ race. IfSome race (IsRaceOf conflict.now.pair)) }
+    {
+        match self.is_apart_kept(task, conflict, &turned, progress) {
+            Ok(true) => race_of(task, conflict, turned),
+            Ok(false) => Ok(None),
+            Err(error) => Err(error),
+        }
+    }
+
+    // The race that a conflict shows, if it shows one.
+    fn try_pair<P: Progress>(
+        &mut self,
+        task: RaceSearch<'_>,
+        conflict: &Conflict,
+        progress: &P,
+    ) -> Result<Option<Race>, AllocError>
+        requires within { IsWithinBounds task.bounds self.old.races.items self.old.tried self.old.cut }
+        ensures within { IsWithinBounds task.entry.bounds self.new.races.items self.new.tried self.new.cut }
+        ensures same { self.new.races ≡ self.old.races }
+        ensures shown { IfOk result (λ race. IfSome race (IsShownRace task.entry.design.now task.entry.limits task.entry.original.now)) }
+        ensures of { IfOk result (λ race. IfSome race (IsRaceOf conflict.now.pair)) }
+        ensures room { IfOk result (λ race. IfSome race (λ _. vec_len self.new.races < task.entry.bounds.races)) }
+        ensures more { IfOk result (λ race. IfSome race (λ _. vec_len self.new.races < self.new.tried)) }
+    {
+        match self.second_run(task, conflict, Order::Turned, task.original, progress)? {
+            Some(turned) => self.race_by(task, conflict, turned, progress),
+            None => Ok(None),
+        }
+    }
+
+    // Keeps the race of a pair.
+    fn keep(&mut self, task: RaceSearch<'_>, pair: Pair, race: Race)
+        requires within { IsWithinBounds task.bounds self.old.races.items self.old.tried self.old.cut }
+        requires room { vec_len self.old.races < task.bounds.races }
+        requires more { vec_len self.old.races < self.old.tried }
+        requires race { IsShownRace task.design.now task.limits task.original.now race }
+        requires of { IsRaceOf pair race }
+        requires beside { IsNewBeside self.old.races.items pair }
+        requires shown { All (IsShownRace task.design.now task.limits task.original.now) self.old.races.items }
+        requires distinct { AllPairs AreOthers self.old.races.items }
+        ensures within { IsWithinBounds task.entry.bounds self.new.races.items self.new.tried self.new.cut }
+        ensures shown { All (IsShownRace task.entry.design.now task.entry.limits task.entry.original.now) self.new.races.items }
+        ensures distinct { AllPairs AreOthers self.new.races.items }
+    {
+        if self.races.push(race).is_err() {
+            self.cut_by(task, Bound::Memory);
+        }
+    }
+
+    // Tries a conflict within the bounds, unless a race of its group is told.
+    fn try_conflict<P: Progress>(&mut self, task: RaceSearch<'_>, conflict: &Conflict, progress: &P)
+        requires within { IsWithinBounds task.bounds self.old.races.items self.old.tried self.old.cut }
+        requires shown { All (IsShownRace task.design.now task.limits task.original.now) self.old.races.items }
+        requires distinct { AllPairs AreOthers self.old.races.items }
+        ensures within { IsWithinBounds task.entry.bounds self.new.races.items self.new.tried self.new.cut }
+        ensures shown { All (IsShownRace task.entry.design.now task.entry.limits task.entry.original.now) self.new.races.items }
+        ensures distinct { AllPairs AreOthers self.new.races.items }
+    {
+        if is_told(&self.races, conflict.pair) {
+            return;
+        }
+        match self.try_pair(task, conflict, progress) {
+            Ok(Some(race)) => self.keep(task, conflict.pair, race),
+            Ok(None) => {}
+            Err(_) => self.cut_by(task, Bound::Memory),
+        }
+    }
+
+    // Tries the conflicts of a round.
+    fn try_round<P: Progress>(&mut self, task: RaceSearch<'_>, round: &[Conflict], progress: &P)
+        requires within { IsWithinBounds task.bounds self.old.races.items self.old.tried self.old.cut }
+        requires shown { All (IsShownRace task.design.now task.limits task.original.now) self.old.races.items }
+        requires distinct { AllPairs AreOthers self.old.races.items }
+        ensures within { IsWithinBounds task.entry.bounds self.new.races.items self.new.tried self.new.cut }
+        ensures shown { All (IsShownRace task.entry.design.now task.entry.limits task.entry.original.now) self.new.races.items }
+        ensures distinct { AllPairs AreOthers self.new.races.items }
+    {
+        for conflict in round {
+            self.try_conflict(task, conflict, progress);
+        }
+    }
+}
+
+/// Tries the conflicts of a first run, round by round.
+pub(crate) fn try_all<P: Progress>(
+    task: RaceSearch<'_>,
+    conflicts: &Conflicts,
+    progress: &P,
+) -> Trials
+    ensures within { IsWithinBounds task.entry.bounds result.races.items result.tried result.cut }
+    ensures shown { All (IsShownRace task.entry.design.now task.entry.limits task.entry.original.now) result.races.items }
+    ensures distinct { AllPairs AreOthers result.races.items }
+{
+    let mut trials = Trials::new(task, conflicts);
+    for round in conflicts.rounds.iter() {
+        trials.try_round(task, round.as_slice(), progress);
+    }
+    trials
+}

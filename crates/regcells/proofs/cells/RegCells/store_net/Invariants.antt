@@ -1,5 +1,0 @@
-use Rattle.model.specs.Runs.{values_in}
-use Rattle.regcells.proofs.cells.RegCells.store_net.Given as goal
-
-abbrev pub ghosts-write : goal.ghosts-write
-ghosts-write g a = record { given = values_in a.net.register a._writes.now }

@@ -1,0 +1,4 @@
+pub mod Halting
+pub mod RunRecords
+pub mod Compared
+pub mod LongEnds
