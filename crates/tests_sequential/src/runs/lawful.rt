@@ -56,8 +56,26 @@ const PLAIN: Row<'static> = Row {
     endless: false,
 };
 
+/// Three such races, one after another: the first texts are shown before the search has come to most of its memory.
+const RACES: Row<'static> = Row {
+    source: b"module t; reg a, b, c; initial a=1'b0; initial a=1'b1; initial #1 $display(\"%b\",a); initial #2 b=1'b0; initial #2 b=1'b1; initial #3 $display(\"%b\",b); initial #4 c=1'b0; initial #4 c=1'b1; initial #5 $display(\"%b\",c); endmodule",
+    texts: &[
+        "0\n0\n0\n",
+        "0\n0\n1\n",
+        "0\n1\n0\n",
+        "0\n1\n1\n",
+        "1\n0\n0\n",
+        "1\n0\n1\n",
+        "1\n1\n0\n",
+        "1\n1\n1\n",
+    ],
+    shown: 8,
+    ..PLAIN
+};
+
 const ROWS: &[Row<'static>] = &[
     PLAIN,
+    RACES,
     // two processes at one clock that take each other's value: no order of theirs shows
     Row {
         source: b"module t; reg clk; reg [7:0] q0, q1; initial #1 clk=1'b0; always #5 clk=~clk; initial q0=8'd1; initial q1=8'd2; always @(posedge clk) q0<=q0+q1; always @(posedge clk) q1<=q1+q0; always @(negedge clk) $display(\"%0d %0d\",q0,q1); endmodule",
@@ -266,8 +284,8 @@ fn texts_of_lawful_orders_are_shown(rt: HostRuntime) {
 // What a search in so much memory shows: how many texts, and why there may be others.
 fn found_in(rt: &impl Abort, memory: &mut Scarce, design: &Design) -> (usize, &'static str) {
     memory.leave(rt);
-    let found = found_of(rt, memory.alloc, design, &PLAIN);
-    assert_texts(rt, &found.shown, PLAIN.texts);
+    let found = found_of(rt, memory.alloc, design, &RACES);
+    assert_texts(rt, &found.shown, RACES.texts);
     (found.shown.len(), reason_of(&found))
 }
 
@@ -280,7 +298,7 @@ fn assert_refused(rt: &impl Abort, alloc: Global, design: &Design) {
         let (shown, reason) = found_in(rt, &mut memory, design);
         if reason == "" {
             holds(rt, most > 0, "no text in too little memory");
-            assert_length(rt, shown, 2);
+            assert_length(rt, shown, RACES.shown);
             return;
         }
         holds(rt, reason == "memory", "another reason");
@@ -291,6 +309,6 @@ fn assert_refused(rt: &impl Abort, alloc: Global, design: &Design) {
 
 #[test]
 fn what_was_found_is_shown_where_memory_is_refused(rt: HostRuntime) {
-    let design = design_of(&rt, rt.alloc(), RACE);
+    let design = design_of(&rt, rt.alloc(), RACES.source);
     assert_refused(&rt, rt.alloc(), &design);
 }
