@@ -12,15 +12,14 @@ use crate::format;
 use crate::names::RegisterNames;
 use design::Trigger;
 use design::tree::{Expression, Process, Statement};
-use model::tree as source;
-use model::tree::Task;
+use model::tree::{EventExpression, SourceExpression, SourceProcess, SourceStatement, Task};
 use std::alloc::Global;
 
 /// The processes of a design, from those of a module.
 pub fn processes(
     alloc: Global,
     names: &RegisterNames,
-    processes: &[source::Process],
+    processes: &[SourceProcess],
 ) -> Built<Vec<Process>>
     requires { AreSmallProcesses (map source_process_of processes.now) }
     ensures { IfOk result
@@ -41,7 +40,7 @@ pub fn processes(
 pub fn processes_given_up(
     alloc: Global,
     names: &RegisterNames,
-    processes: Vec<source::Process>,
+    processes: Vec<SourceProcess>,
 ) -> Built<Vec<Process>>
     requires { AreSmallProcesses (map source_process_of processes.items) }
     ensures { IfOk result
@@ -54,26 +53,22 @@ pub fn processes_given_up(
     Ok(made)
 }
 
-fn process_given_up(
-    alloc: Global,
-    names: &RegisterNames,
-    process: source::Process,
-) -> Built<Process>
+fn process_given_up(alloc: Global, names: &RegisterNames, process: SourceProcess) -> Built<Process>
     requires { IsSmallStatement (source_statement_of process.body) }
     ensures { IfOk result (λ made. tree.process_of made ≡ model.elaborated_process names.now (source_process_of process)) }
 {
-    let source::Process { repeats, body } = process;
+    let SourceProcess { repeats, body } = process;
     let body = given_up(alloc, names, body)?;
     Ok(Process { repeats, body })
 }
 
 // The statements of the body of a process: of a block, or of an event control before one.
-fn given_up(alloc: Global, names: &RegisterNames, s: source::Statement) -> Built<Vec<Statement>>
+fn given_up(alloc: Global, names: &RegisterNames, s: SourceStatement) -> Built<Vec<Statement>>
     requires { IsSmallStatement (source_statement_of s) }
     ensures { IfOk result (λ made. tree.statements_of made.items ≡ model.statements_of names.now (source_statement_of s)) }
 {
     match s {
-        source::Statement::Await(events, s) => {
+        SourceStatement::Await(events, s) => {
             let triggers = triggers(alloc, names, events.as_slice())?;
             let body = block_given_up(alloc, names, Box::into_inner(s))?;
             let mut made = Vec::new(alloc);
@@ -84,16 +79,12 @@ fn given_up(alloc: Global, names: &RegisterNames, s: source::Statement) -> Built
     }
 }
 
-fn block_given_up(
-    alloc: Global,
-    names: &RegisterNames,
-    s: source::Statement,
-) -> Built<Vec<Statement>>
+fn block_given_up(alloc: Global, names: &RegisterNames, s: SourceStatement) -> Built<Vec<Statement>>
     requires { IsSmallStatement (source_statement_of s) }
     ensures { IfOk result (λ made. tree.statements_of made.items ≡ model.statements_of names.now (source_statement_of s)) }
 {
     match s {
-        source::Statement::Block(body) => each_given_up(alloc, names, body),
+        SourceStatement::Block(body) => each_given_up(alloc, names, body),
         s => alone(alloc, names, &s),
     }
 }
@@ -101,7 +92,7 @@ fn block_given_up(
 fn each_given_up(
     alloc: Global,
     names: &RegisterNames,
-    body: Vec<source::Statement>,
+    body: Vec<SourceStatement>,
 ) -> Built<Vec<Statement>>
     requires { AreSmallStatements (source_statements (map source_statement_of body.items)) }
     ensures { IfOk result (λ made. tree.statements_of made.items ≡ block_of names.now (source_statements (map source_statement_of body.items))) }
@@ -116,7 +107,7 @@ fn each_given_up(
 fn one_given_up(
     alloc: Global,
     names: &RegisterNames,
-    s: source::Statement,
+    s: SourceStatement,
     into: &mut Vec<Statement>,
 ) -> Built<()>
     requires { IsSmallStatement (source_statement_of s) }
@@ -126,16 +117,16 @@ fn one_given_up(
 }
 
 // How many statements one makes, unless it is a block with others inside it: the room of their list.
-fn count_of(s: &source::Statement) -> usize {
+fn count_of(s: &SourceStatement) -> usize {
     match s {
-        source::Statement::Block(body) => body.len(),
+        SourceStatement::Block(body) => body.len(),
         _ => 1,
     }
 }
 
 // The statements of one statement.
 #[cycle(resolved_in)]
-fn alone(alloc: Global, names: &RegisterNames, s: &source::Statement) -> Built<Vec<Statement>>
+fn alone(alloc: Global, names: &RegisterNames, s: &SourceStatement) -> Built<Vec<Statement>>
     requires { IsSmallStatement (source_statement_of s.now) }
     ensures { IfOk result (λ made. tree.statements_of made.items ≡ model.statements_of names.now (source_statement_of s.now)) }
 {
@@ -146,7 +137,7 @@ fn alone(alloc: Global, names: &RegisterNames, s: &source::Statement) -> Built<V
 
 // The statements of a block.
 #[cycle(resolved_in)]
-fn block(alloc: Global, names: &RegisterNames, body: &[source::Statement]) -> Built<Vec<Statement>>
+fn block(alloc: Global, names: &RegisterNames, body: &[SourceStatement]) -> Built<Vec<Statement>>
     requires { AreSmallStatements (source_statements (map source_statement_of body.now)) }
     ensures { IfOk result (λ made. tree.statements_of made.items ≡ block_of names.now (source_statements (map source_statement_of body.now))) }
 {
@@ -159,7 +150,7 @@ fn block(alloc: Global, names: &RegisterNames, body: &[source::Statement]) -> Bu
 fn all(
     alloc: Global,
     names: &RegisterNames,
-    body: &[source::Statement],
+    body: &[SourceStatement],
     into: &mut Vec<Statement>,
 ) -> Built<()>
     requires { AreSmallStatements (source_statements (map source_statement_of body.now)) }
@@ -179,7 +170,7 @@ fn all(
 fn statement(
     alloc: Global,
     names: &RegisterNames,
-    s: &source::Statement,
+    s: &SourceStatement,
     into: &mut Vec<Statement>,
 ) -> Built<()>
     requires { IsSmallStatement (source_statement_of s.now) }
@@ -187,38 +178,38 @@ fn statement(
         ≡ followed_by (tree.statements_of into.old.items) (model.statements_of names.now (source_statement_of s.now))) }
 {
     match s {
-        source::Statement::Empty => empty(into),
-        source::Statement::Block(body) => all(alloc, names, body.as_slice(), into),
-        source::Statement::Assign(name, wait, e) => {
+        SourceStatement::Empty => empty(into),
+        SourceStatement::Block(body) => all(alloc, names, body.as_slice(), into),
+        SourceStatement::Assign(name, wait, e) => {
             assign(alloc, names, name.as_str(), *wait, e, into)
         }
-        source::Statement::AssignLater(name, wait, e) => {
+        SourceStatement::AssignLater(name, wait, e) => {
             let wait = build::wait_of(*wait);
             assign_later(alloc, names, name.as_str(), wait, e, into)
         }
-        source::Statement::Delay(wait, s) => {
+        SourceStatement::Delay(wait, s) => {
             let body = alone(alloc, names, s)?;
             delay(into, *wait as u32, body)
         }
-        source::Statement::Await(events, s) => {
+        SourceStatement::Await(events, s) => {
             let triggers = triggers(alloc, names, events.as_slice())?;
             let body = alone(alloc, names, s)?;
             await_one(into, triggers, body)
         }
-        source::Statement::If(c, body) => {
+        SourceStatement::If(c, body) => {
             let body = block(alloc, names, body.as_slice())?;
             choice(alloc, names, c, body, Vec::new(alloc), into)
         }
-        source::Statement::IfElse(c, body, otherwise) => {
+        SourceStatement::IfElse(c, body, otherwise) => {
             let body = block(alloc, names, body.as_slice())?;
             let otherwise = block(alloc, names, otherwise.as_slice())?;
             choice(alloc, names, c, body, otherwise, into)
         }
-        source::Statement::While(c, body) => {
+        SourceStatement::While(c, body) => {
             let body = block(alloc, names, body.as_slice())?;
             repetition(alloc, names, c, body, into)
         }
-        source::Statement::Print(task, format, arguments) => print(
+        SourceStatement::Print(task, format, arguments) => print(
             alloc,
             names,
             *task,
@@ -226,7 +217,7 @@ fn statement(
             arguments.as_slice(),
             into,
         ),
-        source::Statement::Finish => finish(into),
+        SourceStatement::Finish => finish(into),
     }
 }
 
@@ -253,7 +244,7 @@ fn assign(
     names: &RegisterNames,
     name: &str,
     wait: Option<u64>,
-    e: &source::Expression,
+    e: &SourceExpression,
     into: &mut Vec<Statement>,
 ) -> Built<()>
     requires short { IsShortDelay wait }
@@ -272,7 +263,7 @@ fn assign_later(
     names: &RegisterNames,
     name: &str,
     wait: u32,
-    e: &source::Expression,
+    e: &SourceExpression,
     into: &mut Vec<Statement>,
 ) -> Built<()>
     requires { IsSmall (source_expression_of e.now) }
@@ -309,7 +300,7 @@ fn await_one(into: &mut Vec<Statement>, triggers: Vec<Trigger>, body: Vec<Statem
 fn choice(
     alloc: Global,
     names: &RegisterNames,
-    c: &source::Expression,
+    c: &SourceExpression,
     body: Vec<Statement>,
     otherwise: Vec<Statement>,
     into: &mut Vec<Statement>,
@@ -327,7 +318,7 @@ fn choice(
 fn repetition(
     alloc: Global,
     names: &RegisterNames,
-    c: &source::Expression,
+    c: &SourceExpression,
     body: Vec<Statement>,
     into: &mut Vec<Statement>,
 ) -> Built<()>
@@ -346,7 +337,7 @@ fn print(
     names: &RegisterNames,
     task: Task,
     format: &[u8],
-    arguments: &[source::Expression],
+    arguments: &[SourceExpression],
     into: &mut Vec<Statement>,
 ) -> Built<()>
     requires { AreSmall (source_expressions (map source_expression_of arguments.now)) }
@@ -358,7 +349,7 @@ fn print(
     build::push(into, build::print_of(task, pieces, arguments))
 }
 
-fn triggers(alloc: Global, names: &RegisterNames, events: &[source::Event]) -> Built<Vec<Trigger>>
+fn triggers(alloc: Global, names: &RegisterNames, events: &[EventExpression]) -> Built<Vec<Trigger>>
     ensures { IfOk result (λ made. made.items ≡ map (model.trigger_of names.now) (map source_trigger_of events.now)) }
 {
     let mut made = Vec::with_capacity(alloc, events.len())?;
@@ -369,33 +360,33 @@ fn triggers(alloc: Global, names: &RegisterNames, events: &[source::Event]) -> B
 }
 
 #[cycle(resolved)]
-fn expression(alloc: Global, names: &RegisterNames, e: &source::Expression) -> Built<Expression>
+fn expression(alloc: Global, names: &RegisterNames, e: &SourceExpression) -> Built<Expression>
     requires { IsSmall (source_expression_of e.now) }
     ensures { IfOk result (λ made. tree.expression_of made ≡ resolved names.now (source_expression_of e.now)) }
 {
     match e {
-        source::Expression::Name(name) => Ok(Expression::Register(names.number(name.as_str()))),
-        source::Expression::Select(name, index) => Ok(Expression::Select(
+        SourceExpression::Name(name) => Ok(Expression::Register(names.number(name.as_str()))),
+        SourceExpression::Select(name, index) => Ok(Expression::Select(
             names.number(name.as_str()),
             *index as u32,
         )),
-        source::Expression::Literal(bits) => Ok(Expression::Literal(*bits)),
-        source::Expression::Concat(part, others) => {
+        SourceExpression::Literal(bits) => Ok(Expression::Literal(*bits)),
+        SourceExpression::Concat(part, others) => {
             let first = expression(alloc, names, part)?;
             let room = others.len().saturating_add(1);
             let others = expressions(alloc, names, others.as_slice(), room)?;
             build::concat_of(first, others)
         }
-        source::Expression::Unary(op, e) => {
+        SourceExpression::Unary(op, e) => {
             let operand = expression(alloc, names, e)?;
             build::unary_of(alloc, *op, operand)
         }
-        source::Expression::Binary(op, e, f) => {
+        SourceExpression::Binary(op, e, f) => {
             let left = expression(alloc, names, e)?;
             let right = expression(alloc, names, f)?;
             build::binary_of(alloc, *op, left, right)
         }
-        source::Expression::Conditional(c, e, f) => {
+        SourceExpression::Conditional(c, e, f) => {
             let test = expression(alloc, names, c)?;
             let first = expression(alloc, names, e)?;
             let second = expression(alloc, names, f)?;
@@ -408,7 +399,7 @@ fn expression(alloc: Global, names: &RegisterNames, e: &source::Expression) -> B
 fn expressions(
     alloc: Global,
     names: &RegisterNames,
-    parts: &[source::Expression],
+    parts: &[SourceExpression],
     room: usize,
 ) -> Built<Vec<Expression>>
     requires { AreSmall (source_expressions (map source_expression_of parts.now)) }
