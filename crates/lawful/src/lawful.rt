@@ -55,7 +55,7 @@ impl<'d> Orders for Lawful<'d> {
 
     type End = End;
 
-    type SearchRoom = SearchRoom;
+    type Room = SearchRoom;
 
     ghost runs = { λ o. counted_runs o.analyzed_design o.limits };
 
