@@ -46,7 +46,7 @@ pub(crate) fn cut(
     ensures whole { OnOk result (AreChunks held.new) }
     ensures grows { OnOk result (Extends (chunks held.old) (chunks held.new)) }
     ensures there { IfOk result (λ all. all ≡ true → AreThere (chunks held.new) numbers.new.items) }
-    ensures joined_chunks { IfOk result (λ all. all ≡ true → joined_chunks (chunks held.new) numbers.new.items ≡ bytes.now) }
+    ensures joined { IfOk result (λ all. all ≡ true → joined_chunks (chunks held.new) numbers.new.items ≡ bytes.now) }
     ensures same { OnOk result (unknown ≡ Unknown.Missed → chunks held.new ≡ chunks held.old) }
     ensures missed { IfOk result (λ all. all ≡ false → unknown ≡ Unknown.Missed) }
     ensures some { IfOk result (λ all. all ≡ true → 0 < length numbers.new.items) }

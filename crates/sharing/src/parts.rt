@@ -36,7 +36,7 @@ fn encode(code: &mut Vec<u8>, numbers: &[u32]) -> Result<(), AllocError>
 impl Parts {
     /// No parts.
     pub fn new(alloc: Global) -> Parts
-        ensures unshortened { AreParts result }
+        ensures whole { AreParts result }
         ensures none { chunk_table result ≡ [] }
     {
         Parts {
@@ -58,8 +58,8 @@ impl Parts {
         bytes: &[u8],
         unknown: Unknown,
     ) -> Result<Option<Shortened>, AllocError>
-        requires unshortened { AreParts self.old }
-        ensures unshortened { OnOk result (AreParts self.new) }
+        requires whole { AreParts self.old }
+        ensures whole { OnOk result (AreParts self.new) }
         ensures grows { OnOk result (Extends (chunk_table self.old) (chunk_table self.new)) }
         ensures held { IfOk result (λ found. IfSome found (HoldsWhole (chunk_table self.new))) }
         ensures told { IfOk result (λ found. IfSome found (λ short. unshortened (chunk_table self.new) short ≡ bytes.now)) }
@@ -91,8 +91,8 @@ impl Parts {
 
     /// Shortens a byte string to what tells it. Fails where memory is refused.
     pub fn shorten(&mut self, alloc: Global, bytes: &[u8]) -> Result<Shortened, AllocError>
-        requires unshortened { AreParts self.old }
-        ensures unshortened { OnOk result (AreParts self.new) }
+        requires whole { AreParts self.old }
+        ensures whole { OnOk result (AreParts self.new) }
         ensures grows { OnOk result (Extends (chunk_table self.old) (chunk_table self.new)) }
         ensures held { IfOk result (HoldsWhole (chunk_table self.new)) }
         ensures told { IfOk result (λ short. unshortened (chunk_table self.new) short ≡ bytes.now) }
@@ -105,8 +105,8 @@ impl Parts {
 
     /// What a byte string was shortened to, where all parts of it are there. No part is added.
     pub fn find(&mut self, alloc: Global, bytes: &[u8]) -> Result<Option<Shortened>, AllocError>
-        requires unshortened { AreParts self.old }
-        ensures unshortened { OnOk result (AreParts self.new) }
+        requires whole { AreParts self.old }
+        ensures whole { OnOk result (AreParts self.new) }
         ensures same { OnOk result (chunk_table self.new ≡ chunk_table self.old) }
         ensures held { IfOk result (λ found. IfSome found (HoldsWhole (chunk_table self.new))) }
         ensures told { IfOk result (λ found. IfSome found (λ short. unshortened (chunk_table self.new) short ≡ bytes.now)) }
