@@ -16,16 +16,16 @@ TESTS = {
         # parse, elaborate, run_turn and fill_turn
         "language::parsing::reads_each_form",
         "language::tasks::refuses_bytes_that_are_not_ascii",
-        "runs::turns::first_turns",
-        "runs::turns::knows_nothing_of_the_turn_before",
-        "runs::turns::waits_and_assigns_later",
-        "runs::too_long::reads_before_it_is_too_long",
+        "behaviour::turns::first_turns",
+        "behaviour::turns::knows_nothing_of_the_turn_before",
+        "behaviour::turns::waits_and_assigns_later",
+        "behaviour::too_long::reads_before_it_is_too_long",
         # read_journal, write_journal and replay_bytes
-        "runs::journal_text::each_kind_of_entry_is_read",
-        "runs::journal_text::written::each_kind_of_entry_is_written",
-        "runs::journal_text::written::a_journal_of_version_1_is_written_in_version_2",
-        "runs::journal_text::failing::a_reader_may_give_one_byte_a_call",
-        "runs::replays::a_failed_write_is_told",
+        "behaviour::journal_text::each_kind_of_entry_is_read",
+        "behaviour::journal_text::written::each_kind_of_entry_is_written",
+        "behaviour::journal_text::written::a_journal_of_version_1_is_written_in_version_2",
+        "behaviour::journal_text::failing::a_reader_may_give_one_byte_a_call",
+        "behaviour::replays::a_failed_write_is_told",
     ],
     "tests_concurrent": [
         # a gate's opening, commit, too_long, commit_held, update, update_all, rest, stop, snapshot and close; turns that are committed

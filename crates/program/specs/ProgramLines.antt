@@ -23,7 +23,7 @@ use Rattle.program.specs.declared.fault.Stop.TheVariants as stop
 
 -- words of the command line that can't be read
 abbrev pub unread_line : List ℕ
-unread_line = program_line (codes "a word of the command program_line isn't UTF-8") [] []
+unread_line = program_line (codes "a word of the command line isn't UTF-8") [] []
 
 -- a text that is no module: bytes are counted from 0 and tokens from 1
 abbrev pub parse_line : ParseFault → List ℕ
@@ -59,11 +59,11 @@ simulate_line simulation.NoWorker = program_line (codes "cannot start worker") [
 -- a journal that isn't read: lines are counted from 1
 abbrev pub read_line : ReadFault → List ℕ
 read_line reading.Header = program_line (codes "Q1 journal header") [] []
-read_line (reading.Line number) = program_line (codes "Q2 journal program_line ") (decimal number) []
+read_line (reading.Line number) = program_line (codes "Q2 journal line ") (decimal number) []
 read_line reading.Cut = program_line (codes "Q3 journal ends without newline") [] []
 read_line reading.Read = program_line (codes "Q4 journal read error") [] []
 read_line reading.Memory = program_line (codes "Q5 memory") [] []
-read_line (reading.Count number) = program_line (codes "Q6 journal count at program_line ") (decimal number) []
+read_line (reading.Count number) = program_line (codes "Q6 journal count at line ") (decimal number) []
 read_line reading.Uncounted = program_line (codes "Q7 journal cut") [] []
 
 -- a replay: entries are counted from 1

@@ -29,7 +29,7 @@ mod probes;
 mod refused;
 mod replays;
 mod running;
-mod runs;
+mod simulations;
 mod sources;
 mod spared;
 mod starved;

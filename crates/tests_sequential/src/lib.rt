@@ -6,7 +6,7 @@
 //! 2. `faults_told` has what is told of a source in too little memory, and where its processes stand.
 //! 3. `tasks` has formats that no source can spell.
 //!
-//! `runs`:
+//! `behaviour`:
 //! 1. `turns` has what small processes do in a turn, and `too_long` turns that are too long. All are made by `turn` from a source.
 //! 2. `event_queue` has journals of small designs: which entries are permitted after each entry, and what is refused. Its `searched` and `keys`
 //!    have what a search of all orders asks: what may be next, copies, and keys of states that two orders of turns lead to.
@@ -23,8 +23,8 @@
 #![tactic(auto)]
 
 #[cfg(test)]
+mod behaviour;
+#[cfg(test)]
 mod claims;
 #[cfg(test)]
 mod language;
-#[cfg(test)]
-mod runs;
