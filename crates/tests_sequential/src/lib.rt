@@ -16,7 +16,7 @@
 //! 5. `refused` makes the calls from bytes to bytes in too little memory, which `scarce` holds.
 //! 6. `dumps` has waves of small designs, and their dumps.
 //! 7. `replaced` has a source and its journal that are cut, and with each byte replaced.
-//! 8. `lawful` has searches of all orders of small designs, with their texts, at bounds and in too little memory.
+//! 8. `searches` has searches of all orders of small designs, with their texts, at bounds and in too little memory.
 //!
 //! What sources are accepted, the faults of sources and of journals, the operations and the edges of vectors, the values of literals, operators and
 //! concatenations, and the lines of whole journals are rows of `shown`.
