@@ -139,18 +139,29 @@ const RUNS: &[(u32, u32)] = &[
 /// The same of a source with strobes.
 const STROBED_RUNS: &[(u32, u32)] = &[(1, 1_000), (4, 1_000), (16, 1_000)];
 
-/// Sources, the two texts that each may print, or its only one twice, and its runs.
-const SOURCES: &[(&str, &str, &str, &[(u32, u32)])] = &[
+/// A source, the two texts that it may print, or its only one twice, and its runs.
+type Raced<'a> = (&'a str, &'a str, &'a str, &'a [(u32, u32)]);
+
+/// Sources that race.
+const RACES: &[Raced<'static>] = &[
     // copies race as whole turns
     (COPIES, "1 1\n", "0 0\n", RUNS),
     // waiters wake in either order
     (WAITERS, "p1\np2\n", "p2\np1\n", RUNS),
+];
+
+/// Sources whose runs stop, and one that has one outcome.
+const STOPS: &[Raced<'static>] = &[
     // a finished run ends on every worker
     (FINISHES, "a\n", "c\na\n", RUNS),
     // a clock stops at its limit on every worker
     (CLOCK, "t\nt\n", "t\nt\n", RUNS),
     // a swap has one outcome
     (SWAP, "1 0\n", "1 0\n", RUNS),
+];
+
+/// Sources with strobes.
+const STROBES: &[Raced<'static>] = &[
     // strobes of one time come in the order of the turns
     (
         "module t; reg a; initial begin a=1'b0; $strobe(\"p %b\",a); a<=1'b1; end initial $strobe(\"q %b\",a); endmodule",
@@ -167,9 +178,24 @@ const SOURCES: &[(&str, &str, &str, &[(u32, u32)])] = &[
     ),
 ];
 
+/// The runs of some sources.
+fn assert_sources<R: Abort + Threads + Wait + Sync>(rt: &R, alloc: Global, sources: &[Raced<'_>]) {
+    for &(source, one, other, runs_on) in sources {
+        assert_source(rt, alloc, source, either(one, other), runs_on);
+    }
+}
+
 #[test]
 fn every_number_of_workers_prints_one_of_the_texts(rt: HostRuntime) {
-    for &(source, one, other, runs_on) in SOURCES {
-        assert_source(&rt, rt.alloc(), source, either(one, other), runs_on);
-    }
+    assert_sources(&rt, rt.alloc(), RACES);
+}
+
+#[test]
+fn every_number_of_workers_stops(rt: HostRuntime) {
+    assert_sources(&rt, rt.alloc(), STOPS);
+}
+
+#[test]
+fn every_number_of_workers_strobes_in_order(rt: HostRuntime) {
+    assert_sources(&rt, rt.alloc(), STROBES);
 }
