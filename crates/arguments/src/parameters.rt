@@ -147,6 +147,7 @@ fn memory<'a>(alloc: Global) -> Arg<'a>
     option(alloc, "max-memory", "MB", MAX_MEMORY).value_parser(value_parser!(u32).range(1..))
 }
 
+/// The option for how many workers take a run.
 fn workers<'a>(alloc: Global) -> Arg<'a>
     ensures takes { TakesOneValue result (rule (codes "workers") false (Some workers_parser)) }
     ensures rule { rule_of result ≡ choice (codes "workers") (Some workers_parser) }
@@ -155,6 +156,7 @@ fn workers<'a>(alloc: Global) -> Arg<'a>
     option(alloc, "workers", "N", help).value_parser(value_parser!(u32).range(1..=16))
 }
 
+/// The option for the limit of time.
 fn until<'a>(alloc: Global) -> Arg<'a>
     ensures takes { TakesOneValue result (rule (codes "until") false (Some until_parser)) }
     ensures rule { rule_of result ≡ choice (codes "until") (Some until_parser) }
@@ -163,6 +165,7 @@ fn until<'a>(alloc: Global) -> Arg<'a>
     option(alloc, "until", "T", help).value_parser(value_parser!(u64).range(0..=281474976710656))
 }
 
+/// The option for the seed of a run, or for the first one of random orders.
 fn seed<'a>(alloc: Global) -> Arg<'a>
     ensures takes { TakesOneValue result (rule (codes "seed") false (Some seed_parser)) }
     ensures rule { rule_of result ≡ choice (codes "seed") (Some seed_parser) }

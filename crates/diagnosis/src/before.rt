@@ -73,6 +73,7 @@ pub(crate) const NOTHING: LexemeContext<'static> = LexemeContext {
     call: PrintHead::None,
 };
 
+/// Whether a body is to follow a lexeme of a condition in which so many parentheses are open before it: one is, where it closes the last.
 fn condition_after(open: usize, text: &[u8]) -> Body {
     match text {
         [b'('] => Body::Condition(open.saturating_add(1)),
@@ -83,6 +84,7 @@ fn condition_after(open: usize, text: &[u8]) -> Body {
     }
 }
 
+/// Whether a body is to follow a lexeme, by whether one is to follow what stands before it.
 fn body_after(body: Body, text: &[u8]) -> Body {
     match text {
         b"if" | b"while" => Body::Condition(0),
@@ -94,6 +96,7 @@ fn body_after(body: Body, text: &[u8]) -> Body {
     }
 }
 
+/// How far the head of the last module has come with a lexeme, by how far it had come before it.
 fn module_after(module: ModuleHead, text: &[u8]) -> ModuleHead {
     if is_same(text, b"module") {
         return ModuleHead::Word;
@@ -105,6 +108,7 @@ fn module_after(module: ModuleHead, text: &[u8]) -> ModuleHead {
     }
 }
 
+/// Whether a `reg` is being declared behind a lexeme, by whether one is before it.
 fn declaration_after(declaration: DeclarationHead, text: &[u8]) -> DeclarationHead {
     match text {
         b"reg" => DeclarationHead::Register,
@@ -117,6 +121,7 @@ fn declaration_after(declaration: DeclarationHead, text: &[u8]) -> DeclarationHe
     }
 }
 
+/// How far the head of a `$display` or a `$strobe` has come with a lexeme, by how far it had come before it.
 fn call_after(call: PrintHead, text: &[u8]) -> PrintHead {
     match text {
         b"$display" | b"$strobe" => PrintHead::Name,
@@ -157,6 +162,7 @@ impl<'a> LexemeContext<'a> {
         }
     }
 
+    /// Which square brackets are open behind a lexeme: in a declaration, and behind a word that declares, those of a range.
     fn brackets_after(self, text: &[u8]) -> Brackets {
         match text {
             b"[" if self.declares || self.in_declaration() => Brackets::Range,

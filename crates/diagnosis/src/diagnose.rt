@@ -17,6 +17,7 @@ use std::alloc::Global;
 use tokens::cut::CutFault;
 use vparse::ParseFault;
 
+/// The location of a fault of the text, which want of memory hasn't. Fails where a cut of the source into tokens does.
 fn text_location(
     alloc: Global,
     source: &[u8],
@@ -34,6 +35,7 @@ fn text_location(
     }
 }
 
+/// The location of the token that a fault of the module tells, if it tells one. Fails where a cut of the source into tokens does.
 fn module_location(
     alloc: Global,
     source: &[u8],
@@ -48,6 +50,7 @@ fn module_location(
     }
 }
 
+/// The location of a fault, if that is known. Fails where a cut of the source into tokens does.
 fn fault_location(
     alloc: Global,
     source: &[u8],
@@ -83,6 +86,7 @@ fn plain(alloc: Global, fault: Option<SourceFault>) -> Diagnosis
     }
 }
 
+/// The diagnosis of a source with a fault: its location, and the notes. Where these can't be had, want of memory is the fault that is told.
 fn of_fault(alloc: Global, source: &[u8], fault: SourceFault) -> Diagnosis
     requires { IsSourceFault source.now fault }
     ensures fault { IfSome result.fault (λ told. IsSourceFault source.now told) }

@@ -1,6 +1,6 @@
 //! What is wrong with a source, for people.
 //!
-//! 1. `wanted` finds the token that a fault of a module tells, among the tokens with their bytes of `places`.
+//! 1. `wanted` finds the token that a fault of a module tells, among the tokens with their bytes of `locations`.
 //! 2. `lexemes` takes any text as words, numbers, strings and signs; `words` is the table of what the language lacks, and `notes`
 //!    goes once over a source with it and with what stands `before` each lexeme.
 //! 3. `diagnose` joins the fault of a source with its location and the notes, and `render` writes them as text.

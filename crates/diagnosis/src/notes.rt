@@ -132,6 +132,7 @@ fn advice_behind(before: LexemeContext<'_>, text: &[u8]) -> Option<Advice>
     }
 }
 
+/// The note that gives this advice on a lexeme.
 fn note_on(lexeme: &Lexeme<'_>, advice: Advice) -> Note
     ensures { result ≡ record { begin = lexeme.now.begin; end = lexeme.now.end; advice = advice } }
 {
@@ -142,6 +143,7 @@ fn note_on(lexeme: &Lexeme<'_>, advice: Advice) -> Note
     }
 }
 
+/// The note on a lexeme, if there is advice on it: as a word of the table, or else by what stands before it.
 fn note_of(before: LexemeContext<'_>, lexeme: &Lexeme<'_>) -> Option<Note>
     ensures { MatchOption result (advice_of (plain_lexeme lexeme.now).text ≡ None) (IsNoteOf (plain_lexeme lexeme.now)) }
 {
@@ -154,6 +156,7 @@ fn note_of(before: LexemeContext<'_>, lexeme: &Lexeme<'_>) -> Option<Note>
     }
 }
 
+/// Adds a note to those found, where there is one. Fails where memory is refused.
 fn add(found: &mut Vec<Note>, note: Option<Note>) -> Result<(), AllocError>
     ensures { OnOk result (found.new.items ≡ found.old.items ++ option_to_list note) }
 {

@@ -55,7 +55,7 @@ fn rest_of_line(source: &[u8], byte: usize) -> &[u8] {
     }
 }
 
-/// Adds what stands above a caret's line: a tab as it is, and else a space for each column.
+/// Adds what stands below a character in the line of a caret, before it: a tab as it is, and else a space for each column.
 fn push_blank(text: &mut String, c: char) -> Result<(), AllocError> {
     if c == '\t' {
         return text.push(c);
@@ -105,6 +105,7 @@ impl fmt::Display for Head<'_> {
     }
 }
 
+/// Adds the notes, each with its location and its line of the source: as many as are shown, and how many more there are.
 fn push_notes(
     alloc: Global,
     text: &mut String,
@@ -156,6 +157,7 @@ fn help(fault: &SourceFault) -> Option<&'static str> {
     }
 }
 
+/// Adds the fault with its location, its line of the source and what more is said of it, or that there is none.
 fn push_fault(
     alloc: Global,
     text: &mut String,

@@ -36,6 +36,7 @@ impl<P: Progress> Probe for Observing<'_, P> {
 
     fn replied(&self, _worker: u32, _event: u64, _kind: ReplyKind) {}
 
+    /// Tells how far the run is, where it has as many entries as it is told at next.
     fn grown(&self, _worker: u32, entries: u64, time: u64) {
         if entries >= self.next.load(Ordering::SeqCst) {
             self.next

@@ -97,6 +97,7 @@ fn perform<'a, R: Threads + Wait + Sync, F: Files, O: Write>(
     }
 }
 
+/// Runs FILE; what it ends with is the stop that is told, if one is.
 fn perform_run<'a, R: Threads + Wait + Sync, F: Files, O: Write>(
     rt: &R,
     alloc: Global,
@@ -114,6 +115,7 @@ fn perform_run<'a, R: Threads + Wait + Sync, F: Files, O: Write>(
     }
 }
 
+/// Searches for races of FILE; what it ends with is what the search found.
 fn perform_races<'a, F: Files, O: Write>(
     alloc: Global,
     request: &RacesRequest<'a>,
@@ -131,6 +133,7 @@ fn perform_races<'a, F: Files, O: Write>(
     }
 }
 
+/// Checks FILE, and shows that it is right; where it isn't, what it ends with is the diagnosis.
 fn perform_check<'a, F: Files, O: Write>(
     alloc: Global,
     file: &'a str,
@@ -162,6 +165,7 @@ fn show_right<O: Write>(path: &str, out: &mut Counted<O>) -> Result<Ending, Comm
     Ok(Ending::Done)
 }
 
+/// Explains JOURNAL on FILE; where all was written, nothing is left to be told.
 fn perform_explain<'a, F: Files, O: Write>(
     alloc: Global,
     request: &ExplainRequest<'a>,
