@@ -3,9 +3,9 @@
 ghost use Rattle.std.specs.Prelude.{◌≡◌, ◌≤◌, ◌^◌, ◌∷◌, IfSome, codes, is_some, unwrap_or, false};
 ghost use Rattle.clap.specs.Words.{first_of, found_of, rows_of};
 ghost use Rattle.model.specs.Runs.{last_time};
-ghost use Rattle.arguments.specs.Arguments.{IsGivenArgument, GivesRun, GivesReplay, GivesRaces, GivesCheck, GivesExplain, GivesWaves, workers_parser, until_parser, entries_parser, seed_parser};
+ghost use Rattle.arguments.specs.Arguments.{IsGivenArgument, GivesRun, GivesReplay, GivesRaces, GivesCheck, GivesExplain, GivesWaves, flag_parser, workers_parser, until_parser, entries_parser, seed_parser};
 ghost use Rattle.arguments.specs.Options.{CanRun, CanSearch};
-ghost use Rattle.arguments.specs.CommandWords.{IsCheckOf, IsExplainOf, IsRacesOf, IsReplayOf, IsRunOf, IsWavesOf, search_options_of, has_two_orders, number_given, options_of};
+ghost use Rattle.arguments.specs.CommandWords.{IsCheckOf, IsExplainOf, IsRacesOf, IsReplayOf, IsRunOf, IsWavesOf, search_options_of, flag_given, has_two_orders, number_given, options_of};
 
 use crate::request::{
     CheckRequest, ExplainRequest, RacesRequest, ReplayRequest, RunRequest, WavesRequest,
@@ -69,6 +69,7 @@ pub fn check_request<'a>(matches: &ArgMatches<'a>) -> CheckRequest<'a>
 {
     CheckRequest {
         file: matches.get_str("FILE").unwrap(),
+        all: given_flag(matches, "all"),
     }
 }
 
@@ -114,6 +115,14 @@ fn gives(matches: &ArgMatches<'_>, name: &str) -> bool
         Some(_) => true,
         None => false,
     }
+}
+
+/// Whether an option without a value is given.
+fn given_flag(matches: &ArgMatches<'_>, name: &str) -> bool
+    requires { IsGivenArgument (found_of matches.now) name.now flag_parser }
+    ensures { result ≡ flag_given name.now (rows_of (found_of matches.now)) }
+{
+    matches.get_flag(name)
 }
 
 /// How many workers take a run, and its limits: the defaults where none are given, and no limit of time.

@@ -30,7 +30,7 @@ impl<'a, P: Progress> Observing<'a, P> {
 }
 
 impl<P: Progress> Probe for Observing<'_, P> {
-    fn evaluation(&self, _worker: u32, _event: u64, _race_bounds: u8) {}
+    fn evaluation(&self, _worker: u32, _event: u64, _tries: u8) {}
 
     fn read(&self, _worker: u32, _register: RegId) {}
 
