@@ -4,11 +4,10 @@ use Rattle.std.specs.Prelude.{IfSome}
 use Rattle.std.specs.List.{All}
 use Rattle.model.specs.declared.entry.Entry.{Entry}
 use Rattle.model.specs.declared.end.End.{End}
+use Rattle.model.specs.Texts.{IsLawfulText, AreAllTexts, IsEndlessJournal}
 use Rattle.design.specs.Compiled.{Compiled, design_of}
 use Rattle.explore.specs.Search.{IsShown}
 use Rattle.explore.specs.declared.Shown.{Shown}
-use Rattle.walks.specs.JournalsInTime.{AreAllTexts, IsLawfulText}
-use Rattle.lawful.specs.DesignRuns.{IsEndlessJournal}
 use Rattle.lawful.specs.SearchNodes.{HoldsEffect}
 use Rattle.lawful.proofs.Searches.{shown_within, all_of_runs, endless_of_runs}
 use Rattle.lawful.proofs.lawful.lawful_orders.Goals as goal
