@@ -33,3 +33,6 @@ returns-clause-endless g c =
 
 pub returns-clause-within : goal.returns-clause-within
 returns-clause-within g c k d within = let of_run = c.explore.ensures.sound k d within in of_run.2
+
+pub returns-clause-distinct : goal.returns-clause-distinct
+returns-clause-distinct g c = c.explore.ensures.distinct
