@@ -1,7 +1,6 @@
 //! Whether the turns of all active evaluations keep off each other.
 ghost use Rattle.std.specs.Prelude.{◌≡◌, [], ◌∷◌, ◌++◌, true, false, map, IfOk, IfSome, OnOk};
 ghost use Rattle.std.specs.List.{All};
-ghost use Rattle.design.specs.DesignInvariant.{controls_of};
 ghost use Rattle.regions.specs.Machine.{state_at};
 ghost use Rattle.regions.specs.Queue.{evaluation_event};
 ghost use Rattle.flat.specs.EvaluatedTurns.{event_of, AreTurned};
@@ -12,25 +11,18 @@ use crate::evaluated_turn::{EvaluatedTurn, Logs, evaluate};
 use crate::pairs::are_apart;
 use crate::update_only::UpdateOnlyTurns;
 use crate::waits::all_sleep;
-use design::Control;
 use regions::{Evaluation, Machine};
 use std::alloc::AllocError;
 use turn::Nba;
 
 // Whether a turn keeps off each of these.
-fn is_apart(
-    machine: &Machine<'_>,
-    controls: &[Control],
-    turns: &[EvaluatedTurn],
-    turned: &EvaluatedTurn,
-) -> bool
-    requires controls { controls.now ≡ controls_of machine.now.code }
+fn is_apart(machine: &Machine<'_>, turns: &[EvaluatedTurn], turned: &EvaluatedTurn) -> bool
     requires turns { All (IsQuietTurn machine.now.code (state_at machine.now)) turns.now }
     requires turned { IsQuietTurn machine.now.code (state_at machine.now) turned.now }
     ensures { result ≡ true → All (λ one. ArePair machine.now.code (state_at machine.now) one turned.now) turns.now }
 {
     for one in turns {
-        if !are_apart(machine, controls, one, turned) {
+        if !are_apart(machine, one, turned) {
             return false;
         }
     }
@@ -40,12 +32,10 @@ fn is_apart(
 // Whether a turn keeps off each of these, as it does where they and it are update-only, and of other processes and registers.
 fn is_apart_from(
     machine: &Machine<'_>,
-    controls: &[Control],
     turns: &[EvaluatedTurn],
     turned: &EvaluatedTurn,
     plain: &mut UpdateOnlyTurns,
 ) -> bool
-    requires controls { controls.now ≡ controls_of machine.now.code }
     requires turns { All (IsQuietTurn machine.now.code (state_at machine.now)) turns.now }
     requires turned { IsQuietTurn machine.now.code (state_at machine.now) turned.now }
     requires plain { plain.old.holds ≡ true → AreUpdateOnly machine.now.core.time plain.old.processes.items plain.old.registers.items turns.now }
@@ -55,19 +45,17 @@ fn is_apart_from(
     if plain.take(machine.time(), turned) {
         return true;
     }
-    is_apart(machine, controls, turns, turned)
+    is_apart(machine, turns, turned)
 }
 
 // The turn of an active evaluation, where it is short, doesn't finish, and wakes nobody who waits. The evaluation is looked for first
 // at a place among the active ones.
 fn quiet_turn(
     machine: &Machine<'_>,
-    controls: &[Control],
     logs: &mut Logs,
     evaluation: Evaluation,
     near: usize,
 ) -> Result<Option<EvaluatedTurn>, AllocError>
-    requires controls { controls.now ≡ controls_of machine.now.code }
     ensures event { IfOk result (λ found. IfSome found (λ turned. event_of turned ≡ evaluation_event evaluation)) }
     ensures quiet { IfOk result (λ found. IfSome found (IsQuietTurn machine.now.code (state_at machine.now))) }
 {
@@ -79,6 +67,7 @@ fn quiet_turn(
         return Ok(None);
     }
     machine.stands();
+    let controls = machine.design().event_controls();
     let writes = turned.log.writes();
     if !all_sleep(
         controls,
@@ -106,12 +95,11 @@ fn add_turn(
     ensures quiet { OnOk result (AreQuiet machine.now.code (state_at machine.now) turns.new.items) }
     ensures plain { OnOk result (result ≡ Ok true → plain.new.holds ≡ true → AreUpdateOnly machine.now.core.time plain.new.processes.items plain.new.registers.items turns.new.items) }
 {
-    let controls = machine.design().event_controls();
-    let turned = match quiet_turn(machine, controls, logs, evaluation, turns.len())? {
+    let turned = match quiet_turn(machine, logs, evaluation, turns.len())? {
         Some(turned) => turned,
         None => return Ok(false),
     };
-    if !is_apart_from(machine, controls, turns.as_slice(), &turned, plain) {
+    if !is_apart_from(machine, turns.as_slice(), &turned, plain) {
         logs.keep(turned)?;
         return Ok(false);
     }

@@ -9,7 +9,7 @@ use Rattle.model.specs.declared.end.Limits.{Limits}
 use Rattle.model.specs.declared.end.End.{End}
 use Rattle.model.specs.States.{State}
 use Rattle.model.specs.Runs.{silent, run_from, IsTimely}
-use Rattle.orders.specs.SearchLaws.{EndsHere}
+use Rattle.model.specs.Texts.{EndsHere}
 use Rattle.design.specs.Compiled.{Compiled, design_of}
 use Rattle.runs.specs.Halting.{HaltsAt}
 use Rattle.explore.specs.declared.Successor.{Successor}

@@ -9,14 +9,15 @@ use Rattle.model.specs.declared.end.Limits.{Limits}
 use Rattle.model.specs.declared.end.End.{End}
 use Rattle.model.specs.Design.{Design}
 use Rattle.model.specs.Runs.{Effect, joined}
-use Rattle.orders.specs.SearchLaws.{IsOneNode, EndsHere}
+use Rattle.model.specs.Texts.{ComesOf, IsLawfulText, AreAllTexts, EndsHere, MayEnd, IsEndlessJournal}
+use Rattle.orders.specs.SearchLaws.{IsOneNode}
 use Rattle.explore.specs.declared.Successor.{Successor}
 use Rattle.explore.specs.declared.EndedPath.{EndedPath}
 use Rattle.explore.specs.declared.Shown.{Shown}
 use Rattle.explore.specs.Search.{IsEndless, IsShown, IsOfRun, IsSuccessor, IsEndedPath, IsCovered, AreAllShown}
-use Rattle.walks.specs.JournalsInTime.{ComesOf, text_of, MayEnd, ComeToOneNode, IsLawfulText, AreAllTexts}
+use Rattle.walks.specs.JournalsInTime.{text_of, ComeToOneNode}
 use Rattle.walks.specs.Cover.{LeadOn, CoverRuns, FollowTransitions}
-use Rattle.lawful.specs.DesignRuns.{runs_of, IsEndlessJournal, AlikeRunsServe, KeyedRunsAreAlike, RunsBeginSilent, ShownIsLawful, AllShownAreAll}
+use Rattle.lawful.specs.DesignRuns.{runs_of, AlikeRunsServe, KeyedRunsAreAlike, RunsBeginSilent, ShownIsLawful, AllShownAreAll}
 use Rattle.walks.specs.Going.{GoesOnTo}
 use Rattle.design.specs.Compiled.{Compiled, design_of}
 use Rattle.lawful.specs.SearchNodes.{HoldsEffect, counted_runs}

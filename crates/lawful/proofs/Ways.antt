@@ -15,7 +15,7 @@ use Rattle.model.specs.declared.end.End.TheVariants.{Stopped}
 use Rattle.model.specs.Design.{Design}
 use Rattle.model.specs.States.{State, Action, Evaluate, start}
 use Rattle.model.specs.Runs.{Effect, silent, joined, action_in, turn_of, turn_effect, action_effect, effect, unless_refused, entry_refusal, refusal, step, run_from, IsTimely}
-use Rattle.orders.specs.SearchLaws.{EndsHere}
+use Rattle.model.specs.Texts.{ComesOf, IsWithinLimits, EndsHere}
 use Rattle.orders.proofs.SearchLaws.{then_some}
 use Rattle.design.specs.Compiled.{Compiled, design_of}
 use Rattle.design.specs.DesignInvariant.{controls_of}
@@ -28,11 +28,10 @@ use Rattle.explore.specs.declared.EndedPath.{EndedPath}
 use Rattle.explore.specs.Grown.{Extends}
 use Rattle.explore.specs.Search.{IsSuccessor, IsEndedPath, IsCovered}
 use Rattle.explore.proofs.Complete.{Any-extends}
-use Rattle.walks.specs.JournalsInTime.{ComesOf}
 use Rattle.walks.specs.Cover.{FollowTransitions}
 use Rattle.walks.specs.Going.{GoesOnTo}
 use Rattle.lawful.specs.Expanding.{ways_to}
-use Rattle.lawful.specs.DesignRuns.{IsWithinLimits, StandsAt}
+use Rattle.lawful.specs.DesignRuns.{StandsAt}
 use Rattle.lawful.specs.SearchNodes.{CountsEntries, IsCountedOn, IsHere, IsReadyNode, HoldsEffect, lawful_runs, counted_runs, IsWayOn, IsWayToEnd, IsToldHere, IsFollowedIn, AreWaysFor, AreAllWays}
 use Rattle.lawful.specs.Following.{IsTurnOf, IsLongTurnOf, TellsLong, IsWayBy, IsAdded, IsOneOn, IsCountedBy, AreOneOn}
 use Rattle.lawful.specs.declared.node.DesignNode.{DesignNode}

@@ -1,32 +1,21 @@
 -- The lawful journals of a design as the runs of a search, and what it means of them that what is shown is sound and all.
-use Rattle.std.specs.Prelude.{◌≡◌, ℕ, ◌≤◌, List, [], ◌++◌, length}
+use Rattle.std.specs.Prelude.{◌≡◌, ℕ, List, []}
 use Rattle.model.specs.declared.entry.Entry.{Entry}
 use Rattle.model.specs.declared.end.Limits.{Limits}
 use Rattle.model.specs.declared.end.End.{End}
 use Rattle.model.specs.Design.{Design}
 use Rattle.model.specs.Runs.{Effect}
+use Rattle.model.specs.Texts.{ComesOf, IsLawfulText, AreAllTexts, MayEnd}
 use Rattle.orders.specs.Alike.{Alike}
 use Rattle.orders.specs.SearchLaws.{IsOneNode}
 use Rattle.explore.specs.declared.Shown.{Shown}
 use Rattle.explore.specs.SearchedRuns.{Runs}
 use Rattle.explore.specs.Search.{IsShown, IsOfRun, Serves, AreAllShown}
-use Rattle.walks.specs.JournalsInTime.{ComesOf, MayEnd, text_of, ComeToOneNode, IsLawfulText, AreAllTexts}
+use Rattle.walks.specs.JournalsInTime.{text_of, ComeToOneNode}
 
 -- a node stands at a journal if it holds what comes of it
 abbrev pub StandsAt : {Node : Type 0} → (Node → Effect → Type 0) → Design → Limits → Node → List Entry → Type 0
 StandsAt Holds design limits node journal = (e : Effect) × ComesOf design limits journal e × Holds node e
-
--- a journal has no more entries than a run may have
-abbrev pub IsWithinLimits : Limits → List Entry → Type 0
-IsWithinLimits limits journal = length journal ≤ limits.max_entries
-
--- Some lawful orders don't come to an end: this journal is lawful and in time, it has no more entries than it may have, and however
--- it goes on in time, its run comes to no end, but by the most entries or for want of memory.
-pub record IsEndlessJournal (design : Design) (limits : Limits) (journal : List Entry) : Type 0 where
-  pub effect : Effect
-  pub lawful : ComesOf design limits journal effect
-  pub within : IsWithinLimits limits journal
-  pub never : (more : List Entry) (end : End) → MayEnd design limits (journal ++ more) end → ⊥
 
 -- the runs of a design, where this says what a node holds
 abbrev pub runs_of : {Node : Type 0} → (Node → Effect → Type 0) → Design → Limits → Runs Entry Node End

@@ -6,11 +6,11 @@ use Rattle.model.specs.declared.end.Limits.{Limits}
 use Rattle.model.specs.declared.end.End.{End}
 use Rattle.model.specs.Design.{Design}
 use Rattle.model.specs.Runs.{Effect, joined}
-use Rattle.orders.specs.SearchLaws.{IsOneNode, EndsHere}
+use Rattle.model.specs.Texts.{ComesOf, EndsHere}
+use Rattle.orders.specs.SearchLaws.{IsOneNode}
 use Rattle.explore.specs.declared.Successor.{Successor}
 use Rattle.explore.specs.declared.EndedPath.{EndedPath}
 use Rattle.explore.specs.Search.{IsSuccessor, IsEndedPath, IsCovered}
-use Rattle.walks.specs.JournalsInTime.{ComesOf}
 use Rattle.walks.specs.Going.{GoesOnTo}
 use Rattle.walks.specs.Cover.{CoverRuns, FollowTransitions}
 use Rattle.lawful.specs.DesignRuns.{plain_runs}

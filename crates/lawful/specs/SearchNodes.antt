@@ -10,19 +10,19 @@ use Rattle.model.specs.declared.end.End.{End}
 use Rattle.model.specs.declared.end.End.TheVariants.{Stopped}
 use Rattle.model.specs.States.{State, Evaluate}
 use Rattle.model.specs.Runs.{Effect, silent, action_in, turn_of, step, IsTimely, last_time}
+use Rattle.model.specs.Texts.{ComesOf, IsWithinLimits, EndsHere, MayEnd}
 use Rattle.design.specs.Compiled.{Compiled, design_of}
 use Rattle.design.specs.DesignInvariant.{controls_of}
 use Rattle.regions.specs.Machine.{state_at}
-use Rattle.orders.specs.SearchLaws.{EndsHere}
 use Rattle.explore.specs.declared.Successor.{Successor}
 use Rattle.explore.specs.declared.EndedPath.{EndedPath}
 use Rattle.explore.specs.SearchedRuns.{Runs}
-use Rattle.walks.specs.JournalsInTime.{ComesOf, MayEnd, text_of, ComeToOneNode}
+use Rattle.walks.specs.JournalsInTime.{text_of, ComeToOneNode}
 use Rattle.walks.specs.Walking.{HasCounted}
 use Rattle.walks.specs.Cover.{CoverRuns}
 use Rattle.walks.specs.Going.{GoesOnTo}
 use Rattle.lawful.specs.Expanding.{ways_to}
-use Rattle.lawful.specs.DesignRuns.{runs_of, IsWithinLimits, StandsAt}
+use Rattle.lawful.specs.DesignRuns.{runs_of, StandsAt}
 use Rattle.lawful.specs.declared.node.DesignNode.{DesignNode}
 
 -- limits that a run may have: one entry at least, and no time past the last one

@@ -1,13 +1,11 @@
 //! The lawful orders of a design, as a search follows them.
 ghost use Rattle.std.specs.Prelude.{◌≡◌, ◌<◌, ◌≤◌, [], length, None, Some, IfOk, IfSome};
-ghost use Rattle.std.specs.List.{All, AllPairs};
+ghost use Rattle.std.specs.List.{All, AllPairs, Any};
 ghost use Rattle.model.specs.States.{start};
 ghost use Rattle.model.specs.Runs.{last_time};
-ghost use Rattle.explore.specs.Search.{AreDistinct, IsShown};
+ghost use Rattle.model.specs.Texts.{IsWithinLimits, IsLawfulText, AreAllTexts, IsEndlessJournal};
 ghost use Rattle.regions.specs.Machine.{state_at};
 ghost use Rattle.design.specs.Compiled.{design_of};
-ghost use Rattle.walks.specs.JournalsInTime.{AreAllTexts, IsLawfulText};
-ghost use Rattle.lawful.specs.DesignRuns.{IsEndlessJournal, IsWithinLimits};
 ghost use Rattle.lawful.specs.SearchNodes.{AreBounded};
 ghost use Rattle.explore.specs.declared.stopped.Stopped.TheVariants as stop;
 
@@ -141,9 +139,9 @@ pub fn lawful_orders<P: Progress>(
     requires some_entry { 0 < limits.max_entries }
     requires until { IfSome limits.until (λ until. until ≤ last_time) }
     ensures sound { All (λ s. IsLawfulText (design_of design.now) limits s.moves.items s.text.items s.end) result.shown.items }
-    ensures distinct { AllPairs AreDistinct result.shown.items }
+    ensures distinct { AllPairs (λ s t. s.text.items ≡ t.text.items → s.end ≡ t.end → ⊥) result.shown.items }
     ensures within { All (λ s. IsWithinLimits limits s.moves.items) result.shown.items }
-    ensures all { result.stopped ≡ None → AreAllTexts (design_of design.now) limits (IsShown result.shown.items) }
+    ensures all { result.stopped ≡ None → AreAllTexts (design_of design.now) limits (λ text end. Any (λ s. (s.text.items ≡ text) × (s.end ≡ end)) result.shown.items) }
     ensures few { result.nodes ≤ bounds.nodes }
     ensures few_shown { length result.shown.items ≤ bounds.shown }
     ensures nodes { result.stopped ≡ Some stop.Nodes → result.nodes ≡ bounds.nodes }

@@ -8,8 +8,8 @@
 //!    answers that all is covered, those of every lawful journal in time.
 //!
 //! The definitions stand in `specs/`: what the runs of a design are to a search, and what it says of the lawful journals that a
-//! search has shown texts and ends, and all of them. What those journals are stands in `walks`. `laws` carries what is proved of them
-//! besides.
+//! search has shown texts and ends, and all of them. The definitions by which `lawful_orders` says so stand in `model` (`Texts`). `laws`
+//! carries what is proved of them besides.
 #![tactic(auto)]
 
 mod again;

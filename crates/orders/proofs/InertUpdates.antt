@@ -17,11 +17,11 @@ use Rattle.model.specs.Turns.{contains}
 use Rattle.model.specs.States.{Action, Evaluate, Event, Continuation, State, without, updated, nonblocking_activated}
 use Rattle.model.specs.Runs.{Effect, action_in, has_any, has_earlier_update, EndsIn, is_quiet, is_idle, IsPastLimit, HasLongTurn, silent, joined, step, run_from}
 use Rattle.model.specs.Steps.{IsPermitted}
+use Rattle.model.specs.Texts.{EndsHere}
 use Rattle.model.proofs.StepLaws.{step_is_exact}
 use Rattle.orders.specs.Alike.{AreAlike, EventsRise, updates_in}
 use Rattle.orders.specs.Apart.{of_register, AlikeButUpdates, AreAlikeButOrder, given, all_given, wakes_any, WakesNone}
 use Rattle.orders.specs.Inert.{AreUpdates, IsInert, settled, InertUpdatesAreTaken, InertOrderIsForgotten}
-use Rattle.orders.specs.SearchLaws.{EndsHere}
 use Rattle.orders.proofs.EventLists.{alike-same, alike-has_any, absent, present_from, evaluations-taken, own_evaluation, rises_from}
 use Rattle.orders.proofs.Stores.{append-none, length_given, given_other, given_both, stores_same, wakes_same, wakes_frame, change_quiet}
 use Rattle.orders.proofs.SearchLaws.{then_some}

@@ -7,9 +7,9 @@ use Rattle.model.specs.Design.{Design}
 use Rattle.model.specs.States.{Event, State}
 use Rattle.model.specs.Runs.{Effect, has_any, run_from}
 use Rattle.model.specs.Laws.{evaluations_in}
+use Rattle.model.specs.Texts.{EndsHere}
 use Rattle.orders.specs.Alike.{Alike, IsAlikeFuture, IsInOrder, updates_in}
 use Rattle.orders.specs.Apart.{AlikeButUpdates, WakesNone, all_given}
-use Rattle.orders.specs.SearchLaws.{EndsHere}
 
 -- these events are updates alone
 abbrev pub AreUpdates : List Event → Type 0

@@ -13,12 +13,13 @@ use Rattle.model.specs.States.{Action, Evaluate, Event, State, nonblocking_activ
 use Rattle.model.specs.Runs.{Effect, has_any, is_quiet, is_idle, HasLongTurn, joined, silent, step, run_from}
 use Rattle.model.specs.Steps.{IsPermitted}
 use Rattle.model.specs.Laws.{evaluations_in}
+use Rattle.model.specs.Texts.{EndsHere}
 use Rattle.model.proofs.StepLaws.{step_is_exact}
 use Rattle.model.proofs.RunLaws.{run_from-append}
 use Rattle.orders.specs.Alike.{AreAlike, IsInOrder, updates_in}
 use Rattle.orders.specs.Apart.{AreAlikeButOrder, of_register}
 use Rattle.orders.specs.Flat.{AlikeButNow, IsOneNodeButNow}
-use Rattle.orders.specs.SearchLaws.{IsOneNode, EndsHere}
+use Rattle.orders.specs.SearchLaws.{IsOneNode}
 use Rattle.orders.proofs.EventLists.{alike-same, alike-sym, alike-has_any, own_evaluation}
 use Rattle.orders.proofs.StatesInOrder.{run_from_in_order, step_keeps_order}
 use Rattle.orders.proofs.SearchLaws.{then_some, visited_too, reached_in_order, rest_of}

@@ -16,10 +16,10 @@ use Rattle.model.specs.States.{Action, Evaluate, Event, Continuation, State}
 use Rattle.model.specs.Runs.{Effect, action_in, has_any, HasLongTurn, joined, step, run_from, turn_of}
 use Rattle.model.specs.Steps.{IsPermitted}
 use Rattle.model.specs.Laws.{evaluations_in}
+use Rattle.model.specs.Texts.{EndsHere}
 use Rattle.model.proofs.StepLaws.{step_is_exact}
 use Rattle.orders.specs.Alike.{Alike, AreAlike, IsAlikeFuture, IsInOrder, updates_in}
 use Rattle.orders.specs.Apart.{AgreeOn, AreAlikeButOrder, all_given}
-use Rattle.orders.specs.SearchLaws.{EndsHere}
 use Rattle.orders.proofs.EventLists.{alike-same}
 use Rattle.orders.proofs.FlatRuns.{active_at}
 use Rattle.orders.proofs.StatesInOrder.{step_keeps_order}

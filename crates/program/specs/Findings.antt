@@ -4,6 +4,7 @@ use Rattle.std.specs.List.{All, AllPairs}
 use Rattle.model.specs.declared.entry.Entry.{Entry}
 use Rattle.model.specs.declared.end.End.{End}
 use Rattle.model.specs.declared.end.Limits.{Limits}
+use Rattle.model.specs.Texts.{IsLawfulText, AreAllTexts}
 use Rattle.design.specs.Compiled.{Compiled, design_of}
 use Rattle.explore.specs.declared.Shown.{Shown}
 use Rattle.explore.specs.declared.stopped.Stopped.{Stopped}
@@ -14,8 +15,7 @@ use Rattle.runs.specs.RunRecords as recorded
 use Rattle.runs.specs.Compared.{IsWhole}
 use Rattle.seeded.specs.Seeds.{AreSampled}
 use Rattle.runs.specs.declared.run.RunRecord.{RunRecord}
-use Rattle.walks.specs.JournalsInTime.{AreAllTexts, IsLawfulText}
-use Rattle.lawful.specs.DesignRuns as orders
+use Rattle.model.specs.Texts as orders
 use Rattle.races.specs.Races as conflicts
 use Rattle.races.specs.declared.told.Found.{Found}
 use Rattle.races.specs.declared.told.RaceBounds.{RaceBounds}

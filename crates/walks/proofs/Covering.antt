@@ -8,11 +8,12 @@ use Rattle.model.specs.declared.entry.Entry.{Entry}
 use Rattle.model.specs.declared.end.Limits.{Limits}
 use Rattle.model.specs.Design.{Design}
 use Rattle.model.specs.Runs.{Effect, joined, step, run_from, AreTimely}
-use Rattle.orders.specs.SearchLaws.{IsOneNode, EndsHere, IsAmongVisited, FollowsEachTransition}
+use Rattle.model.specs.Texts.{ComesOf, EndsHere}
+use Rattle.orders.specs.SearchLaws.{IsOneNode, IsAmongVisited, FollowsEachTransition}
 use Rattle.orders.proofs.AlikeStates.{alike_states-same}
 use Rattle.orders.proofs.TimelyRuns.{timely_before}
 use Rattle.orders.proofs.SearchLaws.{each_transition_covers}
-use Rattle.walks.specs.JournalsInTime.{ComesOf, ComeToOneNode}
+use Rattle.walks.specs.JournalsInTime.{ComeToOneNode}
 use Rattle.walks.specs.Cover.{after_moves, nodes_after, LeadOn, FollowTransitions, CoveringNodesCover, FollowedTransitionsCover, EndsAreTheStates, NodesOfWays, PermittedAreFollowed}
 use Rattle.walks.proofs.Lists.{from_map, to_map, any_with, some_length}
 use Rattle.walks.proofs.Serving.{comes_on, came_on}

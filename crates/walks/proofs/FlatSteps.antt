@@ -14,12 +14,13 @@ use Rattle.model.specs.Turns as turns
 use Rattle.model.specs.States.{State, Event, Action, Evaluate, updated, without, nonblocking_activated}
 use Rattle.model.specs.Runs.{Effect, silent, joined, action_in, action_effect, update_effect, unless_refused, refusal, turn_of, step, run_from, IsTimely, AreTimely}
 use Rattle.model.specs.Laws.{evaluates, evaluations_in}
+use Rattle.model.specs.Texts.{EndsHere}
 use Rattle.model.proofs.RunLaws.{run_from-append}
 use Rattle.orders.specs.Alike.{Alike, EventsRise, IsInOrder, updates_in}
 use Rattle.orders.specs.Apart.{given, all_given, WakesNone, wakes_any}
 use Rattle.orders.specs.Inert.{AreUpdates, IsInert, settled}
 use Rattle.orders.specs.Flat.{IsFlat, HasOneMaker}
-use Rattle.orders.specs.SearchLaws.{IsOneNode, EndsHere}
+use Rattle.orders.specs.SearchLaws.{IsOneNode}
 use Rattle.orders.proofs.AlikeStates.{alike_states-same}
 use Rattle.orders.proofs.EventLists.{absent, own_evaluation, rises_from}
 use Rattle.orders.proofs.StatesInOrder.{run_is_in_order, run_from_in_order}

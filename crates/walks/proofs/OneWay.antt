@@ -5,12 +5,12 @@ use Rattle.model.specs.declared.entry.Entry.{Entry}
 use Rattle.model.specs.declared.end.Limits.{Limits}
 use Rattle.model.specs.Design.{Design}
 use Rattle.model.specs.Runs.{Effect, run_from, AreTimely}
+use Rattle.model.specs.Texts.{ComesOf}
 use Rattle.orders.specs.SearchLaws.{IsAmongVisited, Covers}
 use Rattle.orders.specs.Inert.{settled}
 use Rattle.orders.proofs.AlikeStates.{alike_states-same}
 use Rattle.orders.proofs.FlatRuns.{flat_covers}
 use Rattle.orders.proofs.OneMaker.{flat_turns_cover}
-use Rattle.walks.specs.JournalsInTime.{ComesOf}
 use Rattle.walks.specs.Cover.{nodes_after, LeadOn, CoverRuns}
 use Rattle.walks.specs.FlatWays.{FlatWayCovers, SettledWayCovers}
 use Rattle.walks.proofs.Serving.{comes_on}

@@ -13,15 +13,15 @@ use Rattle.model.specs.Turns as turns
 use Rattle.model.specs.States.{State, Event, Continuation}
 use Rattle.model.specs.Runs.{Effect, HasLongTurn, silent, joined, turn_of, run_from, IsTimely, AreTimely}
 use Rattle.model.specs.Laws.{evaluations_in}
+use Rattle.model.specs.Texts.{ComesOf, EndsHere}
 use Rattle.model.proofs.RunLaws.{run_from-append}
 use Rattle.orders.specs.Flat.{IsFlat}
-use Rattle.orders.specs.SearchLaws.{EndsHere, IsAmongVisited}
+use Rattle.orders.specs.SearchLaws.{IsAmongVisited}
 use Rattle.orders.proofs.AlikeStates.{alike_states-same}
 use Rattle.orders.proofs.InertUpdates.{goes_on}
 use Rattle.phases.specs.Phase.{Block, IsTurnPending, HasSettled, IsPhase, TakesEvent, EndsPhase}
 use Rattle.phases.proofs.PhaseRuns.{phase_covers}
 use Rattle.phases.proofs.FlatPhases.{flat_phase_covers}
-use Rattle.walks.specs.JournalsInTime.{ComesOf}
 use Rattle.walks.specs.Cover.{nodes_after, CoverRuns}
 use Rattle.walks.specs.Sole.{StandsForAll}
 use Rattle.walks.specs.Walking.{turns_of}

@@ -11,11 +11,11 @@ use Rattle.model.specs.Design.{Design}
 use Rattle.model.specs.Turns.{turn_within}
 use Rattle.model.specs.States.{Action, Evaluate}
 use Rattle.model.specs.Runs.{Effect, run, step, action_in, IsTimely}
+use Rattle.model.specs.Texts.{ComesOf, IsLawfulText, AreAllTexts}
 use Rattle.model.proofs.StepLaws.{step_is_exact}
 use Rattle.orders.specs.SearchLaws.{Shows, IsComplete}
 use Rattle.orders.proofs.SearchLaws.{complete_shows_all}
 use Rattle.orders.proofs.RaceRows.{race, limits, nodes, shown, begin, written, printed, written_first, printed_first, race_is_complete, found, no_update, nothing_in}
-use Rattle.walks.specs.JournalsInTime.{ComesOf, IsLawfulText, AreAllTexts}
 use Rattle.walks.specs.Cover.{LeadOn, CoverRuns}
 use Rattle.walks.proofs.LawfulTexts.{ends_are_lawful, ends_with, printing}
 use Rattle.walks.proofs.Covering.{followed_transitions_cover, permitted_are_followed}

@@ -9,14 +9,14 @@ use Rattle.model.specs.declared.end.End.{End}
 use Rattle.model.specs.Design.{Design}
 use Rattle.model.specs.States.{start}
 use Rattle.model.specs.Runs.{Effect, silent, run_from, run, IsTimely, AreTimely}
+use Rattle.model.specs.Texts.{ComesOf, EndsHere}
 use Rattle.model.proofs.RunLaws.{run_from-append}
 use Rattle.orders.specs.Alike.{Alike, IsInOrder}
-use Rattle.orders.specs.SearchLaws.{EndsHere}
 use Rattle.orders.proofs.StatesInOrder.{run_is_in_order}
 use Rattle.orders.proofs.AlikeEnds.{alike_states_end_alike}
 use Rattle.orders.proofs.SearchLaws.{one_node_goes_on}
 use Rattle.orders.proofs.TimelyRuns.{timely_after}
-use Rattle.walks.specs.JournalsInTime.{ComesOf, text_of, AlikeJournalsServe}
+use Rattle.walks.specs.JournalsInTime.{text_of, AlikeJournalsServe}
 
 -- a journal and what goes on from it are one journal
 pub run_goes_on : (design : Design) (i moves : List Entry) (e f : Effect) → run design i ≡ Some e → run_from design e moves ≡ Some f → run design (i ++ moves) ≡ Some f

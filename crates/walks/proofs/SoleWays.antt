@@ -11,14 +11,15 @@ use Rattle.model.specs.Design.{Design}
 use Rattle.model.specs.States.{State}
 use Rattle.model.specs.Runs as runs
 use Rattle.model.specs.Runs.{Effect, silent, joined, step, run_from, IsTimely, AreTimely}
+use Rattle.model.specs.Texts.{ComesOf, EndsHere, MayEnd}
 use Rattle.orders.specs.Alike.{Alike, IsInOrder}
-use Rattle.orders.specs.SearchLaws.{IsOneNode, EndsHere}
+use Rattle.orders.specs.SearchLaws.{IsOneNode}
 use Rattle.orders.proofs.AlikeStates.{alike_states-trans}
 use Rattle.orders.proofs.AlikeSteps.{alike_states_step_alike}
 use Rattle.orders.proofs.StatesInOrder.{step_keeps_order, run_is_in_order}
 use Rattle.orders.proofs.TimelyRuns.{timely_transition, timely_before}
 use Rattle.orders.proofs.SearchLaws.{then_some}
-use Rattle.walks.specs.JournalsInTime.{ComesOf, MayEnd, ComeToOneNode}
+use Rattle.walks.specs.JournalsInTime.{ComeToOneNode}
 use Rattle.walks.specs.Sole.{StandsForAll, SoleWaysGoOn}
 use Rattle.walks.proofs.Serving.{run_goes_on, comes_on, came_on, ends_alike}
 use Rattle.walks.proofs.RunParts.{runs_on}

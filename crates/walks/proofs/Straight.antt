@@ -10,11 +10,11 @@ use Rattle.model.specs.declared.end.Limits.{Limits}
 use Rattle.model.specs.declared.end.End.{End}
 use Rattle.model.specs.Design.{Design}
 use Rattle.model.specs.Runs.{Effect, joined, refused_where, entry_refusal, refusal, step, run_from, IsTimely, AreTimely}
-use Rattle.orders.specs.SearchLaws.{EndsHere}
+use Rattle.model.specs.Texts.{ComesOf, EndsHere}
 use Rattle.orders.proofs.AlikeStates.{alike_states-same}
 use Rattle.orders.proofs.SearchLaws.{then_some}
 use Rattle.runs.proofs.Halts.{only_long_turns_end}
-use Rattle.walks.specs.JournalsInTime.{ComesOf, ComeToOneNode}
+use Rattle.walks.specs.JournalsInTime.{ComeToOneNode}
 use Rattle.walks.specs.OnlyWay.{IsOnlyWay, OnlyWayCovers}
 use Rattle.walks.proofs.Serving.{comes_on, came_on}
 use Rattle.walks.proofs.Lists.{some_length}

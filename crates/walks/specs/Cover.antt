@@ -7,9 +7,10 @@ use Rattle.model.specs.declared.end.Limits.{Limits}
 use Rattle.model.specs.declared.end.End.{End}
 use Rattle.model.specs.Design.{Design}
 use Rattle.model.specs.Runs.{Effect, refusal, step, run_from, IsTimely}
+use Rattle.model.specs.Texts.{ComesOf, EndsHere, MayEnd}
 use Rattle.orders.specs.Alike.{transition_of}
-use Rattle.orders.specs.SearchLaws.{IsOneNode, EndsHere, IsAmongVisited, Covers}
-use Rattle.walks.specs.JournalsInTime.{ComesOf, MayEnd, ComeToOneNode}
+use Rattle.orders.specs.SearchLaws.{IsOneNode, IsAmongVisited, Covers}
+use Rattle.walks.specs.JournalsInTime.{ComeToOneNode}
 
 -- what comes of an effect and further entries, and the effect itself where they aren't permitted
 abbrev pub after_moves : Design → Effect → List Entry → Effect

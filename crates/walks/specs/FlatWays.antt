@@ -5,10 +5,10 @@ use Rattle.model.specs.declared.end.Limits.{Limits}
 use Rattle.model.specs.Design.{Design}
 use Rattle.model.specs.Turns.{Turn}
 use Rattle.model.specs.Runs.{Effect, run_from, AreTimely}
+use Rattle.model.specs.Texts.{ComesOf}
 use Rattle.orders.specs.SearchLaws.{IsOneNode}
 use Rattle.orders.specs.Inert.{IsInert, settled}
 use Rattle.orders.specs.Flat.{IsFlat, HasOneMaker}
-use Rattle.walks.specs.JournalsInTime.{ComesOf}
 use Rattle.walks.specs.Cover.{CoverRuns}
 
 -- the turns of a flat state, in one order, cover the runs where one process at most makes updates for now

@@ -5,7 +5,7 @@ use Rattle.model.specs.declared.end.Limits.{Limits}
 use Rattle.model.specs.Design.{Design}
 use Rattle.model.specs.States.{State}
 use Rattle.model.specs.Runs.{Effect, refusal, step, IsTimely}
-use Rattle.walks.specs.JournalsInTime.{ComesOf}
+use Rattle.model.specs.Texts.{ComesOf}
 use Rattle.walks.specs.Cover.{CoverRuns}
 
 -- Each of these entries is the only one that the rules permit where it stands, and takes a step in time.

@@ -6,8 +6,7 @@ use Rattle.model.specs.declared.end.End.{End}
 use Rattle.model.specs.Design.{Design}
 use Rattle.model.specs.States.{State}
 use Rattle.model.specs.Runs.{Effect, silent, run_from, AreTimely}
-use Rattle.orders.specs.SearchLaws.{EndsHere}
-use Rattle.walks.specs.JournalsInTime.{ComesOf}
+use Rattle.model.specs.Texts.{ComesOf, EndsHere}
 use Rattle.walks.specs.Cover.{CoverRuns}
 
 -- From a state this way stands for all: it covers the runs from each journal that leads there, and no run ends there.

@@ -1,6 +1,5 @@
 -- The turns of the evaluations so far are quiet and apart.
 use Rattle.std.proofs.Common.{◌≡◌, true, map, take}
-use Rattle.design.specs.DesignInvariant.{controls_of}
 use Rattle.regions.specs.Machine.{state_at}
 use Rattle.regions.specs.Queue.{evaluation_event}
 use Rattle.flat.specs.EvaluatedTurns.{event_of}

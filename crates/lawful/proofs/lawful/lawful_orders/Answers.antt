@@ -4,11 +4,10 @@ use Rattle.std.specs.Prelude.{IfSome}
 use Rattle.std.specs.List.{All}
 use Rattle.model.specs.declared.entry.Entry.{Entry}
 use Rattle.model.specs.declared.end.End.{End}
+use Rattle.model.specs.Texts.{IsLawfulText, AreAllTexts, IsEndlessJournal}
 use Rattle.design.specs.Compiled.{Compiled, design_of}
 use Rattle.explore.specs.Search.{IsShown}
 use Rattle.explore.specs.declared.Shown.{Shown}
-use Rattle.walks.specs.JournalsInTime.{AreAllTexts, IsLawfulText}
-use Rattle.lawful.specs.DesignRuns.{IsEndlessJournal}
 use Rattle.lawful.specs.SearchNodes.{HoldsEffect}
 use Rattle.lawful.proofs.Searches.{shown_within, all_of_runs, endless_of_runs}
 use Rattle.lawful.proofs.lawful.lawful_orders.Goals as goal
@@ -34,3 +33,6 @@ returns-clause-endless g c =
 
 pub returns-clause-within : goal.returns-clause-within
 returns-clause-within g c k d within = let of_run = c.explore.ensures.sound k d within in of_run.2
+
+pub returns-clause-distinct : goal.returns-clause-distinct
+returns-clause-distinct g c = c.explore.ensures.distinct
