@@ -16,14 +16,14 @@ use Rattle.explore.proofs.kept.follow.Goals as goal
 
 pub returns-then-number-scope-clause-kept : goal.returns-then-number-scope-clause-kept
 returns-then-number-scope-clause-kept g c =
-    AreKept-texts (g.O.Orders.runs c.args.orders.now) (g.O.Orders.has_key c.args.orders.now) c.args.kept.now _ c.requires.kept refl c.in_ok-text.ensures.ok c.in_ok-text.ensures.grows c.in_ok-seen.ensures.whole c.in_ok-seen.ensures.same refl refl
+    AreKept-texts (g.O.Orders.runs c.args.scope.orders.now) (g.O.Orders.has_key c.args.scope.orders.now) c.args.kept.now _ c.requires.kept refl c.in_ok-text.ensures.ok c.in_ok-text.ensures.grows c.in_ok-seen.ensures.whole c.in_ok-seen.ensures.same refl refl
 
 pub returns-then-number-scope-clause-grows : goal.returns-then-number-scope-clause-grows
 returns-then-number-scope-clause-grows g c = Grows-texts c.args.kept.now _ refl c.in_ok-known.ensures.edges c.in_ok-text.ensures.grows refl
 
 pub returns-then-number-scope-clause-leads : goal.returns-then-number-scope-clause-leads
 returns-then-number-scope-clause-leads g c there =
-    let orders = c.args.orders.now in
+    let orders = c.args.scope.orders.now in
     let runs = g.O.Orders.runs orders in
     let old = c.args.kept.now in
     let next = c.args.next in
@@ -42,14 +42,14 @@ returns-then-joined-clause-kept g c =
     let visit : ℕ × List ℕ = (c.in_ok-text.text, c.as_slice-bytes.result.now) in
     let edge = c.in_ok-joined.ensures.joined c.if-joined.true in
     let seen = found_at c.in_ok-there.there edge.0 (λ number. (visits c.add.new.self ≡ visits old.visited) × IsThere visit (visits old.visited) number) edge.1 c.in_ok-there.ensures.there in
-    AreKept-texts (g.O.Orders.runs c.args.orders.now) (g.O.Orders.has_key c.args.orders.now) old _ c.requires.kept refl c.in_ok-text.ensures.ok c.in_ok-text.ensures.grows c.in_ok-there.ensures.whole seen.0 refl refl
+    AreKept-texts (g.O.Orders.runs c.args.scope.orders.now) (g.O.Orders.has_key c.args.scope.orders.now) old _ c.requires.kept refl c.in_ok-text.ensures.ok c.in_ok-text.ensures.grows c.in_ok-there.ensures.whole seen.0 refl refl
 
 pub returns-then-joined-clause-grows : goal.returns-then-joined-clause-grows
 returns-then-joined-clause-grows g c = Grows-texts c.args.kept.now _ refl c.in_ok-joined.ensures.edges c.in_ok-text.ensures.grows refl
 
 pub returns-then-joined-clause-leads : goal.returns-then-joined-clause-leads
 returns-then-joined-clause-leads g c _ =
-    let orders = c.args.orders.now in
+    let orders = c.args.scope.orders.now in
     let runs = g.O.Orders.runs orders in
     let old = c.args.kept.now in
     let next = c.args.next in
@@ -64,7 +64,7 @@ returns-then-joined-clause-leads g c _ =
 
 pub returns-clause-kept : goal.returns-clause-kept
 returns-clause-kept g c =
-    let orders = c.args.orders.now in
+    let orders = c.args.scope.orders.now in
     let runs = g.O.Orders.runs orders in
     let HasKey = g.O.Orders.has_key orders in
     let old = c.args.kept.now in
@@ -105,4 +105,4 @@ returns-clause-leads g c _ =
     let old = c.args.kept.now in
     let next = c.args.next in
     let added : ways c.push.new.self ≡ grown (ways old.lineage) c.args.from.number next.moves.items = c.in_ok-push.ensures.ways ∙ ap (λ (l : List g.row.O-Move.Denot). grown (ways old.lineage) c.args.from.number l) c.deref-2.ensures.value in
-    pushed_leads (g.O.Orders.runs c.args.orders.now) old _ c.args.from.number next.moves.items c.deref-2.result.now added c.in_ok-push.ensures.steps
+    pushed_leads (g.O.Orders.runs c.args.scope.orders.now) old _ c.args.from.number next.moves.items c.deref-2.result.now added c.in_ok-push.ensures.steps

@@ -14,7 +14,7 @@ use Rattle.explore.proofs.kept.follow_all.Goals as goal
 
 pub loop-next-init : goal.loop-next-init
 loop-next-init g c =
-    let runs = g.O.Orders.runs c.args.orders.now in
+    let runs = g.O.Orders.runs c.args.scope.orders.now in
     let way = get_or (ways c.args.kept.now.lineage) c.args.from.number [] in
     record {
       kept = c.requires.kept;
@@ -28,7 +28,7 @@ loop-next-init g c =
 
 pub follow-requires-clause-next : goal.follow-requires-clause-next
 follow-requires-clause-next g c =
-    let runs = g.O.Orders.runs c.args.orders.now in
+    let runs = g.O.Orders.runs c.args.scope.orders.now in
     let way = get_or (ways c.args.kept.now.lineage) c.args.from.number [] in
     let next = c.in-Some.next in
     subst (λ (l : List g.row.O-Move.Denot). IsSuccessor runs l next) (sym (get_or-extends (ways c.args.kept.now.lineage) (ways c.loop-next.kept.lineage) c.args.from.number [] c.loop-next.invariant.grows.lineage c.requires.from.way))
@@ -36,7 +36,7 @@ follow-requires-clause-next g c =
 
 pub loop-next-preserved : goal.loop-next-preserved
 loop-next-preserved g c =
-    let runs = g.O.Orders.runs c.args.orders.now in
+    let runs = g.O.Orders.runs c.args.scope.orders.now in
     let way = get_or (ways c.args.kept.now.lineage) c.args.from.number [] in
     let next = c.in-Some.next in
     let popped = c.in-Some.ensures.items in
@@ -66,7 +66,7 @@ loop-next-preserved g c =
 
 pub returns-clause-leads : goal.returns-clause-leads
 returns-clause-leads g c all =
-    let runs = g.O.Orders.runs c.args.orders.now in
+    let runs = g.O.Orders.runs c.args.scope.orders.now in
     let way = get_or (ways c.args.kept.now.lineage) c.args.from.number [] in
     let done = c.loop-next.invariant.done in
     let none : length c.loop-next.left.items ≡ 0 = omega (arith, c.in_default.ensures.cases.0) in

@@ -43,7 +43,7 @@ returns-clause-nodes g c at = c.in_ok-followed.ensures.full (c.left_out-left.ens
 
 pub returns-clause-followed : goal.returns-clause-followed
 returns-clause-followed g c none =
-    let orders = c.args.orders.now in
+    let orders = c.args.scope.orders.now in
     let runs = g.O.Orders.runs orders in
     let kept = c.follow_all.new.kept in
     let way = get_or (ways c.args.kept.now.lineage) c.args.at.reached.number [] in
@@ -56,7 +56,7 @@ returns-clause-followed g c none =
 
 pub returns-clause-continued : goal.returns-clause-continued
 returns-clause-continued g c k unmarked =
-    let orders = c.args.orders.now in
+    let orders = c.args.scope.orders.now in
     let runs = g.O.Orders.runs orders in
     let old = c.args.kept.now in
     let kept = c.follow_all.new.kept in
