@@ -33,23 +33,13 @@ fn reads(log: &TurnLog, register: RegId) -> bool
     log.reads().contains_key(&register)
 }
 
-// Whether an event control waits for changes of a register.
-fn has_trigger(control: &Control, register: RegId) -> bool
-    ensures { result ≡ list_any (λ t. t.1 == register) control.now }
-{
-    control
-        .triggers()
-        .iter()
-        .any(|trigger| trigger.1 == register)
-}
-
 // Whether the process of a turn goes on to wait for a register, where these are the event controls.
 fn waits(log: &TurnLog, controls: &[Control], register: RegId) -> bool
     ensures { result ≡ roles.waits_for register (wait_of controls.now log.now.suspend) }
 {
     match log.suspend() {
         Suspend::Event(control) => match controls.get(control) {
-            Some(control) => has_trigger(control, register),
+            Some(control) => control.waits_for(register),
             None => false,
         },
         Suspend::Ended | Suspend::Inactive | Suspend::Until(_) => false,

@@ -9,7 +9,7 @@ ghost use Rattle.regions.specs.Machine.{state_at};
 ghost use Rattle.steps.specs.declared.entry_account.EntryActor.TheVariants as actors;
 ghost use Rattle.steps.specs.Accounts.{account_of};
 ghost use Rattle.steps.specs.Cells.{cell_values, reading_in, AreWritten, AllWritesIn};
-ghost use Rattle.steps.specs.ExplainerStanding.{update_of, IsCleared, IsLogFilled, IsNoted, IsSoundState};
+ghost use Rattle.steps.specs.ExplainerStanding.{update_of, IsCleared, IsKept, IsLogFilled, IsNoted, IsSoundState};
 
 use crate::cells::{VersionedValue, change, change_all, reading};
 use crate::entry_account::{EntryAccount, EntryActor, Reading};
@@ -72,13 +72,12 @@ fn tell_turn(
 // Evaluates a turn, notes it, and answers its number where the log is filled with it.
 fn note_turn(
     machine: &Machine<'_>,
-    number: u64,
     log: &mut TurnLog,
     cells: &mut Vec<VersionedValue>,
     told: &mut EntryAccount,
+    number: u64,
 ) -> Result<Option<u64>, StepFault>
-    requires sound { IsSoundState machine.now.code (state_at machine.now) }
-    requires cells { length cells.old.items ≡ length machine.now.code.widths }
+    requires kept { IsKept machine.now cells.old.items }
     requires cleared { IsCleared told.old }
     ensures noted { OnOk result ((effect : Effect) → cell_values cells.old.items ≡ machine.now.values → step (design_of machine.now.code) (state_at machine.now) (entries.Turn number) ≡ Some effect → IsNoted machine.now.code (state_at machine.now) cells.old.items (entries.Turn number) effect cells.new.items (account_of told.new)) }
     ensures sound { OnOk result ((effect : Effect) → step (design_of machine.now.code) (state_at machine.now) (entries.Turn number) ≡ Some effect → IsSoundState machine.now.code effect.state) }
@@ -118,8 +117,7 @@ fn note_update(
     told: &mut EntryAccount,
     number: u64,
 ) -> Result<(), StepFault>
-    requires sound { IsSoundState machine.now.code (state_at machine.now) }
-    requires cells { length cells.old.items ≡ length machine.now.code.widths }
+    requires kept { IsKept machine.now cells.old.items }
     requires cleared { IsCleared told.old }
     ensures noted { OnOk result ((effect : Effect) → cell_values cells.old.items ≡ machine.now.values → step (design_of machine.now.code) (state_at machine.now) (entries.Update number) ≡ Some effect → IsNoted machine.now.code (state_at machine.now) cells.old.items (entries.Update number) effect cells.new.items (account_of told.new)) }
     ensures sound { OnOk result ((effect : Effect) → step (design_of machine.now.code) (state_at machine.now) (entries.Update number) ≡ Some effect → IsSoundState machine.now.code effect.state) }
@@ -155,8 +153,7 @@ pub fn note(
     cells: &mut Vec<VersionedValue>,
     told: &mut EntryAccount,
 ) -> Result<Option<u64>, StepFault>
-    requires sound { IsSoundState machine.now.code (state_at machine.now) }
-    requires cells { length cells.old.items ≡ length machine.now.code.widths }
+    requires kept { IsKept machine.now cells.old.items }
     ensures noted { OnOk result ((effect : Effect) → cell_values cells.old.items ≡ machine.now.values → step (design_of machine.now.code) (state_at machine.now) entry ≡ Some effect → IsNoted machine.now.code (state_at machine.now) cells.old.items entry effect cells.new.items (account_of told.new)) }
     ensures sound { OnOk result ((effect : Effect) → step (design_of machine.now.code) (state_at machine.now) entry ≡ Some effect → IsSoundState machine.now.code effect.state) }
     ensures given { IfOk result (IsLogFilled machine.now.code (state_at machine.now) entry log.new) }
@@ -165,7 +162,7 @@ pub fn note(
 {
     clear(told);
     match entry {
-        Entry::Turn(number) => note_turn(machine, number, log, cells, told),
+        Entry::Turn(number) => note_turn(machine, log, cells, told, number),
         Entry::Update(number) => {
             note_update(machine, cells, told, number)?;
             Ok(None)
