@@ -10,8 +10,8 @@ use Rattle.commitgate.proofs.Guards.{unfinished}
 use Rattle.commitgate.proofs.Rests.{next_due}
 use Rattle.commitgate.proofs.state.GateState.due_change.Goals as goal
 
-pub returns-in-Some : goal.returns-in-Some
-returns-in-Some g c =
+pub returns : goal.returns
+returns g c =
     let n = g.K.Naming.named in
     let held = gate_state_of c.self.inside.run_state in
     let rests = subst (λ (h : GateState). IsBetweenRegions n.code h) (sym c.self.view_is) c.requires in
