@@ -7,7 +7,7 @@ ghost use Rattle.explore.specs.Grown.{Extends};
 ghost use Rattle.explore.specs.Search.{AreDistinct};
 ghost use Rattle.std.specs.List.{All, AllPairs};
 ghost use Rattle.frontend.specs.Sources.{IsDesignOf};
-ghost use Rattle.program.specs.Findings.{AreFound, HaveSomeEnds, IsLawfulShown, IsClaimWithin, claim_of, finding_of, first_text, journals_of, limits_in, or_full, search_stop_of, unless_stopped};
+ghost use Rattle.program.specs.Findings.{AreFound, HaveSomeEnds, IsLawfulShown, claim_of, finding_of, first_text, journals_of, limits_in, or_full, search_stop_of, unless_stopped};
 ghost use Rattle.arguments.specs.Options.{CanSearch};
 ghost use Rattle.program.specs.Program.{status_of};
 ghost use Rattle.program.specs.Printed.{HasLeft, HasShown, IsToldLast};
@@ -15,7 +15,7 @@ ghost use Rattle.files.specs.Saved.{IsHeld, KeepsFiles, LeadsElsewhere, SavesAll
 
 use crate::fault::CommandFault;
 use crate::finding::SearchFinding;
-use crate::known::add_all;
+use crate::known::KnownTexts;
 use crate::racing::tell_races;
 use crate::sampling::sampled;
 use crate::texts::FoundTexts;
@@ -209,8 +209,12 @@ fn searched<P: Progress>(
         nodes,
         endless,
     } = explored;
-    let mut shown = known;
-    let added = add_all(&mut shown, others, search_options.max_texts as usize);
+    let mut all = KnownTexts {
+        shown: known,
+        most: search_options.max_texts as usize,
+    };
+    let added = all.add_all(others);
+    let KnownTexts { shown, most: _ } = all;
     let stopped = stop_of(stopped, added);
     let endless = endless_of(stopped, endless);
     let number = number_of(&endless, shown.as_slice());
