@@ -3,7 +3,7 @@ ghost use Rattle.std.specs.Prelude.{◌≡◌, ◌⊎◌, ℕ, [], ◌∷◌, �
 ghost use Rattle.explore.specs.Grown.{Extends};
 ghost use Rattle.explore.specs.Links.{IsEdgeTo};
 
-use crate::pieces::narrow;
+use sharing::narrow;
 use std::alloc::{AllocError, Global};
 
 /// A way leads from one node to another that was there before, by their numbers.

@@ -36,7 +36,7 @@ pub(crate) struct Chunks {
 }
 
 /// A number in half of the bytes: what doesn't fit there has no room.
-pub(crate) fn narrow(number: usize) -> Result<u32, AllocError>
+pub fn narrow(number: usize) -> Result<u32, AllocError>
     ensures { IfOk result (λ narrow. narrow ≡ number) }
 {
     if number > u32::MAX as usize {
