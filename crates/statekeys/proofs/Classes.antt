@@ -1,5 +1,5 @@
 -- Lists that are grouped by class.
-use Rattle.std.proofs.Common.{◌≡◌, ℕ, ◌<◌, ◌≤◌, ◌==◌, Bool, true, false, cond, List, [], ◌∷◌, length, map, filter, nat_cmp, is_lt, ◌⊎◌, inl, inr, refl, sym, ap, subst, ◌∙◌, arith, get_or}
+use Rattle.std.proofs.Common.{◌≡◌, ℕ, zero, suc, ◌<◌, ◌≤◌, ◌==◌, Bool, true, false, cond, List, [], ◌∷◌, length, map, filter, nat_cmp, is_lt, ◌⊎◌, inl, inr, refl, sym, ap, subst, ◌∙◌, arith, get_or}
 use Rattle.std.proofs.lemmas.Bool.{eqb-true}
 use Rattle.std.proofs.lemmas.Bool.Decides.{nat_tests}
 use Rattle.std.proofs.lemmas.List.{get_or-map, length-map}
@@ -98,14 +98,14 @@ module _ {X : Type 0} (n : X → ℕ) where
 
   at_least_to : (m : ℕ) (ys : List X) → AreAtLeast n m ys → (j : ℕ) (d : X) → j < length ys → m ≤ n (get_or ys j d)
   at_least_to m [] h j d lt = absurd (omega arith)
-  at_least_to m (y ∷ ys) h 0 d lt = h.0
+  at_least_to m (y ∷ ys) h zero d lt = h.0
   at_least_to m (y ∷ ys) h (suc j) d lt = at_least_to m ys h.1 j d (omega arith)
 
   rise_to : (ys : List X) → Rise n ys → IsNonDecreasingBy n ys
   rise_to [] h i j d le lt = absurd (omega arith)
-  rise_to (y ∷ ys) h 0 0 d le lt = omega arith
-  rise_to (y ∷ ys) h 0 (suc j) d le lt = at_least_to (n y) ys h.0 j d (omega arith)
-  rise_to (y ∷ ys) h (suc i) 0 d le lt = absurd (omega arith)
+  rise_to (y ∷ ys) h zero zero d le lt = omega arith
+  rise_to (y ∷ ys) h zero (suc j) d le lt = at_least_to (n y) ys h.0 j d (omega arith)
+  rise_to (y ∷ ys) h (suc i) zero d le lt = absurd (omega arith)
   rise_to (y ∷ ys) h (suc i) (suc j) d le lt = rise_to ys h.1 i j d (omega arith) (omega arith)
 
   module _ (p : X → Bool) where

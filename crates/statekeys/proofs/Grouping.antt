@@ -15,7 +15,7 @@ abbrev tail : {X : Type 0} → List X → List X
 tail [] = []
 tail (x ∷ xs) = xs
 
-is_some : {X : Type 0} → List X → ℕ
+abbrev is_some : {X : Type 0} → List X → ℕ
 is_some [] = 0
 is_some (x ∷ xs) = 1
 

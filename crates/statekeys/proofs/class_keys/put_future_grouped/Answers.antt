@@ -3,7 +3,7 @@ use Rattle.statekeys.specs.KeyCodes.{nat_code, pair_code}
 use Rattle.statekeys.specs.Keys.{update_code}
 use Rattle.statekeys.specs.KeyParts.{due_assignment}
 use Rattle.statekeys.specs.ClassKeys.{class_in}
-use Rattle.statekeys.proofs.Parts.{put_map}
+use Rattle.statekeys.proofs.Parts.{put_map_of}
 use Rattle.statekeys.proofs.Classes.{due_listed, rising_times}
 use Rattle.statekeys.proofs.class_keys.put_future_grouped.Goals as goal
 
@@ -20,4 +20,4 @@ returns-clause-in_time c =
 
 pub returns-clause-bytes : goal.returns-clause-bytes
 returns-clause-bytes c =
-    on_ok_weaker c.put_slice.result (put_map (pair_code nat_code update_code) due_assignment c.sort_future.new.future.items c.args.bytes.now.items c.put_slice.new.bytes.items) c.put_slice.ensures
+    on_ok_weaker c.put_slice.result (put_map_of (pair_code nat_code update_code) due_assignment c.deref.result.now c.sort_future.new.future.items c.args.bytes.now.items c.put_slice.new.bytes.items c.deref.ensures.value) c.put_slice.ensures

@@ -1,9 +1,8 @@
-use Rattle.std.proofs.Common.{◌==◌, ap, sym, subst, ◌∙◌}
 use Rattle.std.proofs.lemmas.Result.{on_ok_weaker}
 use Rattle.statekeys.specs.Keys.{update_code}
 use Rattle.statekeys.specs.KeyParts.{unnumbered_update}
 use Rattle.statekeys.specs.ClassKeys.{class_in}
-use Rattle.statekeys.proofs.Parts.{put_map}
+use Rattle.statekeys.proofs.Parts.{put_map_of}
 use Rattle.statekeys.proofs.Classes.{grouped_listed}
 use Rattle.statekeys.proofs.class_keys.put_grouped.Goals as goal
 
@@ -16,4 +15,4 @@ returns-clause-grouped c =
 
 pub returns-clause-bytes : goal.returns-clause-bytes
 returns-clause-bytes c =
-    on_ok_weaker c.put_slice.result (put_map update_code unnumbered_update c.sort_by_class.new.updates.items c.args.bytes.now.items c.put_slice.new.bytes.items) c.put_slice.ensures
+    on_ok_weaker c.put_slice.result (put_map_of update_code unnumbered_update c.deref.result.now c.sort_by_class.new.updates.items c.args.bytes.now.items c.put_slice.new.bytes.items c.deref.ensures.value) c.put_slice.ensures
