@@ -1,11 +1,10 @@
 -- What is told of the events of a region by classes, and states of which one thing is told so.
 use Rattle.std.proofs.Common.{◌≡◌, ℕ, List, [], ◌++◌, map, sym, ◌∙◌, ap, subst}
-use Rattle.std.specs.Prelude.{Option}
 use Rattle.std.specs.List.Sorted.{IsPermutation, IsNonDecreasingBy}
 use Rattle.std.proofs.lemmas.Simd.{map-map}
 use Rattle.logic4.specs.Vector.{Vector}
 use Rattle.model.specs.Turns.{Remainder}
-use Rattle.model.specs.States.{Event, due_at}
+use Rattle.model.specs.States.{Event}
 use Rattle.model.specs.Design.{Trigger}
 use Rattle.orders.specs.Alike as alike
 use Rattle.loose.specs.Loose.{AreAlikeIn, IsAlikeFutureIn, AlikeIn}
@@ -21,7 +20,7 @@ use Rattle.regions.specs.ProcessWaking.{triggers_at}
 use Rattle.statekeys.specs.Keys.{KeyContent, at_time}
 use Rattle.statekeys.specs.KeyParts.{unnumbered_update, due_assignment}
 use Rattle.statekeys.specs.KeyLaws.{ClassKeysTellStates}
-use Rattle.statekeys.specs.ClassKeys.{IsGrouped, AreEventsIn, AreUpdatesToCome, IsToldInClasses, IsClassKey}
+use Rattle.statekeys.specs.ClassKeys.{IsGrouped, AreEventsIn, AreUpdatesToCome, IsToldInClasses}
 use Rattle.statekeys.proofs.Events.{processes_of, active_told, nonblocking_told, future_nonblocking_told}
 use Rattle.statekeys.proofs.KeyCodes.{key_code_tells}
 use Rattle.statekeys.proofs.Codes.{list_code_tells}

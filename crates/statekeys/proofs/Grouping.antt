@@ -3,7 +3,6 @@ use Rattle.std.proofs.Common.{◌≡◌, ℕ, ◌<◌, ◌≤◌, ◌==◌, Bool
 use Rattle.std.proofs.lemmas.Bool.{cond-true, cond-false, eqb-true, cases_lt}
 use Rattle.std.proofs.lemmas.Bool.Decides.{nat_tests}
 use Rattle.logic4.specs.Vector.{Vector}
-use Rattle.loose.specs.Loose.{of_class}
 use Rattle.statekeys.specs.KeyLaws.{GroupingIsUnique}
 use Rattle.statekeys.proofs.Classes.{AreAtLeast, Rise, rise_from}
 

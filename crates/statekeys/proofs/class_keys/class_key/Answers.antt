@@ -1,8 +1,7 @@
-use Rattle.std.proofs.Common.{◌≡◌, ℕ, List, [], ◌++◌, map, refl, sym, ◌∙◌, ap}
+use Rattle.std.proofs.Common.{◌≡◌, ℕ, List, ◌++◌, map, ◌∙◌, ap}
 use Rattle.std.proofs.lemmas.Result.{on_ok_weaker}
-use Rattle.design.specs.declared.code.ProcState.{ProcState}
 use Rattle.statekeys.specs.KeyCodes.{nat_code, bool_code, pair_code, list_code, vector_code}
-use Rattle.statekeys.specs.Keys.{KeyContent, process_code, update_code, key_code}
+use Rattle.statekeys.specs.Keys.{KeyContent, process_code, update_code}
 use Rattle.statekeys.specs.ClassKeys.{class_in, IsToldInClasses, IsClassKey}
 use Rattle.statekeys.specs.KeyParts.{going_on, unnumbered_update, due_assignment}
 use Rattle.statekeys.proofs.Events.{inactive_told, future_inactive_told, processes_told}
