@@ -12,7 +12,8 @@ use std::alloc::{AllocError, Global};
 use std::collections::VecDeque;
 
 /// Room in which the processes of evaluations are sorted, and updates by their classes. It is kept from one key to the next, so
-/// that keys take no memory of their own once it has grown.
+/// that keys take no memory of their own once it has grown; but a class key does while it sorts a list of more than 20 updates that
+/// doesn't stand in order.
 #[derive(Drop)]
 pub struct Scratch {
     pub(crate) active: Vec<u32>,
