@@ -28,4 +28,5 @@ pub mod Told
 pub mod Begun
 pub mod Untaken
 pub mod Permitted
+pub mod BroughtForward
 pub mod Crossing

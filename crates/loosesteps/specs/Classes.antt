@@ -1,0 +1,15 @@
+-- Classes of registers that stand in a row, and the first event of a kind among those that are active.
+use Rattle.std.specs.Prelude.{◌≡◌, ℕ, Bool, false, true, ◌==◌, List, [], ◌∷◌, slice_index_or}
+use Rattle.model.specs.States.{Action, Event}
+use Rattle.model.specs.Laws.{evaluates}
+use Rattle.loose.specs.Loose.{updates_class}
+
+-- the class of a register, which stands at its place, and class 0 where none does
+abbrev pub class_in : List ℕ → ℕ → ℕ
+class_in classes r = slice_index_or classes r 0
+
+-- the first of some events whose action passes a test stands at a place
+abbrev pub IsFirstAt : (Action → Bool) → List Event → ℕ → Type 0
+IsFirstAt test [] at = ⊥
+IsFirstAt test (e ∷ es) zero = test e.1 ≡ true
+IsFirstAt test (e ∷ es) (suc at) = (test e.1 ≡ false) × IsFirstAt test es at
