@@ -1,8 +1,6 @@
 -- Classes of registers that stand in a row, and the first event of a kind among those that are active.
-use Rattle.std.specs.Prelude.{◌≡◌, ℕ, Bool, false, true, ◌==◌, List, [], ◌∷◌, slice_index_or}
+use Rattle.std.specs.Prelude.{◌≡◌, ℕ, zero, suc, Bool, false, true, List, [], ◌∷◌, slice_index_or}
 use Rattle.model.specs.States.{Action, Event}
-use Rattle.model.specs.Laws.{evaluates}
-use Rattle.loose.specs.Loose.{updates_class}
 
 -- the class of a register, which stands at its place, and class 0 where none does
 abbrev pub class_in : List ℕ → ℕ → ℕ

@@ -1,5 +1,6 @@
 -- What comes of a loose transition that a machine takes, and why it takes none.
-use Rattle.std.specs.Prelude.{◌≡◌, ℕ, List, ◌++◌, None, Some, IsSome}
+use Rattle.std.specs.Prelude.{◌≡◌, ℕ, List, ◌++◌, None, Some}
+use Rattle.std.specs.Option.{IsSome}
 use Rattle.model.specs.declared.entry.Entry.{Entry}
 use Rattle.model.specs.States.{State}
 use Rattle.model.specs.Runs.{Effect}
