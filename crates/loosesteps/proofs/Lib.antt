@@ -1,1 +1,2 @@
 pub mod Forward
+pub mod ForwardStates
