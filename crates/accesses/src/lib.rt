@@ -1,6 +1,7 @@
 //! What the entries of a run do.
 //!
-//! 1. `role` has the words: a site, which is a register, where lines are printed, or where the run ends, and what an entry does there.
+//! 1. `role` has the words: a site, which is a register, the order of the lines that are printed or of those of `$strobe` statements,
+//!    or the end of the run, and what an entry does there.
 //! 2. `accesses` tells what a turn does at a site, by its log.
 //! 3. `pair` is two entries of a journal with what each is said to do. `split` finds them in it, and in that of a second run, where
 //!    they come the other way round; where one of them finishes the run, one journal may have it alone.

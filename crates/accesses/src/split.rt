@@ -41,6 +41,7 @@ struct Parted<'j> {
     behind: &'j [Entry],
 }
 
+// Whether an entry is a turn or an update, and no change of the regions.
 fn is_event(entry: Entry) -> bool
     ensures { IsTrue result → roles.IsEvent entry }
 {
@@ -51,6 +52,7 @@ fn is_event(entry: Entry) -> bool
     }
 }
 
+// Whether no change of the regions is among entries.
 fn are_events(entries: &[Entry]) -> bool
     ensures { IsTrue result → All roles.IsEvent entries.now }
 {
@@ -95,6 +97,7 @@ fn is_same(one: Entry, other: Entry) -> bool
     one == other
 }
 
+// Whether two lists have the same entries in the same order.
 fn are_same(one: &[Entry], other: &[Entry]) -> bool
     ensures { IsTrue result → one.now ≡ other.now }
 {

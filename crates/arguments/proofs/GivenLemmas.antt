@@ -19,7 +19,7 @@ use Rattle.clap.specs.declared.builder.value_parser.ValueParser.{ValueParser}
 use Rattle.clap.specs.declared.parser.matches.ArgMatches.{ArgMatches}
 use Rattle.clap.specs.declared.parser.matches.Found.{Found}
 use Rattle.clap.specs.declared.parser.matches.MatchedArg.{MatchedArg}
-use Rattle.arguments.specs.Arguments.{Rule, TakesOneValue, Follow, HasRules, IsGivenArgument}
+use Rattle.arguments.specs.Arguments.{Rule, FollowsRule, Follow, HasRules, IsGivenArgument}
 
 -- what holds of each answer that is Ok
 pub if_ok : {T E : Type 0} (P Q : T → Type 0) (r : Result T E) → ((x : T) → P x → Q x) → IfOk r P → IfOk r Q
@@ -33,19 +33,19 @@ if_err P Q (Err e) f h = f e h
 
 -- building a command
 
-takes_same : (a b : Arg) (r : Rule) → SameRules a b → TakesOneValue a r → TakesOneValue b r
+takes_same : (a b : Arg) (r : Rule) → SameRules a b → FollowsRule a r → FollowsRule b r
 takes_same a b r s t = record {
   id = ap (λ x. x.now) s.id ∙ t.id;
   required = s.required ∙ t.required;
   parser = λ q e. s.parser q (t.parser q e);
-  set = s.action Set t.set;
-  least = s.least t.set t.least;
+  action = s.action r.action t.action;
+  least = λ set. s.least (t.action ∙ ap Some set) (t.least set);
   whole = s.val_delim ∙ t.whole;
   plain = (s.exclusive ∙ t.plain.0, s.conflicts ∙ t.plain.1, s.overrides ∙ t.plain.2, s.groups ∙ t.plain.3);
   local = s.global ∙ t.local;
 }
 
-follow_push : (xs : List Arg) (rs : List Rule) (y : Arg) (r : Rule) → Follow xs rs → TakesOneValue y r
+follow_push : (xs : List Arg) (rs : List Rule) (y : Arg) (r : Rule) → Follow xs rs → FollowsRule y r
     → Follow (xs ++ y ∷ []) (rs ++ r ∷ [])
 follow_push [] [] y r f t = (t, f)
 follow_push [] (s ∷ rs) y r f t = absurd f
@@ -63,7 +63,7 @@ none_yet c args groups local negates = record {
 }
 
 -- and with one more
-pub one_more : (c d : Command) (a : Arg) (rs : List Rule) (r : Rule) → HasRules c rs → TakesOneValue a r → AddsArg c a d
+pub one_more : (c d : Command) (a : Arg) (rs : List Rule) (r : Rule) → HasRules c rs → FollowsRule a r → AddsArg c a d
     → HasRules d (rs ++ r ∷ [])
 one_more c d a rs r h t added = record {
   args = subst (λ xs. Follow xs (rs ++ r ∷ [])) (sym added.args)
@@ -89,13 +89,13 @@ some_arg [] (s ∷ rs) k r f e = absurd f
 some_arg (x ∷ xs) rs k r f e = x
 
 rule_at : (xs : List Arg) (rs : List Rule) (k : ℕ) (r : Rule) (d : Arg) → Follow xs rs → slice_get rs k ≡ Some r
-    → (k < length xs) × TakesOneValue (slice_index_or xs k d) r
+    → (k < length xs) × FollowsRule (slice_index_or xs k d) r
 rule_at [] [] k r d f e = cc
 rule_at [] (s ∷ rs) k r d f e = absurd f
 rule_at (x ∷ xs) [] k r d f e = absurd f
 rule_at (x ∷ xs) (s ∷ rs) zero r d f e =
     let same : s ≡ r = ap (λ o. unwrap_or o s) e in
-    (omega arith, subst (TakesOneValue x) same f.0)
+    (omega arith, subst (FollowsRule x) same f.0)
 rule_at (x ∷ xs) (s ∷ rs) (suc k) r d f e =
     let got = rule_at xs rs k r d f.1 e in
     (omega (arith, got.0), got.1)
@@ -164,14 +164,14 @@ own_not_empty id h e =
 
 -- a required argument of the rules has a text
 pub required_text : (cmd : Command) (m : ArgMatches) (rs : List Rule) (k : ℕ) (r : Rule) → IsParsedFrom cmd m → HasRules cmd rs
-    → slice_get rs k ≡ Some r → r.required ≡ true → only_at rs r.id k ≡ true → is_own r.id ≡ true
+    → slice_get rs k ≡ Some r → r.required ≡ true → r.action ≡ Set → only_at rs r.id k ≡ true → is_own r.id ≡ true
     → is_some (first_value (found_of m) r.id) ≡ true
-required_text cmd m rs k r p h place required only own =
+required_text cmd m rs k r p h place required set only own =
     let d = some_arg (args_of cmd) rs k r h.args place in
     let got = rule_at (args_of cmd) rs k r d h.args place in
     let t = got.1 in
     let has = required_has_value cmd m p h.plain h.local h.negates k d got.0
-    (t.required ∙ required) t.set t.whole t.least
+    (t.required ∙ required) (t.action ∙ ap Some set) t.whole (t.least set)
     (λ j e lt eq. only_there (args_of cmd) rs r.id k h.args only j e lt
     (subst (λ (w : List ℕ). bytes_eq (slice_index_or (args_of cmd) j e).id.now w ≡ true) t.id eq))
     (λ empty. own_not_empty r.id own (sym t.id ∙ empty))
@@ -227,7 +227,7 @@ pub given : (cmd : Command) (m : ArgMatches) (rs : List Rule) (k : ℕ) (r : Rul
     → IsGivenArgument (found_of m) r.id q
 given cmd m rs k r q p h place parser only own = go (matched_of (found_of m) r.id) refl
   where
-    keeps : (d : Arg) → (k < length (args_of cmd)) × TakesOneValue (slice_index_or (args_of cmd) k d) r
+    keeps : (d : Arg) → (k < length (args_of cmd)) × FollowsRule (slice_index_or (args_of cmd) k d) r
         → (j : ℕ) (x : Arg) → j < length (args_of p.built) → slice_index_or (args_of p.built) j x ≡ x
         → bytes_eq x.id.now r.id ≡ true → SameRules (slice_index_or (args_of cmd) k d) x
     keeps d got j x lt at eq =

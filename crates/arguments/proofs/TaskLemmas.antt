@@ -12,7 +12,7 @@ use Rattle.arguments.specs.declared.request.Request.{Request}
 use Rattle.arguments.specs.declared.request.Request.TheVariants as request
 use Rattle.arguments.specs.declared.command_task.CommandTask.{CommandTask}
 use Rattle.arguments.specs.declared.command_task.CommandTask.TheVariants as task
-use Rattle.arguments.specs.Arguments.{Gives, HasRules, TakesOneValue, parameters_of, rule, rule_for, rules_of, workers_parser, until_parser, entries_parser, seed_parser}
+use Rattle.arguments.specs.Arguments.{FollowsRule, Gives, HasRules, flag_parser, flag_rule, parameters_of, rule, rule_for, rules_of, workers_parser, until_parser, entries_parser, seed_parser}
 use Rattle.arguments.specs.CommandWords.{Asks, AsksTwoOrders, Begins, FailsAs, IsAskedBy, IsRunOf, IsReplayOf, IsRacesOf, IsCheckOf, IsExplainOf, IsWavesOf, app_by, argument_of, bare_app, every_task, faults_by, rows_by, with_arguments, with_tasks, word_of, run_app, replay_app, races_app, check_app, explain_app, waves_app, whole_app, run_rows, replay_rows, races_rows, check_rows, explain_rows, waves_rows, run_faults, replay_faults, races_faults, check_faults, explain_faults, waves_faults}
 use Rattle.arguments.proofs.GivenLemmas.{given, one_more, required_text}
 use Rattle.arguments.proofs.WordLemmas.{run_fails, replay_fails, races_fails, check_fails, explain_fails, waves_fails, two_orders_fail}
@@ -62,18 +62,18 @@ task_is_free task.Waves = refl
 
 pub task_gives : (asked : CommandTask) (cmd : Command) (m : ArgMatches) → IsParsedFrom cmd m → HasRules cmd (rules_of asked) → Gives asked (found_of m)
 task_gives task.Run cmd m p h = record {
-  file = required_text cmd m (rules_of task.Run) 0 (rule (codes "FILE") true None) p h refl refl refl refl;
+  file = required_text cmd m (rules_of task.Run) 0 (rule (codes "FILE") true None) p h refl refl refl refl refl;
   workers = given cmd m (rules_of task.Run) 1 (rule (codes "workers") false (Some workers_parser)) workers_parser p h refl refl refl refl;
   until = given cmd m (rules_of task.Run) 2 (rule (codes "until") false (Some until_parser)) until_parser p h refl refl refl refl;
   max_entries = given cmd m (rules_of task.Run) 3 (rule (codes "max-entries") false (Some entries_parser)) entries_parser p h refl refl refl refl;
   seed = given cmd m (rules_of task.Run) 5 (rule (codes "seed") false (Some seed_parser)) seed_parser p h refl refl refl refl;
 }
 task_gives task.Replay cmd m p h = record {
-  file = required_text cmd m (rules_of task.Replay) 0 (rule (codes "FILE") true None) p h refl refl refl refl;
-  journal = required_text cmd m (rules_of task.Replay) 1 (rule (codes "JOURNAL") true None) p h refl refl refl refl;
+  file = required_text cmd m (rules_of task.Replay) 0 (rule (codes "FILE") true None) p h refl refl refl refl refl;
+  journal = required_text cmd m (rules_of task.Replay) 1 (rule (codes "JOURNAL") true None) p h refl refl refl refl refl;
 }
 task_gives task.Races cmd m p h = record {
-  file = required_text cmd m (rules_of task.Races) 0 (rule (codes "FILE") true None) p h refl refl refl refl;
+  file = required_text cmd m (rules_of task.Races) 0 (rule (codes "FILE") true None) p h refl refl refl refl refl;
   until = given cmd m (rules_of task.Races) 1 (rule (codes "until") false (Some until_parser)) until_parser p h refl refl refl refl;
   max_entries = given cmd m (rules_of task.Races) 2 (rule (codes "max-entries") false (Some entries_parser)) entries_parser p h refl refl refl refl;
   max_states = given cmd m (rules_of task.Races) 3 (rule (codes "max-states") false (Some entries_parser)) entries_parser p h refl refl refl refl;
@@ -82,17 +82,20 @@ task_gives task.Races cmd m p h = record {
   samples = given cmd m (rules_of task.Races) 7 (rule (codes "samples") false (Some entries_parser)) entries_parser p h refl refl refl refl;
   seed = given cmd m (rules_of task.Races) 8 (rule (codes "seed") false (Some seed_parser)) seed_parser p h refl refl refl refl;
 }
-task_gives task.Check cmd m p h = record { file = required_text cmd m (rules_of task.Check) 0 (rule (codes "FILE") true None) p h refl refl refl refl }
+task_gives task.Check cmd m p h = record {
+  file = required_text cmd m (rules_of task.Check) 0 (rule (codes "FILE") true None) p h refl refl refl refl refl;
+  all = given cmd m (rules_of task.Check) 1 (flag_rule (codes "all")) flag_parser p h refl refl refl refl;
+}
 task_gives task.Explain cmd m p h = record {
-  file = required_text cmd m (rules_of task.Explain) 0 (rule (codes "FILE") true None) p h refl refl refl refl;
-  journal = required_text cmd m (rules_of task.Explain) 1 (rule (codes "JOURNAL") true None) p h refl refl refl refl;
+  file = required_text cmd m (rules_of task.Explain) 0 (rule (codes "FILE") true None) p h refl refl refl refl refl;
+  journal = required_text cmd m (rules_of task.Explain) 1 (rule (codes "JOURNAL") true None) p h refl refl refl refl refl;
   from = given cmd m (rules_of task.Explain) 2 (rule (codes "from") false (Some entries_parser)) entries_parser p h refl refl refl refl;
   to = given cmd m (rules_of task.Explain) 3 (rule (codes "to") false (Some entries_parser)) entries_parser p h refl refl refl refl;
 }
 task_gives task.Waves cmd m p h = record {
-  file = required_text cmd m (rules_of task.Waves) 0 (rule (codes "FILE") true None) p h refl refl refl refl;
-  journal = required_text cmd m (rules_of task.Waves) 1 (rule (codes "JOURNAL") true None) p h refl refl refl refl;
-  out = required_text cmd m (rules_of task.Waves) 2 (rule (codes "out") true None) p h refl refl refl refl;
+  file = required_text cmd m (rules_of task.Waves) 0 (rule (codes "FILE") true None) p h refl refl refl refl refl;
+  journal = required_text cmd m (rules_of task.Waves) 1 (rule (codes "JOURNAL") true None) p h refl refl refl refl refl;
+  out = required_text cmd m (rules_of task.Waves) 2 (rule (codes "out") true None) p h refl refl refl refl refl;
 }
 
 -- what that says of the words
@@ -145,7 +148,7 @@ task_two_orders asked words own rows e begins same found (is_run, two, kind) =
 
 -- one word or option more
 pub argument_more : (asked : CommandTask) (taken : List Parameter) (i : ℕ) (p : Parameter) (c d : Command) (a : Arg)
-    → take (i + 1) taken ≡ take i taken ++ p ∷ [] → TakesOneValue a (rule_for p) → rule_of a ≡ argument_of p → AddsArg c a d
+    → take (i + 1) taken ≡ take i taken ++ p ∷ [] → FollowsRule a (rule_for p) → rule_of a ≡ argument_of p → AddsArg c a d
     → HasRules c (map rule_for (take i taken)) → app_of c ≡ with_arguments (new_app (word_of asked)) (take i taken)
     → HasRules d (map rule_for (take (i + 1) taken)) × (app_of d ≡ with_arguments (new_app (word_of asked)) (take (i + 1) taken))
 argument_more asked taken i p c d a more takes is added rules app =

@@ -1,5 +1,7 @@
 -- What clap's account of the words gives for a request, and where there is none.
-use Rattle.std.proofs.Common.{◌≡◌, ◌⊎◌, ◌^◌, ◌<◌, ◌∙◌, ℕ, true, List, [], ◌∷◌, drop, Option, Some, None, is_some, option_map, pos, Result, Ok, Err, IfOk, IfErr, refl, sym, subst, ap, inl, inr, codes}
+use Rattle.std.proofs.Common.{◌≡◌, ◌⊎◌, ◌||◌, ◌^◌, ◌<◌, ◌∙◌, ℕ, Bool, true, false, List, [], ◌∷◌, drop, Option, Some, None, is_some, option_map, pos, Result, Ok, Err, IfOk, IfErr, refl, sym, subst, ap, inl, inr, codes, unwrap_or}
+use Rattle.std.specs.Str.{bytes_eq}
+use Rattle.std.proofs.lemmas.Slice.Eq.{bytes_eq-Decides}
 use Rattle.std.specs.Str.Parse.{IsNumeral, ParsesUnsigned, digits_value, without_leading_plus}
 use Rattle.clap.specs.Words.{App, Row, FailsBy, HasKind, HasMatchesOf, IsAmong, Kinds, ReadsOne, Text, one_text, without_minus, fault_of, found_of, is_simple, is_simple_and_free, matches_of, rows_of, kind_of}
 use Rattle.clap.specs.Kinds.{or_else}
@@ -13,8 +15,8 @@ use Rattle.clap.specs.declared.error.kind.ErrorKind.TheVariants.{ArgumentConflic
 use Rattle.clap.specs.declared.parser.matches.ArgMatches.{ArgMatches}
 use Rattle.arguments.specs.declared.request.NoRequest.{NoRequest}
 use Rattle.arguments.specs.declared.request.NoRequest.TheVariants as no_request
-use Rattle.arguments.specs.Arguments.{IsGivenArgument}
-use Rattle.arguments.specs.CommandWords.{number_given, AsksNoTask, Begins, FailsAs, IsNoRequest, IsNoRequestBy, MayFail, of_run, of_two_orders, of_replay, of_races, of_check, of_explain, of_waves, of_others, has_two_orders, other_faults, check_app, check_faults, explain_app, explain_faults, races_app, races_faults, replay_app, replay_faults, run_app, run_faults, run_rows, waves_app, waves_faults, whole_app}
+use Rattle.arguments.specs.Arguments.{IsGivenArgument, flag_parser}
+use Rattle.arguments.specs.CommandWords.{flag_given, number_given, AsksNoTask, Begins, FailsAs, IsNoRequest, IsNoRequestBy, MayFail, of_run, of_two_orders, of_replay, of_races, of_check, of_explain, of_waves, of_others, has_two_orders, other_faults, check_app, check_faults, explain_app, explain_faults, races_app, races_faults, replay_app, replay_faults, run_app, run_faults, run_rows, waves_app, waves_faults, whole_app}
 
 whole_is_free : is_simple_and_free whole_app ≡ true
 unfolding whole_app run_app replay_app races_app check_app explain_app waves_app
@@ -164,4 +166,29 @@ signed_given E G f id low high r small given only none value =
     some = elim given [
       | inl h ↦ inl h
       | inr g ↦ inr (ap is_some (signed_reads E G 32 low high g.0 r (value (without_minus g.0) g.2) only small g.3).1)
+    ]
+
+-- whether an option without a value was given
+
+true_or_false : (a b : Bool) → (a || b) ≡ true → (a ≡ true) ⊎ (b ≡ true)
+true_or_false true b h = inl refl
+true_or_false false b h = inr h
+
+pub flag_read : (f : Found) (id : Text) (r : Bool) → IsGivenArgument f id flag_parser
+    → (one_text f id ≡ None → r ≡ false) → (one_text f id ≡ Some (codes "true") → r ≡ true) → (one_text f id ≡ Some (codes "false") → r ≡ false)
+    → r ≡ flag_given id (rows_of f)
+flag_read f id r given none value other = is ∙ ap (λ (o : Option Text). bytes_eq (unwrap_or o []) (codes "true")) (one_text-rows f id)
+  where
+    at : (o : Option Text) → one_text f id ≡ o → (b : Bool) → r ≡ b → bytes_eq (unwrap_or o []) (codes "true") ≡ b → r ≡ bytes_eq (unwrap_or (one_text f id) []) (codes "true")
+    at o e b is_b same = is_b ∙ (sym same ∙ ap (λ (w : Option Text). bytes_eq (unwrap_or w []) (codes "true")) (sym e))
+
+    text_is : (text : Text) → one_text f id ≡ Some text → (bytes_eq text (codes "true") ≡ true) ⊎ (bytes_eq text (codes "false") ≡ true)
+        → r ≡ bytes_eq (unwrap_or (one_text f id) []) (codes "true")
+    text_is text e (inl same) = at (Some (codes "true")) (e ∙ ap Some ((bytes_eq-Decides text (codes "true")).0 same)) true (value (e ∙ ap Some ((bytes_eq-Decides text (codes "true")).0 same))) refl
+    text_is text e (inr same) = at (Some (codes "false")) (e ∙ ap Some ((bytes_eq-Decides text (codes "false")).0 same)) false (other (e ∙ ap Some ((bytes_eq-Decides text (codes "false")).0 same))) refl
+
+    is : r ≡ bytes_eq (unwrap_or (one_text f id) []) (codes "true")
+    is = elim given [
+      | inl e ↦ at None e false (none e) refl
+      | inr g ↦ text_is g.0 g.2 (true_or_false (bytes_eq g.0 (codes "true")) (bytes_eq g.0 (codes "false")) g.3)
     ]

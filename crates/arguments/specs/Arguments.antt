@@ -2,35 +2,46 @@
 use Rattle.std.specs.Prelude.{◌≡◌, ◌⊎◌, ◌≤◌, ℕ, Bool, true, false, List, [], ◌∷◌, map, Option, Some, None, ⊤, is_some, codes, pos}
 use Rattle.clap.specs.Facts.{least_values}
 use Rattle.clap.specs.Words.{args_of, IsPlain, IsPlainArg, Accepts, one_text, read_as, reading_of, first_value}
-use Rattle.clap.specs.declared.builder.action.ArgAction.TheVariants.{Set}
+use Rattle.clap.specs.declared.builder.action.ArgAction.{ArgAction}
+use Rattle.clap.specs.declared.builder.action.ArgAction.TheVariants.{Set, SetTrue}
 use Rattle.clap.specs.declared.builder.arg.Arg.{Arg}
 use Rattle.clap.specs.declared.builder.command.Command.{Command}
 use Rattle.clap.specs.declared.builder.command.Command.TheViews.{out-Command}
 use Rattle.clap.specs.declared.builder.value_parser.ValueParser.{ValueParser}
 use Rattle.clap.specs.declared.builder.value_parser.ValueParser.TheVariants.{Signed, Unsigned}
+use Rattle.clap.specs.declared.builder.value_parser.ValueParser.TheVariants as vp
 use Rattle.clap.specs.declared.parser.matches.Found.{Found}
 use Rattle.arguments.specs.declared.parameters.Parameter.{Parameter}
 use Rattle.arguments.specs.declared.parameters.Parameter.TheVariants as parameter
 use Rattle.arguments.specs.declared.command_task.CommandTask.{CommandTask}
 use Rattle.arguments.specs.declared.command_task.CommandTask.TheVariants as task
 
--- an argument: its id, whether it is required, and what its values have to pass
+-- an argument: its id, whether it is required, what its values have to pass, and whether it takes one or only stands there
 pub record Rule : Type 0 where
   pub id : List ℕ
   pub required : Bool
   pub parser : Option ValueParser
+  pub action : ArgAction
 
--- a rule for an argument with this id
+-- a rule for an argument with this id that takes one value
 abbrev pub rule : List ℕ → Bool → Option ValueParser → Rule
-rule id required parser = record { id = id; required = required; parser = parser }
+rule id required parser = record { id = id; required = required; parser = parser; action = Set }
 
--- the argument takes one value by this rule, and excludes nothing
-pub record TakesOneValue (a : Arg) (r : Rule) : Type 0 where
+-- an option that takes no value is true where it stands, and else false
+abbrev pub flag_parser : ValueParser
+flag_parser = vp.Bool
+
+-- a rule for an option with this id that takes no value
+abbrev pub flag_rule : List ℕ → Rule
+flag_rule id = record { id = id; required = false; parser = Some flag_parser; action = SetTrue }
+
+-- the argument is by this rule, and excludes nothing; where it takes a value, it takes one at least
+pub record FollowsRule (a : Arg) (r : Rule) : Type 0 where
   pub id : a.id.now ≡ r.id
   pub required : a.required ≡ r.required
   pub parser : (q : ValueParser) → r.parser ≡ Some q → a.value_parser ≡ Some q
-  pub set : a.action ≡ Some Set
-  pub least : 1 ≤ least_values a
+  pub action : a.action ≡ Some r.action
+  pub least : r.action ≡ Set → 1 ≤ least_values a
   pub whole : a.val_delim ≡ None
   pub plain : IsPlainArg a
   pub local : a.global ≡ false
@@ -40,7 +51,7 @@ abbrev pub Follow : List Arg → List Rule → Type 0
 Follow [] [] = ⊤
 Follow [] (r ∷ rs) = ⊥
 Follow (a ∷ xs) [] = ⊥
-Follow (a ∷ xs) (r ∷ rs) = TakesOneValue a r × Follow xs rs
+Follow (a ∷ xs) (r ∷ rs) = FollowsRule a r × Follow xs rs
 
 -- the command has these arguments alone
 pub record HasRules (c : Command) (rs : List Rule) : Type 0 where
@@ -87,7 +98,7 @@ parameters_of task.Races =
     ∷ parameter.Samples
     ∷ parameter.Seed
     ∷ []
-parameters_of task.Check = parameter.File ∷ []
+parameters_of task.Check = parameter.File ∷ parameter.All ∷ []
 parameters_of task.Explain = parameter.File ∷ parameter.Journal ∷ parameter.From ∷ parameter.To ∷ []
 parameters_of task.Waves = parameter.File ∷ parameter.Journal ∷ parameter.Out ∷ []
 
@@ -108,6 +119,7 @@ rule_for parameter.To = rule (codes "to") false (Some entries_parser)
 rule_for parameter.JournalTo = rule (codes "journal") false None
 rule_for parameter.JournalsTo = rule (codes "journals") false None
 rule_for parameter.Out = rule (codes "out") true None
+rule_for parameter.All = flag_rule (codes "all")
 
 -- the rules of the command of a task
 abbrev pub rules_of : CommandTask → List Rule
@@ -145,6 +157,7 @@ pub record GivesRaces (f : Found) : Type 0 where
 -- what a parse of `check` gives
 pub record GivesCheck (f : Found) : Type 0 where
   pub file : is_some (first_value f (codes "FILE")) ≡ true
+  pub all : IsGivenArgument f (codes "all") flag_parser
 
 -- what a parse of `explain` gives
 pub record GivesExplain (f : Found) : Type 0 where

@@ -6,7 +6,7 @@ use Rattle.clap.specs.Kinds.{or_else}
 use Rattle.clap.specs.Simple.{on_top}
 use Rattle.clap.specs.declared.error.kind.ErrorKind.{ErrorKind}
 use Rattle.clap.specs.declared.error.kind.ErrorKind.TheVariants.{ArgumentConflict, DisplayHelp, DisplayVersion, MissingSubcommand, OutOfMemory}
-use Rattle.clap.specs.declared.builder.action.ArgAction.TheVariants.{Set}
+use Rattle.clap.specs.declared.builder.action.ArgAction.TheVariants.{Set, SetTrue}
 use Rattle.clap.specs.declared.builder.value_parser.ValueParser.{ValueParser}
 use Rattle.arguments.specs.declared.run_options.RunOptions.{RunOptions}
 use Rattle.arguments.specs.declared.request.NoRequest.{NoRequest}
@@ -25,7 +25,8 @@ use Rattle.arguments.specs.declared.command_task.CommandTask.{CommandTask}
 use Rattle.arguments.specs.declared.command_task.CommandTask.TheVariants as task
 use Rattle.arguments.specs.declared.search_options.SearchOptions.{SearchOptions}
 use Rattle.arguments.specs.Options.{CanRun, CanSearch}
-use Rattle.arguments.specs.Arguments.{workers_parser, until_parser, entries_parser, seed_parser}
+use Rattle.std.specs.Str.{bytes_eq}
+use Rattle.arguments.specs.Arguments.{flag_parser, workers_parser, until_parser, entries_parser, seed_parser}
 
 -- the bytes of each word
 abbrev pub texts_of : {Z : Type 0} → List (String Z) → List Text
@@ -48,6 +49,10 @@ choice name parser = record (new_rule name) {
 abbrev pub need : Text → Rule
 need name = record (choice name None) { required = true }
 
+-- an option that takes no value
+abbrev pub flag : Text → Rule
+flag name = record (new_rule name) { long = Some name; action = Some SetTrue; parser = Some flag_parser }
+
 -- a word or an option as clap has it
 abbrev pub argument_of : Parameter → Rule
 argument_of parameter.File = place (codes "FILE")
@@ -65,6 +70,7 @@ argument_of parameter.To = choice (codes "to") (Some entries_parser)
 argument_of parameter.JournalTo = choice (codes "journal") None
 argument_of parameter.JournalsTo = choice (codes "journals") None
 argument_of parameter.Out = need (codes "out")
+argument_of parameter.All = flag (codes "all")
 
 -- a command with these words and options more
 abbrev pub with_arguments : App → List Parameter → App
@@ -114,9 +120,12 @@ races_app =
     (choice (codes "samples") (Some entries_parser)))
     (choice (codes "seed") (Some seed_parser))
 
--- `check` with its word
+-- `check` with its word and option
 unfoldable pub check_app : App
-check_app = with_rule (new_app (codes "check")) (place (codes "FILE"))
+check_app =
+    with_rule
+    (with_rule (new_app (codes "check")) (place (codes "FILE")))
+    (flag (codes "all"))
 
 -- `explain` with its words and options
 unfoldable pub explain_app : App
@@ -207,6 +216,10 @@ rows_by asked = matches_of (app_by asked)
 abbrev pub number_given : Text → List Row → Option ℕ
 number_given name rows = option_map (λ text. digits_value 10 (without_leading_plus text)) (one_of name rows)
 
+-- an option that takes no value was given under a name
+abbrev pub flag_given : Text → List Row → Bool
+flag_given name rows = bytes_eq (unwrap_or (one_of name rows) []) (codes "true")
+
 -- the options of a run: 2 workers, no limit of time and 1,000,000 entries where the words give no other number
 abbrev pub options_of : List Row → RunOptions
 options_of rows = record {
@@ -276,9 +289,10 @@ pub record IsRacesOf (rows : List Row) (races : RacesRequest) : Type 0 where
   pub search_options : races.search_options ≡ search_options_of rows
   pub journals : first_of (codes "journals") rows ≡ option_map (λ path. path.now) races.journals
 
--- this check is asked for: of FILE
+-- this check is asked for: of FILE, and of all places of each note where `--all` is given
 pub record IsCheckOf (rows : List Row) (check : CheckRequest) : Type 0 where
   pub file : first_of (codes "FILE") rows ≡ Some check.file.now
+  pub all : check.all ≡ flag_given (codes "all") rows
 
 -- this telling is asked for: of JOURNAL on FILE, from one entry to another, where the words give them, and else from the
 -- first to the last

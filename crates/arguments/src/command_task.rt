@@ -15,6 +15,7 @@ pub enum CommandTask {
 }
 
 impl CommandTask {
+    /// All tasks, in the order in which help shows them.
     pub fn every() -> &'static [CommandTask]
         ensures { result.now ≡ every_task }
     {

@@ -3,9 +3,9 @@
 ghost use Rattle.std.specs.Prelude.{◌≡◌, ◌≤◌, ◌^◌, ◌∷◌, IfSome, codes, is_some, unwrap_or, false};
 ghost use Rattle.clap.specs.Words.{first_of, found_of, rows_of};
 ghost use Rattle.model.specs.Runs.{last_time};
-ghost use Rattle.arguments.specs.Arguments.{IsGivenArgument, GivesRun, GivesReplay, GivesRaces, GivesCheck, GivesExplain, GivesWaves, workers_parser, until_parser, entries_parser, seed_parser};
+ghost use Rattle.arguments.specs.Arguments.{IsGivenArgument, GivesRun, GivesReplay, GivesRaces, GivesCheck, GivesExplain, GivesWaves, flag_parser, workers_parser, until_parser, entries_parser, seed_parser};
 ghost use Rattle.arguments.specs.Options.{CanRun, CanSearch};
-ghost use Rattle.arguments.specs.CommandWords.{IsCheckOf, IsExplainOf, IsRacesOf, IsReplayOf, IsRunOf, IsWavesOf, search_options_of, has_two_orders, number_given, options_of};
+ghost use Rattle.arguments.specs.CommandWords.{IsCheckOf, IsExplainOf, IsRacesOf, IsReplayOf, IsRunOf, IsWavesOf, search_options_of, flag_given, has_two_orders, number_given, options_of};
 
 use crate::request::{
     CheckRequest, ExplainRequest, RacesRequest, ReplayRequest, RunRequest, WavesRequest,
@@ -26,6 +26,7 @@ const DEFAULT_MAX_MEMORY: u32 = 4096;
 
 const DEFAULT_SEED: u64 = 0;
 
+/// The run that the words of `run` ask for, with the defaults of what they leave out.
 pub fn run_request<'a>(matches: &ArgMatches<'a>) -> RunRequest<'a>
     requires given { GivesRun (found_of matches.now) }
     requires one_order { has_two_orders (rows_of (found_of matches.now)) ≡ false }
@@ -39,6 +40,7 @@ pub fn run_request<'a>(matches: &ArgMatches<'a>) -> RunRequest<'a>
     }
 }
 
+/// The replay that the words of `replay` ask for: of which journal, on which source.
 pub fn replay_request<'a>(matches: &ArgMatches<'a>) -> ReplayRequest<'a>
     requires { GivesReplay (found_of matches.now) }
     ensures { IsReplayOf (rows_of (found_of matches.now)) result }
@@ -48,6 +50,7 @@ pub fn replay_request<'a>(matches: &ArgMatches<'a>) -> ReplayRequest<'a>
     ReplayRequest { file, journal }
 }
 
+/// The search that the words of `races` ask for, with the defaults of what they leave out.
 pub fn races_request<'a>(matches: &ArgMatches<'a>) -> RacesRequest<'a>
     requires { GivesRaces (found_of matches.now) }
     ensures { IsRacesOf (rows_of (found_of matches.now)) result }
@@ -59,18 +62,21 @@ pub fn races_request<'a>(matches: &ArgMatches<'a>) -> RacesRequest<'a>
     }
 }
 
+/// The check that the words of `check` ask for: of which source.
 pub fn check_request<'a>(matches: &ArgMatches<'a>) -> CheckRequest<'a>
     requires { GivesCheck (found_of matches.now) }
     ensures { IsCheckOf (rows_of (found_of matches.now)) result }
 {
     CheckRequest {
         file: matches.get_str("FILE").unwrap(),
+        all: given_flag(matches, "all"),
     }
 }
 
 /// Where a journal is told from its begin.
 const FIRST_ENTRY: u32 = 1;
 
+/// The explanation that the words of `explain` ask for: from which entry on, and up to which, if that is given.
 pub fn explain_request<'a>(matches: &ArgMatches<'a>) -> ExplainRequest<'a>
     requires { GivesExplain (found_of matches.now) }
     ensures { IsExplainOf (rows_of (found_of matches.now)) result }
@@ -83,6 +89,7 @@ pub fn explain_request<'a>(matches: &ArgMatches<'a>) -> ExplainRequest<'a>
     }
 }
 
+/// The dump that the words of `waves` ask for: of which journal, on which source, and where it is written.
 pub fn waves_request<'a>(matches: &ArgMatches<'a>) -> WavesRequest<'a>
     requires { GivesWaves (found_of matches.now) }
     ensures { IsWavesOf (rows_of (found_of matches.now)) result }
@@ -110,6 +117,15 @@ fn gives(matches: &ArgMatches<'_>, name: &str) -> bool
     }
 }
 
+/// Whether an option without a value is given.
+fn given_flag(matches: &ArgMatches<'_>, name: &str) -> bool
+    requires { IsGivenArgument (found_of matches.now) name.now flag_parser }
+    ensures { result ≡ flag_given name.now (rows_of (found_of matches.now)) }
+{
+    matches.get_flag(name)
+}
+
+/// How many workers take a run, and its limits: the defaults where none are given, and no limit of time.
 fn options(matches: &ArgMatches<'_>) -> RunOptions
     requires { GivesRun (found_of matches.now) }
     ensures fit { CanRun result }
@@ -122,6 +138,8 @@ fn options(matches: &ArgMatches<'_>) -> RunOptions
     }
 }
 
+/// The limits of the runs of a search and its bounds, with the defaults of those that aren't given, and how many random orders are tried in
+/// its place, if any are.
 fn search_options(matches: &ArgMatches<'_>) -> SearchOptions
     requires { GivesRaces (found_of matches.now) }
     ensures given { result ≡ search_options_of (rows_of (found_of matches.now)) }

@@ -2,8 +2,8 @@
 //!
 //! 1. `request` is what may be asked. `run_options` and `search_options` say how a design is run, and how far its orders are searched.
 //! 2. `parameters` has the words and options of the commands, and `commands` the commands, as `clap` knows them.
-//! 3. `given` makes a request of what `clap` finds in the words, and `parsing` finds the `command_task` that the first word asks for
-//!    and reads its words.
+//! 3. `given` makes a request of what `clap` finds in the words, and `parsing` finds the `command_task` that the word after the
+//!    program's name asks for, and reads its words.
 //!
 //! What the layer above uses: `read_request`. The options of its request are those of the words, and proved to be in range.
 //! No crate above calls `clap`, since a check that sees its calls takes long.

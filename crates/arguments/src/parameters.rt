@@ -2,8 +2,8 @@
 
 ghost use Rattle.std.specs.Prelude.{◌≡◌, None, Some, true, false, codes};
 ghost use Rattle.clap.specs.Words.{rule_of};
-ghost use Rattle.arguments.specs.Arguments.{TakesOneValue, parameters_of, rule, rule_for, workers_parser, until_parser, entries_parser, seed_parser};
-ghost use Rattle.arguments.specs.CommandWords.{argument_of, choice, place};
+ghost use Rattle.arguments.specs.Arguments.{FollowsRule, parameters_of, rule, flag_rule, rule_for, workers_parser, until_parser, entries_parser, seed_parser};
+ghost use Rattle.arguments.specs.CommandWords.{argument_of, choice, flag, place};
 
 use crate::command_task::CommandTask;
 use clap::{Arg, ArgAction, value_parser};
@@ -37,6 +37,7 @@ pub enum Parameter {
     JournalTo,
     JournalsTo,
     Out,
+    All,
 }
 
 /// What the command of a task takes, in the order in which help shows it.
@@ -64,7 +65,7 @@ pub fn parameters(task: CommandTask) -> &'static [Parameter]
             Parameter::Samples,
             Parameter::Seed,
         ],
-        CommandTask::Check => &[Parameter::File],
+        CommandTask::Check => &[Parameter::File, Parameter::All],
         CommandTask::Explain => &[
             Parameter::File,
             Parameter::Journal,
@@ -85,9 +86,11 @@ const JOURNALS_TO: &str = "Where to write a journal of each text: PREFIX.1.journ
 
 const OUT: &str = "Where to write the value change dump";
 
+const ALL: &str = "Shows each note at each of its places";
+
 /// The word or option as `clap` knows it.
 pub fn argument<'a>(alloc: Global, parameter: Parameter) -> Arg<'a>
-    ensures takes { TakesOneValue result (rule_for parameter) }
+    ensures takes { FollowsRule result (rule_for parameter) }
     ensures rule { rule_of result ≡ argument_of parameter }
 {
     match parameter {
@@ -106,12 +109,13 @@ pub fn argument<'a>(alloc: Global, parameter: Parameter) -> Arg<'a>
         Parameter::JournalTo => option(alloc, "journal", "OUT", JOURNAL_TO),
         Parameter::JournalsTo => option(alloc, "journals", "PREFIX", JOURNALS_TO),
         Parameter::Out => option(alloc, "out", "OUT", OUT).required(true),
+        Parameter::All => flag(alloc, "all", ALL),
     }
 }
 
 /// A word that has to be given.
 fn positional<'a>(alloc: Global, name: &'a str, help: &'a str) -> Arg<'a>
-    ensures takes { TakesOneValue result (rule name.entry.now true None) }
+    ensures takes { FollowsRule result (rule name.entry.now true None) }
     ensures rule { rule_of result ≡ place name.entry.now }
 {
     Arg::new(alloc, name)
@@ -122,7 +126,7 @@ fn positional<'a>(alloc: Global, name: &'a str, help: &'a str) -> Arg<'a>
 
 /// An option for one value.
 fn option<'a>(alloc: Global, name: &'a str, value: &'a str, help: &'a str) -> Arg<'a>
-    ensures takes { TakesOneValue result (rule name.entry.now false None) }
+    ensures takes { FollowsRule result (rule name.entry.now false None) }
     ensures rule { rule_of result ≡ choice name.entry.now None }
 {
     Arg::new(alloc, name)
@@ -132,39 +136,54 @@ fn option<'a>(alloc: Global, name: &'a str, value: &'a str, help: &'a str) -> Ar
         .help(help)
 }
 
+/// An option that takes no value.
+fn flag<'a>(alloc: Global, name: &'a str, help: &'a str) -> Arg<'a>
+    ensures takes { FollowsRule result (flag_rule name.entry.now) }
+    ensures rule { rule_of result ≡ flag name.entry.now }
+{
+    Arg::new(alloc, name)
+        .long(name)
+        .action(ArgAction::SetTrue)
+        .value_parser(value_parser!(bool))
+        .help(help)
+}
+
 /// An option for a number from 1 on.
 fn count<'a>(alloc: Global, name: &'a str, help: &'a str) -> Arg<'a>
-    ensures takes { TakesOneValue result (rule name.entry.now false (Some entries_parser)) }
+    ensures takes { FollowsRule result (rule name.entry.now false (Some entries_parser)) }
     ensures rule { rule_of result ≡ choice name.entry.now (Some entries_parser) }
 {
     option(alloc, name, "N", help).value_parser(value_parser!(u32).range(1..))
 }
 
 fn memory<'a>(alloc: Global) -> Arg<'a>
-    ensures takes { TakesOneValue result (rule (codes "max-memory") false (Some entries_parser)) }
+    ensures takes { FollowsRule result (rule (codes "max-memory") false (Some entries_parser)) }
     ensures rule { rule_of result ≡ choice (codes "max-memory") (Some entries_parser) }
 {
     option(alloc, "max-memory", "MB", MAX_MEMORY).value_parser(value_parser!(u32).range(1..))
 }
 
+/// The option for how many workers take a run.
 fn workers<'a>(alloc: Global) -> Arg<'a>
-    ensures takes { TakesOneValue result (rule (codes "workers") false (Some workers_parser)) }
+    ensures takes { FollowsRule result (rule (codes "workers") false (Some workers_parser)) }
     ensures rule { rule_of result ≡ choice (codes "workers") (Some workers_parser) }
 {
     let help = "Worker threads, 1 to 16 [default: 2]";
     option(alloc, "workers", "N", help).value_parser(value_parser!(u32).range(1..=16))
 }
 
+/// The option for the limit of time.
 fn until<'a>(alloc: Global) -> Arg<'a>
-    ensures takes { TakesOneValue result (rule (codes "until") false (Some until_parser)) }
+    ensures takes { FollowsRule result (rule (codes "until") false (Some until_parser)) }
     ensures rule { rule_of result ≡ choice (codes "until") (Some until_parser) }
 {
     let help = "Last time that the run may reach, 0 to 281474976710656 [default: no limit]";
     option(alloc, "until", "T", help).value_parser(value_parser!(u64).range(0..=281474976710656))
 }
 
+/// The option for the seed of a run, or for the first one of random orders.
 fn seed<'a>(alloc: Global) -> Arg<'a>
-    ensures takes { TakesOneValue result (rule (codes "seed") false (Some seed_parser)) }
+    ensures takes { FollowsRule result (rule (codes "seed") false (Some seed_parser)) }
     ensures rule { rule_of result ≡ choice (codes "seed") (Some seed_parser) }
 {
     let help = "Takes random choices from S, 0 to 18446744073709551615, on one thread";

@@ -48,6 +48,7 @@ fn refuse(alloc: Global, error: &Error) -> NoRequest
     }
 }
 
+/// What the words ask for: the version, or a task. Fails with what is said of words that ask for neither, or not so.
 fn parse<'a>(alloc: Global, words: &'a [String]) -> Result<Request<'a>, Error>
     ensures asked { IfOk result (Asks (texts_of words.now)) }
     ensures failed { IfErr result (λ e. FailsAs (texts_of words.now) (kind_of e)) }
@@ -75,6 +76,7 @@ fn asked_task(words: &[String]) -> Option<CommandTask>
     None
 }
 
+/// What the words of a task ask for, or what is said of words that the task doesn't take.
 fn parse_task<'a>(
     alloc: Global,
     task: CommandTask,
@@ -165,6 +167,7 @@ fn no_task(alloc: Global, words: &[String]) -> Error
     }
 }
 
+/// What to say where no task is asked for, or that memory is refused.
 fn missing_subcommand(alloc: Global) -> Error
     ensures { (kind_of result ≡ OutOfMemory) ⊎ (kind_of result ≡ MissingSubcommand) }
 {

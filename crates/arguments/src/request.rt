@@ -43,10 +43,11 @@ pub struct RacesRequest<'a> {
     ghost fit: { CanSearch search_options },
 }
 
-/// `check FILE`.
+/// `check FILE`, of each note at each of its places or of each kind once.
 #[derive(Drop)]
 pub struct CheckRequest<'a> {
     pub file: &'a str,
+    pub all: bool,
 }
 
 /// `explain FILE JOURNAL`, of the entries from one number to another, which are counted from 1.

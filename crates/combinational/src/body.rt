@@ -21,6 +21,7 @@ pub(crate) fn is_plain(statements: &[Statement]) -> bool
     true
 }
 
+// Whether a statement is a blocking assignment without a delay, an empty one, or an `if` around such ones alone.
 #[cycle(plain)]
 fn is_plain_statement(statement: &Statement) -> bool
     ensures { result ≡ is_plain_one (statement_of statement.now) }
@@ -52,6 +53,7 @@ pub(crate) fn may_write(statements: &[Statement], register: RegId) -> bool
     false
 }
 
+// Whether a statement may write a register, itself or by one inside it, where it is plain.
 #[cycle(writes)]
 fn may_write_in(statement: &Statement, register: RegId) -> bool
     ensures { result ≡ contains (written_one (statement_of statement.now)) register }
@@ -78,6 +80,7 @@ pub(crate) fn must_write(statements: &[Statement], register: RegId) -> bool
     false
 }
 
+// Whether a statement writes a register on every way through it, where it is plain.
 #[cycle(settles)]
 fn must_write_in(statement: &Statement, register: RegId) -> bool
     ensures { result ≡ contains (settled_one (statement_of statement.now)) register }
@@ -103,6 +106,7 @@ pub(crate) fn may_read(statements: &[Statement], register: RegId, later: bool) -
     read
 }
 
+// Whether a statement may read a register before it writes it, where it is plain, and where it is read behind it or isn't.
 #[cycle(reading)]
 fn may_read_in(statement: &Statement, register: RegId, later: bool) -> bool
     ensures { (registers : List ℕ) → contains registers register ≡ later → contains (reads_one (statement_of statement.now) registers) register ≡ result }

@@ -25,6 +25,7 @@ pub(crate) fn reads(expression: &Expression, register: RegId) -> bool
     }
 }
 
+// Whether one of these expressions reads a register.
 #[cycle(reads)]
 fn any_reads(expressions: &[Expression], register: RegId) -> bool
     ensures { result ≡ contains (all_registers_of (expressions_of expressions.now)) register }

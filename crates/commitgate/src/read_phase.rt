@@ -114,6 +114,7 @@ impl<'g, K: Naming, S: Seating, W: ReadWatch, R: Wait> RegReader for WatchedRead
 
     ghost lasting = { λ r. r.0 };
 
+    // Tells of the register that is read, and reads it then.
     fn read(&mut self, register: RegId) -> Seen {
         self.watch.reads(register);
         self.reader.read(register)

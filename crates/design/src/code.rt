@@ -201,6 +201,7 @@ impl ProcState {
     }
 }
 
+// Whether the same value is left over for the same register, or nothing in both.
 fn same_pending(left: Option<(RegId, PackedBits)>, right: Option<(RegId, PackedBits)>) -> bool
     ensures { IsTrue result ↔ (left ≡ right) }
 {

@@ -53,6 +53,7 @@ impl Control {
     }
 }
 
+// Whether a change of a register, of this kind, is one that an event of an event control waits for (9.7.2).
 fn matches(change: Change, edge: Edge) -> bool
     ensures { result ≡ states.edge_matches change edge }
 {

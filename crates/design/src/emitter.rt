@@ -120,6 +120,7 @@ impl Emitter {
         Ok(())
     }
 
+    // One event control more, with a copy of these events.
     fn control(&mut self, triggers: &Vec<Trigger>) -> Result<(), AllocError>
         ensures { OnOk result (emitted_of self.new ≡ with_control (emitted_of self.old) triggers.now.items) }
     {
@@ -127,6 +128,7 @@ impl Emitter {
         Ok(())
     }
 
+    // The node of a delay, which leads into a body that stands next, or past an empty one.
     fn delay(&mut self, delay: u32, body: &[Statement], next: usize) -> Result<(), AllocError>
         ensures node { OnOk result (emitted_of self.new ≡ with_node (emitted_of self.old) (node.Delay delay (first_of (length self.old.nodes.items + 1) (statements_of body.now) next))) }
         ensures length { OnOk result (length self.new.nodes.items ≡ length self.old.nodes.items + 1) }
@@ -135,6 +137,7 @@ impl Emitter {
         self.put(Node::Delay { delay, next })
     }
 
+    // One event control more, and its node, which leads into a body that stands next, or past an empty one.
     fn wait(
         &mut self,
         triggers: &Vec<Trigger>,

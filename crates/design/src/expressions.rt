@@ -12,6 +12,7 @@ use crate::tree::Expression;
 use model::tree::BinaryOperator;
 use std::alloc::AllocError;
 
+// Puts a step behind those that are there. Fails where memory is refused.
 fn put(ops: &mut Vec<Op>, op: Op) -> Result<(), AllocError>
     ensures { OnOk result (ops.new.items ≡ ops.old.items ++ op ∷ []) }
 {
@@ -25,6 +26,7 @@ fn load(ops: &mut Vec<Op>, register: RegId, size: Size) -> Result<(), AllocError
     put(ops, Op::Load { register, size })
 }
 
+// The step of one digit of a register, extended to a size.
 fn pick(ops: &mut Vec<Op>, register: RegId, index: u32, size: Size) -> Result<(), AllocError>
     ensures { OnOk result (ops.new.items ≡ ops.old.items ++ op.Pick register index size ∷ []) }
 {
@@ -91,6 +93,7 @@ fn direct(
     }
 }
 
+// The steps of an expression at the size that is asked for, behind those that are there.
 #[cycle(emit)]
 fn emit(
     ops: &mut Vec<Op>,
@@ -143,6 +146,7 @@ fn emit(
     }
 }
 
+// The steps of the parts of a concatenation, each at its own size, and with each but the first the step that joins it to those before.
 #[cycle(emit)]
 fn emit_parts(ops: &mut Vec<Op>, widths: &[u32], parts: &[Expression]) -> Result<(), AllocError>
     requires sound { AreSoundExpressions widths.now (expressions_of parts.now) }

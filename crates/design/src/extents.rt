@@ -22,6 +22,7 @@ fn begin(table: &mut Vec<Extent>) -> Result<(), AllocError>
     Ok(())
 }
 
+// fills in the entry of a place, once all statements inside that one are in the table
 fn finish(table: &mut Vec<Extent>, place: usize, behind_body: usize)
     requires { place < length table.old.items }
     ensures { table.new.items ≡ slice_set table.old.items place (record { body = behind_body; whole = length table.old.items }) }
@@ -33,6 +34,7 @@ fn finish(table: &mut Vec<Extent>, place: usize, behind_body: usize)
     };
 }
 
+// adds the entry of a statement that has one body, and those of the body
 #[cycle(measure)]
 fn measure_body(table: &mut Vec<Extent>, body: &[Statement]) -> Result<(), AllocError>
     ensures { OnOk result (table.new.items ≡ table.old.items ++ body_extent (length table.old.items) (statements_of body.now) ∷ extents (length table.old.items + 1) (statements_of body.now)) }
@@ -45,6 +47,7 @@ fn measure_body(table: &mut Vec<Extent>, body: &[Statement]) -> Result<(), Alloc
     Ok(())
 }
 
+// adds the entry of a statement, and those of the statements inside it; one without a body counts as one with an empty body
 #[cycle(measure)]
 fn measure(table: &mut Vec<Extent>, statement: &Statement) -> Result<(), AllocError>
     ensures { OnOk result (table.new.items ≡ table.old.items ++ extent_of (length table.old.items) (statement_of statement.now) ∷ extents_inside (length table.old.items) (statement_of statement.now)) }
@@ -66,6 +69,7 @@ fn measure(table: &mut Vec<Extent>, statement: &Statement) -> Result<(), AllocEr
     }
 }
 
+// adds the entries of statements and of those inside them, in the order of the text
 #[cycle(measure)]
 fn measure_all(table: &mut Vec<Extent>, statements: &[Statement]) -> Result<(), AllocError>
     ensures { OnOk result (table.new.items ≡ table.old.items ++ extents (length table.old.items) (statements_of statements.now)) }

@@ -40,6 +40,7 @@ impl Emitter {
         Ok(starts)
     }
 
+    // The node behind the statements of a process, which leads to its first place again where it repeats.
     fn end(&mut self, repeats: bool, first: usize) -> Result<(), AllocError>
         ensures { OnOk result (emitted_of self.new ≡ with_node (emitted_of self.old) (end_node repeats first)) }
     {

@@ -35,6 +35,7 @@ fn right_steps(right: &Expression) -> usize {
     }
 }
 
+// The steps of expressions, each at a size.
 #[cycle(steps)]
 fn all_steps(parts: &[Expression]) -> usize {
     let mut total: usize = 0;
@@ -60,6 +61,7 @@ impl Room {
         self.controls = self.controls.saturating_add(1);
     }
 
+    // Room for the code of a statement and of those inside it.
     #[cycle(room)]
     fn statement(&mut self, statement: &Statement) {
         match statement {
@@ -85,6 +87,7 @@ impl Room {
         }
     }
 
+    // Room for the code of statements and of those inside them.
     #[cycle(room)]
     fn all(&mut self, statements: &[Statement]) {
         for statement in statements {

@@ -67,6 +67,7 @@ pub fn sizing_of(operator: BinaryOperator) -> Sizing
     }
 }
 
+// The own size of an operator's value, by those of its operands.
 fn result_size(operator: BinaryOperator, left: Size, right: Size) -> Size
     ensures { result ≡ size.result_size (sizing_of operator) left right }
 {
@@ -101,6 +102,7 @@ pub fn right_size(operator: BinaryOperator, asked: Size, left: Size, right: Size
     }
 }
 
+// The own size of a unary operator's value, by that of its operand.
 fn unary_size(operator: UnaryOperator, own: Size) -> Size
     ensures { result ≡ size.unary_size operator own }
 {
@@ -148,6 +150,7 @@ pub fn own_size(widths: &[u32], expression: &Expression) -> Size
     }
 }
 
+// The own size of a concatenation: those of its parts together.
 #[cycle(own)]
 fn total_size(widths: &[u32], parts: &[Expression]) -> Size
     requires sound { AreSoundExpressions widths.now (expressions_of parts.now) }

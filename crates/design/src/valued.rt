@@ -50,6 +50,7 @@ impl Emitter {
         Ok(Span { from, to })
     }
 
+    // One more piece of a line.
     fn show(&mut self, shown: LinePiece) -> Result<(), AllocError>
         ensures shown { OnOk result (emitted_of self.new ≡ with_shown (emitted_of self.old) shown) }
         ensures nodes { OnOk result (length self.new.nodes.items ≡ length self.old.nodes.items) }

@@ -2,3 +2,4 @@
 pub mod Tellings
 pub mod Lexed
 pub mod Noted
+pub mod FirstNotes

@@ -1,12 +1,15 @@
 -- Notes on what is left complete those that were found.
-use Rattle.std.proofs.Common.{◌≡◌, ◌||◌, ℕ, ◌-◌, ◌<◌, ◌≤◌, Bool, true, false, refl, List, [], ◌∷◌, ◌++◌, length, map, take, drop, get_or, arith, Option, Some, None, option_to_list, sym, ap, subst, ◌∙◌, append_assoc, append-nil}
+use Rattle.std.proofs.Common.{◌≡◌, ◌||◌, ◌==◌, ℕ, ◌-◌, ◌<◌, ◌≤◌, Bool, true, false, refl, List, [], ◌∷◌, ◌++◌, length, map, take, drop, get_or, arith, Option, Some, None, option_to_list, sym, ap, subst, ◌∙◌, append_assoc, append-nil, codes}
 use Rattle.std.specs.Prelude.{MatchOption}
+use Rattle.std.specs.Str.{bytes_eq}
 use Rattle.std.proofs.lemmas.List.{take_all}
+use Rattle.tokens.specs.ByteClasses.{is_letter}
 use Rattle.diagnosis.specs.declared.lexemes.Lexeme.{Lexeme}
 use Rattle.diagnosis.specs.PlainLexemes.{plain_lexeme}
 use Rattle.diagnosis.specs.declared.notes.Note.{Note}
 use Rattle.diagnosis.specs.Lexemes.{PlainLexeme, AreLexemes}
-use Rattle.diagnosis.specs.LackedWords.{advice_of}
+use Rattle.diagnosis.specs.LackedWords.{advice_of, first_byte, suits}
+use Rattle.diagnosis.specs.declared.words.Advice.TheVariants as advice
 use Rattle.diagnosis.specs.Notes.{IsNoteOf, AreNotes, HasNotes, ended, silent, told}
 
 pub note_more : (all ls : List PlainLexeme) (l : PlainLexeme) (o : Option Note) (old new : List Note) → MatchOption o (advice_of l.text ≡ None) (IsNoteOf l) → new ≡ old ++ option_to_list o
@@ -32,6 +35,13 @@ notes_end source items slice [] notes are same none whole = record {
 }
 notes_end source items slice (x ∷ xs) notes are same none whole = absurd (omega arith)
 
-pub or_second : (a b : Bool) → b ≡ true → (a || b) ≡ true
+or_second : (a b : Bool) → b ≡ true → (a || b) ≡ true
 or_second true b h = refl
 or_second false b h = h
+
+-- a second module has the advice of one module
+pub suits_module : (text : List ℕ) → bytes_eq text (codes "module") ≡ true → suits advice.OneModule text ≡ true
+suits_module text is =
+    let first = first_byte text in
+    let named = bytes_eq text (codes "module") in
+    or_second (is_letter first) (first == 46 || (first == 40 || named)) (or_second (first == 46) (first == 40 || named) (or_second (first == 40) named is))

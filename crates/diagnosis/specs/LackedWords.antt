@@ -18,17 +18,29 @@ lacked_words =
     (codes "input", advice.OneModule) ∷ (codes "output", advice.OneModule) ∷ (codes "inout", advice.OneModule) ∷ (codes "parameter", advice.OneModule) ∷ (codes "localparam", advice.OneModule) ∷
     (codes "defparam", advice.OneModule) ∷ (codes "generate", advice.OneModule) ∷ (codes "endgenerate", advice.OneModule) ∷ (codes "genvar", advice.OneModule) ∷ (codes "macromodule", advice.OneModule) ∷
     (codes "primitive", advice.OneModule) ∷ (codes "endprimitive", advice.OneModule) ∷ (codes "specify", advice.OneModule) ∷ (codes "endspecify", advice.OneModule) ∷
-    (codes "wire", advice.TurnChange) ∷ (codes "wand", advice.TurnChange) ∷ (codes "wor", advice.TurnChange) ∷ (codes "tri", advice.TurnChange) ∷ (codes "tri0", advice.TurnChange) ∷
-    (codes "tri1", advice.TurnChange) ∷ (codes "triand", advice.TurnChange) ∷ (codes "trior", advice.TurnChange) ∷ (codes "trireg", advice.TurnChange) ∷ (codes "uwire", advice.TurnChange) ∷
-    (codes "supply0", advice.TurnChange) ∷ (codes "supply1", advice.TurnChange) ∷ (codes "assign", advice.TurnChange) ∷ (codes "deassign", advice.TurnChange) ∷ (codes "force", advice.TurnChange) ∷
-    (codes "release", advice.TurnChange) ∷
+    (codes "cell", advice.OneFile) ∷ (codes "config", advice.OneFile) ∷ (codes "design", advice.OneFile) ∷ (codes "endconfig", advice.OneFile) ∷ (codes "incdir", advice.OneFile) ∷
+    (codes "include", advice.OneFile) ∷ (codes "instance", advice.OneFile) ∷ (codes "liblist", advice.OneFile) ∷ (codes "library", advice.OneFile) ∷ (codes "use", advice.OneFile) ∷
+    (codes "table", advice.TruthTable) ∷ (codes "endtable", advice.TruthTable) ∷
+    (codes "specparam", advice.PathDelay) ∷ (codes "ifnone", advice.PathDelay) ∷ (codes "edge", advice.PathDelay) ∷ (codes "showcancelled", advice.PathDelay) ∷ (codes "noshowcancelled", advice.PathDelay) ∷
+    (codes "pulsestyle_onevent", advice.PathDelay) ∷ (codes "pulsestyle_ondetect", advice.PathDelay) ∷
+    (codes "wire", advice.Net) ∷ (codes "wand", advice.Net) ∷ (codes "wor", advice.Net) ∷ (codes "tri", advice.Net) ∷ (codes "tri0", advice.Net) ∷
+    (codes "tri1", advice.Net) ∷ (codes "triand", advice.Net) ∷ (codes "trior", advice.Net) ∷ (codes "trireg", advice.Net) ∷ (codes "uwire", advice.Net) ∷
+    (codes "supply0", advice.Net) ∷ (codes "supply1", advice.Net) ∷ (codes "assign", advice.Net) ∷ (codes "deassign", advice.Net) ∷ (codes "force", advice.Net) ∷
+    (codes "release", advice.Net) ∷ (codes "scalared", advice.Net) ∷ (codes "vectored", advice.Net) ∷
     (codes "and", advice.Gate) ∷ (codes "nand", advice.Gate) ∷ (codes "nor", advice.Gate) ∷ (codes "xor", advice.Gate) ∷ (codes "xnor", advice.Gate) ∷
     (codes "not", advice.Gate) ∷ (codes "buf", advice.Gate) ∷
+    (codes "bufif0", advice.ThreeState) ∷ (codes "bufif1", advice.ThreeState) ∷ (codes "notif0", advice.ThreeState) ∷ (codes "notif1", advice.ThreeState) ∷
+    (codes "cmos", advice.Switch) ∷ (codes "nmos", advice.Switch) ∷ (codes "pmos", advice.Switch) ∷ (codes "rcmos", advice.Switch) ∷ (codes "rnmos", advice.Switch) ∷
+    (codes "rpmos", advice.Switch) ∷ (codes "tran", advice.Switch) ∷ (codes "tranif0", advice.Switch) ∷ (codes "tranif1", advice.Switch) ∷ (codes "rtran", advice.Switch) ∷
+    (codes "rtranif0", advice.Switch) ∷ (codes "rtranif1", advice.Switch) ∷ (codes "pulldown", advice.Switch) ∷ (codes "pullup", advice.Switch) ∷
+    (codes "highz0", advice.Strength) ∷ (codes "highz1", advice.Strength) ∷ (codes "strong0", advice.Strength) ∷ (codes "strong1", advice.Strength) ∷ (codes "pull0", advice.Strength) ∷
+    (codes "pull1", advice.Strength) ∷ (codes "weak0", advice.Strength) ∷ (codes "weak1", advice.Strength) ∷ (codes "large", advice.Strength) ∷ (codes "medium", advice.Strength) ∷
+    (codes "small", advice.Strength) ∷
     (codes "integer", advice.Register) ∷ (codes "real", advice.Register) ∷ (codes "realtime", advice.Register) ∷ (codes "time", advice.Register) ∷
     (codes "task", advice.Subroutine) ∷ (codes "endtask", advice.Subroutine) ∷ (codes "function", advice.Subroutine) ∷ (codes "endfunction", advice.Subroutine) ∷ (codes "automatic", advice.Subroutine) ∷
     (codes "event", advice.NamedEvent) ∷
     (codes "fork", advice.Parallel) ∷ (codes "join", advice.Parallel) ∷ (codes "wait", advice.Wait) ∷ (codes "disable", advice.Parallel) ∷
-    (codes "signed", advice.Unsigned) ∷
+    (codes "signed", advice.Unsigned) ∷ (codes "unsigned", advice.Unsigned) ∷
     (codes "$monitor", advice.Monitor) ∷ (codes "$monitorb", advice.Monitor) ∷ (codes "$monitoro", advice.Monitor) ∷ (codes "$monitorh", advice.Monitor) ∷ []
 
 -- What a table has for a word.
@@ -67,8 +79,9 @@ abbrev pub has_large : Bool → List ℕ → Bool
 has_large based [] = false
 has_large based (b ∷ bs) = if based && is_large b then true else has_large (based || b == 39) bs
 
--- What may have a note with an advice by what stands before it, and is no word of the table: any lexeme where a block lacks, a
--- number, a string, a sign, a word or a `:` in square brackets, the word `module`, and no string where a format lacks.
+-- What may have a note with an advice by what stands around it, and is no word of the table: any lexeme where a block lacks, a
+-- number, a string, a sign, a word or a `:` in square brackets, the words `module` and `or`, the name of an instance, of a call, of
+-- an event or of a delay, and no string where a format lacks.
 abbrev pub suits : Advice → List ℕ → Bool
 suits advice.Block text = true
 suits advice.Size text = begins_number (first_byte text)
@@ -81,5 +94,16 @@ suits advice.Index text = is_letter (first_byte text) || first_byte text == 58
 suits advice.BlockName text = first_byte text == 58
 suits advice.Value text = first_byte text == 61
 suits advice.Memory text = first_byte text == 91
-suits advice.OneModule text = first_byte text == 46 || (first_byte text == 40 || bytes_eq text (codes "module"))
+suits advice.Attribute text = first_byte text == 40
+suits advice.BareEvent text = is_letter (first_byte text)
+suits advice.NamedDelay text = is_letter (first_byte text)
+suits advice.NamedEvent text = first_byte text == 45
+suits advice.Sign text = first_byte text == 45 || first_byte text == 43
+suits advice.Inverted text = first_byte text == 126 || first_byte text == 94
+suits advice.Shift text = first_byte text == 62 || first_byte text == 60
+suits advice.Replication text = begins_number (first_byte text) || is_letter (first_byte text)
+suits advice.LeftSide text = first_byte text == 123 || first_byte text == 93
+suits advice.Gate text = bytes_eq text (codes "or")
+suits advice.Subroutine text = is_letter (first_byte text)
+suits advice.OneModule text = is_letter (first_byte text) || (first_byte text == 46 || (first_byte text == 40 || bytes_eq text (codes "module")))
 suits _ text = false

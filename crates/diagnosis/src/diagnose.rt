@@ -6,9 +6,9 @@ ghost use Rattle.frontend.specs.Sources.{IsDesignOf, IsSourceFault};
 ghost use Rattle.diagnosis.specs.FaultLocations.{IsTextLocation, IsModuleLocation, IsFaultLocation};
 ghost use Rattle.frontend.specs.declared.source.SourceFault.TheVariants.{Parse};
 ghost use Rattle.vparse.specs.declared.parser.ParseFault.TheVariants.{Memory};
-ghost use Rattle.diagnosis.specs.Notes.{HasNotes};
+ghost use Rattle.diagnosis.specs.Kinds.{HasListed};
 
-use crate::notes::{Note, notes};
+use crate::kinds::{ListedNote, listed_notes};
 use crate::wanted::told_byte;
 use elaborate::ElabFault;
 use frontend::{SourceFault, read_design};
@@ -17,6 +17,7 @@ use std::alloc::Global;
 use tokens::cut::CutFault;
 use vparse::ParseFault;
 
+/// The location of a fault of the text, which want of memory hasn't. Fails where a cut of the source into tokens does.
 fn text_location(
     alloc: Global,
     source: &[u8],
@@ -34,6 +35,7 @@ fn text_location(
     }
 }
 
+/// The location of the token that a fault of the module tells, if it tells one. Fails where a cut of the source into tokens does.
 fn module_location(
     alloc: Global,
     source: &[u8],
@@ -48,6 +50,7 @@ fn module_location(
     }
 }
 
+/// The location of a fault, if that is known. Fails where a cut of the source into tokens does.
 fn fault_location(
     alloc: Global,
     source: &[u8],
@@ -62,12 +65,12 @@ fn fault_location(
 }
 
 /// What is wrong with a source: why `read_design` refuses it, if it does; where that fault stands, if that is known; and what the
-/// source has of Verilog that the language lacks.
+/// source has of Verilog that the language lacks, each kind once or each at all of its places.
 #[derive(Drop)]
 pub struct Diagnosis {
     pub fault: Option<SourceFault>,
     pub location: Option<Location>,
-    pub notes: Vec<Note>,
+    pub notes: Vec<ListedNote>,
 }
 
 /// A diagnosis with no notes and no location.
@@ -83,15 +86,16 @@ fn plain(alloc: Global, fault: Option<SourceFault>) -> Diagnosis
     }
 }
 
-fn of_fault(alloc: Global, source: &[u8], fault: SourceFault) -> Diagnosis
+/// The diagnosis of a source with a fault: its location, and the notes. Where these can't be had, want of memory is the fault that is told.
+fn of_fault(alloc: Global, source: &[u8], fault: SourceFault, all: bool) -> Diagnosis
     requires { IsSourceFault source.now fault }
     ensures fault { IfSome result.fault (λ told. IsSourceFault source.now told) }
     ensures location { IfSome result.fault (λ told. IsFaultLocation source.now told result.location) }
     ensures some { IfNone result.fault ⊥ }
-    ensures notes { IfSome result.fault (λ told. (told ≡ Parse Memory) ⊎ HasNotes source.now result.notes.items) }
+    ensures notes { IfSome result.fault (λ told. (told ≡ Parse Memory) ⊎ HasListed source.now all result.notes.items) }
 {
     match fault_location(alloc, source, &fault) {
-        Ok(location) => match notes(alloc, source) {
+        Ok(location) => match listed_notes(alloc, source, all) {
             Ok(notes) => Diagnosis {
                 fault: Some(fault),
                 location,
@@ -104,16 +108,17 @@ fn of_fault(alloc: Global, source: &[u8], fault: SourceFault) -> Diagnosis
 }
 
 /// What is wrong with a source. No fault is told only where `read_design` answers a design, and else the fault that it answers.
-/// Where memory is refused, that is the fault. A source without a fault has no notes.
-pub fn diagnose(alloc: Global, source: &[u8]) -> Diagnosis
+/// Where memory is refused, that is the fault. A source without a fault has no notes, and else it has all, or the first of each
+/// kind.
+pub fn diagnose(alloc: Global, source: &[u8], all: bool) -> Diagnosis
     ensures none { IfNone result.fault ((d : Compiled) × IsDesignOf source.now d) }
     ensures fault { IfSome result.fault (λ told. IsSourceFault source.now told) }
     ensures location { IfSome result.fault (λ told. IsFaultLocation source.now told result.location) }
     ensures silent { IfNone result.fault (result.notes.items ≡ []) }
-    ensures notes { IfSome result.fault (λ told. (told ≡ Parse Memory) ⊎ HasNotes source.now result.notes.items) }
+    ensures notes { IfSome result.fault (λ told. (told ≡ Parse Memory) ⊎ HasListed source.now all result.notes.items) }
 {
     match read_design(alloc, source) {
         Ok(_) => plain(alloc, None),
-        Err(fault) => of_fault(alloc, source, fault),
+        Err(fault) => of_fault(alloc, source, fault, all),
     }
 }

@@ -72,6 +72,7 @@ fn lexeme_len(text: &[u8]) -> usize
     }
 }
 
+/// Adds a lexeme to those found, with its first byte and the one behind its last. Fails where memory is refused.
 fn add<'a>(
     found: &mut Vec<Lexeme<'a>>,
     text: &'a [u8],

@@ -5,10 +5,11 @@ ghost use Rattle.std.specs.Str.{bytes_eq};
 ghost use Rattle.diagnosis.specs.PlainLexemes.{plain_lexeme};
 ghost use Rattle.diagnosis.specs.LackedWords as spec;
 ghost use Rattle.diagnosis.specs.LackedWords.{advice_of, suits};
-ghost use Rattle.diagnosis.specs.declared.words.Advice.TheVariants.{Format};
+ghost use Rattle.diagnosis.specs.declared.words.Advice.TheVariants.{Format, Replication};
 ghost use Rattle.diagnosis.specs.Notes.{IsNoteOf, HasNotes};
 
 use crate::before::{LexemeContext, NOTHING};
+use crate::behind::{Following, next_two};
 use crate::lexemes::{Lexeme, begins_number, lexemes};
 use crate::words::{Advice, advice_of, is_same};
 use std::alloc::{AllocError, Global};
@@ -91,27 +92,86 @@ fn lacks_format(before: LexemeContext<'_>, text: &[u8]) -> bool
     }
 }
 
-/// The advice on a lexeme of one byte, or on a comment that isn't finished, which has none.
-fn advice_on_sign(before: LexemeContext<'_>, text: &[u8]) -> Option<Advice>
+/// Whether a number or a name says how often something is repeated.
+fn is_count(before: LexemeContext<'_>, text: &[u8], following: Following<'_>) -> bool
+    ensures { result ≡ true → suits Replication text.now ≡ true }
+{
+    match text {
+        [b, ..] => (begins_number(*b) || is_letter(*b)) && before.repeats(following),
+        _ => false,
+    }
+}
+
+/// The advice on an operator. One of several bytes has it at its first.
+fn advice_on_operator(
+    before: LexemeContext<'_>,
+    text: &[u8],
+    following: Following<'_>,
+) -> Option<Advice>
     ensures { IfSome result (λ advice. suits advice text.now ≡ true) }
 {
     match text {
         [b'*'] if before.takes_events() => Some(Advice::Triggers),
+        [b'*'] if before.is_told(following) => None,
         [b'*'] => Some(Advice::Operator),
         [b'/'] => Some(Advice::Operator),
         [b'%'] => Some(Advice::Operator),
-        [b'.'] => Some(Advice::OneModule),
-        [b'('] if before.takes_ports() => Some(Advice::OneModule),
-        [b'='] if before.in_declaration() => Some(Advice::Value),
-        [b'['] if before.takes_words() => Some(Advice::Memory),
-        [b':'] if before.takes_name() => Some(Advice::BlockName),
-        [b':'] if before.in_select() => Some(Advice::Index),
+        [b'-'] if is_same(following.next, b">") => Some(Advice::NamedEvent),
+        [b'-'] if !before.ends_value() => Some(Advice::Sign),
+        [b'+'] if !before.ends_value() => Some(Advice::Sign),
+        [b'~'] if following.is_inverted() => Some(Advice::Inverted),
+        [b'^'] if is_same(following.next, b"~") && !before.ends_value() => Some(Advice::Inverted),
+        [b'>'] if before.begins_three(b">", following) => Some(Advice::Shift),
+        [b'<'] if before.begins_three(b"<", following) => Some(Advice::Shift),
         _ => None,
     }
 }
 
-/// The advice on a lexeme that is no word of the table, by what stands before it.
-fn advice_behind(before: LexemeContext<'_>, text: &[u8]) -> Option<Advice>
+/// The advice on a lexeme of one byte that is no operator, if it has one.
+fn advice_on_sign(
+    before: LexemeContext<'_>,
+    text: &[u8],
+    following: Following<'_>,
+) -> Option<Advice>
+    ensures { IfSome result (λ advice. suits advice text.now ≡ true) }
+{
+    match text {
+        [b'.'] => Some(Advice::OneModule),
+        [b'('] if before.takes_ports() => Some(Advice::OneModule),
+        [b'('] if before.takes_attribute(following) => Some(Advice::Attribute),
+        [b'='] if before.in_declaration() => Some(Advice::Value),
+        [b'['] if before.takes_words() => Some(Advice::Memory),
+        [b']'] if before.ends_left(following) => Some(Advice::LeftSide),
+        [b'{'] if before.begins_statement() => Some(Advice::LeftSide),
+        [b':'] if before.takes_name() => Some(Advice::BlockName),
+        [b':'] if before.in_select() => Some(Advice::Index),
+        _ => advice_on_operator(before, text, following),
+    }
+}
+
+/// The advice on a word that isn't in the table, if it has one.
+fn advice_on_word(
+    before: LexemeContext<'_>,
+    text: &[u8],
+    following: Following<'_>,
+) -> Option<Advice>
+    ensures { IfSome result (λ advice. suits advice text.now ≡ true) }
+{
+    match text {
+        [b, ..] if is_letter(*b) && before.in_brackets() => Some(Advice::Index),
+        [b, ..] if is_letter(*b) && before.is_event() => Some(Advice::BareEvent),
+        [b, ..] if is_letter(*b) && before.is_delay() => Some(Advice::NamedDelay),
+        [b, ..] if is_letter(*b) && before.begins_instance(text, following) => {
+            Some(Advice::OneModule)
+        }
+        [b, ..] if is_letter(*b) && before.is_call(text, following) => Some(Advice::Subroutine),
+        _ if is_same(text, b"or") && before.begins_gate() => Some(Advice::Gate),
+        _ => None,
+    }
+}
+
+/// The advice on a lexeme that is no word of the table, by what stands around it.
+fn advice_around(before: LexemeContext<'_>, text: &[u8], following: Following<'_>) -> Option<Advice>
     ensures { IfSome result (λ advice. suits advice text.now ≡ true) }
 {
     if before.lacks_block(text) {
@@ -123,15 +183,19 @@ fn advice_behind(before: LexemeContext<'_>, text: &[u8]) -> Option<Advice>
     if is_second_module(before, text) {
         return Some(Advice::OneModule);
     }
+    if is_count(before, text, following) {
+        return Some(Advice::Replication);
+    }
     match text {
         [b'"', ..] if conversions(text).is_none() => Some(Advice::Conversion),
         [b, rest @ ..] if begins_number(*b) && before.lacks_size(*b, rest) => Some(Advice::Size),
         [b, ..] if begins_number(*b) && has_large(text) => Some(Advice::Digits),
-        [b, ..] if is_letter(*b) && before.in_brackets() => Some(Advice::Index),
-        _ => advice_on_sign(before, text),
+        [b, ..] if is_letter(*b) => advice_on_word(before, text, following),
+        _ => advice_on_sign(before, text, following),
     }
 }
 
+/// The note that gives this advice on a lexeme.
 fn note_on(lexeme: &Lexeme<'_>, advice: Advice) -> Note
     ensures { result ≡ record { begin = lexeme.now.begin; end = lexeme.now.end; advice = advice } }
 {
@@ -142,18 +206,20 @@ fn note_on(lexeme: &Lexeme<'_>, advice: Advice) -> Note
     }
 }
 
-fn note_of(before: LexemeContext<'_>, lexeme: &Lexeme<'_>) -> Option<Note>
+/// The note on a lexeme, if there is advice on it: as a word of the table, or else by what stands before it.
+fn note_of(before: LexemeContext<'_>, lexeme: &Lexeme<'_>, following: Following<'_>) -> Option<Note>
     ensures { MatchOption result (advice_of (plain_lexeme lexeme.now).text ≡ None) (IsNoteOf (plain_lexeme lexeme.now)) }
 {
     match advice_of(lexeme.text) {
         Some(advice) => Some(note_on(lexeme, advice)),
-        None => match advice_behind(before, lexeme.text) {
+        None => match advice_around(before, lexeme.text, following) {
             Some(advice) => Some(note_on(lexeme, advice)),
             None => None,
         },
     }
 }
 
+/// Adds a note to those found, where there is one. Fails where memory is refused.
 fn add(found: &mut Vec<Note>, note: Option<Note>) -> Result<(), AllocError>
     ensures { OnOk result (found.new.items ≡ found.old.items ++ option_to_list note) }
 {
@@ -173,7 +239,7 @@ pub fn notes(alloc: Global, source: &[u8]) -> Result<Vec<Note>, AllocError>
     let mut before = NOTHING;
     let mut left = lexemes.as_slice();
     while let [lexeme, rest @ ..] = left {
-        let note = note_of(before, lexeme);
+        let note = note_of(before, lexeme, next_two(rest));
         add(&mut found, note)?;
         before = before.after(lexeme.text, note);
         left = rest;

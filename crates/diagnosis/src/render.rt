@@ -1,7 +1,7 @@
 //! A diagnosis as text.
 
 use crate::diagnose::Diagnosis;
-use crate::notes::Note;
+use crate::kinds::ListedNote;
 use elaborate::ElabFault;
 use frontend::SourceFault;
 use locations::{Location, before, last_line, location_of_byte};
@@ -13,9 +13,6 @@ use vparse::ParseFault;
 
 /// The longest part of a line that is shown, in bytes.
 const LONGEST: usize = 1000;
-
-/// How many notes are shown.
-const MOST_NOTES: usize = 100;
 
 /// Adds a character as it is shown: a control character by its escape, but a tab as it is in a line of a source.
 fn push_shown(text: &mut String, c: char, in_source: bool) -> Result<(), AllocError> {
@@ -55,7 +52,7 @@ fn rest_of_line(source: &[u8], byte: usize) -> &[u8] {
     }
 }
 
-/// Adds what stands above a caret's line: a tab as it is, and else a space for each column.
+/// Adds what stands below a character in the line of a caret, before it: a tab as it is, and else a space for each column.
 fn push_blank(text: &mut String, c: char) -> Result<(), AllocError> {
     if c == '\t' {
         return text.push(c);
@@ -105,22 +102,20 @@ impl fmt::Display for Head<'_> {
     }
 }
 
+/// Adds the notes, each with its location and its line of the source: as many as are shown, and how many more there are.
 fn push_notes(
     alloc: Global,
     text: &mut String,
     file: &str,
     source: &[u8],
-    notes: &[Note],
+    notes: &[ListedNote],
 ) -> Result<(), AllocError> {
-    for note in notes.iter().take(MOST_NOTES) {
-        let location = Some(location_of_byte(source, note.begin));
+    for listed in notes {
+        let byte = listed.note.begin;
+        let location = Some(location_of_byte(source, byte));
         let head = Head { file, location };
-        write!(text, "{head}: note: {}\n", note.advice)?;
-        push_line(alloc, text, source, note.begin)?;
-    }
-    let more = notes.len().saturating_sub(MOST_NOTES);
-    if more > 0 {
-        write!(text, "{file}: note: and {more} more\n")?;
+        write!(text, "{head}: note: {listed}\n")?;
+        push_line(alloc, text, source, byte)?;
     }
     Ok(())
 }
@@ -156,6 +151,7 @@ fn help(fault: &SourceFault) -> Option<&'static str> {
     }
 }
 
+/// Adds the fault with its location, its line of the source and what more is said of it, or that there is none.
 fn push_fault(
     alloc: Global,
     text: &mut String,
@@ -179,9 +175,8 @@ fn push_fault(
 }
 
 /// The text of a diagnosis of this source: for each note, and then for the fault, a line of path, line, column and message, the
-/// line of the source, and a caret; behind the fault a line with more on it, where there is more to say. At most a hundred notes
-/// are shown, and the others counted. Where there is no fault, that is the text. Control characters of path and source are shown
-/// as escapes.
+/// line of the source, and a caret; behind the fault a line with more on it, where there is more to say. A note that stands for
+/// several says for how many. Where there is no fault, that is the text. Control characters of path and source are shown as escapes.
 pub fn render(
     alloc: Global,
     path: &str,

@@ -62,6 +62,7 @@ fn is_named(spot: &Spot<'_>, name: &str) -> bool
     spot.token.text.as_bytes() == name.as_bytes()
 }
 
+/// Whether a token of this kind is a name, and no word of the language.
 fn is_name(kind: Kind) -> bool
     ensures { result ≡ is_name kind }
 {
@@ -71,6 +72,7 @@ fn is_name(kind: Kind) -> bool
     }
 }
 
+/// Whether a token of this kind begins a call with a format: a `$display` or a `$strobe`.
 fn is_call(kind: Kind) -> bool
     ensures { result ≡ is_call kind }
 {
@@ -121,6 +123,7 @@ fn is_past(behind: &[Spot<'_>], width: u64) -> bool {
     }
 }
 
+/// Whether a token is one that is looked for, by the part of the module in which it stands, and by what stands behind it.
 fn is_wanted(wanted: Wanted<'_>, part: ModulePart, spot: &Spot<'_>, behind: &[Spot<'_>]) -> bool
     ensures { result ≡ true → wants wanted.entry (plain_spot spot.now) ≡ true }
 {

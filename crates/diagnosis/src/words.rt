@@ -2,12 +2,13 @@
 
 ghost use Rattle.std.specs.Prelude.{◌≡◌};
 ghost use Rattle.std.specs.Str.{bytes_eq};
+ghost use Rattle.diagnosis.specs.SameAdvice.{same_advice};
 ghost use Rattle.diagnosis.specs.LackedWords as spec;
 
 use std::fmt;
 
-/// What to write instead of what the language lacks.
-#[derive(Clone, Copy)]
+/// What to write instead of what the language lacks. Notes with the same advice are of one kind.
+#[derive(Clone, Copy, PartialEq, Eq)]
 pub enum Advice {
     /// For `case` (IEEE 1364-2005, 9.5).
     Choice,
@@ -15,10 +16,22 @@ pub enum Advice {
     Loop,
     /// For ports, parameters and instances (12).
     OneModule,
+    /// For libraries and configurations (13).
+    OneFile,
+    /// For the truth tables of primitives (8).
+    TruthTable,
+    /// For specify blocks (14).
+    PathDelay,
     /// For nets and continuous assignments (4.2, 6.1).
-    TurnChange,
+    Net,
     /// For gates (7).
     Gate,
+    /// For three-state gates (7.4).
+    ThreeState,
+    /// For switches and pulls (7.5, 7.8).
+    Switch,
+    /// For strengths (7.9).
+    Strength,
     /// For other variables than `reg` (4.8).
     Register,
     /// For tasks and functions (10).
@@ -37,8 +50,14 @@ pub enum Advice {
     Directive,
     /// For `signed` (4.5).
     Unsigned,
+    /// For attributes (3.8).
+    Attribute,
     /// For `@*` (9.7.5).
     Triggers,
+    /// For an event control without parentheses (9.7.2).
+    BareEvent,
+    /// For a delay by a name (9.7.1).
+    NamedDelay,
     /// For a body that is no block.
     Block,
     /// For a number without a size (3.5.1).
@@ -47,6 +66,16 @@ pub enum Advice {
     Conversion,
     /// For `*`, `/`, `%` and `**` (5.1.5).
     Operator,
+    /// For a sign in front of a value (5.1.5).
+    Sign,
+    /// For reductions that are inverted, and for the equivalence of digits (5.1.10, 5.1.11).
+    Inverted,
+    /// For arithmetic shifts (5.1.12).
+    Shift,
+    /// For replications (5.1.14).
+    Replication,
+    /// For left sides that are selects or concatenations (9.2).
+    LeftSide,
     /// For an index that is no number, or a part select (5.2.1).
     Index,
     /// For large letters and `_` in a number with a base (3.5.1).
@@ -67,10 +96,18 @@ impl fmt::Display for Advice {
             Advice::Choice => "no `case`: write `if` and `else`, each with `begin` and `end`",
             Advice::Loop => "this loop is not in the language: write `while`",
             Advice::OneModule => "no ports, parameters or instances: write one module of `reg`s",
-            Advice::TurnChange =>
-                "no nets: write a `reg`, and `always begin y = a & b; @(a or b); end`",
+            Advice::OneFile => "no libraries or configurations: write one module in one file",
+            Advice::TruthTable => "no truth tables: write an expression, or `if` and `else`",
+            Advice::PathDelay =>
+                "no specify blocks: write the delay where the value is assigned, as in `y <= #3 a;`",
+            Advice::Net => "no nets: write a `reg`, and `always begin y = a & b; @(a or b); end`",
             Advice::Gate =>
                 "no gates: write a `reg`, and `always begin y = ~(a & b); @(a or b); end`",
+            Advice::ThreeState =>
+                "no three-state gates: write a `reg`, and `always begin y = en ? a : 1'bz; @(en or a); end`",
+            Advice::Switch =>
+                "no switches or pulls: write a `reg`, and one process that assigns it",
+            Advice::Strength => "no strengths: a `reg` has the value that was assigned last",
             Advice::Register =>
                 "no `integer`, `real` or `time`: write `reg [31:0]` or `reg [63:0]`, which are unsigned",
             Advice::Subroutine => "no tasks or functions: write the statements where they are used",
@@ -86,12 +123,22 @@ impl fmt::Display for Advice {
             }
             Advice::Directive => "no directives: delays are in units of the simulation time",
             Advice::Unsigned => "all values are unsigned",
+            Advice::Attribute => "no attributes: leave them out",
+            Advice::BareEvent => "an event control has parentheses: write `@(a)`",
+            Advice::NamedDelay => "a delay is a plain number: write it as in `#10`",
             Advice::Triggers =>
                 "write the registers by their names, behind the body: `always begin y = a & b; @(a or b); end`",
             Advice::Block => "a body is a block: write `begin` and `end`",
             Advice::Size => "a number has a size: write it as in `32'd1`",
             Advice::Conversion => "a format has `%b`, `%h`, `%0d` and `%%`",
             Advice::Operator => "no `*`, `/` or `%`: write shifts and sums",
+            Advice::Sign => "no sign in front of a value: write `8'd0 - a` for `-a`",
+            Advice::Inverted =>
+                "no `~&`, `~|` or `~^`: write `~(&a)`, `~(|a)`, `~(^a)`, and `~(a ^ b)` for `a ~^ b`",
+            Advice::Shift => "no `>>>` or `<<<`: write `>>` or `<<`, as all values are unsigned",
+            Advice::Replication => "no replications: write each part, as in `{a, a}`",
+            Advice::LeftSide =>
+                "the left side is a register's name: write a `reg` for each part, and assign each",
             Advice::Index => "an index is a plain number: write shifts and concatenations",
             Advice::Digits => "digits and the base of a number are small letters, without `_`",
             Advice::Value =>
@@ -127,22 +174,43 @@ const WORDS: &[(&[u8], Advice)] = &[
     (b"endprimitive", Advice::OneModule),
     (b"specify", Advice::OneModule),
     (b"endspecify", Advice::OneModule),
-    (b"wire", Advice::TurnChange),
-    (b"wand", Advice::TurnChange),
-    (b"wor", Advice::TurnChange),
-    (b"tri", Advice::TurnChange),
-    (b"tri0", Advice::TurnChange),
-    (b"tri1", Advice::TurnChange),
-    (b"triand", Advice::TurnChange),
-    (b"trior", Advice::TurnChange),
-    (b"trireg", Advice::TurnChange),
-    (b"uwire", Advice::TurnChange),
-    (b"supply0", Advice::TurnChange),
-    (b"supply1", Advice::TurnChange),
-    (b"assign", Advice::TurnChange),
-    (b"deassign", Advice::TurnChange),
-    (b"force", Advice::TurnChange),
-    (b"release", Advice::TurnChange),
+    (b"cell", Advice::OneFile),
+    (b"config", Advice::OneFile),
+    (b"design", Advice::OneFile),
+    (b"endconfig", Advice::OneFile),
+    (b"incdir", Advice::OneFile),
+    (b"include", Advice::OneFile),
+    (b"instance", Advice::OneFile),
+    (b"liblist", Advice::OneFile),
+    (b"library", Advice::OneFile),
+    (b"use", Advice::OneFile),
+    (b"table", Advice::TruthTable),
+    (b"endtable", Advice::TruthTable),
+    (b"specparam", Advice::PathDelay),
+    (b"ifnone", Advice::PathDelay),
+    (b"edge", Advice::PathDelay),
+    (b"showcancelled", Advice::PathDelay),
+    (b"noshowcancelled", Advice::PathDelay),
+    (b"pulsestyle_onevent", Advice::PathDelay),
+    (b"pulsestyle_ondetect", Advice::PathDelay),
+    (b"wire", Advice::Net),
+    (b"wand", Advice::Net),
+    (b"wor", Advice::Net),
+    (b"tri", Advice::Net),
+    (b"tri0", Advice::Net),
+    (b"tri1", Advice::Net),
+    (b"triand", Advice::Net),
+    (b"trior", Advice::Net),
+    (b"trireg", Advice::Net),
+    (b"uwire", Advice::Net),
+    (b"supply0", Advice::Net),
+    (b"supply1", Advice::Net),
+    (b"assign", Advice::Net),
+    (b"deassign", Advice::Net),
+    (b"force", Advice::Net),
+    (b"release", Advice::Net),
+    (b"scalared", Advice::Net),
+    (b"vectored", Advice::Net),
     (b"and", Advice::Gate),
     (b"nand", Advice::Gate),
     (b"nor", Advice::Gate),
@@ -150,6 +218,35 @@ const WORDS: &[(&[u8], Advice)] = &[
     (b"xnor", Advice::Gate),
     (b"not", Advice::Gate),
     (b"buf", Advice::Gate),
+    (b"bufif0", Advice::ThreeState),
+    (b"bufif1", Advice::ThreeState),
+    (b"notif0", Advice::ThreeState),
+    (b"notif1", Advice::ThreeState),
+    (b"cmos", Advice::Switch),
+    (b"nmos", Advice::Switch),
+    (b"pmos", Advice::Switch),
+    (b"rcmos", Advice::Switch),
+    (b"rnmos", Advice::Switch),
+    (b"rpmos", Advice::Switch),
+    (b"tran", Advice::Switch),
+    (b"tranif0", Advice::Switch),
+    (b"tranif1", Advice::Switch),
+    (b"rtran", Advice::Switch),
+    (b"rtranif0", Advice::Switch),
+    (b"rtranif1", Advice::Switch),
+    (b"pulldown", Advice::Switch),
+    (b"pullup", Advice::Switch),
+    (b"highz0", Advice::Strength),
+    (b"highz1", Advice::Strength),
+    (b"strong0", Advice::Strength),
+    (b"strong1", Advice::Strength),
+    (b"pull0", Advice::Strength),
+    (b"pull1", Advice::Strength),
+    (b"weak0", Advice::Strength),
+    (b"weak1", Advice::Strength),
+    (b"large", Advice::Strength),
+    (b"medium", Advice::Strength),
+    (b"small", Advice::Strength),
     (b"integer", Advice::Register),
     (b"real", Advice::Register),
     (b"realtime", Advice::Register),
@@ -165,6 +262,7 @@ const WORDS: &[(&[u8], Advice)] = &[
     (b"wait", Advice::Wait),
     (b"disable", Advice::Parallel),
     (b"signed", Advice::Unsigned),
+    (b"unsigned", Advice::Unsigned),
     (b"$monitor", Advice::Monitor),
     (b"$monitorb", Advice::Monitor),
     (b"$monitoro", Advice::Monitor),
@@ -183,6 +281,14 @@ fn advice_in_table(text: &[u8]) -> Option<Advice>
         left = rest;
     }
     None
+}
+
+/// Whether notes with these advices are of one kind.
+#[tactic(auto, unfolding(crate::specs::SameAdvice::same_advice))]
+pub(crate) fn is_same_advice(one: Advice, other: Advice) -> bool
+    ensures { result ≡ same_advice one other }
+{
+    one == other
 }
 
 pub(crate) fn is_same(text: &[u8], word: &[u8]) -> bool

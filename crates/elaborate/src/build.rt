@@ -14,6 +14,7 @@ use std::alloc::{AllocError, Global};
 /// What a builder gives, unless memory is refused.
 pub type Built<T> = Result<T, AllocError>;
 
+/// A concatenation of a part and of those behind it.
 pub fn concat_of(first: Expression, others: Vec<Expression>) -> Built<Expression>
     ensures { IfOk result
         (λ made. expression_of made ≡ syntax.Concat (syntax.Also (expression_of first) (expressions_of others.items))) }
@@ -23,6 +24,7 @@ pub fn concat_of(first: Expression, others: Vec<Expression>) -> Built<Expression
     Ok(Expression::Concat(parts))
 }
 
+/// One of two expressions, by a test.
 pub fn conditional_of(
     alloc: Global,
     test: Expression,
@@ -55,6 +57,7 @@ pub fn unary_of(alloc: Global, op: UnaryOperator, e: Expression) -> Built<Expres
     Ok(Expression::Unary(op, Box::new(alloc, e)?))
 }
 
+/// A blocking assignment, with the delay inside it where there is one.
 pub fn assign_of(register: RegId, wait: Option<u64>, value: Expression) -> Statement
     requires { IsShortDelay wait }
     ensures { statement_of result ≡ assignment register wait (expression_of value) }

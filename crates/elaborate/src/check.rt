@@ -41,6 +41,7 @@ pub fn processes<'a>(
     Ok(())
 }
 
+// Refuses the first thing that is wrong with a statement and those inside it.
 #[cycle(found_in)]
 fn statement<'a>(names: &RegisterNames, s: &'a SourceStatement) -> Result<(), Finding<'a>>
     ensures found { first_finding result ≡ found_in names.now (source_statement_of s.now) }
@@ -74,6 +75,7 @@ fn statement<'a>(names: &RegisterNames, s: &'a SourceStatement) -> Result<(), Fi
     }
 }
 
+// Refuses the first thing that is wrong with the statements of a block.
 #[cycle(found_in)]
 fn block<'a>(names: &RegisterNames, body: &'a [SourceStatement]) -> Result<(), Finding<'a>>
     ensures found { first_finding result ≡ all_found_in names.now (source_statements (map source_statement_of body.now)) }
@@ -85,6 +87,7 @@ fn block<'a>(names: &RegisterNames, body: &'a [SourceStatement]) -> Result<(), F
     Ok(())
 }
 
+// Refuses a delay that is too long, where there is one.
 fn delay<'a>(wait: Option<u64>) -> Result<(), Finding<'a>>
     ensures { first_finding result ≡ found_delay wait }
 {
@@ -100,6 +103,7 @@ fn line<'a>(format: &[u8], arguments: &[SourceExpression]) -> Result<(), Finding
     shows(format, arguments.len())
 }
 
+// Refuses a format that is none, or that shows another number of arguments.
 fn shows<'a>(format: &[u8], arguments: usize) -> Result<(), Finding<'a>>
     ensures { first_finding result ≡ found_format format.now arguments }
 {
@@ -109,6 +113,7 @@ fn shows<'a>(format: &[u8], arguments: usize) -> Result<(), Finding<'a>>
     }
 }
 
+// What is told of an expression, by what is told of those inside it.
 #[cycle(found)]
 fn expression<'a>(names: &RegisterNames, e: &'a SourceExpression) -> Checked<'a>
     ensures size { result.size ≡ capped (own_size (widths_of names.now) (resolved names.now (source_expression_of e.now))) }
@@ -142,6 +147,7 @@ fn expression<'a>(names: &RegisterNames, e: &'a SourceExpression) -> Checked<'a>
     }
 }
 
+// What is told of expressions together: their sizes added up, and what is wrong first.
 #[cycle(found)]
 fn expressions<'a>(names: &RegisterNames, parts: &'a [SourceExpression]) -> Checked<'a>
     ensures size { result.size ≡ capped (total_size (widths_of names.now) (all_resolved names.now (source_expressions (map source_expression_of parts.now)))) }
@@ -161,6 +167,7 @@ fn expressions<'a>(names: &RegisterNames, parts: &'a [SourceExpression]) -> Chec
     }
 }
 
+// What is told of a unary operator's value, by what is told of its operand.
 fn unary<'a>(op: UnaryOperator, operand: Checked<'a>) -> Checked<'a>
     ensures size { result.size ≡ unary_size op operand.entry.size }
     ensures first_finding { first_finding result.first_finding ≡ first_finding operand.entry.first_finding }
@@ -177,6 +184,7 @@ fn unary<'a>(op: UnaryOperator, operand: Checked<'a>) -> Checked<'a>
     }
 }
 
+// What is told of a binary operator's value, by what is told of its operands.
 fn binary<'a>(op: BinaryOperator, left: Checked<'a>, right: Checked<'a>) -> Checked<'a>
     ensures size { result.size ≡ result_size (sizing_of op) left.entry.size right.entry.size }
     ensures first_finding { first_finding result.first_finding ≡ or_fault (first_finding left.entry.first_finding) (first_finding right.entry.first_finding) }
@@ -187,6 +195,7 @@ fn binary<'a>(op: BinaryOperator, left: Checked<'a>, right: Checked<'a>) -> Chec
     }
 }
 
+// The own size of a binary operator's value (5.4.1), by those of its operands.
 fn binary_size(op: BinaryOperator, left: u32, right: u32) -> u32
     ensures { result ≡ result_size (sizing_of op) left right }
 {
@@ -198,6 +207,7 @@ fn binary_size(op: BinaryOperator, left: u32, right: u32) -> u32
     }
 }
 
+// What is told of one of two expressions by a test, of which what is wrong is told, and the size doesn't matter.
 fn conditional<'a>(test: Checked<'a>, left: Checked<'a>, right: Checked<'a>) -> Checked<'a>
     ensures size { result.size ≡ max left.entry.size right.entry.size }
     ensures first_finding { first_finding result.first_finding
@@ -212,6 +222,7 @@ fn conditional<'a>(test: Checked<'a>, left: Checked<'a>, right: Checked<'a>) -> 
     }
 }
 
+// What is told of a literal: its width, and that nothing is wrong.
 fn literal<'a>(bits: Bits) -> Checked<'a>
     ensures size { result.size ≡ capped (length bits) }
     ensures first_finding { first_finding result.first_finding ≡ None }
@@ -240,6 +251,7 @@ fn concat<'a>(part: Checked<'a>, others: Checked<'a>) -> Checked<'a>
     }
 }
 
+// Refuses an index that isn't in the range of the register with a name, and every index of one without a range.
 fn bit<'a>(names: &RegisterNames, name: &'a str, index: u64) -> Result<(), Finding<'a>>
     ensures { first_finding result ≡ found names.now (Select name.now index) }
 {

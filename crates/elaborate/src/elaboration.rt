@@ -94,6 +94,7 @@ pub fn allowed<'a>(names: &RegisterNames, processes: &'a [SourceProcess]) -> Res
     check::processes(names, processes)
 }
 
+// Refuses too many processes.
 fn few<'a>(processes: usize) -> Result<(), Finding<'a>>
     ensures { first_finding result ≡ found_few processes }
 {

@@ -33,6 +33,7 @@ impl Finding<'_> {
         }
     }
 
+    // The fault, with a copy of its name. Fails where memory is refused to that.
     fn owned(self, alloc: Global) -> Result<ElabFault, AllocError>
         ensures found { IfOk result (λ f. IsModuleFaultOf f (plain self.entry)) }
         ensures certain { (f : ElabFault) → told_of (Some (plain self.entry)) ≡ Some f → result ≡ Ok f }

@@ -71,6 +71,7 @@ fn read(stage: FormatStage, byte: u8) -> Option<(FormatStage, Option<Piece>)>
     }
 }
 
+// A byte that no `%` stands before: a `%` begins a conversion, and any other stands for itself.
 fn plain(byte: u8) -> Option<(FormatStage, Option<Piece>)>
     ensures { option_map step_of result ≡ read_byte AtByte byte }
 {
@@ -90,6 +91,7 @@ fn as_it_is(byte: u8) -> Option<(FormatStage, Option<Piece>)>
     Some((FormatStage::AtByte, Some(Piece::Byte(byte))))
 }
 
+// A byte behind a `%`, and the piece that it completes. None where the language has no such conversion.
 fn conversion(byte: u8) -> Option<(FormatStage, Option<Piece>)>
     ensures { option_map step_of result ≡ read_byte AfterPercent byte }
 {
@@ -105,6 +107,7 @@ fn conversion(byte: u8) -> Option<(FormatStage, Option<Piece>)>
     }
 }
 
+// How many arguments a piece shows, where a byte completes one.
 fn arguments(piece: Option<Piece>) -> usize
     ensures value { result ≡ argument_count (completed_piece piece) }
     ensures few { result ≤ 1 }
@@ -115,6 +118,7 @@ fn arguments(piece: Option<Piece>) -> usize
     }
 }
 
+// Adds a piece, where a byte completes one. Fails where memory is refused.
 fn push(pieces: &mut Vec<Piece>, piece: Option<Piece>) -> Result<(), AllocError>
     ensures { OnOk result (map piece_of pieces.new.items ≡ map piece_of pieces.old.items ++ completed_piece piece) }
 {

@@ -69,6 +69,7 @@ impl RegisterNames {
         }
     }
 
+    // Refuses what `declare` refuses, in the same order.
     fn allowed<'a>(&self, name: &'a str, range: Range) -> Result<(), Finding<'a>>
         ensures { first_finding result ≡ found_name self.now (name.now, range) }
     {
@@ -83,6 +84,7 @@ impl RegisterNames {
         }
     }
 
+    // One register more, which may be declared. Fails where memory is refused.
     fn with(self, alloc: Global, name: &str, range: Range) -> Result<RegisterNames, AllocError>
         requires { found_name self (name.now, range) ≡ None }
         ensures { IfOk result (λ names. names ≡ self ++ (name.now, range) ∷ []) }
@@ -181,6 +183,7 @@ fn range_in(ranges: &[Range], place: usize) -> Range
     ranges.get(place).copied().unwrap_or(None)
 }
 
+// The widths of registers with these ranges, in their order.
 fn widths(alloc: Global, ranges: &[Range]) -> Result<Vec<u32>, AllocError>
     requires { (k : ℕ) → is_range (slice_index_or ranges.now k None) ≡ true }
     ensures { IfOk result (λ v. v.items ≡ map width_of ranges.now) }
@@ -192,6 +195,7 @@ fn widths(alloc: Global, ranges: &[Range]) -> Result<Vec<u32>, AllocError>
     Ok(widths)
 }
 
+// Whether a register may have this range: it ends at 0 and makes it no wider than the greatest width, or there is none.
 fn is_allowed(range: Range) -> bool
     ensures { result ≡ is_range range }
 {
@@ -201,6 +205,7 @@ fn is_allowed(range: Range) -> bool
     }
 }
 
+// The width of a register with this range, one digit where there is none.
 fn width_in(range: Range) -> u32
     requires { is_range range ≡ true }
     ensures value { result ≡ width_of range }

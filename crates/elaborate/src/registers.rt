@@ -28,6 +28,7 @@ pub fn registers(alloc: Global, declarations: &[Declaration]) -> Result<Register
     Ok(names)
 }
 
+// The registers, and behind them those of one declaration. Refuses the first name that may not be declared.
 fn with_all(
     alloc: Global,
     registers: RegisterNames,

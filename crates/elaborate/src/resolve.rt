@@ -53,6 +53,7 @@ pub fn processes_given_up(
     Ok(made)
 }
 
+// The process of a design, from one of a module whose statements are given up.
 fn process_given_up(alloc: Global, names: &RegisterNames, process: SourceProcess) -> Built<Process>
     requires { IsSmallStatement (source_statement_of process.body) }
     ensures { IfOk result (λ made. tree.process_of made ≡ model.elaborated_process names.now (source_process_of process)) }
@@ -79,6 +80,7 @@ fn given_up(alloc: Global, names: &RegisterNames, s: SourceStatement) -> Built<V
     }
 }
 
+// The statements of a block whose statements are given up one after another. Any other statement is given up as a whole.
 fn block_given_up(alloc: Global, names: &RegisterNames, s: SourceStatement) -> Built<Vec<Statement>>
     requires { IsSmallStatement (source_statement_of s) }
     ensures { IfOk result (λ made. tree.statements_of made.items ≡ model.statements_of names.now (source_statement_of s)) }
@@ -89,6 +91,7 @@ fn block_given_up(alloc: Global, names: &RegisterNames, s: SourceStatement) -> B
     }
 }
 
+// The statements of these, of which each is given up once its own are made.
 fn each_given_up(
     alloc: Global,
     names: &RegisterNames,
@@ -146,6 +149,7 @@ fn block(alloc: Global, names: &RegisterNames, body: &[SourceStatement]) -> Buil
     Ok(made)
 }
 
+// The statements of several, behind others.
 #[cycle(resolved_in)]
 fn all(
     alloc: Global,
@@ -349,6 +353,7 @@ fn print(
     build::push(into, build::print_of(task, pieces, arguments))
 }
 
+// The events of an event control, by the numbers of their registers.
 fn triggers(alloc: Global, names: &RegisterNames, events: &[EventExpression]) -> Built<Vec<Trigger>>
     ensures { IfOk result (λ made. made.items ≡ map (model.trigger_of names.now) (map source_trigger_of events.now)) }
 {
@@ -359,6 +364,7 @@ fn triggers(alloc: Global, names: &RegisterNames, events: &[EventExpression]) ->
     Ok(made)
 }
 
+// An expression over the numbers of registers, from one over their names.
 #[cycle(resolved)]
 fn expression(alloc: Global, names: &RegisterNames, e: &SourceExpression) -> Built<Expression>
     requires { IsSmall (source_expression_of e.now) }
@@ -395,6 +401,7 @@ fn expression(alloc: Global, names: &RegisterNames, e: &SourceExpression) -> Bui
     }
 }
 
+// Expressions over the numbers of registers, from some over their names, in a list with so much room.
 #[cycle(resolved)]
 fn expressions(
     alloc: Global,

@@ -20,6 +20,7 @@ pub fn processes<'a>(
     Ok(())
 }
 
+// Refuses the first name in a statement and in those inside it that isn't declared.
 #[cycle(used_in)]
 fn statement<'a>(names: &RegisterNames, s: &'a SourceStatement) -> Result<(), Finding<'a>>
     ensures { first_finding result ≡ used_in names.now (source_statement_of s.now) }
@@ -49,6 +50,7 @@ fn statement<'a>(names: &RegisterNames, s: &'a SourceStatement) -> Result<(), Fi
     }
 }
 
+// Refuses the first name in a block that isn't declared.
 #[cycle(used_in)]
 fn block<'a>(names: &RegisterNames, body: &'a [SourceStatement]) -> Result<(), Finding<'a>>
     ensures { first_finding result
@@ -60,6 +62,7 @@ fn block<'a>(names: &RegisterNames, body: &'a [SourceStatement]) -> Result<(), F
     Ok(())
 }
 
+// Refuses the first name in an event control that isn't declared.
 fn events<'a>(names: &RegisterNames, events: &'a [EventExpression]) -> Result<(), Finding<'a>>
     ensures { first_finding result ≡ unknown_among names.now (map (λ t. t.1) (map source_trigger_of events.now)) }
 {
@@ -69,6 +72,7 @@ fn events<'a>(names: &RegisterNames, events: &'a [EventExpression]) -> Result<()
     Ok(())
 }
 
+// Refuses the first name in an expression that isn't declared.
 #[cycle(used)]
 fn expression<'a>(names: &RegisterNames, e: &'a SourceExpression) -> Result<(), Finding<'a>>
     ensures { first_finding result ≡ used names.now (source_expression_of e.now) }
@@ -95,6 +99,7 @@ fn expression<'a>(names: &RegisterNames, e: &'a SourceExpression) -> Result<(), 
     }
 }
 
+// Refuses the first name in these expressions that isn't declared.
 #[cycle(used)]
 fn expressions<'a>(names: &RegisterNames, parts: &'a [SourceExpression]) -> Result<(), Finding<'a>>
     ensures { first_finding result ≡ all_used names.now (source_expressions (map source_expression_of parts.now)) }

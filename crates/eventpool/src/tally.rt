@@ -26,6 +26,7 @@ impl Model for Tally {
 }
 
 impl Tally {
+    /// These numbers of a pool in which each ticket that was put was taken, stolen or left.
     pub(crate) fn new(puts: u128, takes: u128, steals: u128, left: u128) -> Tally
         requires { puts ≡ takes + steals + left }
         ensures { result ≡ record { puts = puts; takes = takes; steals = steals; left = left } }

@@ -29,6 +29,7 @@ pub fn cause_code(cause: Cause) -> &'static str
     }
 }
 
+// The code and the name of a rule that an entry breaks (11.4), behind a colon.
 fn refusal_code(refusal: Refusal) -> &'static str
     ensures { result.now ≡ code_text (Refused refusal) }
 {

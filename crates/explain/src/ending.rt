@@ -36,6 +36,7 @@ fn push_next(text: &mut Vec<u8>, next: usize) -> Result<(), AllocError>
     }
 }
 
+// Puts that several entries may be next behind a text, and how many.
 fn push_several(text: &mut Vec<u8>, next: usize) -> Result<(), AllocError>
     ensures { OnOk result (text.new.items ≡ text.old.items ++ (codes "can go on: " ++ decimal next ++ codes " entries may be next\n")) }
 {
@@ -43,7 +44,7 @@ fn push_several(text: &mut Vec<u8>, next: usize) -> Result<(), AllocError>
     text.extend_from_slice(b" entries may be next\n")
 }
 
-// Puts how a run stands behind a text that has so many entries that may be next.
+// Puts how a run stands behind a text, where so many entries may be next.
 fn push_state(text: &mut Vec<u8>, machine: &Machine<'_>, next: usize) -> Result<(), AllocError>
     ensures { OnOk result (text.new.items ≡ text.old.items ++ end_text machine.now.core.finished (is_quiet (state_at machine.now)) machine.now.core.entries machine.now.core.time next) }
 {
@@ -88,6 +89,7 @@ trait Queued {
 impl Queued for Evaluation {
     ghost event = { evaluation_event };
 
+    // Puts the number of the event behind a text, and the process whose turn it is.
     fn push(&self, text: &mut Vec<u8>, names: &SourceNames<'_>) -> Result<(), AllocError> {
         push_labelled(text, b"  event ", self.number)?;
         text.extend_from_slice(b", ")?;
@@ -99,6 +101,7 @@ impl Queued for Evaluation {
 impl Queued for Update {
     ghost event = { update_event };
 
+    // Puts the number of the event behind a text, and the register with its value.
     fn push(&self, text: &mut Vec<u8>, names: &SourceNames<'_>) -> Result<(), AllocError> {
         push_labelled(text, b"  event ", self.number)?;
         text.extend_from_slice(b", ")?;

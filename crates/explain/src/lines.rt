@@ -68,6 +68,7 @@ trait ListedPart {
 impl ListedPart for Reading {
     ghost part_text = { reading_text };
 
+    // Puts the register with its value behind a text, and the version in parentheses.
     fn push(&self, text: &mut Vec<u8>, names: &SourceNames<'_>) -> Result<(), AllocError> {
         push_valued(text, names, self.register, b"=", self.value)?;
         push_labelled(text, b" (version ", self.version)?;
@@ -78,6 +79,7 @@ impl ListedPart for Reading {
 impl ListedPart for Changed {
     ghost part_text = { change_text };
 
+    // Puts the register behind a text, with its values before and after the entry.
     fn push(&self, text: &mut Vec<u8>, names: &SourceNames<'_>) -> Result<(), AllocError> {
         push_valued(text, names, self.register, b" ", self.before)?;
         text.extend_from_slice(b" -> ")?;
@@ -88,6 +90,7 @@ impl ListedPart for Changed {
 impl ListedPart for Nba {
     ghost part_text = { assignment_text };
 
+    // Puts the register with its value behind a text, and the time at which it is due.
     fn push(&self, text: &mut Vec<u8>, names: &SourceNames<'_>) -> Result<(), AllocError> {
         push_valued(text, names, self.reg, b" <= ", self.value)?;
         push_labelled(text, b" for time ", self.due)
@@ -111,6 +114,7 @@ fn push_list<P: ListedPart>(
     Ok(())
 }
 
+// Puts what is printed behind a text, or nothing where that is nothing.
 fn push_printed(text: &mut Vec<u8>, printed: &[u8], behind: bool) -> Result<(), AllocError>
     ensures { OnOk result (text.new.items ≡ text.old.items ++ printed_text behind printed.now) }
 {
@@ -120,6 +124,7 @@ fn push_printed(text: &mut Vec<u8>, printed: &[u8], behind: bool) -> Result<(), 
     }
 }
 
+// Puts what is printed behind a text, with its word and a delimiter before it.
 fn push_prints(text: &mut Vec<u8>, printed: &[u8], behind: bool) -> Result<(), AllocError>
     ensures { OnOk result (text.new.items ≡ text.old.items ++ (delimiter behind ++ codes "prints " ++ quoted_text printed.now)) }
 {
@@ -155,6 +160,7 @@ fn region_change(entry: Entry) -> &'static str
     }
 }
 
+// Puts who does an entry behind a text, or which change of the regions it is.
 fn push_actor(
     text: &mut Vec<u8>,
     names: &SourceNames<'_>,
@@ -176,6 +182,7 @@ fn push_actor(
     }
 }
 
+// Whether there is something in a list.
 fn has_any<T>(list: &[T]) -> bool
     ensures { result ≡ has_any list.now }
 {

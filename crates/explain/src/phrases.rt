@@ -89,6 +89,7 @@ fn push_escaped(text: &mut Vec<u8>, byte: u8) -> Result<(), AllocError>
     }
 }
 
+// Puts bytes behind a text, each as it stands in a string (3.6).
 fn push_each_escaped(text: &mut Vec<u8>, printed: &[u8]) -> Result<(), AllocError>
     ensures { OnOk result (text.new.items ≡ text.old.items ++ escaped_text printed.now) }
 {
@@ -136,6 +137,7 @@ fn word_of(process: &ProcessLocation) -> &'static str
     if process.always { "always" } else { "initial" }
 }
 
+// Puts the word of a process and the line in which it stands behind a text, with a comma before them.
 fn push_place(text: &mut Vec<u8>, process: &ProcessLocation) -> Result<(), AllocError>
     ensures { OnOk result (text.new.items ≡ text.old.items ++ location_text (Some process.now)) }
 {

@@ -4,7 +4,7 @@ pub mod Counting
 pub mod Edges
 pub mod Growing
 pub mod Keeping
-pub mod TrieNodes
+pub mod TextEdges
 pub mod Places
 pub mod Rows
 pub mod Shows

@@ -11,7 +11,7 @@ use Rattle.sharing.specs.declared.parts.Shortened.{Shortened}
 use Rattle.sharing.proofs.Telling.{told-extends, AreTold-extends}
 use Rattle.explore.specs.Visited.{visit}
 use Rattle.explore.specs.declared.visited.Visit.{Visit}
-use Rattle.explore.proofs.TrieNodes.{both}
+use Rattle.explore.proofs.TextEdges.{both}
 use Rattle.explore.proofs.Growing.{slice_get_push}
 
 -- what a key was shortened to

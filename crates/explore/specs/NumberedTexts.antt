@@ -1,17 +1,31 @@
 -- The texts that have numbers.
-use Rattle.std.specs.Prelude.{◌≡◌, ℕ, ◌≤◌, List, [], ◌∷◌, map, Some, slice_get}
+use Rattle.std.specs.Prelude.{◌≡◌, ℕ, ◌<◌, ◌≤◌, List, [], ◌∷◌, flat_map, get_or, length, map, Some, slice_get, vec_items}
 use Rattle.explore.specs.Grown.{grown_all}
-use Rattle.explore.specs.declared.text_trie.TrieNode.{TrieNode}
-use Rattle.explore.specs.declared.text_trie.TextTrie.{TextTrie}
+use Rattle.explore.specs.declared.line_groups.LineGroups.{LineGroups}
+use Rattle.explore.specs.declared.text_table.TextEdge.{TextEdge}
+use Rattle.explore.specs.declared.text_table.TextTable.{TextTable}
 
--- the text that a trie node comes after, and the trie node alone
-abbrev pub text_step : TrieNode → ℕ × List ℕ
-text_step trie_node = (trie_node.before, trie_node.byte ∷ [])
+-- the bytes of the groups, by their numbers
+abbrev pub line_groups : LineGroups → List (List ℕ)
+line_groups held = map vec_items held.groups.keys
+
+-- the bytes of the groups with these numbers, one behind the other
+abbrev pub joined_groups : List (List ℕ) → List ℕ → List ℕ
+joined_groups groups numbers = flat_map (λ n. get_or groups n []) numbers
+
+-- the text that an edge goes on from, and the bytes of its group
+abbrev pub text_step : List (List ℕ) → TextEdge → ℕ × List ℕ
+text_step groups edge = (edge.before, get_or groups edge.group [])
 
 -- the texts, by their numbers
-abbrev pub texts : TextTrie → List (List ℕ)
-texts held = grown_all ([] ∷ []) (map text_step held.trie_nodes.keys)
+abbrev pub texts : TextTable → List (List ℕ)
+texts held = grown_all ([] ∷ []) (map (text_step (line_groups held.groups)) held.edges.keys)
 
--- each trie node comes after a text that was there before it
-abbrev pub IsTexts : TextTrie → Type 0
-IsTexts held = (k : ℕ) (trie_node : TrieNode) → slice_get held.trie_nodes.keys k ≡ Some trie_node → trie_node.before ≤ k
+-- each edge goes on from a text that was there before it, by a group that is there
+pub record AreTextEdges (groups : List (List ℕ)) (edges : List TextEdge) : Type 0 where
+  pub after : (k : ℕ) (edge : TextEdge) → slice_get edges k ≡ Some edge → edge.before ≤ k
+  pub grouped : (k : ℕ) (edge : TextEdge) → slice_get edges k ≡ Some edge → edge.group < length groups
+
+-- the edges of a table are such
+abbrev pub IsTexts : TextTable → Type 0
+IsTexts held = AreTextEdges (line_groups held.groups) held.edges.keys

@@ -13,7 +13,7 @@ use Rattle.explore.specs.Placed.{ArePlaced}
 use Rattle.explore.specs.declared.kept.KeptNodes.{KeptNodes}
 use Rattle.explore.specs.declared.kept.Pending.{Pending}
 use Rattle.explore.specs.declared.kept.Reached.{Reached}
-use Rattle.explore.specs.declared.text_trie.TextTrie.{TextTrie}
+use Rattle.explore.specs.declared.text_table.TextTable.{TextTable}
 use Rattle.explore.specs.declared.lineage.Lineage.{Lineage}
 
 -- the text with a text number is that of the run with its number
@@ -23,7 +23,7 @@ pub record IsText {Move Node End : Type 0} (runs : Runs Move Node End) (ways : L
   pub same : get_or texts reached.text [] ≡ runs.text (get_or ways reached.number [])
 
 -- a lineage and texts hold the run with a number, and its text
-pub record HoldsRun {Move Node End : Type 0} (runs : Runs Move Node End) (lineage : Lineage Move) (held : TextTrie) (reached : Reached) : Type 0 where
+pub record HoldsRun {Move Node End : Type 0} (runs : Runs Move Node End) (lineage : Lineage Move) (held : TextTable) (reached : Reached) : Type 0 where
   pub is_lineage : IsLineage lineage
   pub are_texts : IsTexts held
   pub text : IsText runs (ways lineage) (texts held) reached

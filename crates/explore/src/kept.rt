@@ -10,7 +10,7 @@ use crate::again::{Nodes, most_newest};
 use crate::lineage::Lineage;
 use crate::links::Links;
 use crate::recent::Placed;
-use crate::text_trie::TextTrie;
+use crate::text_table::TextTable;
 use crate::visited::Visited;
 use crate::{Orders, SearchScope, Successor};
 use std::alloc::{AllocError, Global};
@@ -34,7 +34,7 @@ pub(crate) struct Pending<N> {
 #[derive(Drop)]
 pub(crate) struct KeptNodes<N, M> {
     pub(crate) lineage: Lineage<M>,
-    pub(crate) texts: TextTrie,
+    pub(crate) texts: TextTable,
     pub(crate) visited: Visited,
     pub(crate) links: Links,
     pub(crate) pending: Vec<Reached>,
@@ -90,7 +90,7 @@ pub(crate) fn first<O: Orders>(
     nodes.newest.push(placed, most_newest(scope.bounds))?;
     Ok(KeptNodes {
         lineage: Lineage::new(alloc),
-        texts: TextTrie::new(alloc),
+        texts: TextTable::new(alloc),
         visited,
         links,
         pending,
@@ -125,7 +125,7 @@ fn follow<O: Orders>(
         printed,
         moves,
     } = next;
-    let text = kept.texts.longer(from.text, &printed)?;
+    let text = kept.texts.longer(scope.alloc, from.text, &printed)?;
     orders.key(room, &mut kept.key, &node)?;
     let bytes = kept.key.as_slice();
     let weight = orders.weight(&node);

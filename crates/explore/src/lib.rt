@@ -5,7 +5,7 @@
 //! 2. `explore` takes the last node off a stack, follows its ways, and puts the nodes that they lead to on the stack,
 //!    but for those of which one that goes on alike was there before.
 //! 3. The node itself is dropped then. What stays of it is the step that led to it (`lineage`), the number of what its run
-//!    printed (`text_trie`), and its key, shortened by `sharing` (`visited`). Of the nodes on the stack the newest are kept (`recent`), and
+//!    printed (`text_table`), and its key, shortened by `sharing` (`visited`). Of the nodes on the stack the newest are kept (`recent`), and
 //!    the others are made again by their moves when their turn comes (`again`).
 //! 4. Where a way ends, its text and end are shown, with the moves of the whole run, unless they are there already.
 //! 5. The search is over when the stack is empty. If nothing was left out on the way, each text and end of every run is
@@ -17,6 +17,7 @@
 mod again;
 mod endless;
 mod kept;
+mod line_groups;
 mod lineage;
 mod links;
 mod orders;
@@ -25,7 +26,7 @@ mod recent;
 mod search;
 mod show;
 mod stopped;
-mod text_trie;
+mod text_table;
 mod visited;
 
 pub use orders::Orders;

@@ -8,7 +8,7 @@ ghost use Rattle.explore.specs.Lineage.{ways};
 
 use crate::kept::Reached;
 use crate::lineage::Lineage;
-use crate::text_trie::TextTrie;
+use crate::text_table::TextTable;
 use crate::{EndedPath, Orders, Shown};
 use std::alloc::{AllocError, Global};
 
@@ -16,7 +16,7 @@ use std::alloc::{AllocError, Global};
 #[derive(Clone, Copy)]
 pub(crate) struct ReachedRun<'a, M> {
     pub(crate) lineage: &'a Lineage<M>,
-    pub(crate) texts: &'a TextTrie,
+    pub(crate) texts: &'a TextTable,
     pub(crate) reached: Reached,
 }
 

@@ -89,6 +89,7 @@ fn names_a_file(path: &str) -> bool {
     }
 }
 
+/// The permissions with which a file is made: those of the old one, or what any new one may have.
 fn mode_of(old: Option<&Metadata>) -> u32 {
     match old {
         Some(old) => old.mode() & 0o777,
@@ -116,6 +117,7 @@ fn make_beside<R: std::rt::Files>(
     Err(io::Error::from(ErrorKind::AlreadyExists))
 }
 
+/// The path of the file beside a place that has this number in its name.
 fn name_beside(alloc: Global, place: &str, number: u32) -> io::Result<String> {
     let name = format!(in alloc; ".vsimtx-{number}.part")?;
     let path = Path::new(place).with_file_name(alloc, name.as_str())?;

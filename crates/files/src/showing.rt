@@ -66,6 +66,7 @@ fn time_of_begin<R: Clock>(rt: &R, shown: bool) -> Option<Instant> {
 }
 
 impl<R: Clock + AllocGlobal + Sync> Progress for SystemProgress<'_, R> {
+    /// Shows how far the work is, where a line may be shown now.
     fn tell(&self, how_far: HowFar) {
         if !self.is_due() {
             return;
@@ -77,6 +78,7 @@ impl<R: Clock + AllocGlobal + Sync> Progress for SystemProgress<'_, R> {
         }
     }
 
+    /// Takes the line away, where one stands there.
     fn end(&self) {
         if self.shown.swap(false, Ordering::SeqCst) {
             let _ = self.terminal.write_some(ERASED);

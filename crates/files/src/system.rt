@@ -35,6 +35,7 @@ impl<'a, R: std::rt::Files + Input + Print + Clock + AllocGlobal + Sync> Files
 
     type Progress = SystemProgress<'a, R>;
 
+    /// Opens a file of the system, or standard input where the path says so.
     fn open(&mut self, path: &str) -> io::Result<SystemSource<R::File, R::Reader>> {
         if path == INPUT {
             return Ok(SystemSource::Input(self.rt.reader()));
@@ -43,6 +44,7 @@ impl<'a, R: std::rt::Files + Input + Print + Clock + AllocGlobal + Sync> Files
         Ok(SystemSource::File(file))
     }
 
+    /// Whether both paths lead to one file that keeps bytes; where a source leads nowhere, they don't.
     fn same(&self, source: &str, out: &str) -> bool {
         match fs::metadata(self.rt, system_path(source)) {
             Ok(source) => keeps_bytes(&source) && is_at(self.rt, out, &source),
@@ -50,6 +52,7 @@ impl<'a, R: std::rt::Files + Input + Print + Clock + AllocGlobal + Sync> Files
         }
     }
 
+    /// Begins a file over what is at its path, or where nothing is. Fails where the system doesn't tell what is there.
     fn begin(&mut self, path: &str) -> io::Result<SystemTarget<'a, R>> {
         match fs::metadata(self.rt, path) {
             Ok(old) => begin_over(self.rt, path, &old),
@@ -58,6 +61,7 @@ impl<'a, R: std::rt::Files + Input + Print + Clock + AllocGlobal + Sync> Files
         }
     }
 
+    /// Moves a file that was begun beside its place there. One that was opened as it is stands there already.
     fn finish(&mut self, _path: &str, target: SystemTarget<'a, R>) -> io::Result<()> {
         match target {
             SystemTarget::Beside(beside) => beside.take_place(),
@@ -182,6 +186,7 @@ fn begin_new<'a, R: std::rt::Files + AllocGlobal>(
     }
 }
 
+/// Opens what is at a path so that it is written directly, in this way.
 fn open_as_it_is<'a, R: std::rt::Files>(
     rt: &'a R,
     path: &str,

@@ -37,7 +37,7 @@ fn is_apart(
     true
 }
 
-// Whether a turn keeps off each of these, as it does where they and it are plain and of other processes and registers.
+// Whether a turn keeps off each of these, as it does where they and it are update-only, and of other processes and registers.
 fn is_apart_from(
     machine: &Machine<'_>,
     controls: &[Control],

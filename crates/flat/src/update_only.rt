@@ -82,7 +82,7 @@ impl UpdateOnlyTurns {
         })
     }
 
-    // Whether the turns so far are plain, and another is too, of another process and with updates of other registers.
+    // Whether the turns so far are update-only, and another is too, of another process and with updates of other registers.
     fn is_new(&self, now: u64, turned: &EvaluatedTurn) -> bool
         ensures holds { result ≡ true → self.now.holds ≡ true }
         ensures new { result ≡ true → IsUnmarkedTurn now self.now.processes.items self.now.registers.items turned.now }
@@ -96,8 +96,8 @@ impl UpdateOnlyTurns {
         are_anew(now, turned.log.nbas(), &self.registers)
     }
 
-    /// Takes in one turn more. Answers whether it is apart from those before it, since they and it are plain, and it is of another
-    /// process and makes updates of other registers.
+    /// Takes in one turn more. Answers whether it is apart from those before it, since they and it are update-only, and it is of
+    /// another process and makes updates of other registers.
     pub fn take(&mut self, now: u64, turned: &EvaluatedTurn) -> bool
         ensures holds { result ≡ true → self.old.holds ≡ true }
         ensures new { result ≡ true → IsUnmarkedTurn now self.old.processes.items self.old.registers.items turned.now }

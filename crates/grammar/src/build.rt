@@ -63,6 +63,7 @@ pub fn binary_of(
     Ok(SourceExpression::Binary(op, Box::new(alloc, left)?, Box::new(alloc, right)?))
 }
 
+/// One of two expressions, by a test. Fails where memory is refused.
 pub fn conditional_of(
     alloc: Global,
     test: SourceExpression,

@@ -20,6 +20,7 @@ impl<'t, 'a> Cursor<'t, 'a> {
         Cursor { left: tokens }
     }
 
+    /// The kind of the next token, `End` where none is left.
     pub fn kind(&self) -> Kind
         ensures { result ≡ kind (left_of self.now) }
     {

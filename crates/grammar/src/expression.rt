@@ -25,6 +25,7 @@ pub struct Rules {
     pub stop: Option<usize>,
 }
 
+/// The binary operator that a token of this kind is, and its level: the greater, the tighter it binds.
 fn operator(kind: Kind) -> Option<(u8, BinaryOperator)>
     ensures value { result ≡ grammar.operator kind }
     ensures within { IfSome result (λ found. found.0 ≤ 9) }
@@ -51,6 +52,7 @@ fn operator(kind: Kind) -> Option<(u8, BinaryOperator)>
     }
 }
 
+/// The unary operator that a token of this kind is, if it is one.
 fn prefix(kind: Kind) -> Option<UnaryOperator>
     ensures { result ≡ grammar.prefix kind }
 {
@@ -100,6 +102,7 @@ fn parse_name(rules: Rules, tokens: &mut Cursor<'_, '_>) -> Read<SourceExpressio
     Ok(name_of(rules.alloc, token.text)?)
 }
 
+/// Reads a sized literal.
 #[tactic(auto, unfolding(crate::specs::Reading::parse_literal))]
 fn parse_literal(rules: Rules, tokens: &mut Cursor<'_, '_>) -> Read<SourceExpression>
     ensures { Reads source_expression_of rules.stop (spec.parse_literal (left_of tokens.old)) result (left_of tokens.new) }
@@ -164,6 +167,7 @@ fn parse_concat(rules: Rules, tokens: &mut Cursor<'_, '_>, budget: usize) -> Rea
     Ok(concat_of(rules.alloc, first, others)?)
 }
 
+/// Reads an operand that no unary operator stands before. A number without a size is refused as such.
 #[cycle(expression)]
 #[tactic(auto, unfolding(crate::specs::Reading::parse_primary))]
 fn parse_primary(rules: Rules, tokens: &mut Cursor<'_, '_>, budget: usize) -> Read<SourceExpression>
@@ -179,6 +183,7 @@ fn parse_primary(rules: Rules, tokens: &mut Cursor<'_, '_>, budget: usize) -> Re
     }
 }
 
+/// Reads an operand, and a unary operator before it where one stands there.
 #[cycle(expression)]
 #[tactic(auto, unfolding(crate::specs::Reading::parse_operand))]
 fn parse_operand(rules: Rules, tokens: &mut Cursor<'_, '_>, budget: usize) -> Read<SourceExpression>

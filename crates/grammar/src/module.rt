@@ -56,6 +56,7 @@ fn parse_names(rules: Rules, tokens: &mut Cursor<'_, '_>, budget: usize) -> Read
     Err(GrammarFault::Syntax)
 }
 
+/// Whether the process repeats that a token of this kind begins, if it begins one.
 fn repeats_of(kind: Kind) -> Option<bool>
     ensures { result ≡ grammar.repeats_of kind }
 {

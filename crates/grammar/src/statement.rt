@@ -62,6 +62,7 @@ fn parse_assign(rules: Rules, tokens: &mut Cursor<'_, '_>, budget: usize) -> Rea
     Ok(assign_of(String::from_str(rules.alloc, name.text)?, found.0, found.1))
 }
 
+/// The edge that a word of an event names, if it names one.
 fn change_of(kind: Kind) -> Option<Change>
     ensures { result ≡ grammar.change_of kind }
 {
@@ -72,6 +73,7 @@ fn change_of(kind: Kind) -> Option<Change>
     }
 }
 
+/// Whether a token of this kind stands between two events of an event control.
 fn separates(kind: Kind) -> bool
     ensures { result ≡ grammar.separates kind }
 {
@@ -81,6 +83,7 @@ fn separates(kind: Kind) -> bool
     }
 }
 
+/// An event expression, with a copy of the register's name. Fails where memory is refused.
 fn event_of(alloc: Global, change: Change, name: &str) -> Result<EventExpression, AllocError>
     ensures { IfOk result (λ made. source_trigger_of made ≡ (change, name.now)) }
 {
@@ -278,6 +281,7 @@ fn parse_while(rules: Rules, tokens: &mut Cursor<'_, '_>, budget: usize) -> Read
     Ok(while_of(found.0, found.1))
 }
 
+/// Reads a statement in the form that its first token tells.
 #[cycle(statement)]
 #[tactic(auto, unfolding(crate::specs::Reading::parse_form))]
 fn parse_form(rules: Rules, tokens: &mut Cursor<'_, '_>, budget: usize) -> Read<SourceStatement>
@@ -304,6 +308,7 @@ fn parse_form(rules: Rules, tokens: &mut Cursor<'_, '_>, budget: usize) -> Read<
     }
 }
 
+/// Reads a statement, where the budget lets one more nest.
 #[cycle(statement)]
 pub fn parse_statement(
     rules: Rules,

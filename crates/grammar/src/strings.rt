@@ -5,6 +5,7 @@ ghost use Rattle.tokens.specs.Lexing as lexing;
 
 use std::alloc::{AllocError, Global};
 
+/// The byte that one behind a `\` stands for: a newline, a tab, or itself.
 fn escaped(b: u8) -> u8
     ensures { result ≡ lexing.unescaped b }
 {

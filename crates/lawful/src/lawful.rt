@@ -61,6 +61,7 @@ impl<'d> Orders for Lawful<'d> {
 
     ghost has_key = { λ _ node key. IsKey node.machine.value.core node.machine.value.values key };
 
+    // The machine at the start of the design's run.
     fn start(&self, alloc: Global) -> Result<DesignNode<'d>, AllocError> {
         let machine = start_of(alloc, self.analyzed_design.design())?;
         machine.stands();
@@ -71,6 +72,7 @@ impl<'d> Orders for Lawful<'d> {
         SearchRoom::new(alloc)
     }
 
+    // Follows the ways that go on from a node in time, with the combinational processes that were found once.
     fn expand(
         &self,
         alloc: Global,
@@ -100,6 +102,7 @@ impl<'d> Orders for Lawful<'d> {
         weight(&node.machine)
     }
 
+    // The machine of a node after these further entries; the node's own stays where it stands.
     fn again(
         &self,
         alloc: Global,

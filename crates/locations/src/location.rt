@@ -90,6 +90,7 @@ pub fn is_process(kind: Kind) -> bool
     }
 }
 
+/// Whether a token of this kind begins an always construct.
 fn is_always(kind: Kind) -> bool
     ensures { result ≡ is_always kind }
 {
@@ -99,6 +100,7 @@ fn is_always(kind: Kind) -> bool
     }
 }
 
+/// Adds the process that a token begins to those found, where it begins one. Fails where memory is refused.
 fn add_process(
     found: &mut Vec<ProcessLocation>,
     source: &[u8],

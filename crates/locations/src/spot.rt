@@ -45,6 +45,7 @@ pub struct Spot<'a> {
     pub byte: usize,
 }
 
+/// Adds a token to those found, with its first byte. Fails where memory is refused.
 fn add<'a>(found: &mut Vec<Spot<'a>>, token: Token<'a>, byte: usize) -> Result<(), AllocError>
     ensures { OnOk result (map plain_spot found.new.items ≡ map plain_spot found.old.items ++ record { token = plain_token token.entry; byte = byte } ∷ []) }
 {

@@ -76,6 +76,7 @@ fn processes_of(alloc: Global, source: &[u8]) -> Result<Vec<locations::ProcessLo
     }
 }
 
+/// No processes, where a source isn't cut into tokens. Fails where that is for want of memory.
 fn without_processes(
     alloc: Global,
     fault: CutFault,
@@ -90,6 +91,7 @@ fn without_processes(
     }
 }
 
+/// Puts the lines on each race behind a text, with numbers from 1 on. Fails where memory is refused.
 fn push_each<'a>(
     text: &mut Vec<u8>,
     names: &RaceNames<'a>,
@@ -135,6 +137,7 @@ fn told_race<'a>(
     }
 }
 
+/// The first line in which two runs differ, and none where they differ in their ends alone.
 fn lines_of<'a>(one: &'a RunRecord, other: &'a RunRecord) -> Lines<'a>
     ensures { IsDifferenceTold (string_bytes one.entry.now.lines) (string_bytes other.entry.now.lines) result.number result.one.now result.other.now }
 {
@@ -155,6 +158,7 @@ fn lines_of<'a>(one: &'a RunRecord, other: &'a RunRecord) -> Lines<'a>
     }
 }
 
+/// A role as it is told: of which process, where that begins, if that is known, and what it does.
 fn role_of(
     processes: &[locations::ProcessLocation],
     role: accesses::Role,

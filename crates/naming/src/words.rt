@@ -53,6 +53,7 @@ pub(crate) fn site_of<'a>(design: &'a Design, site: accesses::Site) -> SiteDescr
     }
 }
 
+/// A register by its name, or by `?` where the design has none with this number.
 fn named(design: &Design, register: RegId) -> SiteDescription<'_>
     ensures { IsSiteTold design.entry.now (sites.Register register) result }
 {

@@ -61,6 +61,7 @@ pub fn finish<E: Write>(ended: Result<Ending, CommandFault<'_>>, err: &mut Count
     }
 }
 
+/// Tells a stop, want of memory in a search, or what is wrong with a source, and nothing of any other ending.
 fn tell_ending<E: Write>(ending: &Ending, err: &mut Counted<E>)
     ensures { IsEndingTold E.contents err.old err.new ending.now }
 {

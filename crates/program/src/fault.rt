@@ -76,6 +76,7 @@ impl Stop {
         }
     }
 
+    /// What is told of why a run was stopped: nothing of `$finish`.
     fn why(why: Why) -> Option<Stop>
         ensures { result ≡ stop_for why }
     {
@@ -116,6 +117,7 @@ impl CommandFault<'_> {
     }
 }
 
+/// The exit status of a fault of a source: 6 for memory, and else 3.
 pub fn source_status(fault: &SourceFault) -> u8
     ensures { result ≡ source_status_of fault.now }
 {
@@ -125,6 +127,7 @@ pub fn source_status(fault: &SourceFault) -> u8
     }
 }
 
+/// The exit status of a fault of a run on workers: 6 for memory, and for a worker that couldn't be started.
 fn simulate_status(fault: &SimFault) -> u8
     ensures { result ≡ simulate_status_of fault.now }
 {
@@ -133,6 +136,7 @@ fn simulate_status(fault: &SimFault) -> u8
     }
 }
 
+/// The exit status of a fault of a replay: that of its source, of its journal's text or of an entry, and 1 for output.
 fn replay_status(fault: &BytesFault) -> u8
     ensures { result ≡ replay_status_of fault.now }
 {
@@ -144,6 +148,7 @@ fn replay_status(fault: &BytesFault) -> u8
     }
 }
 
+/// The exit status of a fault of a journal's text: 1 where a read failed, 6 for memory, and else 5.
 fn read_status(fault: ReadFault) -> u8
     ensures { result ≡ read_status_of fault }
 {
@@ -154,6 +159,7 @@ fn read_status(fault: ReadFault) -> u8
     }
 }
 
+/// The exit status of an entry that isn't taken: 6 for memory, and else 5.
 fn cause_status(cause: Cause) -> u8
     ensures { result ≡ cause_status_of cause }
 {

@@ -201,6 +201,7 @@ pub fn known_texts<P: Progress>(
     }
 }
 
+/// The texts of the first run, of the second runs of its races, and of a few random orders, up to as many as may be shown.
 fn known_first<P: Progress>(
     alloc: Global,
     design: &Design,

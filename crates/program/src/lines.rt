@@ -45,6 +45,7 @@ pub fn stop_line(stop: Stop) -> SubjectLine<'static>
     }
 }
 
+/// The line of a fault of files or output, with the path of a file that wasn't read.
 fn file_line<'a>(fault: &FileFault<'a>) -> SubjectLine<'a>
     ensures { line_of result ≡ file_line fault.now }
 {
@@ -59,6 +60,7 @@ fn file_line<'a>(fault: &FileFault<'a>) -> SubjectLine<'a>
     }
 }
 
+/// The line of a fault of a source, of its text or of its module.
 fn source_line(fault: &SourceFault) -> SubjectLine<'_>
     ensures { line_of result ≡ source_line fault.now }
 {
@@ -68,6 +70,7 @@ fn source_line(fault: &SourceFault) -> SubjectLine<'_>
     }
 }
 
+/// The line of a fault of a text, with the byte or the token at which it stands.
 fn parse_line(fault: ParseFault) -> SubjectLine<'static>
     ensures { line_of result ≡ parse_line fault }
 {
@@ -84,6 +87,7 @@ fn parse_line(fault: ParseFault) -> SubjectLine<'static>
     }
 }
 
+/// The line of a fault of a module, with the name that it tells, if it tells one.
 fn module_line(fault: &ElabFault) -> SubjectLine<'_>
     ensures { line_of result ≡ module_line fault.now }
 {
@@ -101,6 +105,7 @@ fn module_line(fault: &ElabFault) -> SubjectLine<'_>
     }
 }
 
+/// The line of a fault of a run on workers.
 fn simulate_line(fault: &SimFault) -> SubjectLine<'static>
     ensures { line_of result ≡ simulate_line fault.now }
 {
@@ -110,6 +115,7 @@ fn simulate_line(fault: &SimFault) -> SubjectLine<'static>
     }
 }
 
+/// The line of a fault of a replay: of its source, of a journal's text, of an entry, or of the output.
 fn replay_line(fault: &BytesFault) -> SubjectLine<'_>
     ensures { line_of result ≡ replay_line fault.now }
 {
@@ -125,6 +131,7 @@ fn replay_line(fault: &BytesFault) -> SubjectLine<'_>
     }
 }
 
+/// The line of a fault of a journal's text, with the line at which it stands, where it tells one.
 fn read_line(fault: ReadFault) -> SubjectLine<'static>
     ensures { line_of result ≡ read_line fault }
 {

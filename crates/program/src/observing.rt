@@ -30,12 +30,13 @@ impl<'a, P: Progress> Observing<'a, P> {
 }
 
 impl<P: Progress> Probe for Observing<'_, P> {
-    fn evaluation(&self, _worker: u32, _event: u64, _race_bounds: u8) {}
+    fn evaluation(&self, _worker: u32, _event: u64, _tries: u8) {}
 
     fn read(&self, _worker: u32, _register: RegId) {}
 
     fn replied(&self, _worker: u32, _event: u64, _kind: ReplyKind) {}
 
+    /// Tells how far the run is, where it has as many entries as it is told at next.
     fn grown(&self, _worker: u32, entries: u64, time: u64) {
         if entries >= self.next.load(Ordering::SeqCst) {
             self.next

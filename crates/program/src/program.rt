@@ -90,13 +90,14 @@ fn perform<'a, R: Threads + Wait + Sync, F: Files, O: Write>(
         Request::Run(request) => perform_run(rt, alloc, request, files, out),
         Request::Replay(request) => replay_journal(alloc, request, files, out),
         Request::Races(request) => perform_races(alloc, request, files, out),
-        Request::Check(request) => perform_check(alloc, request.file, files, out),
+        Request::Check(request) => { perform_check(alloc, request.file, request.all, files, out) }
         Request::Explain(request) => perform_explain(alloc, request, files, out),
         Request::Waves(request) => dump_waves(alloc, request, files),
         Request::Version => perform_version(out),
     }
 }
 
+/// Runs FILE; what it ends with is the stop that is told, if one is.
 fn perform_run<'a, R: Threads + Wait + Sync, F: Files, O: Write>(
     rt: &R,
     alloc: Global,
@@ -114,6 +115,7 @@ fn perform_run<'a, R: Threads + Wait + Sync, F: Files, O: Write>(
     }
 }
 
+/// Searches for races of FILE; what it ends with is what the search found.
 fn perform_races<'a, F: Files, O: Write>(
     alloc: Global,
     request: &RacesRequest<'a>,
@@ -131,9 +133,11 @@ fn perform_races<'a, F: Files, O: Write>(
     }
 }
 
+/// Checks FILE, and shows that it is right; where it isn't, what it ends with is the diagnosis.
 fn perform_check<'a, F: Files, O: Write>(
     alloc: Global,
     file: &'a str,
+    all: bool,
     files: &mut F,
     out: &mut Counted<O>,
 ) -> Result<Ending, CommandFault<'a>>
@@ -142,7 +146,7 @@ fn perform_check<'a, F: Files, O: Write>(
     ensures unsaved { KeepsFiles (F.made files.old) (F.made files.new) }
     ensures ended { (words : List Text) → AsksCheckOf words file.now → IfOk result (HasEnded (F.held files.old) words (O.contents (held out.old)) (O.contents (held out.new)) (F.made files.old) (F.made files.new)) }
 {
-    match check(alloc, file, files) {
+    match check(alloc, file, all, files) {
         Ok(None) => show_right(file, out),
         Ok(Some(text)) => Ok(Ending::Wrong(text)),
         Err(fault) => Err(fault),
@@ -162,6 +166,7 @@ fn show_right<O: Write>(path: &str, out: &mut Counted<O>) -> Result<Ending, Comm
     Ok(Ending::Done)
 }
 
+/// Explains JOURNAL on FILE; where all was written, nothing is left to be told.
 fn perform_explain<'a, F: Files, O: Write>(
     alloc: Global,
     request: &ExplainRequest<'a>,

@@ -63,6 +63,7 @@ fn shown_of(alloc: Global, runs: Vec<RunRecord>) -> Result<Vec<Shown<Entry, End>
     Ok(shown)
 }
 
+/// A run as a text that is shown, with its end and its journal.
 fn shown_as(run: RunRecord) -> Shown<Entry, End>
     ensures { IsShownRun run result }
 {

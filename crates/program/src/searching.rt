@@ -131,6 +131,7 @@ fn with_endless(
     }
 }
 
+/// The texts, and one more behind them. Fails where memory is refused.
 fn with_one(
     shown: Vec<Shown<Entry, End>>,
     one: Shown<Entry, End>,

@@ -57,6 +57,7 @@ pub(crate) struct Conflicts {
 }
 
 impl Group {
+    // The group of a site and two roles, whichever of them is named first.
     fn of(site: Site, one: Role, other: Role) -> Group {
         Group {
             site,
@@ -67,6 +68,7 @@ impl Group {
 }
 
 impl Conflicts {
+    /// No conflicts yet, and by race bounds how many rounds and how many in all are kept.
     pub(crate) fn new(alloc: Global, bounds: RaceBounds) -> Conflicts {
         Conflicts {
             alloc,

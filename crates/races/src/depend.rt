@@ -32,6 +32,7 @@ pub(crate) struct PriorSteps {
 }
 
 impl StepMarks {
+    // What no steps did, with room for so many sites. Fails where memory is refused.
     fn new(alloc: Global, sites: usize) -> Result<StepMarks, AllocError> {
         Ok(StepMarks {
             accessed: StepSet::new(alloc, sites)?,

@@ -2,11 +2,11 @@
 //!
 //! 1. `find_races` makes one run of the design, and takes the first entry that the rules permit at each choice (`recorder`).
 //! 2. Beside the machine it notes what each entry did: which registers its turn read, wrote, assigned or began to wait for,
-//!    whether it printed, and which entry made its event. These notes are kept from one change of the regions to the next
-//!    (`segment`).
+//!    whether it printed or met a `$strobe`, and which entry made its event. These notes are kept from one change of the regions to
+//!    the next (`segment`).
 //! 3. Two entries of one segment conflict where the later one doesn't need the earlier one and one changes what the other reads, writes or
-//!    waits for, or both assign a register other values, or both print; and an entry that finishes the run conflicts with those before it, and
-//!    with the events that it leaves behind (`conflicts`).
+//!    waits for, or both assign a register other values, or both print, or both meet a `$strobe`; and an entry that finishes the run
+//!    conflicts with those before it, and with the events that it leaves behind (`conflicts`).
 //! 4. A conflict is tried by a second run (`exchange`, and `follow` for its parts), in which the order of the two alone is turned: the first run
 //!    up to the earlier entry, what stands between the two and doesn't depend on the earlier one (`depend`), the later one, the earlier
 //!    one, and then the transitions of the first run as far as they may be taken. Where entries between the two tie them together, it is compared

@@ -58,6 +58,7 @@ pub(crate) struct Noted {
 }
 
 impl RunRecorder {
+    /// Nothing is noted yet. The first events of the processes, which no entry made, have the numbers below those of all others.
     pub(crate) fn start(alloc: Global, design: &Design, bounds: RaceBounds) -> RunRecorder {
         RunRecorder {
             left: TurnLog::new(alloc),

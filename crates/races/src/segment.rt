@@ -24,6 +24,7 @@ pub(crate) enum Actor {
 }
 
 impl Actor {
+    // The process of the turn, or of the turn that made the update.
     fn process(self) -> u32 {
         match self {
             Actor::Turn(process) | Actor::Update(process) => process,
@@ -100,6 +101,7 @@ impl Access {
 }
 
 impl Segment {
+    /// No entries yet, at the first place of a journal and time 0.
     pub(crate) fn new(alloc: Global) -> Segment {
         Segment {
             alloc,

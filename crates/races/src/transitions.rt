@@ -207,6 +207,7 @@ impl<'m> Guide<'m> {
         }
     }
 
+    // The entry to take, where this one is the first that may be next.
     fn chosen(&mut self, machine: &Machine<'_>, first: Entry) -> Entry
         requires { refusal (state_at machine.now) first ≡ None }
         ensures { refusal (state_at machine.now) result ≡ None }

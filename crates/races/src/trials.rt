@@ -164,6 +164,7 @@ fn race_of(
 }
 
 impl Trials {
+    /// No tries yet: all entries of second runs are left, and what cut the list of conflicts has cut that of the races.
     pub(crate) fn new(task: RaceSearch<'_>, conflicts: &Conflicts) -> Trials
         ensures within { IsWithinBounds task.entry.bounds result.races.items result.tried result.cut }
         ensures none { result.races.items ≡ [] }

@@ -56,6 +56,7 @@ impl<'a, R: Wait> Store for HeldStore<'a, R> {
         self.cells.store(self.rt, self.holder, register, value);
     }
 
+    // Stores a register's last value into its cell, once for all of its writes.
     fn set_turn_change(&mut self, turn_change: TurnChange, writes: &[(RegId, Bits)]) {
         self.cells
             .store_turn_change(self.rt, self.holder, turn_change, writes);

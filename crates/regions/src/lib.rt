@@ -13,11 +13,11 @@
 //!    its writes: the state after it is the same.
 //! 5. The nonblocking assignments of a turn become updates, in the nonblocking region or in the future, and then the
 //!    event of its own wait becomes inactive or a future event. The `$strobe` statements that it met join the monitor region.
-//! 6. A change of region swaps a region into an empty one, and the monitor region is emptied. An advance takes the events of the least time off the
-//!    front of the two lists of future events.
+//! 6. A change of region swaps a region into an empty one, and the monitor region is emptied. An advance takes the events of the least time
+//!    off the front of the two lists of future events.
 //!
 //! A `Machine` is a design with its state and a store: it evaluates the turn of an entry, applies the entry, and says which
-//! entries may be next. Replays and tests stand on it; the gate, which evaluates turns elsewhere, on `State::apply`.
+//! entries may be next. What takes entries on one thread stands on it; the gate, which evaluates turns elsewhere, on `State::apply`.
 //!
 //! The layer above uses the contract of `State::apply`. After an `Ok`, the state that `State` and `Store` stand for
 //! is the one to which the step of the definitions leads from the state before, and the values that each register had

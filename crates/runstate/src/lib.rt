@@ -14,8 +14,8 @@
 //! 3. `RunState::append` makes room for one entry, and applies it: `regions` makes its step on the regions and on the
 //!    cells, and appends its lines. Where memory is refused, journal, regions, registers, lines and end are as before.
 //! 4. The entry is pushed onto the journal, and the end Finish is stored where the run is finished.
-//! 5. The seat is told: it meets the registers that the entry wrote (`RunState::show_written`, by `meeting` of `regcells`), and the
-//!    ledger has the entry in its name (`RunState::publish`, by `mark`), with that end behind it.
+//! 5. The ledger has the entry in the seat's name (`RunState::publish`, by `mark`), with that end behind it, and the seat is told: it
+//!    meets the registers that the entry wrote (`RunState::show_written`, by `meeting` of `regcells`).
 //!
 //! A seat without an entry to append looks at the mark (`look`), or sees the whole ledger under the lock (`catch_up`).
 #![tactic(auto)]

@@ -10,6 +10,7 @@ use program::command;
 use std::alloc::{AllocError, Global};
 use std::{fs, io};
 
+// Runs the lines one after another. It fails where one isn't read, or where what comes of it isn't written.
 fn main(rt: HostRuntime) -> io::Result<()> {
     let alloc = rt.alloc();
     for line in rt.lines(alloc) {

@@ -105,6 +105,7 @@ impl Encode for bool {
 
     ghost code = { bool_code };
 
+    // Appends 1 for true and 0 for false.
     fn encode(&self, bytes: &mut Vec<u8>) -> Result<(), AllocError> {
         if *self {
             put_nat(bytes, 1)
@@ -119,6 +120,7 @@ impl Encode for Bits {
 
     ghost code = { vector_code };
 
+    // Appends the width, and both words.
     fn encode(&self, bytes: &mut Vec<u8>) -> Result<(), AllocError> {
         let (first, second) = self.words();
         put_nat(bytes, u128::from(self.width()))?;
@@ -142,6 +144,7 @@ impl<A: Encode, B: Encode> Encode for (A, B) {
 
     ghost code = { pair_code A.code B.code };
 
+    // Appends the first, and the second behind it.
     fn encode(&self, bytes: &mut Vec<u8>) -> Result<(), AllocError> {
         self.0.encode(bytes)?;
         self.1.encode(bytes)
@@ -153,6 +156,7 @@ impl<A: Encode> Encode for Option<A> {
 
     ghost code = { option_code A.code };
 
+    // Appends 0 where there is none, and else 1 and the value behind it.
     fn encode(&self, bytes: &mut Vec<u8>) -> Result<(), AllocError> {
         match self {
             None => put_nat(bytes, 0),

@@ -47,6 +47,7 @@ impl Encode for ProcState {
 
     ghost code = { state_code };
 
+    // Appends the place, and the assignment left over.
     fn encode(&self, bytes: &mut Vec<u8>) -> Result<(), AllocError> {
         self.place.encode(bytes)?;
         self.pending.encode(bytes)
@@ -56,6 +57,7 @@ impl Encode for ProcState {
 impl Encode for Continuation {
     ghost code = { λ p. process_code (going_on p) };
 
+    // Appends where the process goes on, and the event control that it waits at.
     fn encode(&self, bytes: &mut Vec<u8>) -> Result<(), AllocError> {
         self.state.encode(bytes)?;
         self.waits.encode(bytes)
@@ -65,6 +67,7 @@ impl Encode for Continuation {
 impl Encode for Update {
     ghost code = { λ u. update_code (unnumbered_update u) };
 
+    // Appends the register and the value, without the number of the event.
     fn encode(&self, bytes: &mut Vec<u8>) -> Result<(), AllocError> {
         self.register.encode(bytes)?;
         self.value.encode(bytes)
@@ -74,6 +77,7 @@ impl Encode for Update {
 impl<E: Encode> Encode for Due<E> {
     ghost code = { λ d. nat_code d.time ++ E.code d.event };
 
+    // Appends the time, and the event behind it.
     fn encode(&self, bytes: &mut Vec<u8>) -> Result<(), AllocError> {
         self.time.encode(bytes)?;
         self.event.encode(bytes)

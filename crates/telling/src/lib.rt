@@ -1,6 +1,6 @@
 //! What is told on standard error: lines of the program's own, each with its name before it, and texts.
 //!
-//! 1. `line` is a line: a text in which a number, a name or nothing stands.
+//! 1. `line` is a line: a text in which a number, a name, a path or nothing stands.
 //! 2. `telling` writes it, up to the first write that fails.
 //!
 //! What the layer above uses: `tell`, `tell_text`, `tell_lines` and `show_path`, which say what the writer took, and that at most one write

@@ -65,6 +65,7 @@ fn send_end<E: Write>(err: &mut Counted<E>, line: &SubjectLine<'_>) -> bool
     send(err, line.tail) && send(err, NEWLINE)
 }
 
+/// Sends the subject of a line, if it has one.
 fn send_subject<E: Write>(err: &mut Counted<E>, subject: Subject<'_>) -> bool
     ensures { Sends result E.contents err.old err.new (subject_text subject.entry) }
 {
@@ -100,6 +101,7 @@ fn send_lines<E: Write>(err: &mut Counted<E>, text: &str) -> bool
     true
 }
 
+/// Sends a character of a text of several lines: a newline as it is, and any other as it is shown.
 fn send_in_lines<E: Write>(err: &mut Counted<E>, letter: char) -> bool
     ensures { Sends result E.contents err.old err.new (shown_in_lines letter) }
 {
@@ -110,6 +112,7 @@ fn send_in_lines<E: Write>(err: &mut Counted<E>, letter: char) -> bool
     }
 }
 
+/// Sends the escape of a character, up to the first write that fails; it answers whether none did.
 fn send_escape<E: Write>(err: &mut Counted<E>, letter: char) -> bool
     ensures { Sends result E.contents err.old err.new (spelled encode_utf8 (escape_default letter)) }
 {
@@ -121,6 +124,7 @@ fn send_escape<E: Write>(err: &mut Counted<E>, letter: char) -> bool
     true
 }
 
+/// Sends a character as it is shown: a control character by its escape.
 fn send_shown<E: Write>(err: &mut Counted<E>, letter: char) -> bool
     ensures { Sends result E.contents err.old err.new (shown_letter letter) }
 {
@@ -131,6 +135,7 @@ fn send_shown<E: Write>(err: &mut Counted<E>, letter: char) -> bool
     }
 }
 
+/// Sends a character as it is, control character or not.
 fn send_letter<E: Write>(err: &mut Counted<E>, letter: char) -> bool
     ensures { Sends result E.contents err.old err.new (encode_utf8 letter) }
 {
@@ -138,6 +143,7 @@ fn send_letter<E: Write>(err: &mut Counted<E>, letter: char) -> bool
     send(err, letter.encode_utf8(&mut room))
 }
 
+/// Sends a number by its decimal digits.
 fn send_number<E: Write>(err: &mut Counted<E>, number: u64) -> bool
     ensures { Sends result E.contents err.old err.new (decimal number) }
 {

@@ -15,6 +15,7 @@ use crate::token::Token;
 use std::alloc::{AllocError, Global};
 use std::str;
 
+/// Whether a piece is white space or a comment, so that it gives no token.
 fn is_skipped(text: &[u8]) -> bool
     ensures { result ≡ spec.is_skipped text.now }
 {

@@ -99,6 +99,7 @@ fn system_name(text: &[u8]) -> Option<Kind>
     kind_in(SYSTEM_NAMES, text)
 }
 
+/// The kind of an operator or a mark, if the text is one.
 #[tactic(auto, unfolding(crate::specs::Lexing::signs))]
 fn sign(text: &[u8]) -> Option<Kind>
     ensures { result ≡ spec.kind_in spec.signs text.now }
@@ -134,6 +135,7 @@ fn system_kind(text: &[u8]) -> Kind
     Kind::System
 }
 
+/// The kind of a token that no table has, by its first byte: a number, a string, a system name or a name.
 #[tactic(auto, unfolding(crate::specs::Lexing::kind_by_first))]
 fn kind_by_first(text: &[u8]) -> Kind
     ensures { result ≡ spec.kind_by_first text.now }
@@ -158,6 +160,7 @@ fn kind_by_first(text: &[u8]) -> Kind
     }
 }
 
+/// The kind of an operator or a mark, and else the one that the first byte tells.
 fn sign_kind(text: &[u8]) -> Kind
     ensures { result ≡ spec.sign_kind text.now }
 {

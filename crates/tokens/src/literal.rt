@@ -30,6 +30,7 @@ fn bit(n: u64) -> Digit
     if n % 2 == 0 { Digit::Zero } else { Digit::One }
 }
 
+/// The four digits of a hexadecimal one, the least significant first.
 fn nibble(n: u8) -> [Digit; 4]
     ensures { result ≡ vector 4 n }
 {
@@ -73,6 +74,7 @@ fn add_hex(found: &mut Vec<Digit>, b: u8) -> Result<bool, AllocError>
     Ok(true)
 }
 
+/// Adds the digits that a byte of a literal stands for in its base, h or b, if it stands for some. The answer is whether it does.
 fn add_digits(found: &mut Vec<Digit>, hex: bool, b: u8) -> Result<bool, AllocError>
     ensures { IfOk result (λ added. AddsDigits (spec.digits_in hex b) found.old.items added found.new.items) }
 {
@@ -98,6 +100,7 @@ fn digits_of(alloc: Global, hex: bool, text: &[u8]) -> Result<Option<Vec<Digit>>
     Ok(Some(found))
 }
 
+/// The digit that fills up a literal whose most significant digit is this one: an x or a z is repeated, and else it is 0.
 fn filling(d: Digit) -> Digit
     ensures { result ≡ spec.filling d }
 {
@@ -108,6 +111,7 @@ fn filling(d: Digit) -> Digit
     }
 }
 
+/// The digit that fills up these digits, the last of which is the most significant; 0 where there are none.
 fn filling_of(found: &[Digit]) -> Digit
     ensures { result ≡ spec.filling_of found.now }
 {
@@ -120,6 +124,7 @@ fn filling_of(found: &[Digit]) -> Digit
     fill
 }
 
+/// Whether nothing but 0 is among digits, so that they can be cut.
 fn all_zero(digits: &[Digit]) -> bool
     ensures { result ≡ spec.all_zero digits.now }
 {
@@ -186,6 +191,7 @@ fn decimal_vector(width: u32, found: Option<u128>) -> Option<Bits>
     Some(Bits::from_u128(width, n))
 }
 
+/// The vector of a literal of base h or b at a width. `None` where a byte is no digit of the base, or the width doesn't hold them.
 fn fitted_digits(
     alloc: Global,
     hex: bool,
@@ -224,6 +230,7 @@ fn based(alloc: Global, width: u32, base: u8, text: &[u8]) -> Result<Option<Bits
     Ok(None)
 }
 
+/// The vector of a literal of a size, by its base and its digits. `None` where the size is 0 or too great, or where it doesn't hold them.
 fn sized(
     alloc: Global,
     size: Option<u128>,
@@ -243,6 +250,7 @@ fn sized(
     }
 }
 
+/// The vector of a literal, by the digits of its size and the rest of it, which begins with a `'` and the base.
 fn literal_from(alloc: Global, size: &[u8], rest: &[u8]) -> Result<Option<Bits>, AllocError>
     ensures { IfOk result (λ fit. fit ≡ spec.literal_from size.now rest.now) }
 {

@@ -101,6 +101,7 @@ fn number_len(n: usize, rest: &[u8]) -> usize
     }
 }
 
+/// Whether a byte is an operator or a mark by itself.
 fn is_sign1(a: u8) -> bool
     ensures { result ≡ lexing.is_sign1 a }
 {
@@ -128,6 +129,7 @@ fn is_sign1(a: u8) -> bool
         || a == b';'
 }
 
+/// Whether two bytes are one operator or mark together.
 fn is_sign2(a: u8, b: u8) -> bool
     ensures { result ≡ lexing.is_sign2 a b }
 {

@@ -40,7 +40,7 @@ pub enum Suspend {
 }
 
 /// A turn that is over: the registers that it read, in the order of their first use, each with what it saw; its writes,
-/// its nonblocking assignments, its lines and the numbers of the `$strobe` statements that it met, each in order; the turn changes of
+/// its nonblocking assignments, its lines and the places of the `$strobe` statements that it met, each in order; the turn changes of
 /// its writes, in the order of the first write of each register; where the process goes on and what it waits for; whether it
 /// met `$finish`; and the number of its counted steps. The next turn is filled into the same log, in the room that it has.
 #[derive(Drop)]

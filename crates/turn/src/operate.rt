@@ -10,6 +10,7 @@ use logic4::bits::{Bits, MAX_WIDTH};
 use logic4::digit::{Digit, Truth};
 use model::tree::{BinaryOperator, UnaryOperator};
 
+// The digit of a truth, x where it is unknown.
 fn digit_of(truth: Truth) -> Digit
     ensures { result ≡ truth_digit truth }
 {

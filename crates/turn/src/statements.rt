@@ -80,7 +80,7 @@ impl RunningTurn {
         Ok(())
     }
 
-    /// `$strobe`: its number is kept, and nothing is read (17.1.2).
+    /// `$strobe`: its place is kept, and nothing is read (17.1.2).
     pub fn strobe(&mut self, next: usize) -> Result<(), AllocError>
         ensures { OnOk result (turn_status_of self.new ≡ strobing (turn_status_of self.old) next) }
     {

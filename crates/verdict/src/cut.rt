@@ -25,6 +25,7 @@ pub fn push_cut(text: &mut Vec<u8>, cut: ListCut) -> Result<(), AllocError>
     push_cause(text, cut)
 }
 
+/// By what the list was cut: the limit that was met, or that memory was refused.
 fn push_cause(text: &mut Vec<u8>, cut: ListCut) -> Result<(), AllocError>
     ensures { OnOk result (text.new.items ≡ text.old.items ++ cut_cause_text cut) }
 {

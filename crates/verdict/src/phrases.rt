@@ -7,6 +7,7 @@ use crate::claim::SearchStop;
 use itoa::Buffer;
 use std::alloc::AllocError;
 
+/// Puts a number behind a text, by its decimal digits alone.
 pub(crate) fn push_number(text: &mut Vec<u8>, number: u64) -> Result<(), AllocError>
     ensures { OnOk result (text.new.items ≡ text.old.items ++ decimal number) }
 {
@@ -37,6 +38,7 @@ pub(crate) fn push_grouped(text: &mut Vec<u8>, number: u64) -> Result<(), AllocE
     push_group(text, number % 1000)
 }
 
+/// Puts the thousands of a number behind a text, with a comma before their last three digits.
 fn push_thousands(text: &mut Vec<u8>, number: u64) -> Result<(), AllocError>
     ensures { OnOk result (text.new.items ≡ text.old.items ++ thousands number) }
 {
@@ -58,6 +60,7 @@ pub(crate) fn push_count(text: &mut Vec<u8>, count: usize, ends: bool) -> Result
     }
 }
 
+/// How many texts there are, where there are several.
 fn push_several(text: &mut Vec<u8>, count: usize, ends: bool) -> Result<(), AllocError>
     ensures { OnOk result (text.new.items ≡ text.old.items ++ several_text count ends) }
 {
@@ -78,6 +81,7 @@ pub(crate) fn push_up_to(text: &mut Vec<u8>, until: Option<u64>) -> Result<(), A
     }
 }
 
+/// That it holds up to this time.
 fn push_time(text: &mut Vec<u8>, time: u64) -> Result<(), AllocError>
     ensures { OnOk result (text.new.items ≡ text.old.items ++ up_to_time time) }
 {
@@ -92,6 +96,7 @@ fn lines_in(text: &[u8]) -> usize
     text.iter().filter(|byte| **byte == 10).count()
 }
 
+/// What is printed, by how many lines a text has: no line, this one, or so many.
 pub(crate) fn push_these_lines(text: &mut Vec<u8>, printed: &[u8]) -> Result<(), AllocError>
     ensures { OnOk result (text.new.items ≡ text.old.items ++ these_lines (lines_in printed.now)) }
 {
@@ -102,6 +107,7 @@ pub(crate) fn push_these_lines(text: &mut Vec<u8>, printed: &[u8]) -> Result<(),
     }
 }
 
+/// That so many lines are printed, which are several.
 fn push_lines(text: &mut Vec<u8>, count: usize) -> Result<(), AllocError>
     ensures { OnOk result (text.new.items ≡ text.old.items ++ lines_text count) }
 {

@@ -63,6 +63,7 @@ pub fn push_race(text: &mut Vec<u8>, race: &RaceDescription<'_>) -> Result<(), A
     push_runs(text, race)
 }
 
+/// Puts the first line behind a text: the number of the race, what it is for, and the time.
 fn push_title(text: &mut Vec<u8>, race: &RaceDescription<'_>) -> Result<(), AllocError>
     ensures { OnOk result (text.new.items ≡ text.old.items ++ race_title_text race.entry.now) }
 {
@@ -73,6 +74,7 @@ fn push_title(text: &mut Vec<u8>, race: &RaceDescription<'_>) -> Result<(), Allo
     text.extend_from_slice(b"\n")
 }
 
+/// Puts a line for each of the two processes behind a text.
 fn push_roles(text: &mut Vec<u8>, race: &RaceDescription<'_>) -> Result<(), AllocError>
     ensures { OnOk result (text.new.items ≡ text.old.items ++ roles_text race.entry.now) }
 {
@@ -80,6 +82,7 @@ fn push_roles(text: &mut Vec<u8>, race: &RaceDescription<'_>) -> Result<(), Allo
     push_role(text, race.second)
 }
 
+/// Puts a line for each of the two runs behind a text, the first run before the second.
 fn push_runs(text: &mut Vec<u8>, race: &RaceDescription<'_>) -> Result<(), AllocError>
     ensures { OnOk result (text.new.items ≡ text.old.items ++ runs_text race.entry.now) }
 {
@@ -87,6 +90,7 @@ fn push_runs(text: &mut Vec<u8>, race: &RaceDescription<'_>) -> Result<(), Alloc
     push_run(text, race, b"  the second before the first", race.exchanged)
 }
 
+/// Puts what two processes race for behind a text, and the word that stands before the time.
 fn push_site(text: &mut Vec<u8>, site: SiteDescription<'_>) -> Result<(), AllocError>
     ensures { OnOk result (text.new.items ≡ text.old.items ++ site_text site.entry) }
 {
@@ -102,6 +106,7 @@ fn push_site(text: &mut Vec<u8>, site: SiteDescription<'_>) -> Result<(), AllocE
     }
 }
 
+/// Puts the line of a process behind a text: its number, where it begins, if that is known, and what it does.
 fn push_role(text: &mut Vec<u8>, role: RoleDescription<'_>) -> Result<(), AllocError>
     ensures { OnOk result (text.new.items ≡ text.old.items ++ role_text role.entry) }
 {
@@ -115,6 +120,7 @@ fn push_role(text: &mut Vec<u8>, role: RoleDescription<'_>) -> Result<(), AllocE
     text.extend_from_slice(b"\n")
 }
 
+/// Puts the word of a process and the line in which it stands behind a text, with a comma before them.
 fn push_begin(text: &mut Vec<u8>, process: ProcessDescription) -> Result<(), AllocError>
     ensures { OnOk result (text.new.items ≡ text.old.items ++ begin_text (Some process)) }
 {
@@ -126,6 +132,7 @@ fn push_begin(text: &mut Vec<u8>, process: ProcessDescription) -> Result<(), All
     push_number(text, process.line as u64)
 }
 
+/// Puts the line of a run behind a text: which process comes first in it, its journal, if that is saved, and how it differs.
 fn push_run(
     text: &mut Vec<u8>,
     race: &RaceDescription<'_>,
@@ -139,6 +146,7 @@ fn push_run(
     push_difference(text, race.line, run.line)
 }
 
+/// Puts the path of a journal behind a text, in parentheses, or nothing where it isn't saved.
 pub(crate) fn push_journal(
     text: &mut Vec<u8>,
     prefix: Option<&str>,
@@ -152,6 +160,7 @@ pub(crate) fn push_journal(
     }
 }
 
+/// Puts the path of the journal with a number behind a text, in parentheses.
 fn push_path(text: &mut Vec<u8>, prefix: &str, number: usize) -> Result<(), AllocError>
     ensures { OnOk result (text.new.items ≡ text.old.items ++ path_text prefix.now number) }
 {
@@ -162,6 +171,7 @@ fn push_path(text: &mut Vec<u8>, prefix: &str, number: usize) -> Result<(), Allo
     text.extend_from_slice(b".journal)")
 }
 
+/// Puts the line in which the two runs differ behind a text, or that they differ in their ends alone.
 fn push_difference(text: &mut Vec<u8>, number: Option<usize>, line: &[u8]) -> Result<(), AllocError>
     ensures { OnOk result (text.new.items ≡ text.old.items ++ differing_line_text number line.now) }
 {
@@ -171,6 +181,7 @@ fn push_difference(text: &mut Vec<u8>, number: Option<usize>, line: &[u8]) -> Re
     }
 }
 
+/// Puts the number of a line behind a text, and what that line is.
 fn push_line(text: &mut Vec<u8>, number: usize, line: &[u8]) -> Result<(), AllocError>
     ensures { OnOk result (text.new.items ≡ text.old.items ++ differing_line_text (Some number) line.now) }
 {
@@ -179,6 +190,7 @@ fn push_line(text: &mut Vec<u8>, number: usize, line: &[u8]) -> Result<(), Alloc
     push_quoted(text, line)
 }
 
+/// Puts what a line is behind a text: quoted without its newline, or missing where the text has ended before.
 fn push_quoted(text: &mut Vec<u8>, line: &[u8]) -> Result<(), AllocError>
     ensures { OnOk result (text.new.items ≡ text.old.items ++ quoted_line line.now) }
 {
@@ -189,6 +201,7 @@ fn push_quoted(text: &mut Vec<u8>, line: &[u8]) -> Result<(), AllocError>
     }
 }
 
+/// Puts a line that has no newline behind a text, quoted.
 fn push_quotes(text: &mut Vec<u8>, line: &[u8]) -> Result<(), AllocError>
     ensures { OnOk result (text.new.items ≡ text.old.items ++ in_quotes line.now) }
 {

@@ -34,6 +34,7 @@ pub fn push_verdict(text: &mut Vec<u8>, verdict: &Verdict<'_>) -> Result<(), All
     push_claim(text, verdict)
 }
 
+/// What the texts are among those of all lawful runs, behind their number.
 fn push_claim(text: &mut Vec<u8>, verdict: &Verdict<'_>) -> Result<(), AllocError>
     ensures { OnOk result (text.new.items ≡ text.old.items ++ claim_text verdict.entry.now.claim verdict.entry.now.until verdict.entry.now.count verdict.entry.now.ends verdict.entry.now.first.now (option_map (λ path. path.now) verdict.entry.now.prefix)) }
 {
@@ -52,6 +53,7 @@ fn push_so_far(text: &mut Vec<u8>, stop: SearchStop, count: usize) -> Result<(),
     push_stop(text, stop)
 }
 
+/// What stands before the reason for which there may be other texts: there are more than one already, or not.
 fn open_text(count: usize) -> &'static [u8]
     ensures { result.now ≡ open_text count }
 {
@@ -62,6 +64,7 @@ fn open_text(count: usize) -> &'static [u8]
     }
 }
 
+/// That the texts are those of so many random orders, and there may be others.
 fn push_sampled(text: &mut Vec<u8>, orders: u32) -> Result<(), AllocError>
     ensures { OnOk result (text.new.items ≡ text.old.items ++ sampled_text orders) }
 {
@@ -70,6 +73,7 @@ fn push_sampled(text: &mut Vec<u8>, orders: u32) -> Result<(), AllocError>
     text.extend_from_slice(b" random lawful orders: others may be possible\n")
 }
 
+/// What every lawful run prints that comes to an end, where all were searched.
 fn push_every(
     text: &mut Vec<u8>,
     verdict: &Verdict<'_>,
@@ -85,6 +89,7 @@ fn push_every(
     }
 }
 
+/// That no lawful run comes to an end, and where the journal of one that doesn't is saved, if it is.
 fn push_none(
     text: &mut Vec<u8>,
     until: Option<u64>,
@@ -114,6 +119,7 @@ fn push_endless(
     }
 }
 
+/// That some lawful runs don't come to an end, and where the journal of one is saved, if it is.
 fn push_some_endless(
     text: &mut Vec<u8>,
     endless: Option<usize>,
@@ -126,6 +132,7 @@ fn push_some_endless(
     text.extend_from_slice(b"\n")
 }
 
+/// That every lawful run that comes to an end prints the same text, and that text behind all that is said.
 fn push_one(
     text: &mut Vec<u8>,
     verdict: &Verdict<'_>,
@@ -143,6 +150,7 @@ fn push_one(
     text.extend_from_slice(verdict.first)
 }
 
+/// That every lawful run that comes to an end has one of several texts.
 fn push_many(
     text: &mut Vec<u8>,
     verdict: &Verdict<'_>,
@@ -156,6 +164,7 @@ fn push_many(
     push_endless(text, endless, verdict.prefix)
 }
 
+/// What a run has of several texts: it has one of them with its end, or it prints one of them, where their ends are alike.
 fn one_of_them(ends: bool) -> &'static [u8]
     ensures { result.now ≡ one_of_them ends }
 {

@@ -5,7 +5,7 @@
 //! 3. `grammar` reads the tokens from left to right.
 //! 4. `parse` joins these steps, and counts the token of a fault.
 //!
-//! The layer above uses `parse::parse`: it answers the one module that the text spells by the grammar
+//! The layer above uses `parse`: it answers the one module that the text spells by the grammar
 //! (specs/Grammar.antt of `grammar`, over the cut of the text: specs/Spells.antt), and a fault where none is or where the text nests
 //! too deep.
 #![tactic(auto)]

@@ -8,6 +8,7 @@ use tokens::token::{Kind, Token};
 
 const LIMIT: u32 = 64;
 
+/// How many blocks, parentheses and braces are open behind a token, by how many are before it.
 fn open_after(kind: Kind, height: u32) -> u32
     requires { height ≤ LIMIT }
     ensures { result ≡ open_after kind height }
@@ -19,6 +20,8 @@ fn open_after(kind: Kind, height: u32) -> u32
     }
 }
 
+/// How many operators, delays and event controls were counted behind a token, by how many were before it; they are counted
+/// anew behind `;`, `begin` and `end`.
 fn signs_after(kind: Kind, signs: u32) -> u32
     requires { signs ≤ LIMIT }
     ensures { result ≡ signs_after kind signs }

@@ -95,6 +95,7 @@ pub enum ParseFault {
     Memory,
 }
 
+/// Why a text is refused that isn't cut into tokens.
 fn of_cut(fault: CutFault) -> ParseFault
     ensures { result ≡ of_cut fault }
 {
@@ -105,6 +106,7 @@ fn of_cut(fault: CutFault) -> ParseFault
     }
 }
 
+/// Why a text is refused whose tokens aren't read, at the one with this number.
 fn of_tokens(fault: GrammarFault, token: usize) -> ParseFault
     ensures { result ≡ of_tokens fault token }
 {

@@ -9,6 +9,7 @@ use std::alloc::Global;
 use std::process::ExitCode;
 use std::{env, io};
 
+// Runs `command`, or tells why there are no words for it.
 fn main(rt: HostRuntime) -> ExitCode {
     let alloc = rt.alloc();
     let mut files = SystemFiles {
@@ -25,6 +26,7 @@ fn main(rt: HostRuntime) -> ExitCode {
     ExitCode::from(status)
 }
 
+// The words of the command line. Fails where memory is refused, or where one isn't UTF-8.
 fn words<R: std::rt::Env + AllocGlobal>(rt: &R, alloc: Global) -> io::Result<Vec<String>> {
     let words = env::args(rt)?.collect(alloc)?;
     Ok(words)

@@ -9,6 +9,7 @@ use itoa::Buffer;
 use logic4::bits::Bits;
 use std::alloc::{AllocError, Global};
 
+/// Puts a number behind a text, by its decimal digits.
 fn push_number(text: &mut Vec<u8>, number: u64) -> Result<(), AllocError>
     ensures { OnOk result (text.new.items ≡ text.old.items ++ decimal number) }
 {

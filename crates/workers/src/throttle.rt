@@ -45,6 +45,7 @@ impl Admission {
         !self.taken.swap(true, Ordering::AcqRel)
     }
 
+    // Sleeps for a backoff, or until the admission is given up.
     fn back_off<R: Wait>(&self, rt: &R) {
         let seen = self.left.notifications();
         self.left.sleep(rt, seen, Duration::from_micros(BACKOFF));

@@ -82,6 +82,7 @@ impl Bits {
     }
 }
 
+// the edge of a change from one digit to another (9.7.2): a posedge from 0 or to 1, a negedge from 1 or to 0
 fn digit_edge(old: Digit, new: Digit) -> Edge
     ensures { result ≡ edges.digit_edge old new }
 {

@@ -12,7 +12,7 @@ const SOURCE: &[u8] = b"module t;\n  initial a = 1'b0;\nendmodule\n";
 const TOLD: &str = "t\\n\\t\\u{1b}.v:2:11: E1 undeclared a\n  initial a = 1'b0;\n          ^\n";
 
 fn told(alloc: Global) -> Result<String, AllocError> {
-    let diagnosis = diagnose(alloc, SOURCE);
+    let diagnosis = diagnose(alloc, SOURCE, false);
     render(alloc, "t\n\t\u{1b}.v", SOURCE, &diagnosis)
 }
 

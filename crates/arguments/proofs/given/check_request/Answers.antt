@@ -10,4 +10,5 @@ returns c =
     let file : c.get_str.result ≡ Some c.unwrap.result = search rules in
     record {
       file = sym (first_value-rows found (codes "FILE")) ∙ (sym c.get_str.ensures ∙ ap (option_map (λ (s : Bor (List ℕ)). s.now)) file);
+      all = c.given_flag.ensures;
     }
