@@ -15,7 +15,8 @@ use Rattle.model.proofs.RunLaws.{where_none}
 use Rattle.orders.specs.Alike.{EventsRise, IsInOrder, with_update, updates_in}
 use Rattle.orders.proofs.EventLists.{present_from}
 use Rattle.orders.proofs.AlikeSteps.{continuation_of}
-use Rattle.loose.specs.Loose.{Process, FirstOf, of_class, updates_of_class, AlikeIn, has_earlier_of_class, loose_update_refusal, loose_entry_refusal, loose_transition_of_action, loose_transition_of}
+use Rattle.loose.specs.declared.transition.LooseTransition.TheVariants.{Process, FirstOf}
+use Rattle.loose.specs.Loose.{of_class, updates_of_class, AlikeIn, has_earlier_of_class, loose_update_refusal, loose_entry_refusal, loose_transition_of_action, loose_transition_of}
 use Rattle.footprints.specs.Footprints.{Footprint, changes_made, woken_by, awaited_by, assigned, turn_footprint, update_footprint, action_footprint, footprint}
 use Rattle.footprints.specs.FootprintLaws.{FootprintTells, FootprintIsAlike}
 use Rattle.footprints.proofs.ValueChanges.{neither, written_values, values_made}

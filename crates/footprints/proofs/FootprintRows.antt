@@ -9,7 +9,8 @@ use Rattle.model.specs.Expressions.{Store}
 use Rattle.model.specs.Turns.{Ended}
 use Rattle.model.specs.Turns as turns
 use Rattle.model.specs.States.{Action, Continuation, State, start, updated}
-use Rattle.loose.specs.Loose.{LooseTransition, Process, FirstOf, Change}
+use Rattle.loose.specs.declared.transition.LooseTransition.{LooseTransition}
+use Rattle.loose.specs.declared.transition.LooseTransition.TheVariants.{Process, FirstOf, Change}
 use Rattle.footprints.specs.Footprints.{ValueChange, Footprint, turn_footprint, update_footprint, footprint, AreApart}
 
 abbrev low : Vector

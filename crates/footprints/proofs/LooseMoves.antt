@@ -8,7 +8,9 @@ use Rattle.model.specs.Runs.{Effect, action_in, has_any, taken}
 use Rattle.model.specs.Laws.{times_in}
 use Rattle.orders.specs.Alike.{IsInOrder}
 use Rattle.orders.proofs.Commuting.{apart_commute}
-use Rattle.loose.specs.Loose.{AlikeIn, LooseTransition, Process, loose_transition_of_action, loose_transition_of}
+use Rattle.loose.specs.declared.transition.LooseTransition.{LooseTransition}
+use Rattle.loose.specs.declared.transition.LooseTransition.TheVariants.{Process}
+use Rattle.loose.specs.Loose.{AlikeIn, loose_transition_of_action, loose_transition_of}
 use Rattle.loose.specs.LooseLaws.{AreAlikeEffectsIn}
 use Rattle.loose.proofs.ClassStates.{states_in-same, states_in-sym, states_in-trans}
 use Rattle.loose.proofs.LooseSteps.{loose_step_keeps_order}

@@ -10,7 +10,8 @@ use Rattle.model.specs.States.{Action, Evaluate, State}
 use Rattle.model.specs.Runs.{Effect, action_in, turn_of, turn_effect, action_effect, joined}
 use Rattle.orders.specs.Alike.{IsInOrder}
 use Rattle.orders.proofs.Stores.{append-none}
-use Rattle.loose.specs.Loose.{LooseTransition, loose_step, loose_run_from}
+use Rattle.loose.specs.declared.transition.LooseTransition.{LooseTransition}
+use Rattle.loose.specs.Loose.{loose_step, loose_run_from}
 use Rattle.traces.specs.Traces.{Runs, printed}
 use Rattle.footprints.specs.Footprints.{Footprint, turn_footprint, update_footprint, action_footprint, footprint}
 use Rattle.footprints.specs.FootprintLaws.{IsStepWith}

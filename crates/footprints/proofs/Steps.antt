@@ -21,7 +21,8 @@ use Rattle.orders.proofs.TurnFrame.{turn_has_frame}
 use Rattle.orders.proofs.Stores.{length_all}
 use Rattle.orders.proofs.Commuting.{still_there}
 use Rattle.orders.proofs.AlikeSteps.{continuation_of}
-use Rattle.loose.specs.Loose.{Process, FirstOf, loose_transition_of_action, updates_class, has_earlier_of_class, loose_update_refusal, loose_entry_refusal, loose_refusal, loose_step}
+use Rattle.loose.specs.declared.transition.LooseTransition.TheVariants.{Process, FirstOf}
+use Rattle.loose.specs.Loose.{loose_transition_of_action, updates_class, has_earlier_of_class, loose_update_refusal, loose_entry_refusal, loose_refusal, loose_step}
 use Rattle.footprints.specs.Footprints.{ValueChange, Footprint, changes_made, changed, woken_by, awaited_by, concerned, assigned, turn_footprint, update_footprint, action_footprint, footprint}
 use Rattle.footprints.specs.FootprintLaws.{IsStepWith, HasSameOutput}
 use Rattle.footprints.proofs.ValueChanges.{neither, written_values, values_made, unchanged}

@@ -13,7 +13,9 @@ use Rattle.orders.specs.Alike.{IsInOrder, updates_in}
 use Rattle.orders.proofs.EventLists.{updates-append, updates_left}
 use Rattle.orders.proofs.Stores.{append-none}
 use Rattle.orders.proofs.TurnFrame.{contains_right}
-use Rattle.loose.specs.Loose.{LooseTransition, Process, FirstOf, Change, of_class, updates_of_class}
+use Rattle.loose.specs.declared.transition.LooseTransition.{LooseTransition}
+use Rattle.loose.specs.declared.transition.LooseTransition.TheVariants.{Process, FirstOf, Change}
+use Rattle.loose.specs.Loose.{of_class, updates_of_class}
 use Rattle.loose.proofs.ClassLists.{HasFirstOf, find_first, class_taken}
 use Rattle.footprints.specs.Footprints.{Footprint, turn_footprint, update_footprint, changed, AreApart, process_of, concerned}
 use Rattle.footprints.specs.FootprintLaws.{IsStepWith}

@@ -11,7 +11,9 @@ use Rattle.model.specs.Runs.{Effect, action_in, has_any, turn_of, turn_effect, u
 use Rattle.model.specs.Laws.{evaluations_in}
 use Rattle.orders.specs.Alike.{IsInOrder, with_update, updates_in}
 use Rattle.orders.proofs.EventLists.{evaluations-taken, own_evaluation, find_evaluation}
-use Rattle.loose.specs.Loose.{AlikeIn, LooseTransition, Process, FirstOf, of_class, updates_of_class, has_earlier_of_class, loose_transition_of_action}
+use Rattle.loose.specs.declared.transition.LooseTransition.{LooseTransition}
+use Rattle.loose.specs.declared.transition.LooseTransition.TheVariants.{Process, FirstOf}
+use Rattle.loose.specs.Loose.{AlikeIn, of_class, updates_of_class, has_earlier_of_class, loose_transition_of_action}
 use Rattle.loose.proofs.ClassLists.{HasFirstOf, find_first}
 use Rattle.footprints.specs.Footprints.{Footprint, turn_footprint, update_footprint}
 use Rattle.footprints.specs.Moves.{IsWaiting, IsMove, WaitingMoves}

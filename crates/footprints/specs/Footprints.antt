@@ -13,7 +13,8 @@ use Rattle.model.specs.Turns as turns
 use Rattle.model.specs.States.{Action, Evaluate, Continuation, State, triggers_of, wakes}
 use Rattle.model.specs.Runs.{action_in, has_any, turn_of}
 use Rattle.orders.specs.Apart.{NotBoth, given}
-use Rattle.loose.specs.Loose.{LooseTransition, Process, FirstOf}
+use Rattle.loose.specs.declared.transition.LooseTransition.{LooseTransition}
+use Rattle.loose.specs.declared.transition.LooseTransition.TheVariants.{Process, FirstOf}
 
 -- a change of a register, with its value before and after
 pub record ValueChange : Type 0 where

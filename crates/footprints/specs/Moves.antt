@@ -7,7 +7,9 @@ use Rattle.model.specs.Turns.{contains}
 use Rattle.model.specs.States.{Action, State}
 use Rattle.model.specs.Runs.{Effect, action_in, turn_of}
 use Rattle.orders.specs.Alike.{IsInOrder}
-use Rattle.loose.specs.Loose.{AlikeIn, LooseTransition, Process, loose_run_from, loose_transition_of_action}
+use Rattle.loose.specs.declared.transition.LooseTransition.{LooseTransition}
+use Rattle.loose.specs.declared.transition.LooseTransition.TheVariants.{Process}
+use Rattle.loose.specs.Loose.{AlikeIn, loose_run_from, loose_transition_of_action}
 use Rattle.traces.specs.Traces.{Moves, AreMoves, Runs, printed}
 use Rattle.traces.specs.Certificates.{HaveSwaps}
 use Rattle.footprints.specs.Footprints.{Footprint, AreApart}

@@ -12,7 +12,9 @@ use Rattle.model.proofs.TurnLaws.{turn_unique}
 use Rattle.orders.specs.Alike.{IsInOrder}
 use Rattle.orders.proofs.EventLists.{evaluations-taken, own_evaluation, find_evaluation}
 use Rattle.orders.proofs.AlikeSteps.{continuation_of}
-use Rattle.loose.specs.Loose.{AlikeIn, has_earlier_of_class, updates_of_class, IsPermittedLoosely, loose_step, LooseTransition, Process, FirstOf, Change, loose_transition_of_action, loose_transition_of}
+use Rattle.loose.specs.declared.transition.LooseTransition.{LooseTransition}
+use Rattle.loose.specs.declared.transition.LooseTransition.TheVariants.{Process, FirstOf, Change}
+use Rattle.loose.specs.Loose.{AlikeIn, has_earlier_of_class, updates_of_class, IsPermittedLoosely, loose_step, loose_transition_of_action, loose_transition_of}
 use Rattle.loose.specs.LooseLaws.{AreAlikeEffectsIn, AlikeInStatesStepAlike, LooseTransitionHasOneOutcome}
 use Rattle.loose.proofs.ClassLists.{HasFirstOf, first_taken, find_first, alike_in-has_any}
 use Rattle.loose.proofs.ClassFutures.{alike_future_in-times}

@@ -9,7 +9,8 @@ use Rattle.model.specs.Design.{Design}
 use Rattle.model.specs.States.{State, Action, Evaluate}
 use Rattle.model.specs.Runs.{Effect, action_in, joined, IsTimely, AreTimely}
 use Rattle.orders.proofs.SearchLaws.{then_some}
-use Rattle.loose.specs.Loose.{loose_step, loose_run_from, Change, loose_transition_of_action, loose_transition_of}
+use Rattle.loose.specs.declared.transition.LooseTransition.TheVariants.{Change}
+use Rattle.loose.specs.Loose.{loose_step, loose_run_from, loose_transition_of_action, loose_transition_of}
 use Rattle.loose.specs.LooseLaws.{IsOneLooseNode, OneLooseNodeGoesOn}
 use Rattle.loose.proofs.LooseSteps.{loose_step_keeps_order}
 use Rattle.loose.proofs.ClassSteps.{alike_in_states_step_alike}

@@ -15,6 +15,8 @@ use Rattle.model.specs.Runs.{Effect, action_in, refused_where, entry_refusal, up
 use Rattle.model.specs.Steps.{IsPermitted}
 use Rattle.model.specs.Laws.{evaluations_in}
 use Rattle.orders.specs.Alike.{times, updates_in}
+use Rattle.loose.specs.declared.transition.LooseTransition.{LooseTransition}
+use Rattle.loose.specs.declared.transition.LooseTransition.TheVariants.{Process, FirstOf, Change}
 
 -- those of some writes whose registers are of one class
 abbrev pub of_class : (ℕ → ℕ) → ℕ → List (ℕ × Vector) → List (ℕ × Vector)
@@ -106,13 +108,6 @@ loose_run_from class design e (entry ∷ entries) =
 -- what comes of a loose journal, from the start
 abbrev pub loose_run : (ℕ → ℕ) → Design → List Entry → Option Effect
 loose_run class design journal = loose_run_from class design (silent (start design)) journal
-
--- What an entry does, without the number of an event: the turn of a process, the first update of a class, or the change of the
--- regions that the entry itself names.
-pub data LooseTransition : Type 0 where
-  Process : (process : ℕ) → LooseTransition
-  FirstOf : (class : ℕ) → LooseTransition
-  Change : (entry : Entry) → LooseTransition
 
 -- the transition of an action: the turn of the process that it evaluates, or the first update of its register's class
 abbrev pub loose_transition_of_action : (ℕ → ℕ) → Option Action → Option LooseTransition

@@ -4,3 +4,4 @@
 #![tactic(auto)]
 
 pub mod laws;
+pub mod transition;

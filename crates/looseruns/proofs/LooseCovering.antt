@@ -11,7 +11,8 @@ use Rattle.model.specs.Runs.{Effect, silent, joined}
 use Rattle.orders.specs.Alike.{IsInOrder}
 use Rattle.orders.specs.SearchLaws.{EndsHere}
 use Rattle.orders.proofs.SearchLaws.{then_some}
-use Rattle.loose.specs.Loose.{AlikeIn, LooseTransition, loose_transition_of}
+use Rattle.loose.specs.declared.transition.LooseTransition.{LooseTransition}
+use Rattle.loose.specs.Loose.{AlikeIn, loose_transition_of}
 use Rattle.loose.specs.LooseLaws.{IsOneLooseNode}
 use Rattle.loose.proofs.ClassStates.{states_in-same}
 use Rattle.explore.specs.declared.Successor.{Successor}

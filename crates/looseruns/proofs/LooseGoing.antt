@@ -10,7 +10,7 @@ use Rattle.model.specs.Runs.{Effect, silent, joined}
 use Rattle.orders.specs.Alike.{IsInOrder}
 use Rattle.orders.specs.SearchLaws.{EndsHere}
 use Rattle.orders.proofs.SearchLaws.{then_some}
-use Rattle.loose.specs.Loose.{LooseTransition}
+use Rattle.loose.specs.declared.transition.LooseTransition.{LooseTransition}
 use Rattle.loose.specs.LooseLaws.{IsOneLooseNode}
 use Rattle.loose.proofs.LooseSteps.{loose_step_keeps_order}
 use Rattle.loose.proofs.ClassStates.{states_in-same, states_in-sym, states_in-trans}

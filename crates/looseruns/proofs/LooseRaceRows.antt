@@ -13,8 +13,9 @@ use Rattle.model.specs.Syntax.{Register, Literal, Nothing, Also}
 use Rattle.model.specs.Design.{Design, Process, Statement, AssignLater, Await, Print, Statements, End, Then, Argument}
 use Rattle.model.specs.Turns.{turn_within}
 use Rattle.model.specs.Runs.{Effect, is_quiet}
-use Rattle.loose.specs.Loose.{LooseTransition, FirstOf, Change}
-use Rattle.loose.specs.Loose as loose
+use Rattle.loose.specs.declared.transition.LooseTransition.{LooseTransition}
+use Rattle.loose.specs.declared.transition.LooseTransition.TheVariants.{FirstOf, Change}
+use Rattle.loose.specs.declared.transition.LooseTransition.TheVariants as transitions
 use Rattle.looseruns.specs.LooseMoves.{moves_run, IsTimelyMove, AreTimelyMoves}
 use Rattle.looseruns.specs.LooseRuns.{MayEndLoosely, text_of_moves}
 
@@ -42,17 +43,17 @@ together r = 0
 
 -- the turns of all processes, and the change to their updates
 abbrev in_order : List LooseTransition
-in_order = loose.Process 0 ∷ loose.Process 1 ∷ loose.Process 2 ∷ Change ActivateNba ∷ []
+in_order = transitions.Process 0 ∷ transitions.Process 1 ∷ transitions.Process 2 ∷ Change ActivateNba ∷ []
 
 abbrev turned : List LooseTransition
-turned = loose.Process 1 ∷ loose.Process 0 ∷ loose.Process 2 ∷ Change ActivateNba ∷ []
+turned = transitions.Process 1 ∷ transitions.Process 0 ∷ transitions.Process 2 ∷ Change ActivateNba ∷ []
 
 -- a's update comes before the line, and after it
 abbrev early : List LooseTransition
-early = in_order ++ FirstOf 0 ∷ FirstOf 1 ∷ loose.Process 2 ∷ []
+early = in_order ++ FirstOf 0 ∷ FirstOf 1 ∷ transitions.Process 2 ∷ []
 
 abbrev late : List LooseTransition
-late = in_order ++ FirstOf 1 ∷ loose.Process 2 ∷ FirstOf 0 ∷ []
+late = in_order ++ FirstOf 1 ∷ transitions.Process 2 ∷ FirstOf 0 ∷ []
 
 pub both_texts : (text_of_moves apart two_makers early ≡ codes "1" ++ 10 ∷ []) × (text_of_moves apart two_makers late ≡ codes "x" ++ 10 ∷ [])
 unfolding turn_within
@@ -75,8 +76,8 @@ both_end = (
 )
 
 -- where the registers are of one class, the first update is that of the first turn, and no process is woken before b's
-pub one_class_texts : (text_of_moves together two_makers (in_order ++ FirstOf 0 ∷ FirstOf 0 ∷ loose.Process 2 ∷ []) ≡ codes "1" ++ 10 ∷ []) × (moves_run together two_makers (in_order ++ FirstOf 0 ∷ loose.Process 2 ∷ []) ≡ None)
-    × (text_of_moves together two_makers (turned ++ FirstOf 0 ∷ loose.Process 2 ∷ FirstOf 0 ∷ []) ≡ codes "x" ++ 10 ∷ [])
+pub one_class_texts : (text_of_moves together two_makers (in_order ++ FirstOf 0 ∷ FirstOf 0 ∷ transitions.Process 2 ∷ []) ≡ codes "1" ++ 10 ∷ []) × (moves_run together two_makers (in_order ++ FirstOf 0 ∷ transitions.Process 2 ∷ []) ≡ None)
+    × (text_of_moves together two_makers (turned ++ FirstOf 0 ∷ transitions.Process 2 ∷ FirstOf 0 ∷ []) ≡ codes "x" ++ 10 ∷ [])
 unfolding turn_within
 one_class_texts = (refl, refl, refl)
 
@@ -86,9 +87,9 @@ abbrev pub one_maker : Design
 one_maker = record { widths = 1 ∷ 1 ∷ []; processes = initial (Then (set 0) (Then (set 1) End)) ∷ initial (Then (show_when 1 0) End) ∷ [] }
 
 abbrev made : List LooseTransition
-made = loose.Process 0 ∷ loose.Process 1 ∷ Change ActivateNba ∷ []
+made = transitions.Process 0 ∷ transitions.Process 1 ∷ Change ActivateNba ∷ []
 
-pub loose_alone : (text_of_moves apart one_maker (made ++ FirstOf 1 ∷ loose.Process 1 ∷ FirstOf 0 ∷ []) ≡ codes "x" ++ 10 ∷ []) × (moves_run together one_maker (made ++ FirstOf 1 ∷ []) ≡ None)
-    × (text_of_moves together one_maker (made ++ FirstOf 0 ∷ FirstOf 0 ∷ loose.Process 1 ∷ []) ≡ codes "1" ++ 10 ∷ [])
+pub loose_alone : (text_of_moves apart one_maker (made ++ FirstOf 1 ∷ transitions.Process 1 ∷ FirstOf 0 ∷ []) ≡ codes "x" ++ 10 ∷ []) × (moves_run together one_maker (made ++ FirstOf 1 ∷ []) ≡ None)
+    × (text_of_moves together one_maker (made ++ FirstOf 0 ∷ FirstOf 0 ∷ transitions.Process 1 ∷ []) ≡ codes "1" ++ 10 ∷ [])
 unfolding turn_within
 loose_alone = (refl, refl, refl)

@@ -12,7 +12,8 @@ use Rattle.model.proofs.RunLaws.{run_from-append}
 use Rattle.orders.specs.SearchLaws.{EndsHere}
 use Rattle.orders.proofs.StatesInOrder.{start_is_in_order, run_is_in_order}
 use Rattle.orders.proofs.TimelyRuns.{timely_after}
-use Rattle.loose.specs.Loose.{AlikeIn, LooseTransition}
+use Rattle.loose.specs.declared.transition.LooseTransition.{LooseTransition}
+use Rattle.loose.specs.Loose.{AlikeIn}
 use Rattle.loose.proofs.LooseSteps.{run_is_loose, run_from_is_loose}
 use Rattle.loose.proofs.ClassEnds.{alike_in_states_end_alike}
 use Rattle.loose.proofs.ClassStates.{states_in-same, states_in-sym, states_in-trans}

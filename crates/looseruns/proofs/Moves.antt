@@ -12,7 +12,9 @@ use Rattle.model.specs.Runs.{Effect, joined, action_in, turn_effect, IsTimely, A
 use Rattle.model.specs.Laws.{evaluates}
 use Rattle.orders.specs.Alike.{IsInOrder}
 use Rattle.orders.proofs.SearchLaws.{then_some}
-use Rattle.loose.specs.Loose.{AlikeIn, LooseTransition, Process, FirstOf, Change, updates_class, loose_transition_of_action, loose_transition_of, loose_step, loose_run_from, IsPermittedLoosely}
+use Rattle.loose.specs.declared.transition.LooseTransition.{LooseTransition}
+use Rattle.loose.specs.declared.transition.LooseTransition.TheVariants.{Process, FirstOf, Change}
+use Rattle.loose.specs.Loose.{AlikeIn, updates_class, loose_transition_of_action, loose_transition_of, loose_step, loose_run_from, IsPermittedLoosely}
 use Rattle.loose.specs.LooseLaws.{AreAlikeEffectsIn}
 use Rattle.loose.proofs.LooseSteps.{from_loose, to_loose, loose_step_keeps_order}
 use Rattle.loose.proofs.ClassSteps.{alike_in_states_step_alike, loose_transition_has_one_outcome, effects_in-same, effects_in-trans}

@@ -11,7 +11,8 @@ use Rattle.model.specs.Runs.{Effect, silent, joined}
 use Rattle.orders.specs.Alike.{IsInOrder}
 use Rattle.orders.specs.SearchLaws.{EndsHere}
 use Rattle.orders.proofs.StatesInOrder.{start_is_in_order}
-use Rattle.loose.specs.Loose.{AlikeIn, LooseTransition}
+use Rattle.loose.specs.declared.transition.LooseTransition.{LooseTransition}
+use Rattle.loose.specs.Loose.{AlikeIn}
 use Rattle.loose.proofs.ClassEnds.{alike_in_states_end_alike}
 use Rattle.looseruns.specs.LooseMoves.{move, moves_from, moves_run, IsTimelyMove, AreTimelyMoves}
 use Rattle.looseruns.specs.LooseRuns.{ComesOfMoves, text_of_moves}

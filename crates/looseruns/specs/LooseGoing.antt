@@ -8,7 +8,8 @@ use Rattle.model.specs.States.{State}
 use Rattle.model.specs.Runs.{Effect, silent, joined, IsTimely}
 use Rattle.orders.specs.Alike.{IsInOrder}
 use Rattle.orders.specs.SearchLaws.{EndsHere}
-use Rattle.loose.specs.Loose.{LooseTransition, loose_transition_of, loose_step}
+use Rattle.loose.specs.declared.transition.LooseTransition.{LooseTransition}
+use Rattle.loose.specs.Loose.{loose_transition_of, loose_step}
 use Rattle.loose.specs.LooseLaws.{IsOneLooseNode}
 use Rattle.explore.specs.declared.Successor.{Successor}
 use Rattle.explore.specs.declared.EndedPath.{EndedPath}

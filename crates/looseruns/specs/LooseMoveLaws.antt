@@ -6,7 +6,8 @@ use Rattle.model.specs.Design.{Design}
 use Rattle.model.specs.States.{State}
 use Rattle.model.specs.Runs.{Effect, IsTimely, AreTimely}
 use Rattle.orders.specs.Alike.{IsInOrder}
-use Rattle.loose.specs.Loose.{AlikeIn, LooseTransition, loose_transition_of, loose_step, loose_run_from}
+use Rattle.loose.specs.declared.transition.LooseTransition.{LooseTransition}
+use Rattle.loose.specs.Loose.{AlikeIn, loose_transition_of, loose_step, loose_run_from}
 use Rattle.loose.specs.LooseLaws.{AreAlikeEffectsIn, IsOneLooseNode}
 use Rattle.looseruns.specs.LooseMoves.{entry_for, move, moves_from, IsTimelyMove, AreTimelyMoves}
 

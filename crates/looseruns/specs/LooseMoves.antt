@@ -9,7 +9,9 @@ use Rattle.model.specs.Design.{Design}
 use Rattle.model.specs.States.{Action, Event, State, start}
 use Rattle.model.specs.Runs.{Effect, silent, joined, IsTimely}
 use Rattle.model.specs.Laws.{evaluates}
-use Rattle.loose.specs.Loose.{LooseTransition, Process, FirstOf, Change, updates_class, loose_step}
+use Rattle.loose.specs.declared.transition.LooseTransition.{LooseTransition}
+use Rattle.loose.specs.declared.transition.LooseTransition.TheVariants.{Process, FirstOf, Change}
+use Rattle.loose.specs.Loose.{updates_class, loose_step}
 
 -- the number of the first of some events whose action passes a test
 abbrev pub first_number : (Action → Bool) → List Event → Option ℕ

@@ -8,7 +8,8 @@ use Rattle.model.specs.declared.end.End.TheVariants.{Stopped}
 use Rattle.model.specs.Design.{Design}
 use Rattle.model.specs.Runs.{Effect, run, lines, AreTimely, Ends}
 use Rattle.orders.specs.SearchLaws.{EndsHere}
-use Rattle.loose.specs.Loose.{AlikeIn, LooseTransition}
+use Rattle.loose.specs.declared.transition.LooseTransition.{LooseTransition}
+use Rattle.loose.specs.Loose.{AlikeIn}
 use Rattle.explore.specs.declared.Shown.{Shown}
 use Rattle.explore.specs.Search.{IsShown, Serves, AreAllShown, NeverEnds}
 use Rattle.looseruns.specs.LooseRuns.{ComesOfMoves, loose_runs_of}

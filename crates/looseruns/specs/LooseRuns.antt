@@ -7,7 +7,7 @@ use Rattle.model.specs.Design.{Design}
 use Rattle.model.specs.Runs.{Effect}
 use Rattle.orders.specs.Alike.{IsInOrder}
 use Rattle.orders.specs.SearchLaws.{EndsHere}
-use Rattle.loose.specs.Loose.{LooseTransition}
+use Rattle.loose.specs.declared.transition.LooseTransition.{LooseTransition}
 use Rattle.loose.specs.LooseLaws.{IsOneLooseNode}
 use Rattle.explore.specs.SearchedRuns.{Runs}
 use Rattle.looseruns.specs.LooseMoves.{moves_run, AreTimelyMoves}

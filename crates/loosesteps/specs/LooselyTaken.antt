@@ -8,16 +8,8 @@ use Rattle.design.specs.Compiled.{Compiled, design_of}
 use Rattle.regions.specs.declared.machine.TakeFault.{TakeFault}
 use Rattle.regions.specs.declared.machine.TakeFault.TheVariants as fault
 use Rattle.regions.specs.Machine.{MachineView, state_at, most_entries, IsTurnEntry}
-use Rattle.loose.specs.Loose as loose
-use Rattle.loose.specs.Loose.{AlikeIn, LooseTransition, loose_transition_of, loose_refusal, loose_step}
-use Rattle.loosesteps.specs.declared.steps.LooseMove.{LooseMove}
-use Rattle.loosesteps.specs.declared.steps.LooseMove.TheVariants as moves
-
--- the transition that a move is
-abbrev pub transition_of_move : LooseMove → LooseTransition
-transition_of_move (moves.Process p) = loose.Process p
-transition_of_move (moves.FirstOf c) = loose.FirstOf c
-transition_of_move (moves.Change entry) = loose.Change entry
+use Rattle.loose.specs.declared.transition.LooseTransition.{LooseTransition}
+use Rattle.loose.specs.Loose.{AlikeIn, loose_transition_of, loose_refusal, loose_step}
 
 -- A loose step of this transition leads from one state to one that is alike in classes to another, and its lines stand behind others.
 pub record IsTakenLoosely (class : ℕ → ℕ) (code : Compiled) (old : State) (before : List ℕ) (transition : LooseTransition) (new : State) (behind : List ℕ) : Type 0 where

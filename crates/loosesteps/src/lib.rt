@@ -7,4 +7,4 @@
 
 mod steps;
 
-pub use steps::{LooseMove, first_evaluation, first_of_class, take_loosely};
+pub use steps::{first_evaluation, first_of_class, take_loosely};

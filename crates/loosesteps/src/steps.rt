@@ -9,22 +9,12 @@ ghost use Rattle.loose.specs.Loose.{AlikeIn, updates_class};
 ghost use Rattle.regions.specs.Find.{update_numbers};
 ghost use Rattle.regions.specs.Machine.{state_at};
 ghost use Rattle.loosesteps.specs.Classes.{class_in, IsFirstAt};
-ghost use Rattle.loosesteps.specs.LooselyTaken.{transition_of_move, IsTakenLoosely, IsNotTakenLoosely};
+ghost use Rattle.loosesteps.specs.LooselyTaken.{IsTakenLoosely, IsNotTakenLoosely};
 
 use design::RegId;
+use loose::transition::LooseTransition;
 use model::entry::{Entry, Refusal};
 use regions::{Machine, TakeFault};
-
-/// What an entry does, without the number of an event.
-#[derive(Clone, Copy, PartialEq)]
-pub enum LooseMove {
-    /// The turn of a process.
-    Process(u32),
-    /// The first active update of a class.
-    FirstOf(u32),
-    /// A change of the regions, which the entry names.
-    Change(Entry),
-}
 
 // The class of a register.
 fn class_of(classes: &[u32], register: RegId) -> u32
@@ -94,14 +84,14 @@ fn take_change(machine: &mut Machine<'_>, entry: Entry) -> Result<(), TakeFault>
 pub fn take_loosely(
     machine: &mut Machine<'_>,
     classes: &[u32],
-    transition: LooseMove,
+    transition: LooseTransition,
 ) -> Result<(), TakeFault>
     requires { IsInOrder (state_at machine.old) }
     // It is a loose step of this transition, up to the order of updates of different classes.
-    ensures taken { OnOk result (IsTakenLoosely (class_in classes.now) machine.old.code (state_at machine.old) machine.old.lines (transition_of_move transition) (state_at machine.new) machine.new.lines) }
+    ensures taken { OnOk result (IsTakenLoosely (class_in classes.now) machine.old.code (state_at machine.old) machine.old.lines transition (state_at machine.new) machine.new.lines) }
     ensures entries { OnOk result (machine.new.core.entries ≡ machine.old.core.entries + 1) }
     // Each fault has its reason, and leaves what is alike.
-    ensures stop { IfErr result (IsNotTakenLoosely (class_in classes.now) machine.old (transition_of_move transition)) }
+    ensures stop { IfErr result (IsNotTakenLoosely (class_in classes.now) machine.old transition) }
     ensures alike { OnErr result (AlikeIn (class_in classes.now) (state_at machine.old) (state_at machine.new)) }
     ensures lines { OnErr result (machine.new.lines ≡ machine.old.lines) }
     ensures few { OnErr result (machine.new.core.entries ≡ machine.old.core.entries) }
@@ -109,8 +99,8 @@ pub fn take_loosely(
     ensures code { machine.new.code ≡ machine.old.code }
 {
     match transition {
-        LooseMove::Process(process) => take_process(machine, process),
-        LooseMove::FirstOf(class) => take_first_of(machine, classes, class),
-        LooseMove::Change(entry) => take_change(machine, entry),
+        LooseTransition::Process(process) => take_process(machine, process),
+        LooseTransition::FirstOf(class) => take_first_of(machine, classes, class),
+        LooseTransition::Change(entry) => take_change(machine, entry),
     }
 }

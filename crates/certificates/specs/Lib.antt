@@ -1,0 +1,3 @@
+pub mod Notes
+pub mod NoteViews
+pub mod Certified
