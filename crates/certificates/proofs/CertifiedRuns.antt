@@ -1,13 +1,9 @@
 -- Certified runs are certificates, and stand for all runs from their start.
-use Rattle.std.proofs.Common.{◌≡◌, ◌≢◌, ℕ, List, [], ◌∷◌, Some, refl, sym, ap, subst, ◌∙◌}
+use Rattle.std.proofs.Common.{◌≡◌, ℕ, List, [], ◌∷◌, Some, ap, subst, ◌∙◌}
 use Rattle.model.specs.Design.{Design}
-use Rattle.model.specs.States.{Action, Evaluate, State}
-use Rattle.model.specs.Runs.{action_in}
-use Rattle.orders.specs.Alike.{IsInOrder}
+use Rattle.model.specs.States.{Evaluate, State}
 use Rattle.loose.specs.declared.transition.LooseTransition.{LooseTransition}
-use Rattle.loose.specs.declared.transition.LooseTransition.TheVariants.{Process}
-use Rattle.loose.specs.Loose.{loose_transition_of_action}
-use Rattle.traces.specs.Traces.{Moves, Runs}
+use Rattle.traces.specs.Traces.{Runs}
 use Rattle.traces.specs.Certificates.{IsCertificate}
 use Rattle.traces.proofs.Certificates.{certificate_stands_for_all}
 use Rattle.footprints.specs.Footprints.{Footprint}

@@ -1,10 +1,7 @@
 -- Marks, and sets of actors by their marks.
-use Rattle.std.proofs.Common.{◌≡◌, ◌≢◌, ℕ, zero, suc, ◌<◌, ◌≤◌, Bool, true, false, ◌||◌, ◌==◌, List, [], ◌∷◌, ◌++◌, length, get_or, take, refl, sym, ap, subst, ◌∙◌, eqb-true, eq-eqb, get_or-set_same, get_or-set_other, take_all}
+use Rattle.std.proofs.Common.{◌≡◌, ◌≢◌, ℕ, zero, suc, ◌<◌, ◌≤◌, Bool, true, false, ◌||◌, ◌==◌, List, [], ◌∷◌, ◌++◌, length, get_or, take, refl, sym, ap, ◌∙◌, eqb-true, eq-eqb, get_or-set_same, get_or-set_other, take_all}
 use Rattle.std.specs.Prelude.{slice_set}
-use Rattle.std.specs.List.{list_any}
 use Rattle.std.proofs.Math.ListN.{replicate}
-use Rattle.loose.specs.declared.transition.LooseTransition.{LooseTransition}
-use Rattle.loose.specs.declared.transition.LooseTransition.TheVariants.{Process, FirstOf, Change}
 use Rattle.certificates.specs.Marks.{is_marked}
 use Rattle.certificates.proofs.Tests.{or_right, never_true}
 

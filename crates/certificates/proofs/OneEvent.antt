@@ -1,5 +1,5 @@
 -- In loose runs each process has one event at most, and none while it waits.
-use Rattle.std.proofs.Common.{◌≡◌, ◌≢◌, ◌⊎◌, ℕ, zero, suc, ◌+◌, ◌≤◌, Bool, true, false, not, List, [], ◌∷◌, ◌++◌, map, filter, Option, Some, None, refl, sym, ap, subst, ◌∙◌, inl, inr, if◌then◌else◌, ◌==◌, arith, eqb-true, eq-eqb}
+use Rattle.std.proofs.Common.{◌≡◌, ◌≢◌, ℕ, zero, suc, ◌+◌, ◌≤◌, Bool, true, false, not, List, [], ◌∷◌, ◌++◌, map, filter, Option, Some, None, refl, sym, ap, subst, ◌∙◌, inl, inr, if◌then◌else◌, ◌==◌, arith, eqb-true, eq-eqb}
 use Rattle.std.specs.Prelude.{slice_set, cond, option_map}
 use Rattle.std.specs.List.{enumerate_from}
 use Rattle.std.proofs.lemmas.Option.{option_and_then_some}
@@ -11,7 +11,7 @@ use Rattle.model.specs.Turns.{Wait, Ended, Inactive, Until, OnChange, contains}
 use Rattle.model.specs.Turns as turns
 use Rattle.model.specs.States.{Action, Evaluate, Event, Continuation, State, start, without, triggers_of, due_at, due_else, inactive_activated, nonblocking_activated, monitored, advanced}
 use Rattle.model.specs.Runs.{Effect, action_in, has_any, turn_of, turn_effect, update_effect, action_effect, effect, joined, silent, strobe_lines}
-use Rattle.model.specs.Laws.{evaluates, evaluations_in, evaluations_of}
+use Rattle.model.specs.Laws.{evaluations_in, evaluations_of}
 use Rattle.model.proofs.EvaluationLaws.{each_process_has_one_event}
 use Rattle.orders.specs.Alike.{IsInOrder}
 use Rattle.orders.specs.Apart.{continuation_after}
@@ -19,10 +19,9 @@ use Rattle.orders.proofs.StatesInOrder.{start_is_in_order}
 use Rattle.orders.proofs.AlikeSteps.{continuation_of}
 use Rattle.orders.proofs.EventLists.{evaluations-append, evaluations-taken, own_evaluation}
 use Rattle.orders.proofs.QuietTurns.{waits_now, waits_at}
-use Rattle.loose.specs.declared.transition.LooseTransition.TheVariants.{Process}
-use Rattle.loose.specs.Loose.{loose_step, loose_run_from, loose_run, loose_transition_of_action}
+use Rattle.loose.specs.Loose.{loose_step, loose_run_from, loose_run}
 use Rattle.loose.proofs.LooseSteps.{loose_step_keeps_order}
-use Rattle.footprints.specs.Footprints.{ValueChange, Footprint, footprint, matches_any, woken_by}
+use Rattle.footprints.specs.Footprints.{ValueChange, Footprint, matches_any}
 use Rattle.footprints.specs.FootprintLaws.{IsStepWith}
 use Rattle.footprints.proofs.Waking.{awake, woken_from, wakes_process, evaluations_made, made_evaluations, one_where, asleep, woken_is}
 use Rattle.footprints.proofs.Deeds.{Deed, Done, placed, changes_by, turn_deed, update_deed, turned_is_done, updated_is_done}

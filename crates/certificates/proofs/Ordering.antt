@@ -1,5 +1,5 @@
 -- Notes that are ordered certify, and stay ordered when one is added that comes of each of them or is apart from it.
-use Rattle.std.proofs.Common.{◌≡◌, ◌⊎◌, ℕ, Bool, true, false, ◌&&◌, List, [], ◌∷◌, ◌++◌, inl, inr, sym, ap, subst, ◌∙◌, eqb-true, true≢false, refl, arith}
+use Rattle.std.proofs.Common.{◌≡◌, ◌⊎◌, ℕ, Bool, true, false, ◌&&◌, List, [], ◌∷◌, ◌++◌, inl, inr, sym, ap, subst, ◌∙◌, eqb-true, true≢false, refl}
 use Rattle.std.specs.List.{list_any}
 use Rattle.model.specs.Design.{Design}
 use Rattle.model.specs.Turns.{contains}

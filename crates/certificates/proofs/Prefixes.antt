@@ -13,7 +13,6 @@ use Rattle.model.specs.Design.{Design}
 use Rattle.model.specs.States.{Action, Evaluate, Event, State}
 use Rattle.model.specs.Runs.{Effect, action_in, has_any, any_of, turn_of, joined, least_time, time_refusal, EndsIn, HasLongTurn, IsPastLimit}
 use Rattle.model.proofs.RunLaws.{where_none}
-use Rattle.orders.specs.Alike.{IsInOrder}
 use Rattle.orders.specs.SearchLaws.{EndsHere}
 use Rattle.loose.specs.declared.transition.LooseTransition.{LooseTransition}
 use Rattle.loose.specs.declared.transition.LooseTransition.TheVariants.{Process, FirstOf}
@@ -28,7 +27,7 @@ use Rattle.footprints.proofs.Deeds.{Deed}
 use Rattle.footprints.proofs.LooseMoves.{loose_steps_are_moves}
 use Rattle.footprints.proofs.Swaps.{loose_steps_have_swaps}
 use Rattle.footprints.proofs.MoveRuns.{runs_are_moves}
-use Rattle.certificates.specs.CertificateLaws.{NobodyWaits, BeginsLike, CertifiedIsPrefix}
+use Rattle.certificates.specs.CertificateLaws.{NobodyWaits, CertifiedIsPrefix}
 use Rattle.certificates.proofs.Tests.{never_true}
 use Rattle.certificates.proofs.CertifiedRuns.{certified_is_certificate}
 

@@ -1,9 +1,9 @@
 -- Which of several noted steps come of which.
-use Rattle.std.specs.Prelude.{◌≡◌, ℕ, Bool, true, false, ◌&&◌, ◌||◌, ◌==◌, List, [], ◌∷◌}
+use Rattle.std.specs.Prelude.{◌≡◌, Bool, false, ◌&&◌, ◌||◌, ◌==◌, List, [], ◌∷◌}
 use Rattle.std.specs.List.{list_any}
 use Rattle.model.specs.Turns.{contains}
 use Rattle.loose.specs.declared.transition.LooseTransition.{LooseTransition}
-use Rattle.loose.specs.declared.transition.LooseTransition.TheVariants.{Process, FirstOf, Change}
+use Rattle.loose.specs.declared.transition.LooseTransition.TheVariants.{Process, FirstOf}
 use Rattle.certificates.specs.Notes.{NoteView, StandApart}
 
 -- whether two are the same actor: a process, or a class of registers

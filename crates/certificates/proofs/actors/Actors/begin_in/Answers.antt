@@ -1,5 +1,5 @@
 -- The step isn't of one of them, and so one has to be woken.
-use Rattle.std.proofs.Common.{Bool, false, ◌||◌, ◌∙◌, ap, sym}
+use Rattle.std.proofs.Common.{◌||◌, ◌∙◌, ap, sym}
 use Rattle.std.specs.List.{list_any}
 use Rattle.certificates.specs.Notes.{NoteView}
 use Rattle.certificates.specs.Coming.{is_of_any}

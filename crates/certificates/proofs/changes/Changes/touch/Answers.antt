@@ -5,7 +5,6 @@ use Rattle.model.specs.Turns.{contains}
 use Rattle.footprints.specs.Footprints.{changed}
 use Rattle.certificates.specs.declared.changes.NotedChange.{NotedChange}
 use Rattle.certificates.specs.Masks.{meet}
-use Rattle.certificates.specs.Changes.{change_of}
 use Rattle.certificates.proofs.Masks.{touched_is, masks_apart, not_there}
 use Rattle.certificates.proofs.changes.Changes.touch.Goals as goal
 
