@@ -238,20 +238,19 @@ choices_gathered class us es mid items first second =
 
 pub choices_permitted : (class : ℕ → ℕ) (us : List queued.Update) (es : List Evaluation) (s : State) (items : List LooseTransition) (due : Option Entry) → AreChoices class us es items → active_of us es ≡ s.active → s.finished ≡ false → IsInOrder s → IsDue s due
     → (t : LooseTransition) → Contains (items ++ due_choices due) t ↔ MayBeTaken class s t
-choices_permitted class us es s items due are all going order is_due t =
-    (
-      λ has. elim (Contains-append_cases items (due_choices due) t has) [
-        inl there ↦ elim ((are.members t).0 there) [ inl of_it ↦ of_updates class us es s t all going order of_it | inr of_it ↦ of_evaluations class us es s t all going order of_it ]
-        | inr there ↦ let (change, is, same) = due_choice due t there in
+choices_permitted class us es s items due are all going order is_due t = (
+  λ has. elim (Contains-append_cases items (due_choices due) t has) [
+    | inl there ↦ elim ((are.members t).0 there) [ inl of_it ↦ of_updates class us es s t all going order of_it | inr of_it ↦ of_evaluations class us es s t all going order of_it ]
+    | inr there ↦ let (change, is, same) = due_choice due t there in
         let (changes, none) = (is_due change).0 is in
         subst (λ (u : LooseTransition). MayBeTaken class s u) (sym same) (change_may class s change changes none)
-      ],
-      λ may. elim (chosen class us es s t all may) [
-        inl there ↦ Contains-append_left items (due_choices due) t ((are.members t).1 there)
-        | inr there ↦ let (change, same, changes, none) = there in
+  ],
+  λ may. elim (chosen class us es s t all may) [
+    | inl there ↦ Contains-append_left items (due_choices due) t ((are.members t).1 there)
+    | inr there ↦ let (change, same, changes, none) = there in
         Contains-append_right items (due_choices due) t (choice_due due change t ((is_due change).1 (changes, none)) same)
-      ],
-    )
+  ],
+)
 
 no_change : (class : ℕ → ℕ) (us : List queued.Update) (es : List Evaluation) (items : List LooseTransition) (change : Entry) (t : LooseTransition) → AreChoices class us es items → Contains items t → t ≢ Change change
 no_change class us es items change t are has same =
@@ -262,14 +261,3 @@ pub choices_once : (class : ℕ → ℕ) (us : List queued.Update) (es : List Ev
 choices_once class us es items None are = subst (λ (ts : List LooseTransition). AllPairs ◌≢◌ ts) (sym (append-nil items)) are.once
 choices_once class us es items (Some change) are =
     all_pairs_push ◌≢◌ items (Change change) are.once (λ k d below. no_change class us es items change (get_or items k d) are (Contains-get_or items k d below))
-
--- where the run has finished, none may
-pub finished_choices : (class : ℕ → ℕ) (s : State) → s.finished ≡ true → (t : LooseTransition) → Contains [] t ↔ MayBeTaken class s t
-finished_choices class s finished t =
-    (λ has. absurd (no_member t has), λ may. absurd (none_may class s t finished may))
-  where
-    none_may : (class : ℕ → ℕ) (s : State) (t : LooseTransition) → s.finished ≡ true → MayBeTaken class s t → ⊥
-    none_may class s t finished (entry, is, none) =
-        let going : s.finished ≡ false = (where_none s.finished Finished (loose_entry_refusal class s entry) none).0 in
-        let bad : true ≡ false = sym finished ∙ going in
-        cc

@@ -39,7 +39,7 @@ gathered_new old t absent =
         λ has. elim has [ inl is ↦ Contains-append_left old (t ∷ []) u is | inr is ↦ Contains-append_right old (t ∷ []) u is ],
       );
       once = λ once. all_pairs_push ◌≢◌ old t once
-      (λ k d below same. absent (subst (λ (v : LooseTransition). Contains old v) same (Contains-get_or old k d below)));
+          (λ k d below same. absent (subst (λ (v : LooseTransition). Contains old v) same (Contains-get_or old k d below)));
     }
 
 -- some are added, and then others
@@ -48,11 +48,11 @@ gathered_more old added mid more new first second =
     record {
       members = λ t. (
         λ has. elim ((second.members t).0 has) [
-          inl is ↦ elim ((first.members t).0 is) [ inl there ↦ inl there | inr there ↦ inr (Contains-append_left added more t there) ]
+          | inl is ↦ elim ((first.members t).0 is) [ inl there ↦ inl there | inr there ↦ inr (Contains-append_left added more t there) ]
           | inr is ↦ inr (Contains-append_right added more t is)
         ],
         λ has. elim has [
-          inl is ↦ (second.members t).1 (inl ((first.members t).1 (inl is)))
+          | inl is ↦ (second.members t).1 (inl ((first.members t).1 (inl is)))
           | inr is ↦ elim (Contains-append_cases added more t is) [ inl there ↦ (second.members t).1 (inl ((first.members t).1 (inr there))) | inr there ↦ (second.members t).1 (inr there) ]
         ],
       );

@@ -15,5 +15,5 @@ loop-evaluation-preserved c =
 pub returns : goal.returns
 returns c =
     let all : map (λ (e : Bor Evaluation). e.now) c.loop-evaluation.yielded ≡ c.args.evaluations.now.items =
-    (YieldsList-end (YieldsList-from_deque c.args.evaluations.now.items c.into_iter-evaluation-iterator.ensures.into_iter_gives) c.loop-evaluation.yielded _ c.loop-evaluation.yielded_by _ _ c.in-None.is c.next.ensures.steps).0 in
+    (YieldsList-end (YieldsList-from_deque c.args.evaluations.now.items cc) c.loop-evaluation.yielded _ c.loop-evaluation.yielded_by _ _ c.in-None.is c.next.ensures.steps).0 in
     subst (λ (es : List Evaluation). AreGathered c.args.choices.now.items (map turn_of es) c.loop-evaluation.choices.items) all c.loop-evaluation.invariant

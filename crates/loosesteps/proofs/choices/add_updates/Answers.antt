@@ -17,5 +17,5 @@ loop-update-preserved c =
 pub returns : goal.returns
 returns c =
     let all : map (λ (u : Bor Update). u.now) c.loop-update.yielded ≡ c.args.updates.now.items =
-    (YieldsList-end (YieldsList-from_deque c.args.updates.now.items c.into_iter-update-iterator.ensures.into_iter_gives) c.loop-update.yielded _ c.loop-update.yielded_by _ _ c.in-None.is c.next.ensures.steps).0 in
+    (YieldsList-end (YieldsList-from_deque c.args.updates.now.items cc) c.loop-update.yielded _ c.loop-update.yielded_by _ _ c.in-None.is c.next.ensures.steps).0 in
     subst (λ (us : List Update). AreGathered c.args.choices.now.items (map (first_of (class_in c.args.classes.now)) us) c.loop-update.choices.items) all c.loop-update.invariant
