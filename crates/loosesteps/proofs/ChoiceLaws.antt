@@ -4,7 +4,6 @@ use Rattle.std.proofs.Common.{if◌then◌else◌}
 use Rattle.std.specs.Prelude.{cond}
 use Rattle.std.specs.List.{AllPairs, Contains}
 use Rattle.std.proofs.lemmas.Bool.{eqb-true}
-use Rattle.std.proofs.lemmas.Bool.Decides.{eqb_tells}
 use Rattle.std.proofs.lemmas.List.{length-map, append-nil}
 use Rattle.std.proofs.lemmas.List.Elements.{Contains-get_or, Contains-append_left, Contains-append_right, Contains-append_cases}
 use Rattle.std.proofs.lemmas.List.Quantifiers.{all_pairs_push}
@@ -15,11 +14,10 @@ use Rattle.model.specs.declared.entry.Refusal.TheVariants.{Finished, EarlierUpda
 use Rattle.model.specs.States.{Action, Evaluate, Event, State}
 use Rattle.model.specs.Runs.{action_in, refused_where, turn_refusal, refusal}
 use Rattle.model.proofs.RunLaws.{where_none}
-use Rattle.orders.specs.Alike.{EventsRise, IsInOrder, updates_in, with_update}
-use Rattle.orders.proofs.EventLists.{present_from}
+use Rattle.orders.specs.Alike.{EventsRise, IsInOrder, updates_in}
 use Rattle.loose.specs.declared.transition.LooseTransition.{LooseTransition}
 use Rattle.loose.specs.declared.transition.LooseTransition.TheVariants.{Process, FirstOf, Change}
-use Rattle.loose.specs.Loose.{of_class, updates_of_class, has_earlier_of_class, loose_update_refusal, loose_entry_refusal, loose_refusal, loose_transition_of, loose_transition_of_action}
+use Rattle.loose.specs.Loose.{of_class, updates_of_class, has_earlier_of_class, loose_update_refusal, loose_transition_of_action}
 use Rattle.loose.proofs.ClassLists.{HasFirstOf, find_first}
 use Rattle.regions.specs.declared.queue.Update as queued
 use Rattle.regions.specs.declared.queue.Evaluation.{Evaluation}

@@ -1,7 +1,6 @@
 -- Each update's transition is added.
 use Rattle.std.proofs.Common.{◌≡◌, Bor, List, map, ap, subst}
 use Rattle.std.proofs.lemmas.Iterator.Consumers.{YieldsList-from_deque, YieldsList-end}
-use Rattle.loose.specs.declared.transition.LooseTransition.{LooseTransition}
 use Rattle.loose.specs.declared.transition.LooseTransition.TheVariants.{FirstOf}
 use Rattle.regions.specs.declared.queue.Update.{Update}
 use Rattle.loosesteps.specs.Classes.{class_in}

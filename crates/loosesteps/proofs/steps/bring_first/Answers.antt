@@ -1,6 +1,6 @@
 -- The active events, of which the first update of the class stands first.
-use Rattle.std.proofs.Common.{◌≡◌, sym, ap, ◌∙◌, subst}
-use Rattle.model.specs.States.{Action, Evaluate}
+use Rattle.std.proofs.Common.{sym, ap, ◌∙◌, subst}
+use Rattle.model.specs.States.{Evaluate}
 use Rattle.model.specs.Runs.{least}
 use Rattle.orders.specs.Alike.{IsInOrder}
 use Rattle.loose.specs.Loose.{AlikeIn}

@@ -1,10 +1,9 @@
 -- The first evaluation of the process that is found.
-use Rattle.std.proofs.Common.{◌≡◌, Bor, Option, Some, None, List, ◌++◌, map, refl, sym, ap, ◌∙◌, rules, tests}
+use Rattle.std.proofs.Common.{◌≡◌, Bor, Option, Some, None, ◌++◌, map, sym, ap, ◌∙◌, rules, tests}
 use Rattle.std.specs.Prelude.{◌==◌, find}
 use Rattle.std.specs.Option.{option_map}
 use Rattle.std.proofs.lemmas.Iterator.Consumers.{YieldsList-from_deque}
 use Rattle.std.proofs.lemmas.Iterator.Search.{find_from_yields_List}
-use Rattle.model.specs.States.{Event}
 use Rattle.regions.specs.declared.queue.Evaluation.{Evaluation}
 use Rattle.regions.specs.Queue.{update_event, evaluation_event, Core}
 use Rattle.loosesteps.proofs.FirstOfKind.{none_evaluates, found_evaluates}

@@ -1,5 +1,5 @@
 -- The place that the search answers.
-use Rattle.std.proofs.Common.{◌≡◌, List, ◌++◌, map, ap, ◌∙◌, rules, tests}
+use Rattle.std.proofs.Common.{ap, ◌∙◌, rules, tests}
 use Rattle.std.specs.Prelude.{◌==◌}
 use Rattle.std.proofs.lemmas.Iterator.Consumers.{YieldsList-from_deque}
 use Rattle.std.proofs.lemmas.Iterator.Search.{position_from_yields_List}
