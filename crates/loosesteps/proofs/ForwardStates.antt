@@ -1,5 +1,5 @@
 -- A state of which the first update of a class is brought before those in front of it.
-use Rattle.std.proofs.Common.{◌≡◌, ℕ, ◌+◌, ◌≤◌, List, [], ◌∷◌, map, get_or, refl, sym, subst}
+use Rattle.std.proofs.Common.{◌≡◌, ℕ, ◌+◌, ◌≤◌, List, [], ◌∷◌, map, get_or, sym, subst}
 use Rattle.std.specs.Prelude.{remove}
 use Rattle.model.specs.States.{State, Event, Action}
 use Rattle.orders.specs.Alike.{EventsRise, IsInOrder}

@@ -1,6 +1,8 @@
 -- Classes of registers that stand in a row, and the first event of a kind among those that are active.
-use Rattle.std.specs.Prelude.{◌≡◌, ℕ, zero, suc, Bool, false, true, List, [], ◌∷◌, slice_index_or}
+use Rattle.std.specs.Prelude.{◌≡◌, ℕ, zero, suc, Bool, false, true, List, [], ◌∷◌, Some, slice_index_or}
+use Rattle.logic4.specs.Vector.{Vector}
 use Rattle.model.specs.States.{Action, Event}
+use Rattle.model.specs.Runs.{action_in}
 
 -- the class of a register, which stands at its place, and class 0 where none does
 abbrev pub class_in : List ℕ → ℕ → ℕ
@@ -11,3 +13,8 @@ abbrev pub IsFirstAt : (Action → Bool) → List Event → ℕ → Type 0
 IsFirstAt test [] at = ⊥
 IsFirstAt test (e ∷ es) zero = test e.1 ≡ true
 IsFirstAt test (e ∷ es) (suc at) = (test e.1 ≡ false) × IsFirstAt test es at
+
+-- the event with a number updates a register of a class
+abbrev pub HasClassAt : (ℕ → ℕ) → ℕ → List Event → ℕ → Type 0
+HasClassAt class c events number =
+    (r : ℕ) × (v : Vector) × (action_in events number ≡ Some (Action.Update r v)) × (class r ≡ c)

@@ -3,7 +3,7 @@ use Rattle.std.specs.Prelude.{◌≡◌, ℕ, List, ◌++◌, None, Some}
 use Rattle.std.specs.Option.{IsSome}
 use Rattle.model.specs.declared.entry.Entry.{Entry}
 use Rattle.model.specs.States.{State}
-use Rattle.model.specs.Runs.{Effect}
+use Rattle.model.specs.Runs.{Effect, refusal}
 use Rattle.design.specs.Compiled.{Compiled, design_of}
 use Rattle.regions.specs.declared.machine.TakeFault.{TakeFault}
 use Rattle.regions.specs.declared.machine.TakeFault.TheVariants as fault
@@ -20,6 +20,16 @@ pub record IsTakenLoosely (class : ℕ → ℕ) (code : Compiled) (old : State) 
   pub alike : AlikeIn class effect.state new
   pub lines_are : behind ≡ before ++ effect.lines
 
+-- The entry is one of a transition, and the rules permit it in a state that is alike to the one before; if it is a turn, in that one.
+pub record IsEntryFor (class : ℕ → ℕ) (old new : State) (transition : LooseTransition) (entry : Entry) : Type 0 where
+  pub transition_is : loose_transition_of class new entry ≡ Some transition
+  pub permitted : refusal new entry ≡ None
+  pub same : IsTurnEntry entry → new ≡ old
+
+-- no entry of a transition is permitted loosely
+abbrev pub IsNowhere : (ℕ → ℕ) → State → LooseTransition → Type 0
+IsNowhere class s transition = (entry : Entry) → loose_transition_of class s entry ≡ Some transition → IsSome (loose_refusal class s entry)
+
 -- some entry of a transition is permitted loosely, and P holds of it
 abbrev pub IsPermittedWith : (ℕ → ℕ) → State → LooseTransition → (Entry → Type 0) → Type 0
 IsPermittedWith class s transition P =
@@ -29,8 +39,7 @@ IsPermittedWith class s transition P =
 -- many entries as it takes; or memory is refused where one is applied that has a loose step; or memory is refused to a turn that is
 -- permitted.
 abbrev pub IsNotTakenLoosely : (ℕ → ℕ) → MachineView → LooseTransition → TakeFault → Type 0
-IsNotTakenLoosely class p transition (fault.Refused r) =
-    (entry : Entry) → loose_transition_of class (state_at p) entry ≡ Some transition → IsSome (loose_refusal class (state_at p) entry)
+IsNotTakenLoosely class p transition (fault.Refused r) = IsNowhere class (state_at p) transition
 IsNotTakenLoosely class p transition fault.TooLong =
     IsPermittedWith class (state_at p) transition (λ entry. loose_step class (design_of p.code) (state_at p) entry ≡ None)
 IsNotTakenLoosely class p transition fault.TooMany = p.core.entries ≡ most_entries

@@ -5,6 +5,8 @@
 //! their order.
 #![tactic(auto)]
 
+mod choices;
 mod steps;
 
+pub use choices::loose_choices;
 pub use steps::{first_evaluation, first_of_class, take_loosely};

@@ -1,15 +1,16 @@
 //! Loose transitions, taken by a machine.
-ghost use Rattle.std.specs.Prelude.{◌≡◌, ℕ, ◌+◌, ◌<◌, length, false, MatchOption, IfErr, OnOk, OnErr, Some};
+ghost use Rattle.std.specs.Prelude.{◌≡◌, ◌≢◌, ◌↔◌, ℕ, ◌+◌, ◌<◌, length, false, IsTrue, MatchOption, IfSome, MatchResult, IfOk, IfErr, OnOk, OnErr, Some, None};
 ghost use Rattle.std.specs.List.{list_any};
+ghost use Rattle.model.specs.declared.entry.Entry.TheVariants as entries;
 ghost use Rattle.model.specs.States.{Evaluate};
-ghost use Rattle.model.specs.Runs.{action_in};
+ghost use Rattle.model.specs.Runs.{action_in, refusal};
 ghost use Rattle.model.specs.Laws.{evaluates};
 ghost use Rattle.orders.specs.Alike.{IsInOrder};
 ghost use Rattle.loose.specs.Loose.{AlikeIn, updates_class};
 ghost use Rattle.regions.specs.Find.{update_numbers};
-ghost use Rattle.regions.specs.Machine.{state_at};
-ghost use Rattle.loosesteps.specs.Classes.{class_in, IsFirstAt};
-ghost use Rattle.loosesteps.specs.LooselyTaken.{IsTakenLoosely, IsNotTakenLoosely};
+ghost use Rattle.regions.specs.Machine.{state_at, IsChange};
+ghost use Rattle.loosesteps.specs.Classes.{class_in, IsFirstAt, HasClassAt};
+ghost use Rattle.loosesteps.specs.LooselyTaken.{IsEntryFor, IsNowhere, IsTakenLoosely, IsNotTakenLoosely};
 
 use design::RegId;
 use loose::transition::LooseTransition;
@@ -17,7 +18,7 @@ use model::entry::{Entry, Refusal};
 use regions::{Machine, TakeFault};
 
 // The class of a register.
-fn class_of(classes: &[u32], register: RegId) -> u32
+pub fn class_of(classes: &[u32], register: RegId) -> u32
     ensures { result ≡ class_in classes.now register }
 {
     match classes.get(register as usize) {
@@ -43,39 +44,82 @@ pub fn first_evaluation(machine: &Machine<'_>, process: u32) -> Option<u64>
     ensures { MatchOption result (list_any (λ e. evaluates process e.1) machine.now.core.active ≡ false) (λ number. action_in machine.now.core.active number ≡ Some (Evaluate process)) }
 {
     let (_, evaluations) = machine.state().active();
-    for at in 0..evaluations.len() {
-        if evaluations[at].process == process {
-            return Some(evaluations[at].number);
-        }
-    }
-    None
+    let first = evaluations
+        .iter()
+        .find(|evaluation| evaluation.process == process)?;
+    Some(first.number)
 }
 
-// Takes the first active update of a class.
-fn take_first_of(machine: &mut Machine<'_>, classes: &[u32], class: u32) -> Result<(), TakeFault> {
-    let Some(at) = first_of_class(machine, classes, class) else {
-        return Err(TakeFault::Refused(Refusal::NotActive));
-    };
+// Brings the first active update of a class before those in front of it, and answers its number, by which it is the first update
+// then. None where no update of the class is active, and all is as it was.
+fn bring_first(machine: &mut Machine<'_>, classes: &[u32], class: u32) -> Option<u64>
+    requires { IsInOrder (state_at machine.old) }
+    ensures first { MatchOption result (list_any (λ e. updates_class (class_in classes.now) class e.1) machine.old.core.active ≡ false) (HasClassAt (class_in classes.now) class machine.new.core.active) }
+    ensures permitted { IfSome result (λ number. machine.new.core.finished ≡ false → refusal (state_at machine.new) (entries.Update number) ≡ None) }
+    ensures alike { AlikeIn (class_in classes.now) (state_at machine.old) (state_at machine.new) }
+    ensures order { IsInOrder (state_at machine.new) }
+    ensures rest { machine.new ≡ record machine.old { core = record machine.old.core { active = machine.new.core.active } } }
+{
+    let at = first_of_class(machine, classes, class)?;
     machine.bring_forward(at);
-    match machine.state().first_update() {
-        Some(number) => machine.take(Entry::Update(number)),
-        None => Err(TakeFault::Refused(Refusal::NotActive)),
-    }
+    machine.state().first_update()
 }
 
-// Takes the first active evaluation of a process.
-fn take_process(machine: &mut Machine<'_>, process: u32) -> Result<(), TakeFault> {
+// The turn of the first active evaluation of a process.
+fn turn_of(machine: &Machine<'_>, process: u32) -> Result<Entry, Refusal>
+    requires { IsInOrder (state_at machine.now) }
+    ensures { MatchResult result (λ entry. (number : ℕ) × (entry ≡ entries.Turn number) × (action_in machine.now.core.active number ≡ Some (Evaluate process))) (λ _. list_any (λ e. evaluates process e.1) machine.now.core.active ≡ false) }
+{
     match first_evaluation(machine, process) {
-        Some(number) => machine.take(Entry::Turn(number)),
-        None => Err(TakeFault::Refused(Refusal::NotActive)),
+        Some(number) => Ok(Entry::Turn(number)),
+        None => Err(Refusal::NotActive),
     }
 }
 
-// Takes a change of the regions; a turn or an update is none.
-fn take_change(machine: &mut Machine<'_>, entry: Entry) -> Result<(), TakeFault> {
+// Whether an entry is a change of the regions.
+fn is_change(entry: &Entry) -> bool
+    ensures { IsTrue result ↔ IsChange entry.now }
+{
     match entry {
-        Entry::Turn(_) | Entry::Update(_) => Err(TakeFault::Refused(Refusal::NotActive)),
-        _ => machine.take(entry),
+        Entry::Turn(_) | Entry::Update(_) => false,
+        _ => true,
+    }
+}
+
+// A change of the regions, where it is the one that is due.
+fn due_change(machine: &Machine<'_>, change: Entry) -> Result<Entry, Refusal>
+    ensures ok { IfOk result (λ entry. (entry ≡ change) × IsChange change × (refusal (state_at machine.now) change ≡ None)) }
+    ensures err { OnErr result (IsChange change → refusal (state_at machine.now) change ≢ None) }
+{
+    if is_change(&change) && machine.state().legal(&change) {
+        return Ok(change);
+    }
+    Err(Refusal::NotDue)
+}
+
+// The entry that takes a loose transition, where one is permitted. The first update of a class is brought before the others for it.
+fn entry_for(
+    machine: &mut Machine<'_>,
+    classes: &[u32],
+    transition: LooseTransition,
+) -> Result<Entry, Refusal>
+    requires { IsInOrder (state_at machine.old) }
+    ensures entry { IfOk result (IsEntryFor (class_in classes.now) (state_at machine.old) (state_at machine.new) transition) }
+    ensures refused { OnErr result (IsNowhere (class_in classes.now) (state_at machine.old) transition) }
+    ensures alike { AlikeIn (class_in classes.now) (state_at machine.old) (state_at machine.new) }
+    ensures order { IsInOrder (state_at machine.new) }
+    ensures rest { machine.new ≡ record machine.old { core = record machine.old.core { active = machine.new.core.active } } }
+{
+    if machine.is_finished() {
+        return Err(Refusal::Finished);
+    }
+    match transition {
+        LooseTransition::Process(process) => turn_of(machine, process),
+        LooseTransition::FirstOf(class) => match bring_first(machine, classes, class) {
+            Some(number) => Ok(Entry::Update(number)),
+            None => Err(Refusal::NotActive),
+        },
+        LooseTransition::Change(change) => due_change(machine, change),
     }
 }
 
@@ -98,9 +142,8 @@ pub fn take_loosely(
     ensures order { IsInOrder (state_at machine.new) }
     ensures code { machine.new.code ≡ machine.old.code }
 {
-    match transition {
-        LooseTransition::Process(process) => take_process(machine, process),
-        LooseTransition::FirstOf(class) => take_first_of(machine, classes, class),
-        LooseTransition::Change(entry) => take_change(machine, entry),
+    match entry_for(machine, classes, transition) {
+        Ok(entry) => machine.take(entry),
+        Err(refusal) => Err(TakeFault::Refused(refusal)),
     }
 }
