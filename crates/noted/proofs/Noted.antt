@@ -1,6 +1,6 @@
 -- Notes of footprints, and the update that the rules permit.
 use Rattle.std.proofs.Common.{◌≡◌, ℕ, zero, suc, ◌+◌, ◌<◌, ◌==◌, Bool, true, false, not, List, [], ◌∷◌, ◌++◌, map, length, Option, Some, None, option_map, refl, sym, ap, subst, ◌∙◌, eqb-true, if◌then◌else◌}
-use Rattle.std.specs.Prelude.{◌≢◌, IsSome, IfSome, is_some}
+use Rattle.std.specs.Prelude.{◌≢◌, IsSome, IfSome, is_some, MatchOption}
 use Rattle.std.specs.List.{All}
 use Rattle.std.proofs.lemmas.List.{append-nil}
 use Rattle.logic4.specs.Vector.{Vector}
@@ -11,6 +11,7 @@ use Rattle.model.specs.declared.entry.Refusal.TheVariants.{Finished}
 use Rattle.model.specs.Design.{Design, Trigger}
 use Rattle.model.specs.Expressions.{Store}
 use Rattle.model.specs.Turns as turns
+use Rattle.model.specs.Turns.{Remainder}
 use Rattle.model.specs.States.{Action, Evaluate, Event, State, triggers_of, is_evaluation}
 use Rattle.model.specs.Runs.{Effect, action_in, has_any, turn_of, turn_effect, update_effect, action_effect, refused_where, turn_refusal, update_refusal, refusal, least, effect, unless_refused, step}
 use Rattle.model.proofs.RunLaws.{where_none}
@@ -18,10 +19,12 @@ use Rattle.design.specs.Compiled.{Compiled, design_of}
 use Rattle.design.specs.DesignInvariant.{controls_of}
 use Rattle.design.specs.Fits.{FitsRegister}
 use Rattle.turn.specs.TurnLogs.{LogView, wait_of}
+use Rattle.design.specs.declared.code.ProcState.{ProcState}
+use Rattle.regions.specs.Queue.{Core, state_of}
 use Rattle.regions.specs.Find.{update_numbers, IsFirstUpdate}
 use Rattle.regions.specs.Order.{InOrder, IsSoundAction, IsOrdered}
 use Rattle.regions.specs.StepLogs.{IsLogFor}
-use Rattle.regions.specs.Machine.{IsTurnLogged}
+use Rattle.regions.specs.Machine.{IsTurnLogged, IsChange}
 use Rattle.regions.proofs.Permitted.{other_update}
 use Rattle.footprints.specs.Footprints.{Footprint, changes_made, woken_by, awaited_by, assigned, turn_footprint, update_footprint, action_footprint, footprint}
 use Rattle.certificates.specs.Notes.{NoteView, TellsOf}
@@ -52,7 +55,7 @@ tells_of f =
 noted_by : (class : ℕ → ℕ) (code : Compiled) (s : State) (entry : Entry) (note : NoteView) (f : Footprint) → footprint class (design_of code) s entry ≡ Some f → note ≡ note_of f
     → IsNoted class code s entry note
 noted_by class code s entry note f there is =
-    record { footprint = f; footprint_is = there; is = is; tells = subst (λ (n : NoteView). TellsOf n f) (sym is) (tells_of f) }
+    record { own = f; own_is = there; is = is; tells = subst (λ (n : NoteView). TellsOf n f) (sym is) (tells_of f) }
 
 -- a turn
 pub turn_noted : (class : ℕ → ℕ) (code : Compiled) (s : State) (n p : ℕ) (note : NoteView) → action_in s.active n ≡ Some (Evaluate p) → IsTurnNoted class code s p note
@@ -201,3 +204,28 @@ first_updated code s n x order permitted first (k, (least_is, action)) =
       action = own;
       fits = sound_at (IsSoundAction code.widths (length s.processes)) 0 s.active s.next_event n (Action.Update x.0 x.1) order.active own;
     }
+
+-- where the first update is permitted
+pub permitted_first : (core : Core) (rem : ProcState → Remainder) (values : List Vector) (o : Option ℕ)
+    → IfSome o (λ n. (r : ProcState → Remainder) (vs : List Vector) → core.finished ≡ false → refusal (state_of r vs core) (entries.Update n) ≡ None) → core.finished ≡ false
+    → IfSome o (λ n. refusal (state_of rem values core) (entries.Update n) ≡ None)
+permitted_first core rem values None its going = tt
+permitted_first core rem values (Some n) its going = its rem values going
+
+-- the first update, where it has this number
+pub updated_at : (code : Compiled) (s : State) (n : ℕ) (first : Option ℕ) (o : Option (ℕ × Vector)) → IsOrdered code.widths (length s.processes) s → first ≡ least (update_numbers s.active)
+    → IfSome first (λ k. refusal s (entries.Update k) ≡ None) → first ≡ Some n → MatchOption o (update_numbers s.active ≡ []) (IsFirstUpdate s.active)
+    → MatchOption o (IsSome (refusal s (entries.Update n))) (IsFirstUpdated code s n)
+updated_at code s n first None order least_is its here found = none_refused s n found
+updated_at code s n first (Some x) order least_is its here found =
+    let permitted = subst (λ (o : Option ℕ). IfSome o (λ k. refusal s (entries.Update k) ≡ None)) here its in
+    first_updated code s n x order permitted (sym here ∙ least_is) found
+
+-- an entry that takes no event is a change of the regions
+pub is_change : (entry : Entry) → ((n : ℕ) → entry ≡ entries.Turn n → ⊥) → ((n : ℕ) → entry ≡ entries.Update n → ⊥) → IsChange entry
+is_change (entries.Turn n) no_turn no_update = no_turn n refl
+is_change (entries.Update n) no_turn no_update = no_update n refl
+is_change entries.ActivateInactive no_turn no_update = tt
+is_change entries.ActivateNba no_turn no_update = tt
+is_change entries.ActivateMonitor no_turn no_update = tt
+is_change (entries.Advance time) no_turn no_update = tt

@@ -40,10 +40,10 @@ note_of f =
 
 -- In a state an entry has a footprint, the note is that footprint's, and it tells of it.
 pub record IsNoted (class : ℕ → ℕ) (code : Compiled) (s : State) (entry : Entry) (note : NoteView) : Type 0 where
-  pub footprint : Footprint
-  pub footprint_is : footprint class (design_of code) s entry ≡ Some footprint
-  pub is : note ≡ note_of footprint
-  pub tells : TellsOf note footprint
+  pub own : Footprint
+  pub own_is : footprint class (design_of code) s entry ≡ Some own
+  pub is : note ≡ note_of own
+  pub tells : TellsOf note own
 
 -- Why an entry isn't taken with a note: the machine doesn't take it; or memory is refused to the note, and it has a step; or it is a
 -- change of the regions.

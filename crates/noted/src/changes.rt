@@ -71,9 +71,9 @@ pub(crate) fn note_changes(
     ensures { OnOk result (changes.new ≡ changes.old ++ changes_made store.now writes.now) }
 {
     for place in 0..writes.len() {
-        let (register, after) = writes[place];
-        let before = value_behind(store, writes.split_at(place).0, register);
-        note_change(changes, before, register, after)?;
+        let write = writes[place];
+        let before = value_behind(store, writes.split_at(place).0, write.0);
+        note_change(changes, before, write.0, write.1)?;
     }
     Ok(())
 }
