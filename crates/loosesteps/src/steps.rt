@@ -8,7 +8,8 @@ ghost use Rattle.orders.specs.Alike.{IsInOrder};
 ghost use Rattle.loose.specs.Loose.{AlikeIn, updates_class};
 ghost use Rattle.regions.specs.Find.{update_numbers};
 ghost use Rattle.regions.specs.Machine.{state_at};
-ghost use Rattle.loosesteps.specs.Classes.{class_in, IsFirstAt};
+ghost use Rattle.loose.specs.Classes.{class_in};
+ghost use Rattle.loosesteps.specs.Classes.{IsFirstAt};
 ghost use Rattle.loosesteps.specs.LooselyTaken.{IsTakenLoosely, IsNotTakenLoosely};
 
 use design::RegId;

@@ -3,10 +3,10 @@ ghost use Rattle.std.specs.Prelude.{◌≡◌, ◌+◌, ◌<◌, map, IsSome, No
 ghost use Rattle.model.specs.declared.entry.Entry.TheVariants as entries;
 ghost use Rattle.model.specs.Runs.{refusal};
 ghost use Rattle.regions.specs.Evaluations.{made_event};
-ghost use Rattle.regions.specs.Machine.{most_entries, state_at};
+ghost use Rattle.regions.specs.Machine.{most_entries, state_at, IsTurnLogged};
 ghost use Rattle.regions.specs.MadeEvents.{made_events};
 ghost use Rattle.regions.specs.StepLogs.{IsTaken};
-ghost use Rattle.noted.specs.Classes.{class_in};
+ghost use Rattle.loose.specs.Classes.{class_in};
 ghost use Rattle.noted.specs.NotedSteps.{IsFirstUpdated, IsNoted, IsNotNoted};
 
 use crate::fault::NotedFault;
@@ -44,6 +44,32 @@ fn refused(machine: &mut Machine<'_>, entry: Entry) -> NotedFault
     }
 }
 
+// Takes a turn of a process that was evaluated, with its note.
+fn take_evaluated(
+    machine: &mut Machine<'_>,
+    classes: &[u32],
+    number: u64,
+    process: u32,
+    log: &TurnLog,
+    note: &mut Note,
+) -> Result<(), NotedFault>
+    requires { IsTurnLogged machine.old.code (state_at machine.old) number process log.now }
+    ensures taken { OnOk result (IsTaken machine.old.code (state_at machine.old) machine.old.lines (entries.Turn number) (state_at machine.new) machine.new.lines) }
+    ensures noted { OnOk result (IsNoted (class_in classes.now) machine.old.code (state_at machine.old) (entries.Turn number) note.new) }
+    ensures entries { OnOk result (machine.new.core.entries ≡ machine.old.core.entries + 1) }
+    ensures made { OnOk result (map made_event machine.new.made ≡ made_events machine.old.core machine.new.core) }
+    ensures code { machine.new.code ≡ machine.old.code }
+    ensures few { OnOk result (machine.old.core.entries < most_entries) }
+    ensures stop { IfErr result (IsNotNoted machine.old (entries.Turn number)) }
+    ensures err { OnErr result (machine.new ≡ record machine.old { made = machine.new.made }) }
+{
+    note_turn(note, machine, classes, process, log)?;
+    match machine.take_turn(number, log) {
+        Ok(()) => Ok(()),
+        Err(fault) => Err(NotedFault::NotTaken(fault)),
+    }
+}
+
 // Takes a turn, with its note.
 fn take_turn(
     machine: &mut Machine<'_>,
@@ -61,14 +87,34 @@ fn take_turn(
     ensures stop { IfErr result (IsNotNoted machine.old (entries.Turn number)) }
     ensures err { OnErr result (machine.new ≡ record machine.old { made = machine.new.made }) }
 {
-    let process = match machine.evaluate(log, number, 0) {
-        Ok(Some(process)) => process,
-        Ok(None) => return Err(refused(machine, Entry::Turn(number))),
-        Err(FillFault::TooLong) => return Err(NotedFault::NotTaken(TakeFault::TooLong)),
-        Err(FillFault::Memory) => return Err(NotedFault::NotTaken(TakeFault::Memory)),
-    };
-    note_turn(note, machine, classes, process, log)?;
-    match machine.take_turn(number, log) {
+    match machine.evaluate(log, number, 0) {
+        Ok(Some(process)) => take_evaluated(machine, classes, number, process, log, note),
+        Ok(None) => Err(refused(machine, Entry::Turn(number))),
+        Err(FillFault::TooLong) => Err(NotedFault::NotTaken(TakeFault::TooLong)),
+        Err(FillFault::Memory) => Err(NotedFault::NotTaken(TakeFault::Memory)),
+    }
+}
+
+// Takes the first update, which gives a register a value, with its note.
+fn take_updated(
+    machine: &mut Machine<'_>,
+    classes: &[u32],
+    number: u64,
+    updated: (RegId, Bits),
+    note: &mut Note,
+) -> Result<(), NotedFault>
+    requires { IsFirstUpdated machine.old.code (state_at machine.old) number updated }
+    ensures taken { OnOk result (IsTaken machine.old.code (state_at machine.old) machine.old.lines (entries.Update number) (state_at machine.new) machine.new.lines) }
+    ensures noted { OnOk result (IsNoted (class_in classes.now) machine.old.code (state_at machine.old) (entries.Update number) note.new) }
+    ensures entries { OnOk result (machine.new.core.entries ≡ machine.old.core.entries + 1) }
+    ensures made { OnOk result (map made_event machine.new.made ≡ made_events machine.old.core machine.new.core) }
+    ensures code { machine.new.code ≡ machine.old.code }
+    ensures few { OnOk result (machine.old.core.entries < most_entries) }
+    ensures stop { IfErr result (IsNotNoted machine.old (entries.Update number)) }
+    ensures err { OnErr result (machine.new ≡ record machine.old { made = machine.new.made }) }
+{
+    note_update(note, machine, classes, updated.0, updated.1)?;
+    match machine.take(Entry::Update(number)) {
         Ok(()) => Ok(()),
         Err(fault) => Err(NotedFault::NotTaken(fault)),
     }
@@ -90,15 +136,9 @@ fn take_update(
     ensures stop { IfErr result (IsNotNoted machine.old (entries.Update number)) }
     ensures err { OnErr result (machine.new ≡ record machine.old { made = machine.new.made }) }
 {
-    let entry = Entry::Update(number);
-    let (register, value) = match update_at(machine, number) {
-        Some(updated) => updated,
-        None => return Err(refused(machine, entry)),
-    };
-    note_update(note, machine, classes, register, value)?;
-    match machine.take(entry) {
-        Ok(()) => Ok(()),
-        Err(fault) => Err(NotedFault::NotTaken(fault)),
+    match update_at(machine, number) {
+        Some(updated) => take_updated(machine, classes, number, updated, note),
+        None => Err(refused(machine, Entry::Update(number))),
     }
 }
 

@@ -7,7 +7,7 @@ ghost use Rattle.turn.specs.Reads.{registers};
 ghost use Rattle.regions.specs.Machine.{state_at};
 ghost use Rattle.regions.specs.StepLogs.{IsLogFor};
 ghost use Rattle.footprints.specs.Footprints.{assigned, update_footprint};
-ghost use Rattle.noted.specs.Classes.{class_in};
+ghost use Rattle.loose.specs.Classes.{class_in};
 ghost use Rattle.noted.specs.NotedSteps.{AreWritesOf, HasNoEffects, IsTurnNoted, note_of, own_note, with_effects};
 
 use crate::changes::{note_changes, note_writes};

@@ -2,7 +2,7 @@
 use Rattle.std.proofs.Common.{◌≡◌, ◌++◌, map, take}
 use Rattle.turn.specs.TurnLogs.{assignment_of}
 use Rattle.footprints.specs.Footprints.{assigned}
-use Rattle.noted.specs.Classes.{class_in}
+use Rattle.loose.specs.Classes.{class_in}
 use Rattle.noted.proofs.turns.note_assigns.Given as goal
 
 abbrev pub invariant-loop-nba : goal.invariant-loop-nba
