@@ -1,7 +1,7 @@
 -- Notes of footprints, and the update that the rules permit.
-use Rattle.std.proofs.Common.{◌≡◌, ℕ, zero, suc, ◌+◌, ◌<◌, ◌==◌, Bool, true, false, not, List, [], ◌∷◌, ◌++◌, map, length, Option, Some, None, option_map, refl, sym, ap, subst, ◌∙◌, eqb-true, if◌then◌else◌}
+use Rattle.std.proofs.Common.{◌≡◌, ℕ, zero, suc, ◌+◌, ◌<◌, ◌==◌, Bool, true, false, not, List, [], ◌∷◌, ◌++◌, map, length, Option, Some, None, option_map, refl, sym, ap, subst, ◌∙◌, eqb, eq-eqb, eqb-true, if◌then◌else◌}
 use Rattle.std.specs.Prelude.{◌≢◌, IsSome, IfSome, is_some, MatchOption}
-use Rattle.std.specs.List.{All}
+use Rattle.std.specs.Option.{option_eq}
 use Rattle.std.proofs.lemmas.List.{append-nil}
 use Rattle.logic4.specs.Vector.{Vector}
 use Rattle.model.specs.declared.entry.Entry.{Entry}
@@ -229,3 +229,20 @@ is_change entries.ActivateInactive no_turn no_update = tt
 is_change entries.ActivateNba no_turn no_update = tt
 is_change entries.ActivateMonitor no_turn no_update = tt
 is_change (entries.Advance time) no_turn no_update = tt
+
+-- whether a number is the one that was found
+
+pub other_than : (o : Option ℕ) (n : ℕ) → true ≡ not (option_eq eqb o (Some n)) → o ≢ Some n
+other_than None n differ same = cc
+other_than (Some k) n differ same =
+    let on : eqb k n ≡ true = eq-eqb k n (same_some k n same) in
+    let off : true ≡ false = differ ∙ ap not on in
+    cc
+
+no_longer : (b : Bool) → false ≡ not b → b ≡ true
+no_longer true h = refl
+no_longer false h = cc
+
+pub same_as : (o : Option ℕ) (n : ℕ) → false ≡ not (option_eq eqb o (Some n)) → o ≡ Some n
+same_as None n h = cc
+same_as (Some k) n h = ap (λ m. Some m) (eqb-true k n (no_longer (eqb k n) h))
