@@ -1,14 +1,11 @@
 -- The processes that changes wake, one process after another, and what processes wait for.
-use Rattle.std.proofs.Common.{◌≡◌, ℕ, zero, suc, ◌+◌, ◌<◌, ◌≤◌, ◌||◌, Bool, true, false, List, [], ◌∷◌, ◌++◌, map, filter, length, take, drop, get_or, refl, sym, ap, subst, ◌∙◌, arith, append_assoc, if◌then◌else◌, None}
-use Rattle.std.specs.Prelude.{min}
+use Rattle.std.proofs.Common.{◌≡◌, ℕ, zero, suc, ◌+◌, ◌<◌, Bool, true, false, List, [], ◌∷◌, ◌++◌, map, filter, length, take, get_or, refl, sym, ap, subst, ◌∙◌, arith, append_assoc, if◌then◌else◌, None}
 use Rattle.std.specs.List.{enumerate_from, All}
-use Rattle.std.proofs.lemmas.List.{take_more, drop_more, append-nil, length-take, length-map, get_or-map}
-use Rattle.logic4.specs.Edges.{edge}
+use Rattle.std.proofs.lemmas.List.{take_more, append-nil, length-take, length-map, get_or-map}
 use Rattle.model.specs.Design.{Trigger}
 use Rattle.model.specs.Turns.{Remainder}
 use Rattle.model.specs.States.{Continuation}
 use Rattle.design.specs.declared.code.ProcState.{ProcState}
-use Rattle.design.specs.ControlWaking.{wakes_by}
 use Rattle.design.specs.Compiled.{Compiled, design_of}
 use Rattle.design.specs.DesignTrees.{process_of}
 use Rattle.design.specs.DesignInvariant.{IsStateOf}
@@ -84,18 +81,6 @@ pub awaited_is : (rem : ProcState → Remainder) (core : Core) (ps : List queued
 awaited_is rem core ps i p are lt is =
     ap (λ (qs : List (ProcState × List Trigger)). awaited_at (map (standing rem) qs) i) (sym are) ∙ awaited_map rem core.controls ps i p lt is
 
-awaited_past : (rem : ProcState → Remainder) (qs : List (ProcState × List Trigger)) (i : ℕ) → length qs ≤ i → awaited_at (map (standing rem) qs) i ≡ []
-awaited_past rem [] i le = refl
-awaited_past rem (q ∷ qs) zero le = absurd (omega (arith, le))
-awaited_past rem (q ∷ qs) (suc i) le = awaited_past rem qs i (omega (arith, le))
-
--- where there is no such process, nothing is waited for
-pub awaited_none : (rem : ProcState → Remainder) (core : Core) (ps : List queued.Continuation) (i : ℕ) → map (process_wait_of core.controls) ps ≡ core.processes → length ps ≤ i
-    → awaited_at (map (standing rem) core.processes) i ≡ []
-awaited_none rem core ps i are le =
-    let count : length core.processes ≡ length ps = ap (λ (qs : List (ProcState × List Trigger)). length qs) (sym are) ∙ length-map ps (process_wait_of core.controls) in
-    awaited_past rem core.processes i (omega (arith, le, count))
-
 -- as many processes as there are listed
 pub count_is : (rem : ProcState → Remainder) (core : Core) (ps : List queued.Continuation) → map (process_wait_of core.controls) ps ≡ core.processes → length (map (standing rem) core.processes) ≡ length ps
 count_is rem core ps are =
@@ -108,23 +93,6 @@ nowhere = (record { place = 0; pending = None }, [])
 pub place_within : (code : Compiled) (core : Core) (place : ℕ) → HasOwnStates (IsStateOf code) core → place < length core.processes → place < length (design_of code).processes
 place_within code core place own lt =
     subst (λ n. place < n) (sym (length-map code.processes process_of)) (own place nowhere lt).process
-
--- which changes are waited for
-
--- the change at a place is one
-pub met_here : (ts : List Trigger) (cs : List NotedChange) (i : ℕ) (c : NotedChange) → i < length cs → c ≡ get_or cs i c → wakes_by ts c.register (edge c.before c.after) ≡ true
-    → matches_any ts (map change_of (drop i cs)) ≡ true
-met_here ts cs i c lt is here =
-    ap (λ us. matches_any ts (map change_of us)) (drop_more cs i c lt ∙ ap (λ d. d ∷ drop (i + 1) cs) (sym is))
-    ∙ ap (λ b. b || matches_any ts (map change_of (drop (i + 1) cs))) here
-
--- it is none
-pub met_past : (ts : List Trigger) (cs : List NotedChange) (i : ℕ) (c : NotedChange) → i < length cs → c ≡ get_or cs i c → wakes_by ts c.register (edge c.before c.after) ≡ false
-    → matches_any ts (map change_of (drop (i + 1) cs)) ≡ matches_any ts (map change_of (drop i cs))
-met_past ts cs i c lt is here =
-    sym
-    (ap (λ us. matches_any ts (map change_of us)) (drop_more cs i c lt ∙ ap (λ d. d ∷ drop (i + 1) cs) (sym is))
-    ∙ ap (λ b. b || matches_any ts (map change_of (drop (i + 1) cs))) here)
 
 -- the widths of the change at a place are one
 pub width_at : (cs : List NotedChange) (i : ℕ) (c : NotedChange) → i < length cs → c ≡ get_or cs i c → KeepWidths (map change_of cs) → length c.before ≡ length c.after
