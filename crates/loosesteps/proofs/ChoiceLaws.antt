@@ -23,7 +23,8 @@ use Rattle.regions.specs.declared.queue.Update as queued
 use Rattle.regions.specs.declared.queue.Evaluation.{Evaluation}
 use Rattle.regions.specs.Queue.{update_event, evaluation_event}
 use Rattle.regions.specs.Machine.{IsChange, IsDue}
-use Rattle.loosesteps.specs.Choices.{AreGathered, MayBeTaken, due_choices, first_of, turn_of}
+use Rattle.loosesteps.specs.Choices.{AreGathered, due_choices, first_of, turn_of}
+use Rattle.loosesteps.specs.LooselyTaken.{MayBeTaken}
 use Rattle.loosesteps.proofs.FirstOfKind.{behind_one}
 use Rattle.loosesteps.proofs.Gathering.{no_member, one_member, gathered_more}
 

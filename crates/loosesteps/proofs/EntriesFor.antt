@@ -14,7 +14,7 @@ use Rattle.loose.specs.declared.transition.LooseTransition.TheVariants.{Process,
 use Rattle.loose.specs.Loose.{updates_class, loose_entry_refusal, loose_transition_of_action}
 use Rattle.regions.specs.Machine.{IsChange, IsTurnEntry}
 use Rattle.loosesteps.specs.Classes.{HasClassAt}
-use Rattle.loosesteps.specs.LooselyTaken.{IsEntryFor, IsNowhere}
+use Rattle.loosesteps.specs.LooselyTaken.{IsEntryFor, MayNotBeTaken}
 use Rattle.loosesteps.proofs.FirstOfKind.{none_there}
 
 -- the entry is found
@@ -55,8 +55,8 @@ refused_all : (b : Bool) (o : Option Refusal) → b ≡ true → IsSome (refused
 refused_all true o is = refl
 refused_all false o is = cc
 
-pub finished_nowhere : (class : ℕ → ℕ) (s : State) (transition : LooseTransition) → s.finished ≡ true → IsNowhere class s transition
-finished_nowhere class s transition finished = λ entry is. refused_all s.finished (loose_entry_refusal class s entry) finished
+pub finished_may_not : (class : ℕ → ℕ) (s : State) (transition : LooseTransition) → s.finished ≡ true → MayNotBeTaken class s transition
+finished_may_not class s transition finished = λ entry is. refused_all s.finished (loose_entry_refusal class s entry) finished
 
 -- an event of a process's transition evaluates it
 of_process : (class : ℕ → ℕ) (p : ℕ) (o : Option Action) → loose_transition_of_action class o ≡ Some (Process p) → (a : Action) × (o ≡ Some a) × (evaluates p a ≡ true)
@@ -80,29 +80,29 @@ of_change class change None is = cc
 of_change class change (Some (Evaluate q)) is = cc
 of_change class change (Some (Action.Update r v)) is = cc
 
-pub process_nowhere : (class : ℕ → ℕ) (s : State) (p : ℕ) → list_any (λ e. evaluates p e.1) s.active ≡ false → IsNowhere class s (Process p)
-process_nowhere class s p none (Turn n) is =
+pub process_may_not : (class : ℕ → ℕ) (s : State) (p : ℕ) → list_any (λ e. evaluates p e.1) s.active ≡ false → MayNotBeTaken class s (Process p)
+process_may_not class s p none (Turn n) is =
     let (a, at_n, own) = of_process class p (action_in s.active n) is in
     absurd (none_there (evaluates p) n a s.active none at_n own)
-process_nowhere class s p none (Update n) is =
+process_may_not class s p none (Update n) is =
     let (a, at_n, own) = of_process class p (action_in s.active n) is in
     absurd (none_there (evaluates p) n a s.active none at_n own)
-process_nowhere class s p none ActivateInactive is = cc
-process_nowhere class s p none ActivateNba is = cc
-process_nowhere class s p none ActivateMonitor is = cc
-process_nowhere class s p none (Advance time) is = cc
+process_may_not class s p none ActivateInactive is = cc
+process_may_not class s p none ActivateNba is = cc
+process_may_not class s p none ActivateMonitor is = cc
+process_may_not class s p none (Advance time) is = cc
 
-pub class_nowhere : (class : ℕ → ℕ) (s : State) (c : ℕ) → list_any (λ e. updates_class class c e.1) s.active ≡ false → IsNowhere class s (FirstOf c)
-class_nowhere class s c none (Turn n) is =
+pub class_may_not : (class : ℕ → ℕ) (s : State) (c : ℕ) → list_any (λ e. updates_class class c e.1) s.active ≡ false → MayNotBeTaken class s (FirstOf c)
+class_may_not class s c none (Turn n) is =
     let (a, at_n, own) = of_update class c (action_in s.active n) is in
     absurd (none_there (updates_class class c) n a s.active none at_n own)
-class_nowhere class s c none (Update n) is =
+class_may_not class s c none (Update n) is =
     let (a, at_n, own) = of_update class c (action_in s.active n) is in
     absurd (none_there (updates_class class c) n a s.active none at_n own)
-class_nowhere class s c none ActivateInactive is = cc
-class_nowhere class s c none ActivateNba is = cc
-class_nowhere class s c none ActivateMonitor is = cc
-class_nowhere class s c none (Advance time) is = cc
+class_may_not class s c none ActivateInactive is = cc
+class_may_not class s c none ActivateNba is = cc
+class_may_not class s c none ActivateMonitor is = cc
+class_may_not class s c none (Advance time) is = cc
 
 some_reason : (o : Option Refusal) → o ≢ None → IsSome o
 some_reason None h = absurd (h refl)
@@ -114,10 +114,10 @@ refused_change class s change entry is same refused =
     let one : change ≡ entry = cc in
     subst (λ (e : Entry). IsChange e → refusal s e ≢ None) one refused is
 
-pub change_nowhere : (class : ℕ → ℕ) (s : State) (change : Entry) → (IsChange change → refusal s change ≢ None) → IsNowhere class s (Change change)
-change_nowhere class s change refused (Turn n) is = absurd (of_change class change (action_in s.active n) is)
-change_nowhere class s change refused (Update n) is = absurd (of_change class change (action_in s.active n) is)
-change_nowhere class s change refused ActivateInactive is = some_reason (refusal s ActivateInactive) (refused_change class s change ActivateInactive tt is refused)
-change_nowhere class s change refused ActivateNba is = some_reason (refusal s ActivateNba) (refused_change class s change ActivateNba tt is refused)
-change_nowhere class s change refused ActivateMonitor is = some_reason (refusal s ActivateMonitor) (refused_change class s change ActivateMonitor tt is refused)
-change_nowhere class s change refused (Advance time) is = some_reason (refusal s (Advance time)) (refused_change class s change (Advance time) tt is refused)
+pub change_may_not : (class : ℕ → ℕ) (s : State) (change : Entry) → (IsChange change → refusal s change ≢ None) → MayNotBeTaken class s (Change change)
+change_may_not class s change refused (Turn n) is = absurd (of_change class change (action_in s.active n) is)
+change_may_not class s change refused (Update n) is = absurd (of_change class change (action_in s.active n) is)
+change_may_not class s change refused ActivateInactive is = some_reason (refusal s ActivateInactive) (refused_change class s change ActivateInactive tt is refused)
+change_may_not class s change refused ActivateNba is = some_reason (refusal s ActivateNba) (refused_change class s change ActivateNba tt is refused)
+change_may_not class s change refused ActivateMonitor is = some_reason (refusal s ActivateMonitor) (refused_change class s change ActivateMonitor tt is refused)
+change_may_not class s change refused (Advance time) is = some_reason (refusal s (Advance time)) (refused_change class s change (Advance time) tt is refused)

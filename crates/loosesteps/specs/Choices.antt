@@ -1,19 +1,12 @@
--- The loose transitions that may be taken in a state.
-use Rattle.std.specs.Prelude.{◌≡◌, ◌≢◌, ◌↔◌, ◌⊎◌, ℕ, List, map, Option, Some, None}
+-- The loose transitions of active events, and lists of them in which each stands once.
+use Rattle.std.specs.Prelude.{◌≢◌, ◌↔◌, ◌⊎◌, ℕ, List, map, Option}
 use Rattle.std.specs.List.{AllPairs, Contains}
 use Rattle.std.specs.Option.{option_to_list}
 use Rattle.model.specs.declared.entry.Entry.{Entry}
-use Rattle.model.specs.States.{State}
 use Rattle.loose.specs.declared.transition.LooseTransition.{LooseTransition}
 use Rattle.loose.specs.declared.transition.LooseTransition.TheVariants.{Process, FirstOf, Change}
-use Rattle.loose.specs.Loose.{loose_transition_of, loose_refusal}
 use Rattle.regions.specs.declared.queue.Update.{Update}
 use Rattle.regions.specs.declared.queue.Evaluation.{Evaluation}
-
--- A transition may be taken where some entry of it is permitted loosely, whatever its turn does.
-abbrev pub MayBeTaken : (ℕ → ℕ) → State → LooseTransition → Type 0
-MayBeTaken class s transition =
-    (entry : Entry) × (loose_transition_of class s entry ≡ Some transition) × (loose_refusal class s entry ≡ None)
 
 -- the transition of an active update
 abbrev pub first_of : (ℕ → ℕ) → Update → LooseTransition

@@ -26,9 +26,14 @@ pub record IsEntryFor (class : ℕ → ℕ) (old new : State) (transition : Loos
   pub permitted : refusal new entry ≡ None
   pub same : IsTurnEntry entry → new ≡ old
 
--- no entry of a transition is permitted loosely
-abbrev pub IsNowhere : (ℕ → ℕ) → State → LooseTransition → Type 0
-IsNowhere class s transition = (entry : Entry) → loose_transition_of class s entry ≡ Some transition → IsSome (loose_refusal class s entry)
+-- A transition may be taken where some entry of it is permitted loosely, whatever its turn does.
+abbrev pub MayBeTaken : (ℕ → ℕ) → State → LooseTransition → Type 0
+MayBeTaken class s transition =
+    (entry : Entry) × (loose_transition_of class s entry ≡ Some transition) × (loose_refusal class s entry ≡ None)
+
+-- no entry of it is permitted loosely
+abbrev pub MayNotBeTaken : (ℕ → ℕ) → State → LooseTransition → Type 0
+MayNotBeTaken class s transition = (entry : Entry) → loose_transition_of class s entry ≡ Some transition → IsSome (loose_refusal class s entry)
 
 -- some entry of a transition is permitted loosely, and P holds of it
 abbrev pub IsPermittedWith : (ℕ → ℕ) → State → LooseTransition → (Entry → Type 0) → Type 0
@@ -39,7 +44,7 @@ IsPermittedWith class s transition P =
 -- many entries as it takes; or memory is refused where one is applied that has a loose step; or memory is refused to a turn that is
 -- permitted.
 abbrev pub IsNotTakenLoosely : (ℕ → ℕ) → MachineView → LooseTransition → TakeFault → Type 0
-IsNotTakenLoosely class p transition (fault.Refused r) = IsNowhere class (state_at p) transition
+IsNotTakenLoosely class p transition (fault.Refused r) = MayNotBeTaken class (state_at p) transition
 IsNotTakenLoosely class p transition fault.TooLong =
     IsPermittedWith class (state_at p) transition (λ entry. loose_step class (design_of p.code) (state_at p) entry ≡ None)
 IsNotTakenLoosely class p transition fault.TooMany = p.core.entries ≡ most_entries

@@ -5,7 +5,8 @@ ghost use Rattle.orders.specs.Alike.{IsInOrder};
 ghost use Rattle.loose.specs.declared.transition.LooseTransition.{LooseTransition};
 ghost use Rattle.regions.specs.Machine.{state_at};
 ghost use Rattle.loose.specs.Classes.{class_in};
-ghost use Rattle.loosesteps.specs.Choices.{AreGathered, MayBeTaken, due_choices, first_of, turn_of};
+ghost use Rattle.loosesteps.specs.Choices.{AreGathered, due_choices, first_of, turn_of};
+ghost use Rattle.loosesteps.specs.LooselyTaken.{MayBeTaken};
 
 use crate::steps::class_of;
 use loose::transition::LooseTransition;

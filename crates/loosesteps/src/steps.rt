@@ -11,7 +11,7 @@ ghost use Rattle.regions.specs.Find.{update_numbers};
 ghost use Rattle.regions.specs.Machine.{state_at, IsChange};
 ghost use Rattle.loose.specs.Classes.{class_in};
 ghost use Rattle.loosesteps.specs.Classes.{IsFirstAt, HasClassAt};
-ghost use Rattle.loosesteps.specs.LooselyTaken.{IsEntryFor, IsNowhere, IsTakenLoosely, IsNotTakenLoosely};
+ghost use Rattle.loosesteps.specs.LooselyTaken.{IsEntryFor, MayNotBeTaken, IsTakenLoosely, IsNotTakenLoosely};
 
 use design::RegId;
 use loose::transition::LooseTransition;
@@ -106,7 +106,7 @@ fn entry_for(
 ) -> Result<Entry, Refusal>
     requires { IsInOrder (state_at machine.old) }
     ensures entry { IfOk result (IsEntryFor (class_in classes.now) (state_at machine.old) (state_at machine.new) transition) }
-    ensures refused { OnErr result (IsNowhere (class_in classes.now) (state_at machine.old) transition) }
+    ensures refused { OnErr result (MayNotBeTaken (class_in classes.now) (state_at machine.old) transition) }
     ensures alike { AlikeIn (class_in classes.now) (state_at machine.old) (state_at machine.new) }
     ensures order { IsInOrder (state_at machine.new) }
     ensures rest { machine.new ≡ record machine.old { core = record machine.old.core { active = machine.new.core.active } } }

@@ -5,7 +5,8 @@ use Rattle.loose.specs.declared.transition.LooseTransition.{LooseTransition}
 use Rattle.regions.specs.Queue.{Core, update_event, evaluation_event}
 use Rattle.regions.specs.Machine.{state_at}
 use Rattle.loose.specs.Classes.{class_in}
-use Rattle.loosesteps.specs.Choices.{AreGathered, MayBeTaken, first_of}
+use Rattle.loosesteps.specs.Choices.{AreGathered, first_of}
+use Rattle.loosesteps.specs.LooselyTaken.{MayBeTaken}
 use Rattle.loosesteps.proofs.ChoiceLaws.{AreChoices, choices_gathered, choices_permitted, choices_once}
 use Rattle.loosesteps.proofs.choices.loose_choices.Goals.{In_ok-add_change}
 use Rattle.loosesteps.proofs.choices.loose_choices.Goals as goal
