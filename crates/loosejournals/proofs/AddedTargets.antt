@@ -34,12 +34,13 @@ targets_more ss i s old new all lt is more before =
     ∙ (append_assoc old (targets_at s) (targets_in (drop (i + 1) ss)) ∙ (ap (λ (ts : List ℕ). old ++ ts) (sym (targets-drop ss i s lt is)) ∙ before))
 
 -- those of the statements in a choice, one body after the other
-pub targets_if : (s : Statement) (condition : _) (body otherwise : _) (old one two : List ℕ) → s ≡ view.If condition body otherwise → one ≡ old ++ targets_in body.items
-    → two ≡ one ++ targets_in otherwise.items → two ≡ old ++ targets_at s
-targets_if s condition body otherwise old one two is first second =
+pub targets_if : (s : Statement) (condition : _) (body otherwise : _) (xs ys : List Statement) (old one two : List ℕ) → s ≡ view.If condition body otherwise → xs ≡ body.items
+    → ys ≡ otherwise.items → one ≡ old ++ targets_in xs → two ≡ one ++ targets_in ys → two ≡ old ++ targets_at s
+targets_if s condition body otherwise xs ys old one two is these those first second =
     let inner : targets_at s ≡ targets_in body.items ++ targets_in otherwise.items =
     ap (λ (x : model.Statement). filter_map target_of (x ∷ inside x)) (viewed_if s condition body otherwise is)
     ∙ filter_map-append target_of (all_of (statements_of body.items)) (all_of (statements_of otherwise.items)) in
     second
-    ∙ (ap (λ (ts : List ℕ). ts ++ targets_in otherwise.items) first
-    ∙ (append_assoc old (targets_in body.items) (targets_in otherwise.items) ∙ ap (λ (ts : List ℕ). old ++ ts) (sym inner)))
+    ∙ (ap (λ (ss : List Statement). one ++ targets_in ss) those
+    ∙ (ap (λ (ts : List ℕ). ts ++ targets_in otherwise.items) (first ∙ ap (λ (ss : List Statement). old ++ targets_in ss) these)
+    ∙ (append_assoc old (targets_in body.items) (targets_in otherwise.items) ∙ ap (λ (ts : List ℕ). old ++ ts) (sym inner))))

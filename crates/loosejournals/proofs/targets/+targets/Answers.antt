@@ -1,5 +1,5 @@
 -- The targets so far with those of one statement more, and those of the statements in a choice.
-use Rattle.std.proofs.Common.{◌++◌, ◌∙◌, ap, arith}
+use Rattle.std.proofs.Common.{◌++◌, arith}
 use Rattle.design.specs.DesignTrees.{statements_of}
 use Rattle.loosejournals.specs.Classes.{targets_of}
 use Rattle.loosejournals.proofs.AddedTargets.{targets_more, targets_if}
@@ -13,8 +13,6 @@ add_targets-loop-statement-preserved t c =
 
 pub add_targets_in-returns-in_ok-add_targets-in-If-2 : goal.add_targets_in-returns-in_ok-add_targets-in-If-2
 add_targets_in-returns-in_ok-add_targets-in-If-2 t c =
-    let old = c.args.targets.now.items in
-    let one = c.add_targets-in-If.new.targets.items in
-    targets_if c.args.statement.now c.in-If.field-0 c.in-If.body c.in-If.otherwise old one c.add_targets-in-If-2.new.targets.items c.in-If.is
-    (c.in_ok-add_targets-in-If.ensures ∙ ap (λ xs. old ++ targets_of (statements_of xs)) c.deref-in-If.ensures.value)
-    (c.in_ok-add_targets-in-If-2.ensures ∙ ap (λ xs. one ++ targets_of (statements_of xs)) c.deref-in-If-2.ensures.value)
+    targets_if c.args.statement.now c.in-If.field-0 c.in-If.body c.in-If.otherwise c.deref-in-If.result.now c.deref-in-If-2.result.now c.args.targets.now.items
+    c.add_targets-in-If.new.targets.items c.add_targets-in-If-2.new.targets.items c.in-If.is c.deref-in-If.ensures.value c.deref-in-If-2.ensures.value
+    c.in_ok-add_targets-in-If.ensures c.in_ok-add_targets-in-If-2.ensures
