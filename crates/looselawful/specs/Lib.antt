@@ -1,0 +1,4 @@
+pub mod Again
+pub mod LooseNodes
+pub mod Following
+pub mod Serving
