@@ -4,3 +4,5 @@ pub mod LongTurns
 pub mod Ways
 pub mod Expansions
 pub mod Remade
+pub mod ShownLawfully
+pub mod LawfulTexts

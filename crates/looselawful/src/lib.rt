@@ -13,7 +13,10 @@
 
 mod again;
 mod expand;
+mod journals;
+mod lawful;
 mod node;
 mod search;
 
+pub use lawful::loose_orders;
 pub use node::LooseNode;
