@@ -29,7 +29,8 @@ fn leads_or_is_apart(leading: &mut Actors, earlier: &Note, last: &Note) -> Resul
     Ok(apart(earlier, last))
 }
 
-// Whether a last step comes of each of these, or is apart from it.
+// Whether a last step comes of each of these, or is apart from it. The walk goes back from it, so that a set of actors tells by whose steps
+// it may come: no step has to keep of which others it comes.
 fn comes_or_is_apart(leading: &mut Actors, notes: &[Note], last: &Note) -> Result<bool, AllocError>
     ensures so { IfOk result (λ answer. answer ≡ true → ComesOrIsApart notes.now last.now) }
     ensures only_so { IfOk result (λ answer. ComesOrIsApart notes.now last.now → answer ≡ true) }
