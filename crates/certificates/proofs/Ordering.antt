@@ -1,5 +1,5 @@
 -- Notes that are ordered certify, and stay ordered when one is added that comes of each of them or is apart from it.
-use Rattle.std.proofs.Common.{◌≡◌, ◌⊎◌, ℕ, Bool, true, false, ◌&&◌, List, [], ◌∷◌, ◌++◌, inl, inr, sym, ap, subst, ◌∙◌, eqb-true, true≢false, refl}
+use Rattle.std.proofs.Common.{◌≡◌, ◌⊎◌, ℕ, Bool, true, false, ◌&&◌, ◌==◌, List, [], ◌∷◌, ◌++◌, inl, inr, sym, ap, subst, ◌∙◌, eqb-true, true≢false, refl}
 use Rattle.std.specs.List.{list_any}
 use Rattle.model.specs.Design.{Design}
 use Rattle.model.specs.Turns.{contains}
@@ -9,10 +9,12 @@ use Rattle.traces.specs.Traces.{Moves}
 use Rattle.traces.specs.Certificates.{EachComesOrIsApart}
 use Rattle.footprints.specs.Footprints.{Footprint}
 use Rattle.footprints.specs.Moves.{OrderedState, loose_moves, GivesTo}
-use Rattle.certificates.specs.Notes.{NoteView, TellsOf, TellOfAll, StandApart}
+use Rattle.certificates.specs.Notes.{NoteView, TellsOf, TellOfAll}
+use Rattle.certificates.specs.Apart.{SayApart}
 use Rattle.certificates.specs.Coming.{is_same, wakes_actor, begins, is_of_any, with_woken, ComeOrAreApart, AreOrdered, leading, ComesOrIsApart}
 use Rattle.certificates.specs.Certified.{AreCertified, Certify}
-use Rattle.certificates.proofs.Tests.{or_left, or_right, or_cases, and_both, and_parts, is_or_not, one_of}
+use Rattle.certificates.proofs.Tests.{or_left, or_right, or_cases, and_both, and_parts, is_or_not, false_by, same_number, any_at, any_in, one_of}
+use Rattle.certificates.proofs.Telling.{said_stands}
 
 -- actors
 
@@ -77,19 +79,92 @@ begins_leads note last notes h =
 -- one note more
 
 one_more : (first : NoteView) (comes : LooseTransition → Bool) (notes : List NoteView) (last : NoteView) → ComeOrAreApart first comes notes
-    → (after comes notes last.owner ≡ false → StandApart first last) → ComeOrAreApart first comes (notes ++ last ∷ [])
+    → (after comes notes last.owner ≡ false → SayApart first last) → ComeOrAreApart first comes (notes ++ last ∷ [])
 one_more first comes [] last each own = (own, tt)
 one_more first comes (note ∷ notes) last (here, each) own = (here, one_more first (with_woken comes note) notes last each own)
 
 pub ordered_more : (notes : List NoteView) (last : NoteView) → AreOrdered notes → last.finishes ≡ false → ComesOrIsApart notes last → AreOrdered (notes ++ last ∷ [])
 ordered_more [] last ordered free each = (free, tt, tt)
 ordered_more (note ∷ notes) last (ends, later, ordered) free (here, each) =
-    let own : after (begins note) notes last.owner ≡ false → StandApart note last =
+    let own : after (begins note) notes last.owner ≡ false → SayApart note last =
     λ never. here (elim (is_or_not (is_of_any (leading last.owner notes) note)) [
       | inl is ↦ absurd (true≢false (sym (begins_leads note last.owner notes is) ∙ never))
       | inr none ↦ none
     ]) in
     (ends, one_more note (begins note) notes last later own, ordered_more notes last ordered free each)
+
+-- and back
+
+wakes_is_actor : (note : NoteView) (a : LooseTransition) → wakes_actor note a ≡ true → is_same a a ≡ true
+wakes_is_actor note (Process p) h = same_number p
+wakes_is_actor note (FirstOf c) h = cc
+wakes_is_actor note (Change e) h = cc
+
+begins_actors : (note : NoteView) (a : LooseTransition) → begins note a ≡ true → is_same a a ≡ true
+begins_actors note a h =
+    elim (or_cases (is_same note.owner a) (wakes_actor note a) h) [
+      | inl own ↦ same_second note.owner a own
+      | inr woken ↦ wakes_is_actor note a woken
+    ]
+
+with_actors : (comes : LooseTransition → Bool) (note : NoteView) → ((a : LooseTransition) → comes a ≡ true → is_same a a ≡ true) → (a : LooseTransition) → with_woken comes note a ≡ true → is_same a a ≡ true
+with_actors comes note actors a h =
+    elim (or_cases (comes a) (comes note.owner && wakes_actor note a) h) [
+      | inl before ↦ actors a before
+      | inr woken ↦ wakes_is_actor note a (and_parts (comes note.owner) (wakes_actor note a) woken).1
+    ]
+
+woken_leads : (has : LooseTransition → Bool) (note : NoteView) (a : LooseTransition) → wakes_actor note a ≡ true → has a ≡ true → list_any (λ p. has (Process p)) note.woken ≡ true
+woken_leads has note (Process p) h there =
+    let (q, among, is) = any_at (λ q. q == p) note.woken h in
+    any_in (λ q. has (Process q)) note.woken q among (subst (λ z. has (Process z) ≡ true) (sym (eqb-true q p is)) there)
+woken_leads has note (FirstOf c) h there = cc
+woken_leads has note (Change e) h there = cc
+
+after_back : (last : LooseTransition) (notes : List NoteView) (comes : LooseTransition → Bool) → ((a : LooseTransition) → comes a ≡ true → is_same a a ≡ true) → after comes notes last ≡ true
+    → (a : LooseTransition) × (comes a ≡ true) × (leading last notes a ≡ true)
+after_back last [] comes actors h = (last, h, actors last h)
+after_back last (note ∷ notes) comes actors h =
+    let (a, there, lead) = after_back last notes (with_woken comes note) (with_actors comes note actors) h in
+    elim (or_cases (comes a) (comes note.owner && wakes_actor note a) there) [
+      | inl before ↦ (a, before, or_left (leading last notes a) (is_of_any (leading last notes) note && is_same note.owner a) lead)
+      | inr woken ↦
+          let (own, wakes) = and_parts (comes note.owner) (wakes_actor note a) woken in
+          let any : is_of_any (leading last notes) note ≡ true =
+          or_right (leading last notes note.owner) (list_any (λ p. leading last notes (Process p)) note.woken) (woken_leads (leading last notes) note a wakes lead) in (
+            note.owner,
+            own,
+            or_right (leading last notes note.owner) (is_of_any (leading last notes) note && is_same note.owner note.owner)
+                (and_both (is_of_any (leading last notes) note) (is_same note.owner note.owner) any (actors note.owner own)),
+          )
+    ]
+
+-- a later step leads to a noted one, if it comes of it
+leads_back : (note : NoteView) (last : LooseTransition) (notes : List NoteView) → after (begins note) notes last ≡ true → is_of_any (leading last notes) note ≡ true
+leads_back note last notes h =
+    let (a, there, lead) = after_back last notes (begins note) (begins_actors note) h in
+    elim (or_cases (is_same note.owner a) (wakes_actor note a) there) [
+      | inl own ↦
+          or_left (leading last notes note.owner) (list_any (λ p. leading last notes (Process p)) note.woken)
+          (subst (λ z. leading last notes z ≡ true) (sym (same_is note.owner a own)) lead)
+      | inr woken ↦ or_right (leading last notes note.owner) (list_any (λ p. leading last notes (Process p)) note.woken) (woken_leads (leading last notes) note a woken lead)
+    ]
+
+one_less : (first : NoteView) (comes : LooseTransition → Bool) (notes : List NoteView) (last : NoteView) → ComeOrAreApart first comes (notes ++ last ∷ [])
+    → ComeOrAreApart first comes notes × (after comes notes last.owner ≡ false → SayApart first last)
+one_less first comes [] last (own, none) = (tt, own)
+one_less first comes (note ∷ notes) last (here, each) =
+    let (rest, own) = one_less first (with_woken comes note) notes last each in
+    ((here, rest), own)
+
+pub ordered_less : (notes : List NoteView) (last : NoteView) → AreOrdered (notes ++ last ∷ []) → AreOrdered notes × (last.finishes ≡ false) × ComesOrIsApart notes last
+ordered_less [] last (free, each, none) = (tt, free, tt)
+ordered_less (note ∷ notes) last (ends, later, ordered) =
+    let (rest, free, each) = ordered_less notes last ordered in
+    let (first, own) = one_less note (begins note) notes last later in
+    let here : is_of_any (leading last.owner notes) note ≡ false → SayApart note last =
+    λ none. own (false_by (after (begins note) notes last.owner) (is_of_any (leading last.owner notes) note) (leads_back note last.owner notes) none) in
+    ((ends, first, rest), free, (here, each))
 
 -- what the steps themselves say
 
@@ -136,7 +211,7 @@ module _ (class : ℕ → ℕ) (design : Design) where
       let (coming, not_coming) = each_after f x.1 note comes w told later in
       elim (is_or_not (comes note.owner)) [
         | inl is ↦ inl (subst (λ z. comes z ≡ true) (sym own) is, coming is)
-        | inr none ↦ inr (here none f x.1 tells told, not_coming none)
+        | inr none ↦ inr (said_stands first note (here none) f x.1 tells told, not_coming none)
       ]
 
   begun : (note : NoteView) (f : Footprint) (a : LooseTransition) → TellsOf note f → a ≡ note.owner → (b : LooseTransition) → begins note b ≡ true → (b ≡ a) ⊎ GivesTo f b

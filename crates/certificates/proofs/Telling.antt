@@ -14,7 +14,7 @@ use Rattle.footprints.specs.Footprints.{ValueChange, Footprint, changed, matches
 use Rattle.certificates.specs.Masks.{registers_of, meet}
 use Rattle.certificates.specs.Changes.{may_wake, may_wake_any}
 use Rattle.certificates.specs.Notes.{NoteView, TellsOf, StandApart}
-use Rattle.certificates.specs.Apart.{differ, share, ConcernOthers, LeaveRegisters, WakeNoneOf, TellApart}
+use Rattle.certificates.specs.Apart.{differ, share, ConcernOthers, LeaveRegisters, WakeNoneOf, TellApart, SayApart}
 use Rattle.certificates.proofs.Tests.{or_left, or_right, or_cases, and_both, and_parts, false_by, never_true, implied, not_both, same_number, any_at, any_in, any_mapped, any_told}
 
 -- actors
@@ -167,3 +167,6 @@ apart_by_notes a b others leave wake wake' times tell f g told told' =
       other_finishes = implied g.finishes (has_any f.lines || f.finishes) b.finishes (a.prints || a.finishes) (told_so g.finishes b.finishes told'.finishes)
           (told_either (has_any f.lines) f.finishes a.prints a.finishes (told_any f.lines a.prints told.prints) (told_so f.finishes a.finishes told.finishes)) tell.other_finishes;
     }
+
+pub said_stands : (a b : NoteView) → SayApart a b → StandApart a b
+said_stands a b say = apart_by_notes a b say.concern say.registers say.wake say.other_wake say.times say.tell

@@ -3,7 +3,8 @@ use Rattle.std.proofs.Common.{◌≡◌, ℕ, zero, suc, ◌-◌, ◌≤◌, ◌
 use Rattle.std.specs.List.{list_any}
 use Rattle.loose.specs.declared.transition.LooseTransition.{LooseTransition}
 use Rattle.loose.specs.declared.transition.LooseTransition.TheVariants.{Process}
-use Rattle.certificates.specs.Notes.{NoteView, StandApart}
+use Rattle.certificates.specs.Notes.{NoteView}
+use Rattle.certificates.specs.Apart.{SayApart}
 use Rattle.certificates.specs.Coming.{is_same, is_of_any, leading, ComesOrIsApart}
 use Rattle.certificates.proofs.Marks.{or_none}
 
@@ -26,7 +27,7 @@ pub record HasWalked (has : LooseTransition → Bool) (notes : List NoteView) (l
   pub actors : (a : LooseTransition) → has a ≡ leading last.owner notes a
 
 pub walked_more : (has more : LooseTransition → Bool) (note : NoteView) (notes all : List NoteView) (last : NoteView) → HasWalked has notes last → all ≡ note ∷ notes
-    → (is_of_any has note ≡ false → StandApart note last) → ((a : LooseTransition) → more a ≡ (has a || (is_of_any has note && is_same note.owner a))) → HasWalked more all last
+    → (is_of_any has note ≡ false → SayApart note last) → ((a : LooseTransition) → more a ≡ (has a || (is_of_any has note && is_same note.owner a))) → HasWalked more all last
 walked_more has more note notes all last walked is own adds =
     let same : is_of_any has note ≡ is_of_any (leading last.owner notes) note = of_same has (leading last.owner notes) note walked.actors in
     let now : HasWalked more (note ∷ notes) last =
@@ -54,3 +55,15 @@ one_back notes note (suc k) some less is =
     let here : suc k - 1 ≡ k = omega arith in
     ap (λ n. drop n notes) here ∙ drop-cons notes k note (omega (arith, less))
     ∙ ap (λ x. x ∷ drop (suc k) notes) (ap (λ n. get_or notes n note) (sym here) ∙ is)
+
+-- what holds of a last step and all of these holds of it and those from a place on
+come_from : (k : ℕ) (notes : List NoteView) (last : NoteView) → ComesOrIsApart notes last → ComesOrIsApart (drop k notes) last
+come_from zero notes last each = each
+come_from (suc k) [] last each = each
+come_from (suc k) (note ∷ notes) last (here, each) = come_from k notes last each
+
+pub comes_at : (has : LooseTransition → Bool) (note : NoteView) (notes all : List NoteView) (k : ℕ) (last : NoteView) → HasWalked has notes last → drop k all ≡ note ∷ notes → ComesOrIsApart all last
+    → is_of_any has note ≡ false → SayApart note last
+comes_at has note notes all k last walked is each none =
+    let from : ComesOrIsApart (note ∷ notes) last = subst (λ ns. ComesOrIsApart ns last) is (come_from k all last each) in
+    from.0 (sym (of_same has (leading last.owner notes) note walked.actors) ∙ none)

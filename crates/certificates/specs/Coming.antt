@@ -4,7 +4,8 @@ use Rattle.std.specs.List.{list_any}
 use Rattle.model.specs.Turns.{contains}
 use Rattle.loose.specs.declared.transition.LooseTransition.{LooseTransition}
 use Rattle.loose.specs.declared.transition.LooseTransition.TheVariants.{Process, FirstOf}
-use Rattle.certificates.specs.Notes.{NoteView, StandApart}
+use Rattle.certificates.specs.Notes.{NoteView}
+use Rattle.certificates.specs.Apart.{SayApart}
 
 -- whether two are the same actor: a process, or a class of registers
 abbrev pub is_same : LooseTransition → LooseTransition → Bool
@@ -29,11 +30,11 @@ is_of_any has note = has note.owner || list_any (λ p. has (Process p)) note.wok
 abbrev pub with_woken : (LooseTransition → Bool) → NoteView → LooseTransition → Bool
 with_woken comes note a = comes a || (comes note.owner && wakes_actor note a)
 
--- each of these steps comes of a first one, of which those of some actors come, or is apart from it
+-- each of these steps comes of a first one, of which those of some actors come, or is apart from it by what the notes say
 abbrev pub ComeOrAreApart : NoteView → (LooseTransition → Bool) → List NoteView → Type 0
 ComeOrAreApart first comes [] = Unit {0}
 ComeOrAreApart first comes (note ∷ notes) =
-    (comes note.owner ≡ false → StandApart first note) × ComeOrAreApart first (with_woken comes note) notes
+    (comes note.owner ≡ false → SayApart first note) × ComeOrAreApart first (with_woken comes note) notes
 
 -- none of these steps ends the run, and each later one comes of an earlier one, or is apart from it
 abbrev pub AreOrdered : List NoteView → Type 0
@@ -45,8 +46,8 @@ abbrev pub leading : LooseTransition → List NoteView → LooseTransition → B
 leading last [] a = is_same last a
 leading last (note ∷ notes) a = leading last notes a || (is_of_any (leading last notes) note && is_same note.owner a)
 
--- a last step comes of each of these, or is apart from it
+-- a last step comes of each of these, or is apart from it by what the notes say
 abbrev pub ComesOrIsApart : List NoteView → NoteView → Type 0
 ComesOrIsApart [] last = Unit {0}
 ComesOrIsApart (note ∷ notes) last =
-    (is_of_any (leading last.owner notes) note ≡ false → StandApart note last) × ComesOrIsApart notes last
+    (is_of_any (leading last.owner notes) note ≡ false → SayApart note last) × ComesOrIsApart notes last

@@ -2,8 +2,8 @@
 ghost use Rattle.std.specs.Prelude.{◌≡◌, ◌<◌, ◌≤◌, ◌&&◌, ◌||◌, false, true, [], ◌∷◌, ◌++◌, take, slice_set, OnOk, OnErr, IfOk};
 ghost use Rattle.std.specs.Vec.{vec_len};
 ghost use Rattle.loose.specs.declared.transition.LooseTransition.{LooseTransition as Actor};
-ghost use Rattle.certificates.specs.Notes.{StandApart};
-ghost use Rattle.certificates.specs.Coming.{is_same, is_of_any, ComesOrIsApart};
+ghost use Rattle.certificates.specs.Coming.{is_same, is_of_any, AreOrdered, ComesOrIsApart};
+ghost use Rattle.certificates.specs.Apart.{SayApart};
 ghost use Rattle.certificates.specs.Actors.{has};
 ghost use Rattle.certificates.specs.Certified.{Certify};
 
@@ -18,7 +18,8 @@ use std::mem;
 // One step back from a last one, through those before it: whether it is apart from the last, where the last doesn't come of it. The
 // actors by whose steps the last one may come are kept.
 fn leads_or_is_apart(leading: &mut Actors, earlier: &Note, last: &Note) -> Result<bool, AllocError>
-    ensures own { IfOk result (λ answer. answer ≡ true → is_of_any (has leading.old) earlier.now ≡ false → StandApart earlier.now last.now) }
+    ensures own { IfOk result (λ answer. answer ≡ true → is_of_any (has leading.old) earlier.now ≡ false → SayApart earlier.now last.now) }
+    ensures only_own { IfOk result (λ answer. (is_of_any (has leading.old) earlier.now ≡ false → SayApart earlier.now last.now) → answer ≡ true) }
     ensures actors { OnOk result ((a : Actor) → has leading.new a ≡ (has leading.old a || (is_of_any (has leading.old) earlier.now && is_same earlier.now.owner a))) }
 {
     if leading.begin_in(earlier) {
@@ -28,9 +29,11 @@ fn leads_or_is_apart(leading: &mut Actors, earlier: &Note, last: &Note) -> Resul
     Ok(apart(earlier, last))
 }
 
-// Whether a last step comes of each of these, or is apart from it.
+// Whether a last step comes of each of these, or is apart from it. The walk goes back from it, so that a set of actors tells by whose steps
+// it may come: no step has to keep of which others it comes.
 fn comes_or_is_apart(leading: &mut Actors, notes: &[Note], last: &Note) -> Result<bool, AllocError>
-    ensures { IfOk result (λ answer. answer ≡ true → ComesOrIsApart notes.now last.now) }
+    ensures so { IfOk result (λ answer. answer ≡ true → ComesOrIsApart notes.now last.now) }
+    ensures only_so { IfOk result (λ answer. ComesOrIsApart notes.now last.now → answer ≡ true) }
 {
     leading.clear();
     leading.insert(last.owner)?;
@@ -52,6 +55,7 @@ fn still_certifies(
     ensures before { IfOk result (λ answer. answer ≡ true → certified ≡ true) }
     ensures goes_on { IfOk result (λ answer. answer ≡ true → last.now.finishes ≡ false) }
     ensures apart { IfOk result (λ answer. answer ≡ true → ComesOrIsApart notes.now last.now) }
+    ensures only_so { IfOk result (λ answer. certified ≡ true → last.now.finishes ≡ false → ComesOrIsApart notes.now last.now → answer ≡ true) }
 {
     if !certified || last.finishes {
         return Ok(false);
@@ -107,7 +111,7 @@ impl Model for Certificate {
 
     ghost view = { λ c. take c.count c.notes.items };
 
-    ghost invariant = { λ c. (c.count ≤ vec_len c.notes) × (c.certifies ≡ true → AreOrdered (take c.count c.notes.items)) };
+    ghost invariant = { λ c. (c.count ≤ vec_len c.notes) × (c.certifies ≡ true → AreOrdered (take c.count c.notes.items)) × (AreOrdered (take c.count c.notes.items) → c.certifies ≡ true) };
 }
 
 impl Certificate {
@@ -139,9 +143,11 @@ impl Certificate {
         &self.notes[..self.count]
     }
 
-    /// Whether the notes certify.
+    /// Whether the notes certify: none of the steps ends the run, and each later one comes of an earlier one or is apart from it.
     pub fn certifies(&self) -> bool
-        ensures { result ≡ true → Certify self.now }
+        ensures certified { result ≡ true → Certify self.now }
+        ensures so { result ≡ true → AreOrdered self.now }
+        ensures only_so { AreOrdered self.now → result ≡ true }
     {
         self.certifies
     }
@@ -151,6 +157,8 @@ impl Certificate {
     pub fn add(&mut self, note: &mut Note) -> Result<bool, AllocError>
         ensures added { OnOk result (self.new ≡ self.old ++ note.old ∷ []) }
         ensures certified { IfOk result (λ certifies. certifies ≡ true → Certify self.new) }
+        ensures so { IfOk result (λ certifies. certifies ≡ true → AreOrdered self.new) }
+        ensures only_so { IfOk result (λ certifies. AreOrdered self.new → certifies ≡ true) }
         ensures unchanged { OnErr result (self.new ≡ self.old) }
         ensures note_unchanged { OnErr result (note.new ≡ note.old) }
     {

@@ -2,5 +2,5 @@
 use Rattle.certificates.proofs.Ordering.{ordered_certifies}
 use Rattle.certificates.proofs.certificate.Certificate.certifies.Goals as goal
 
-pub returns : goal.returns
-returns c = λ is. ordered_certifies c.args.self.now (rw (← c.self.view_is) (c.self.invariant.1 is))
+pub returns-clause-certified : goal.returns-clause-certified
+returns-clause-certified c = λ is. ordered_certifies c.args.self.now (rw (← c.self.view_is) (c.self.invariant.1 is))
