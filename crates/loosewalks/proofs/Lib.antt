@@ -1,0 +1,5 @@
+-- The proofs of walks of loose runs.
+pub mod SoleLooseWays
+pub mod OnlyEntries
+pub mod PhaseWays
+pub mod CertifiedWays
