@@ -1,6 +1,6 @@
 -- Values behind writes, and the changes that writes make one after another.
 use Rattle.std.proofs.Common.{◌≡◌, ℕ, zero, suc, ◌+◌, ◌<◌, ◌==◌, ◌||◌, Bool, true, false, List, [], ◌∷◌, ◌++◌, map, length, take, drop, get_or, refl, sym, ap, subst, ◌∙◌, arith, append_assoc, eqb-true, if◌then◌else◌}
-use Rattle.std.specs.Prelude.{slice_set, slice_index, slice_get, ◌≢◌, Some, None}
+use Rattle.std.specs.Prelude.{slice_set, slice_get, ◌≢◌, Some, None}
 use Rattle.std.specs.List.{All}
 use Rattle.std.proofs.lemmas.List.{take_more, drop_more, append-nil, get_or-map, get_or-set_same, length-map}
 use Rattle.std.proofs.lemmas.List.Elements.{All-append, All-head, All-tail}

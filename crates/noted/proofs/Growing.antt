@@ -1,7 +1,7 @@
 -- Lists that a loop appends to.
-use Rattle.std.proofs.Common.{◌≡◌, ℕ, zero, suc, ◌+◌, ◌<◌, ◌≤◌, Bool, true, false, List, [], ◌∷◌, ◌++◌, map, length, take, get_or, refl, sym, ap, ◌∙◌, arith, append_assoc, Some}
+use Rattle.std.proofs.Common.{◌≡◌, ℕ, zero, suc, ◌+◌, ◌<◌, List, [], ◌∷◌, ◌++◌, map, length, take, get_or, sym, ap, ◌∙◌, arith, append_assoc, Some}
 use Rattle.std.specs.Prelude.{slice_get}
-use Rattle.std.proofs.lemmas.List.{take_more, take_all, map_push, append-nil}
+use Rattle.std.proofs.lemmas.List.{take_more, map_push}
 
 -- one element more is appended, where what the loop appends grows by it
 pub grown : {A : Type 0} (start now new more next : List A) (x : A) → now ≡ start ++ more → new ≡ now ++ x ∷ [] → next ≡ more ++ x ∷ [] → new ≡ start ++ next

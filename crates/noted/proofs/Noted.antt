@@ -1,5 +1,5 @@
 -- Notes of footprints, and the update that the rules permit.
-use Rattle.std.proofs.Common.{◌≡◌, ℕ, zero, suc, ◌+◌, ◌<◌, ◌==◌, Bool, true, false, not, List, [], ◌∷◌, ◌++◌, map, length, Option, Some, None, option_map, refl, sym, ap, subst, ◌∙◌, eqb, eq-eqb, eqb-true, if◌then◌else◌}
+use Rattle.std.proofs.Common.{◌≡◌, ℕ, ◌+◌, ◌==◌, Bool, true, false, not, List, [], ◌∷◌, ◌++◌, map, length, Option, Some, None, option_map, refl, sym, ap, subst, ◌∙◌, eqb, eq-eqb, eqb-true, if◌then◌else◌}
 use Rattle.std.specs.Prelude.{◌≢◌, IsSome, IfSome, is_some, MatchOption}
 use Rattle.std.specs.Option.{option_eq}
 use Rattle.std.proofs.lemmas.List.{append-nil}
@@ -9,15 +9,12 @@ use Rattle.model.specs.declared.entry.Entry.TheVariants as entries
 use Rattle.model.specs.declared.entry.Refusal.{Refusal}
 use Rattle.model.specs.declared.entry.Refusal.TheVariants.{Finished}
 use Rattle.model.specs.Design.{Design, Trigger}
-use Rattle.model.specs.Expressions.{Store}
-use Rattle.model.specs.Turns as turns
 use Rattle.model.specs.Turns.{Remainder}
 use Rattle.model.specs.States.{Action, Evaluate, Event, State, triggers_of, is_evaluation}
-use Rattle.model.specs.Runs.{Effect, action_in, has_any, turn_of, turn_effect, update_effect, action_effect, refused_where, turn_refusal, update_refusal, refusal, least, effect, unless_refused, step}
+use Rattle.model.specs.Runs.{Effect, action_in, has_any, turn_effect, update_effect, action_effect, refused_where, turn_refusal, update_refusal, refusal, least, effect, unless_refused, step}
 use Rattle.model.proofs.RunLaws.{where_none}
 use Rattle.design.specs.Compiled.{Compiled, design_of}
 use Rattle.design.specs.DesignInvariant.{controls_of}
-use Rattle.design.specs.Fits.{FitsRegister}
 use Rattle.turn.specs.TurnLogs.{LogView, wait_of}
 use Rattle.design.specs.declared.code.ProcState.{ProcState}
 use Rattle.regions.specs.Queue.{Core, state_of}
@@ -28,7 +25,7 @@ use Rattle.regions.specs.Machine.{IsTurnLogged, IsChange}
 use Rattle.regions.proofs.Permitted.{other_update}
 use Rattle.footprints.specs.Footprints.{Footprint, changes_made, woken_by, awaited_by, assigned, turn_footprint, update_footprint, action_footprint, footprint}
 use Rattle.certificates.specs.Notes.{NoteView, TellsOf}
-use Rattle.noted.specs.NotedSteps.{note_of, IsNoted, AreWritesOf, awaited_at, with_effects, own_note, IsTurnNoted, IsFirstUpdated}
+use Rattle.noted.specs.NotedSteps.{note_of, IsNoted, awaited_at, with_effects, own_note, IsTurnNoted, IsFirstUpdated}
 
 -- a footprint's note tells of it
 

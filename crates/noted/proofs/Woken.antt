@@ -1,6 +1,6 @@
 -- The processes that changes wake, one process after another, and what processes wait for.
 use Rattle.std.proofs.Common.{◌≡◌, ℕ, zero, suc, ◌+◌, ◌<◌, Bool, true, false, List, [], ◌∷◌, ◌++◌, map, filter, length, take, get_or, refl, sym, ap, subst, ◌∙◌, arith, append_assoc, if◌then◌else◌, None}
-use Rattle.std.specs.List.{enumerate_from, All}
+use Rattle.std.specs.List.{enumerate_from}
 use Rattle.std.proofs.lemmas.List.{take_more, append-nil, length-take, length-map, get_or-map}
 use Rattle.model.specs.Design.{Trigger}
 use Rattle.model.specs.Turns.{Remainder}

@@ -1,5 +1,5 @@
 -- Notes of steps, and why an entry isn't taken with a note.
-use Rattle.std.specs.Prelude.{◌≡◌, ℕ, Bool, false, List, [], ◌∷◌, ◌++◌, map, length, Some, None, IsSome, slice_index_or}
+use Rattle.std.specs.Prelude.{◌≡◌, ℕ, List, [], ◌∷◌, ◌++◌, map, length, Some, None, IsSome, slice_index_or}
 use Rattle.std.specs.List.{All}
 use Rattle.logic4.specs.Vector.{Vector}
 use Rattle.model.specs.declared.entry.Entry.{Entry}
@@ -14,7 +14,6 @@ use Rattle.design.specs.Fits.{FitsRegister}
 use Rattle.turn.specs.Reads.{registers}
 use Rattle.turn.specs.TurnLogs.{LogView, assignment_of, wait_of}
 use Rattle.regions.specs.Machine.{MachineView, state_at, IsChange, IsNotTaken}
-use Rattle.loose.specs.declared.transition.LooseTransition.{LooseTransition}
 use Rattle.loose.specs.declared.transition.LooseTransition.TheVariants.{Process}
 use Rattle.footprints.specs.Footprints.{ValueChange, Footprint, changes_made, woken_by, awaited_by, assigned, written, turn_footprint, footprint}
 use Rattle.certificates.specs.Notes.{NoteView, TellsOf}
@@ -51,23 +50,6 @@ abbrev pub IsNotNoted : MachineView → Entry → NotedFault → Type 0
 IsNotNoted p entry (NotTaken fault) = IsNotTaken p entry fault
 IsNotNoted p entry NoteMemory = IsSome (step (design_of p.code) (state_at p) entry)
 IsNotNoted p entry NoEvent = IsChange entry
-
--- a note of nothing, with its owner
-abbrev pub blank : LooseTransition → NoteView
-blank owner =
-    record {
-      owner = owner;
-      uses = [];
-      writes = [];
-      changes = [];
-      awaits = [];
-      woken = [];
-      ended = [];
-      assigns = [];
-      prints = false;
-      strobes = false;
-      finishes = false;
-    }
 
 -- each value that is written is one of its register, which the store has
 abbrev pub AreWritesOf : Store → List (ℕ × Vector) → Type 0

@@ -1,5 +1,5 @@
 -- The change of one write more.
-use Rattle.std.proofs.Common.{◌≡◌, ◌+◌, ◌++◌, ◌<◌, ℕ, List, length, take, sym, ap, ◌∙◌, arith}
+use Rattle.std.proofs.Common.{◌+◌, ◌++◌, ◌<◌, ℕ, List, length, take, sym, ap, ◌∙◌, arith}
 use Rattle.logic4.specs.Vector.{Vector}
 use Rattle.model.specs.Expressions.{value_of}
 use Rattle.orders.specs.Apart.{all_given}

@@ -1,5 +1,5 @@
 -- The first update, where it has the number.
-use Rattle.std.proofs.Common.{◌≡◌, ℕ, List, Option, false, length, sym, ap, subst, ◌∙◌}
+use Rattle.std.proofs.Common.{◌≡◌, ℕ, List, false, sym, ap, subst, ◌∙◌}
 use Rattle.std.specs.Prelude.{IfSome, MatchOption, [], None}
 use Rattle.std.proofs.lemmas.List.{length-map}
 use Rattle.logic4.specs.Vector.{Vector}

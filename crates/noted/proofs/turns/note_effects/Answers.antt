@@ -1,5 +1,5 @@
 -- The changes keep the widths.
-use Rattle.std.proofs.Common.{◌≡◌, List, [], ◌++◌, sym, ap, subst, ◌∙◌}
+use Rattle.std.proofs.Common.{List, ◌++◌, sym, ap, subst, ◌∙◌}
 use Rattle.model.specs.Expressions.{Store}
 use Rattle.footprints.specs.Footprints.{ValueChange, changes_made}
 use Rattle.certificates.specs.Notes.{NoteView}

@@ -1,5 +1,5 @@
 -- What one process more waits for.
-use Rattle.std.proofs.Common.{◌≡◌, ◌+◌, ℕ, List, take, get_or, sym, ap, ◌∙◌}
+use Rattle.std.proofs.Common.{◌+◌, List, take, get_or, ap, ◌∙◌}
 use Rattle.std.proofs.lemmas.List.{get_or_default}
 use Rattle.model.specs.Design.{Trigger}
 use Rattle.regions.specs.ProcessWaking.{triggers_at}

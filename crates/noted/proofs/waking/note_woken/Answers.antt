@@ -1,5 +1,5 @@
 -- One process more, where it is woken.
-use Rattle.std.proofs.Common.{◌≡◌, ◌+◌, ◌<◌, ℕ, List, map, take, length, sym, ap, subst, ◌∙◌, arith}
+use Rattle.std.proofs.Common.{◌≡◌, ◌+◌, ◌<◌, List, map, take, length, sym, ap, subst, ◌∙◌, arith}
 use Rattle.model.specs.Design.{Trigger}
 use Rattle.design.specs.DesignInvariant.{remainder_of_state}
 use Rattle.regions.specs.declared.queue.Continuation as queued
