@@ -1,12 +1,8 @@
--- Classes of registers that stand in a row, and the first event of a kind among those that are active.
-use Rattle.std.specs.Prelude.{◌≡◌, ℕ, zero, suc, Bool, false, true, List, [], ◌∷◌, Some, slice_index_or}
+-- The first event of a kind among those that are active.
+use Rattle.std.specs.Prelude.{◌≡◌, ℕ, zero, suc, Bool, false, true, List, [], ◌∷◌, Some}
 use Rattle.logic4.specs.Vector.{Vector}
 use Rattle.model.specs.States.{Action, Event}
 use Rattle.model.specs.Runs.{action_in}
-
--- the class of a register, which stands at its place, and class 0 where none does
-abbrev pub class_in : List ℕ → ℕ → ℕ
-class_in classes r = slice_index_or classes r 0
 
 -- the first of some events whose action passes a test stands at a place
 abbrev pub IsFirstAt : (Action → Bool) → List Event → ℕ → Type 0

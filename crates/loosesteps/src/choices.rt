@@ -4,7 +4,7 @@ ghost use Rattle.std.specs.List.{AllPairs, Contains};
 ghost use Rattle.orders.specs.Alike.{IsInOrder};
 ghost use Rattle.loose.specs.declared.transition.LooseTransition.{LooseTransition};
 ghost use Rattle.regions.specs.Machine.{state_at};
-ghost use Rattle.loosesteps.specs.Classes.{class_in};
+ghost use Rattle.loose.specs.Classes.{class_in};
 ghost use Rattle.loosesteps.specs.Choices.{AreGathered, MayBeTaken, due_choices, first_of, turn_of};
 
 use crate::steps::class_of;

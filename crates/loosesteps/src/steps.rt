@@ -9,7 +9,8 @@ ghost use Rattle.orders.specs.Alike.{IsInOrder};
 ghost use Rattle.loose.specs.Loose.{AlikeIn, updates_class};
 ghost use Rattle.regions.specs.Find.{update_numbers};
 ghost use Rattle.regions.specs.Machine.{state_at, IsChange};
-ghost use Rattle.loosesteps.specs.Classes.{class_in, IsFirstAt, HasClassAt};
+ghost use Rattle.loose.specs.Classes.{class_in};
+ghost use Rattle.loosesteps.specs.Classes.{IsFirstAt, HasClassAt};
 ghost use Rattle.loosesteps.specs.LooselyTaken.{IsEntryFor, IsNowhere, IsTakenLoosely, IsNotTakenLoosely};
 
 use design::RegId;

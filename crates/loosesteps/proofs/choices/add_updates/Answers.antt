@@ -3,7 +3,7 @@ use Rattle.std.proofs.Common.{◌≡◌, Bor, List, map, ap, subst}
 use Rattle.std.proofs.lemmas.Iterator.Consumers.{YieldsList-from_deque, YieldsList-end}
 use Rattle.loose.specs.declared.transition.LooseTransition.TheVariants.{FirstOf}
 use Rattle.regions.specs.declared.queue.Update.{Update}
-use Rattle.loosesteps.specs.Classes.{class_in}
+use Rattle.loose.specs.Classes.{class_in}
 use Rattle.loosesteps.specs.Choices.{AreGathered, first_of}
 use Rattle.loosesteps.proofs.Gathering.{gathered_next}
 use Rattle.loosesteps.proofs.choices.add_updates.Goals as goal

@@ -1,5 +1,5 @@
 use Rattle.std.proofs.Common.{map}
-use Rattle.loosesteps.specs.Classes.{class_in}
+use Rattle.loose.specs.Classes.{class_in}
 use Rattle.loosesteps.specs.Choices.{AreGathered, first_of}
 use Rattle.loosesteps.proofs.choices.add_updates.Given as goal
 

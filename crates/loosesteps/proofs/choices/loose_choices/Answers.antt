@@ -4,7 +4,7 @@ use Rattle.std.specs.List.{AllPairs, Contains}
 use Rattle.loose.specs.declared.transition.LooseTransition.{LooseTransition}
 use Rattle.regions.specs.Queue.{Core, update_event, evaluation_event}
 use Rattle.regions.specs.Machine.{state_at}
-use Rattle.loosesteps.specs.Classes.{class_in}
+use Rattle.loose.specs.Classes.{class_in}
 use Rattle.loosesteps.specs.Choices.{AreGathered, MayBeTaken, first_of}
 use Rattle.loosesteps.proofs.ChoiceLaws.{AreChoices, choices_gathered, choices_permitted, choices_once}
 use Rattle.loosesteps.proofs.choices.loose_choices.Goals.{In_ok-add_change}

@@ -7,7 +7,7 @@ use Rattle.loose.specs.Loose.{AlikeIn}
 use Rattle.regions.specs.Find.{update_numbers}
 use Rattle.regions.specs.Queue.{Core}
 use Rattle.regions.specs.Machine.{MachineView, state_at}
-use Rattle.loosesteps.specs.Classes.{class_in}
+use Rattle.loose.specs.Classes.{class_in}
 use Rattle.loosesteps.proofs.ForwardStates.{forward_states, forward_in_order}
 use Rattle.loosesteps.proofs.BroughtFirst.{brought_first}
 use Rattle.loosesteps.proofs.steps.bring_first.Goals.{After-first_update}

@@ -3,7 +3,7 @@ use Rattle.std.proofs.Common.{subst, sym}
 use Rattle.std.proofs.lemmas.Result.{MatchResult-weaker}
 use Rattle.loose.specs.declared.transition.LooseTransition.{LooseTransition}
 use Rattle.regions.specs.Machine.{state_at}
-use Rattle.loosesteps.specs.Classes.{class_in}
+use Rattle.loose.specs.Classes.{class_in}
 use Rattle.loosesteps.specs.LooselyTaken.{IsNowhere}
 use Rattle.loosesteps.proofs.EntriesFor.{process_nowhere, class_nowhere}
 use Rattle.loosesteps.proofs.steps.entry_for.Goals as goal

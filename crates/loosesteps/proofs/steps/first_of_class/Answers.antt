@@ -5,7 +5,7 @@ use Rattle.std.proofs.lemmas.Iterator.Consumers.{YieldsList-from_deque}
 use Rattle.std.proofs.lemmas.Iterator.Search.{position_from_yields_List}
 use Rattle.regions.specs.declared.queue.Update.{Update}
 use Rattle.regions.specs.Queue.{Core}
-use Rattle.loosesteps.specs.Classes.{class_in}
+use Rattle.loose.specs.Classes.{class_in}
 use Rattle.loosesteps.proofs.FirstOfKind.{first_placed, first_within}
 use Rattle.loosesteps.proofs.steps.first_of_class.Goals as goal
 

@@ -4,7 +4,7 @@ use Rattle.std.proofs.lemmas.Result.{on_ok_weaker, on_err_weaker, IfErr-weaker}
 use Rattle.orders.specs.Alike.{IsInOrder}
 use Rattle.loose.specs.Loose.{AlikeIn}
 use Rattle.regions.specs.Machine.{MachineView, state_at, IsNotTaken}
-use Rattle.loosesteps.specs.Classes.{class_in}
+use Rattle.loose.specs.Classes.{class_in}
 use Rattle.loosesteps.specs.LooselyTaken.{IsNotTakenLoosely}
 use Rattle.loosesteps.proofs.AlikeTaken.{machine_taken, stopped_loosely, taken_in_order, order_kept}
 use Rattle.loosesteps.proofs.steps.take_loosely.Goals as goal
