@@ -3,3 +3,6 @@ pub mod SoleLooseWays
 pub mod OnlyEntries
 pub mod PhaseWays
 pub mod CertifiedWays
+pub mod ActiveEntries
+pub mod Walks
+pub mod Certifying
