@@ -1,5 +1,5 @@
 -- Masks of numbers.
-use Rattle.std.proofs.Common.{◌≡◌, ℕ, ◌*◌, ◌%◌, ◌^◌, ◌<◌, min, max, Bool, true, false, not, ◌&&◌, ◌==◌, List, [], ◌∷◌, ◌++◌, map, inl, inr, sym, ap, subst, ◌∙◌, arith, eqb-true}
+use Rattle.std.proofs.Common.{◌≡◌, ℕ, ◌*◌, ◌%◌, ◌^◌, ◌<◌, min, max, Bool, true, false, not, if◌then◌else◌, ◌==◌, List, [], ◌∷◌, ◌++◌, map, length, inl, inr, sym, ap, subst, ◌∙◌, arith, eqb-true}
 use Rattle.std.specs.Prelude.{bit_and, bit_or}
 use Rattle.std.specs.Int.{bit_at}
 use Rattle.std.specs.List.{list_any}
@@ -10,14 +10,14 @@ use Rattle.logic4.specs.declared.digit.Edge.{Edge}
 use Rattle.logic4.specs.Edges.{edge}
 use Rattle.model.specs.Design.{Trigger}
 use Rattle.model.specs.Turns.{contains}
-use Rattle.model.specs.States.{wakes, edge_matches}
+use Rattle.model.specs.States.{wakes}
 use Rattle.design.specs.ControlWaking.{wakes_by}
-use Rattle.footprints.specs.Footprints.{ValueChange, changed, matches_any}
+use Rattle.footprints.specs.Footprints.{ValueChange, changed}
 use Rattle.certificates.specs.declared.changes.NotedChange.{NotedChange}
-use Rattle.certificates.specs.Changes.{change_of}
-use Rattle.certificates.specs.Masks.{IsMasked, AreTriggersMasked, meet}
-use Rattle.certificates.proofs.Tests.{or_cases, and_parts, is_or_not, false_by, any_at, any_in, any_mapped, one_of}
-use Rattle.certificates.proofs.Telling.{contains_both}
+use Rattle.certificates.specs.Changes.{change_of, may_wake, may_wake_any}
+use Rattle.certificates.specs.Masks.{IsMasked, registers_of, AreTriggersMasked, meet}
+use Rattle.certificates.proofs.Tests.{or_cases, is_or_not, false_by, any_at, any_in, any_mapped, one_of}
+use Rattle.certificates.proofs.Telling.{contains_both, wakes_on}
 
 pub nothing_masked : (mask : ℕ) → IsMasked [] mask
 nothing_masked mask n h = cc
@@ -86,19 +86,14 @@ not_there a t h none = ap (λ k. not (k == 0)) h ∙ sym none
 -- events
 
 pub triggers_more : (ts : List Trigger) (t : Trigger) (mask : ℕ) → AreTriggersMasked ts mask → AreTriggersMasked (ts ++ t ∷ []) (bit_or mask (2 ^ (t.1 % 64)))
-triggers_more ts t mask masked = rw (map-append (λ (u : Trigger). u.1) ts (t ∷ [])) (masked_more (map (λ (u : Trigger). u.1) ts) mask t.1 masked)
+triggers_more ts t mask masked = rw (map-append (λ (u : Trigger). u.1) ts (t ∷ [])) (masked_more (registers_of ts) mask t.1 masked)
 
 -- a register of no event is awaited by none
-unawaited : (ts : List Trigger) (r : ℕ) (e : Edge) → contains (map (λ (u : Trigger). u.1) ts) r ≡ false → wakes_by ts r e ≡ false
-unawaited ts r e none =
-    false_by (wakes_by ts r e) (contains (map (λ (u : Trigger). u.1) ts) r)
-    (λ h.
-    let (t, there, is) = any_at (λ (t : Trigger). (t.1 == r) && edge_matches t.0 e) ts h in
-    any_mapped (λ q. q == r) (λ (u : Trigger). u.1) ts ∙ any_in (λ (t : Trigger). t.1 == r) ts t there (and_parts (t.1 == r) (edge_matches t.0 e) is).0)
-    none
+unawaited : (ts : List Trigger) (r : ℕ) (e : Edge) → contains (registers_of ts) r ≡ false → wakes_by ts r e ≡ false
+unawaited ts r e none = false_by (wakes_by ts r e) (contains (registers_of ts) r) (wakes_on ts r e) none
 
 pub not_awaited : (ts : List Trigger) (mask r : ℕ) (e : Edge) → AreTriggersMasked ts mask → bit_and mask (2 ^ (r % 64)) ≡ 0 → wakes_by ts r e ≡ false
-not_awaited ts mask r e masked h = unawaited ts r e (not_masked (map (λ (u : Trigger). u.1) ts) mask r masked h)
+not_awaited ts mask r e masked h = unawaited ts r e (not_masked (registers_of ts) mask r masked h)
 
 -- changes
 
@@ -112,18 +107,28 @@ pub touched_is : (cs : List NotedChange) (registers : List ℕ) → meet (change
 touched_is cs registers =
     any_mapped (λ r. contains registers r) (λ (d : ValueChange). d.register) (map change_of cs) ∙ any_mapped (λ (d : ValueChange). contains registers d.register) change_of cs
 
-pub matched_is : (ts : List Trigger) (cs : List NotedChange) → matches_any ts (map change_of cs) ≡ list_any (λ (c : NotedChange). wakes ts c.register c.before c.after) cs
-matched_is ts cs = any_mapped (λ (d : ValueChange). wakes ts d.register d.before d.after) change_of cs
+pub may_wake_is : (ts : List Trigger) (cs : List NotedChange) → may_wake_any ts (map change_of cs) ≡ list_any (λ (c : NotedChange). may_wake ts (change_of c)) cs
+may_wake_is ts cs = any_mapped (λ (d : ValueChange). may_wake ts d) change_of cs
+
+on_either : (same woken there : Bool) → (woken ≡ true → there ≡ true) → (if same then woken else there) ≡ true → there ≡ true
+on_either true woken there more h = more h
+on_either false woken there more h = h
 
 -- events of other registers than those that are changed
-pub changes_apart : (cs : List ValueChange) (ts : List Trigger) (a b : ℕ) → IsMasked (changed cs) a → AreTriggersMasked ts b → bit_and a b ≡ 0 → matches_any ts cs ≡ false
+pub changes_apart : (cs : List ValueChange) (ts : List Trigger) (a b : ℕ) → IsMasked (changed cs) a → AreTriggersMasked ts b → bit_and a b ≡ 0 → may_wake_any ts cs ≡ false
 changes_apart cs ts a b masked masked' h =
-    false_by (matches_any ts cs) (meet (changed cs) (map (λ (u : Trigger). u.1) ts))
+    false_by (may_wake_any ts cs) (meet (changed cs) (registers_of ts))
     (λ is.
-    let (c, there, wakes_it) = any_at (λ (d : ValueChange). wakes ts d.register d.before d.after) cs is in
-    let (t, there', is') = any_at (λ (t : Trigger). (t.1 == c.register) && edge_matches t.0 (edge c.before c.after)) ts wakes_it in
-    any_mapped (λ r. contains (map (λ (u : Trigger). u.1) ts) r) (λ (d : ValueChange). d.register) cs
-    ∙ any_in (λ (d : ValueChange). contains (map (λ (u : Trigger). u.1) ts) d.register) cs c there
-    (any_mapped (λ q. q == c.register) (λ (u : Trigger). u.1) ts
-    ∙ any_in (λ (t : Trigger). t.1 == c.register) ts t there' (and_parts (t.1 == c.register) (edge_matches t.0 (edge c.before c.after)) is').0))
-    (masks_apart (changed cs) (map (λ (u : Trigger). u.1) ts) a b masked masked' h)
+    let (c, there, it) = any_at (λ (d : ValueChange). may_wake ts d) cs is in
+    let on : contains (registers_of ts) c.register ≡ true =
+    on_either (length c.before == length c.after) (wakes ts c.register c.before c.after) (contains (registers_of ts) c.register) (wakes_on ts c.register (edge c.before c.after)) it in
+    any_mapped (λ r. contains (registers_of ts) r) (λ (d : ValueChange). d.register) cs
+    ∙ any_in (λ (d : ValueChange). contains (registers_of ts) d.register) cs c there on)
+    (masks_apart (changed cs) (registers_of ts) a b masked masked' h)
+
+-- a choice that is made
+pub if_so : (b : Bool) (x y z : Bool) → b ≡ true → z ≡ x → z ≡ (if b then x else y)
+if_so b x y z h is = rw h is
+
+pub if_not : (b : Bool) (x y z : Bool) → b ≡ false → z ≡ y → z ≡ (if b then x else y)
+if_not b x y z h is = rw h is

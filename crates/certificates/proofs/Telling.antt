@@ -1,15 +1,18 @@
 -- Whatever steps notes tell of that say to be apart, they are apart.
-use Rattle.std.proofs.Common.{◌≡◌, ◌≢◌, ◌⊎◌, ℕ, Bool, true, false, ◌&&◌, ◌||◌, ◌==◌, not, List, [], ◌∷◌, ◌++◌, inl, inr, refl, sym, ap, subst, ◌∙◌, eqb-true, eq-eqb}
+use Rattle.std.proofs.Common.{◌≡◌, ◌≢◌, ◌⊎◌, ℕ, Bool, true, false, ◌&&◌, ◌||◌, ◌==◌, not, if◌then◌else◌, List, [], ◌∷◌, ◌++◌, length, inl, inr, refl, sym, ap, subst, ◌∙◌, eqb-true, eq-eqb}
 use Rattle.std.specs.List.{list_any, Contains}
 use Rattle.model.specs.Design.{Trigger}
 use Rattle.model.specs.Turns.{contains}
 use Rattle.model.specs.States.{wakes, edge_matches}
+use Rattle.design.specs.ControlWaking.{wakes_by}
 use Rattle.model.specs.Runs.{has_any}
+use Rattle.logic4.specs.declared.digit.Edge.{Edge}
 use Rattle.logic4.specs.Edges.{edge}
 use Rattle.loose.specs.declared.transition.LooseTransition.{LooseTransition}
 use Rattle.loose.specs.declared.transition.LooseTransition.TheVariants.{Process, FirstOf, Change}
 use Rattle.footprints.specs.Footprints.{ValueChange, Footprint, changed, matches_any, Disjoint, process_of, concerned, written, assigns_for}
-use Rattle.certificates.specs.Masks.{meet}
+use Rattle.certificates.specs.Masks.{registers_of, meet}
+use Rattle.certificates.specs.Changes.{may_wake, may_wake_any}
 use Rattle.certificates.specs.Notes.{NoteView, TellsOf, StandApart}
 use Rattle.certificates.specs.Apart.{differ, share, ConcernOthers, LeaveRegisters, WakeNoneOf, TellApart}
 use Rattle.certificates.proofs.Tests.{or_left, or_right, or_cases, and_both, and_parts, false_by, never_true, implied, not_both, same_number, any_at, any_in, any_mapped, any_told}
@@ -76,6 +79,26 @@ changed_told a f told n h =
     any_mapped (λ q. q == n) (λ (c : ValueChange). c.register) a.changes
     ∙ any_told (λ (c : ValueChange). c.register == n) f.changes a.changes told.changes (sym (any_mapped (λ q. q == n) (λ (c : ValueChange). c.register) f.changes) ∙ h)
 
+-- what wakes who waits is of a register of an event
+pub wakes_on : (ts : List Trigger) (r : ℕ) (e : Edge) → wakes_by ts r e ≡ true → contains (registers_of ts) r ≡ true
+wakes_on ts r e h =
+    let (t, there, is) = any_at (λ (t : Trigger). (t.1 == r) && edge_matches t.0 e) ts h in
+    any_mapped (λ q. q == r) (λ (u : Trigger). u.1) ts ∙ any_in (λ (t : Trigger). t.1 == r) ts t there (and_parts (t.1 == r) (edge_matches t.0 e) is).0
+
+wake_either : (same woken there : Bool) → (woken ≡ true → there ≡ true) → woken ≡ true → (if same then woken else there) ≡ true
+wake_either true woken there more h = h
+wake_either false woken there more h = more h
+
+-- what may wake nobody matches nothing
+matches_none : (ts : List Trigger) (cs : List ValueChange) → may_wake_any ts cs ≡ false → matches_any ts cs ≡ false
+matches_none ts cs none =
+    false_by (matches_any ts cs) (may_wake_any ts cs)
+    (λ h.
+    let (c, there, is) = any_at (λ (c : ValueChange). wakes ts c.register c.before c.after) cs h in
+    any_in (λ (d : ValueChange). may_wake ts d) cs c there
+    (wake_either (length c.before == length c.after) (wakes ts c.register c.before c.after) (contains (registers_of ts) c.register) (wakes_on ts c.register (edge c.before c.after)) is))
+    none
+
 matches_told : (ts us : List Trigger) (cs ds : List ValueChange) → ((t : Trigger) → Contains ts t → Contains us t) → ((c : ValueChange) → Contains cs c → Contains ds c) → matches_any us ds ≡ false → matches_any ts cs ≡ false
 matches_told ts us cs ds more more' none =
     false_by (matches_any ts cs) (matches_any us ds)
@@ -129,10 +152,10 @@ apart_by_notes a b others leave wake wake' times tell f g told told' =
       writes = disjoint_by (written f) (written g) a.writes b.writes told.writes told'.writes leave.writes;
       uses = disjoint_back (changed g.changes) f.uses (disjoint_by (changed g.changes) f.uses (changed b.changes) a.uses (changed_told b g told') told.uses leave.other_uses);
       other_uses = disjoint_back (changed f.changes) g.uses (disjoint_by (changed f.changes) g.uses (changed a.changes) b.uses (changed_told a f told) told'.uses leave.uses);
-      awaits = matches_told f.awaits a.awaits g.changes b.changes told.awaits told'.changes wake'.awaits;
-      other_awaits = matches_told g.awaits b.awaits f.changes a.changes told'.awaits told.changes wake.awaits;
-      ended = matches_told f.ended a.ended g.changes b.changes told.ended told'.changes wake'.ended;
-      other_ended = matches_told g.ended b.ended f.changes a.changes told'.ended told.changes wake.ended;
+      awaits = matches_told f.awaits a.awaits g.changes b.changes told.awaits told'.changes (matches_none a.awaits b.changes wake'.awaits);
+      other_awaits = matches_told g.awaits b.awaits f.changes a.changes told'.awaits told.changes (matches_none b.awaits a.changes wake.awaits);
+      ended = matches_told f.ended a.ended g.changes b.changes told.ended told'.changes (matches_none a.ended b.changes wake'.ended);
+      other_ended = matches_told g.ended b.ended f.changes a.changes told'.ended told.changes (matches_none b.ended a.changes wake.ended);
       assigns = λ c due. not_both (assigns_for f c due) (assigns_for g c due) (λ one other.
           shares a.assigns b.assigns c due times
           (any_told (λ (x : ℕ × ℕ). (x.0 == c) && (x.1 == due)) f.assigns a.assigns told.assigns one)

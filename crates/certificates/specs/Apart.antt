@@ -3,8 +3,9 @@ use Rattle.std.specs.Prelude.{◌≡◌, ℕ, Bool, true, false, ◌&&◌, ◌||
 use Rattle.std.specs.List.{list_any}
 use Rattle.loose.specs.declared.transition.LooseTransition.{LooseTransition}
 use Rattle.loose.specs.declared.transition.LooseTransition.TheVariants.{Process, FirstOf}
-use Rattle.footprints.specs.Footprints.{changed, matches_any, process_of}
+use Rattle.footprints.specs.Footprints.{changed, process_of}
 use Rattle.certificates.specs.Masks.{meet}
+use Rattle.certificates.specs.Changes.{may_wake_any}
 use Rattle.certificates.specs.Notes.{NoteView}
 
 -- whether these are two different actors
@@ -38,10 +39,10 @@ LeaveRegisters a b =
       other_uses : meet (changed b.changes) a.uses ≡ false;
     }
 
--- no change of the first matches a trigger that the other goes on to wait for, or one for which those waited whom it concerns
+-- no change of the first may wake who waits for what the other goes on to wait for, or those waited for whom it concerns
 abbrev pub WakeNoneOf : NoteView → NoteView → Type 0
 WakeNoneOf a b =
-    record { awaits : matches_any b.awaits a.changes ≡ false; ended : matches_any b.ended a.changes ≡ false }
+    record { awaits : may_wake_any b.awaits a.changes ≡ false; ended : may_wake_any b.ended a.changes ≡ false }
 
 -- they don't both print, nor both meet a $strobe, and where one finishes, the other neither prints nor finishes
 abbrev pub TellApart : NoteView → NoteView → Type 0
@@ -51,4 +52,17 @@ TellApart a b =
       strobes : (a.strobes && b.strobes) ≡ false;
       finishes : (a.finishes && (b.prints || b.finishes)) ≡ false;
       other_finishes : (b.finishes && (a.prints || a.finishes)) ≡ false;
+    }
+
+-- What two notes say is apart: they concern different processes, leave each other's registers and those who wait for them alone, have no
+-- update for one time, and don't both tell.
+abbrev pub SayApart : NoteView → NoteView → Type 0
+SayApart a b =
+    record {
+      concern : ConcernOthers a b;
+      registers : LeaveRegisters a b;
+      wake : WakeNoneOf a b;
+      other_wake : WakeNoneOf b a;
+      times : share a.assigns b.assigns ≡ false;
+      tell : TellApart a b;
     }

@@ -9,9 +9,13 @@ use Rattle.model.specs.Turns.{contains}
 abbrev pub IsMasked : List ℕ → ℕ → Type 0
 IsMasked numbers mask = (n : ℕ) → contains numbers n ≡ true → bit_at mask (n % 64) ≡ 1
 
+-- the registers of events
+abbrev pub registers_of : List Trigger → List ℕ
+registers_of triggers = map (λ t. t.1) triggers
+
 -- a mask has the bit of the register of each of these events
 abbrev pub AreTriggersMasked : List Trigger → ℕ → Type 0
-AreTriggersMasked triggers mask = IsMasked (map (λ t. t.1) triggers) mask
+AreTriggersMasked triggers mask = IsMasked (registers_of triggers) mask
 
 -- whether a number is among both of these
 abbrev pub meet : List ℕ → List ℕ → Bool

@@ -4,7 +4,7 @@ ghost use Rattle.std.specs.List.{list_any};
 ghost use Rattle.footprints.specs.Footprints.{process_of};
 ghost use Rattle.certificates.specs.Masks.{meet};
 ghost use Rattle.certificates.specs.Notes.{StandApart};
-ghost use Rattle.certificates.specs.Apart.{differ, share, ConcernOthers, LeaveRegisters, WakeNoneOf, TellApart};
+ghost use Rattle.certificates.specs.Apart.{differ, share, ConcernOthers, LeaveRegisters, WakeNoneOf, TellApart, SayApart};
 
 use crate::note::Note;
 use crate::numbers::Numbers;
@@ -35,7 +35,8 @@ fn is_among(owner: LooseTransition, processes: &Numbers) -> bool
 
 // Whether no process is concerned by both: as the one whose turn it is, or as one that is woken.
 fn concern_others(one: &Note, other: &Note) -> bool
-    ensures { result ≡ true → ConcernOthers one.now other.now }
+    ensures so { result ≡ true → ConcernOthers one.now other.now }
+    ensures only_so { ConcernOthers one.now other.now → result ≡ true }
 {
     are_different(one.owner, other.owner)
         && !is_among(one.owner, &other.woken)
@@ -45,7 +46,8 @@ fn concern_others(one: &Note, other: &Note) -> bool
 
 // Whether no register is written by both, nor used by one and changed by the other.
 fn leave_registers(one: &Note, other: &Note) -> bool
-    ensures { result ≡ true → LeaveRegisters one.now other.now }
+    ensures so { result ≡ true → LeaveRegisters one.now other.now }
+    ensures only_so { LeaveRegisters one.now other.now → result ≡ true }
 {
     !one.writes.meets(&other.writes)
         && !one.changes.touch(&other.uses)
@@ -54,7 +56,8 @@ fn leave_registers(one: &Note, other: &Note) -> bool
 
 // Whether no change of a step wakes who goes on to wait after another, or whom that concerns.
 fn wakes_none_of(one: &Note, other: &Note) -> bool
-    ensures { result ≡ true → WakeNoneOf one.now other.now }
+    ensures so { result ≡ true → WakeNoneOf one.now other.now }
+    ensures only_so { WakeNoneOf one.now other.now → result ≡ true }
 {
     !one.changes.may_wake(&other.awaits) && !one.changes.may_wake(&other.ended)
 }
@@ -77,7 +80,8 @@ fn share_a_time(ones: &[(u32, u64)], others: &[(u32, u64)]) -> bool
 
 // Whether not both print, not both meet a `$strobe`, and where one finishes, the other neither prints nor finishes.
 fn tell_apart(one: &Note, other: &Note) -> bool
-    ensures { result ≡ true → TellApart one.now other.now }
+    ensures so { result ≡ true → TellApart one.now other.now }
+    ensures only_so { TellApart one.now other.now → result ≡ true }
 {
     !(one.prints && other.prints)
         && !(one.strobes && other.strobes)
@@ -85,9 +89,11 @@ fn tell_apart(one: &Note, other: &Note) -> bool
         && !(other.finishes && (one.prints || one.finishes))
 }
 
-/// Whether two steps are apart by their notes. Where they are, whatever steps the notes tell of may be taken in either order.
+/// Whether two steps are apart by what their notes say. Where they are, whatever steps the notes tell of may be taken in either order.
 pub fn apart(one: &Note, other: &Note) -> bool
-    ensures { result ≡ true → StandApart one.now other.now }
+    ensures apart { result ≡ true → StandApart one.now other.now }
+    ensures so { result ≡ true → SayApart one.now other.now }
+    ensures only_so { SayApart one.now other.now → result ≡ true }
 {
     if !concern_others(one, other) {
         return false;

@@ -1,11 +1,10 @@
 //! Lists of changes of registers.
-ghost use Rattle.std.specs.Prelude.{◌≡◌, false, [], ◌∷◌, ◌++◌, if◌then◌else◌, is_ok};
+ghost use Rattle.std.specs.Prelude.{◌≡◌, [], ◌∷◌, ◌++◌, if◌then◌else◌, is_ok};
 ghost use Rattle.std.specs.List.{list_any};
-ghost use Rattle.model.specs.States.{wakes};
 ghost use Rattle.model.specs.Turns.{contains};
-ghost use Rattle.footprints.specs.Footprints.{changed, matches_any};
+ghost use Rattle.footprints.specs.Footprints.{changed};
 ghost use Rattle.certificates.specs.Masks.{meet};
-ghost use Rattle.certificates.specs.Changes.{change_of};
+ghost use Rattle.certificates.specs.Changes.{change_of, may_wake, may_wake_any};
 
 use crate::numbers::{Numbers, bit_of};
 use crate::triggers::Triggers;
@@ -43,24 +42,22 @@ impl Model for Changes {
     ghost invariant = { λ c. IsMasked (changed (map change_of c.items.items)) c.mask };
 }
 
-// Whether somebody who waits for these events may be woken by a change. Where the widths differ, it isn't looked at.
-fn may_meet(change: NotedChange, triggers: &Triggers) -> bool
-    ensures { result ≡ false → wakes triggers.now change.register change.before change.after ≡ false }
+// Whether a change may wake somebody who waits for these events.
+fn may_wake_one(change: NotedChange, triggers: &Triggers) -> bool
+    ensures { result ≡ may_wake triggers.now (change_of change) }
 {
-    change.before.width() != change.after.width()
-        || triggers.are_met(change.register, Bits::edge(change.before, change.after))
+    if change.before.width() == change.after.width() {
+        triggers.are_met(change.register, Bits::edge(change.before, change.after))
+    } else {
+        triggers.are_on(change.register)
+    }
 }
 
-// Whether one of these may wake somebody who waits for these events.
-fn may_one_meet(changes: &[NotedChange], triggers: &Triggers) -> bool
-    ensures { result ≡ false → list_any (λ c. wakes triggers.now c.register c.before c.after) changes.now ≡ false }
+// Whether one of these changes may wake somebody who waits for these events.
+fn may_any_wake(changes: &[NotedChange], triggers: &Triggers) -> bool
+    ensures { result ≡ list_any (λ c. may_wake triggers.now (change_of c)) changes.now }
 {
-    for change in changes {
-        if may_meet(*change, triggers) {
-            return true;
-        }
-    }
-    false
+    changes.iter().any(|change| may_wake_one(*change, triggers))
 }
 
 // Whether one of these changes a register that is among these.
@@ -107,10 +104,10 @@ impl Changes {
         self.mask & registers.mask() != 0 && is_any_among(self.items.as_slice(), registers)
     }
 
-    /// Whether one of them may wake who waits for these events. Where it says no, none does.
+    /// Whether one of them may wake somebody who waits for these events.
     pub fn may_wake(&self, triggers: &Triggers) -> bool
-        ensures { result ≡ false → matches_any triggers.now self.now ≡ false }
+        ensures { result ≡ may_wake_any triggers.now self.now }
     {
-        self.mask & triggers.mask() != 0 && may_one_meet(self.items.as_slice(), triggers)
+        self.mask & triggers.mask() != 0 && may_any_wake(self.items.as_slice(), triggers)
     }
 }

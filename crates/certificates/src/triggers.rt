@@ -1,8 +1,10 @@
 //! Lists of the events that processes wait for.
-ghost use Rattle.std.specs.Prelude.{◌≡◌, [], ◌∷◌, ◌++◌, if◌then◌else◌, is_ok};
+ghost use Rattle.std.specs.Prelude.{◌≡◌, ◌==◌, [], ◌∷◌, ◌++◌, if◌then◌else◌, is_ok};
+ghost use Rattle.std.specs.List.{list_any};
 ghost use Rattle.design.specs.ControlWaking.{wakes_by};
+ghost use Rattle.model.specs.Turns.{contains};
 ghost use Rattle.model.specs.States as states;
-ghost use Rattle.certificates.specs.Masks.{AreTriggersMasked};
+ghost use Rattle.certificates.specs.Masks.{AreTriggersMasked, registers_of};
 
 use crate::numbers::bit_of;
 use design::{RegId, Trigger};
@@ -43,6 +45,13 @@ fn matches(change: Change, edge: Edge) -> bool
     }
 }
 
+// Whether one of these events is one of a register.
+fn is_any_on(triggers: &[Trigger], register: RegId) -> bool
+    ensures { result ≡ list_any (λ t. t.1 == register) triggers.now }
+{
+    triggers.iter().any(|trigger| trigger.1 == register)
+}
+
 impl Triggers {
     /// No events.
     pub fn new(alloc: Global) -> Triggers
@@ -76,6 +85,13 @@ impl Triggers {
         ensures { AreTriggersMasked self.now result }
     {
         self.mask
+    }
+
+    /// Whether somebody waits for events of a register.
+    pub fn are_on(&self, register: RegId) -> bool
+        ensures { result ≡ contains (registers_of self.now) register }
+    {
+        self.mask & bit_of(register) != 0 && is_any_on(self.items.as_slice(), register)
     }
 
     /// Whether a change of a register, of this kind, is one that somebody waits for.

@@ -2,4 +2,4 @@
 use Rattle.certificates.proofs.certificate.leads_or_is_apart.Goals as goal
 
 pub returns-clause-own : goal.returns-clause-own
-returns-clause-own c = λ is none. c.apart.ensures is
+returns-clause-own c = λ is none. c.apart.ensures.apart is
