@@ -47,7 +47,10 @@ pub(crate) fn take_one(
     way.push(named.transition)?;
     match machine.take(named.entry) {
         Ok(()) => Ok(true),
-        Err(fault) => not_taken(fault),
+        Err(fault) => {
+            let taken = not_taken(fault)?;
+            Ok(taken)
+        }
     }
 }
 

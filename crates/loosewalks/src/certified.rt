@@ -44,7 +44,10 @@ fn take_certified_one(
             let certifies = room.certificate.add(&mut room.note)?;
             Ok(certifies)
         }
-        Err(fault) => not_noted(fault),
+        Err(fault) => {
+            let taken = not_noted(fault)?;
+            Ok(taken)
+        }
     }
 }
 

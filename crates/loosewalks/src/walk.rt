@@ -55,7 +55,10 @@ fn step(
             moves.push(named.transition)?;
             Ok(true)
         }
-        Err(fault) => not_taken(fault),
+        Err(fault) => {
+            let taken = not_taken(fault)?;
+            Ok(taken)
+        }
     }
 }
 
