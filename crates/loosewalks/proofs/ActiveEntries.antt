@@ -127,8 +127,12 @@ only_update class limits s u going active =
         let less : nat_lt u.number u.number ≡ false = grind (arith, leb_tells (suc u.number) u.number) in
         rw less refl
 
+    no_turn : (b : Bool) → turn_refusal (if b then Some (Action.Update u.register u.value) else None) ≡ None → ⊥
+    no_turn true h = cc
+    no_turn false h = cc
+
     its : (other : Entry) → loose_entry_refusal class one other ≡ None → other ≡ entries.Update u.number
-    its (Turn m) none = absurd (no_turn m (u.number == m) none)
+    its (Turn m) none = absurd (no_turn (u.number == m) none)
     its (entries.Update m) none = ap entries.Update (sym (one_number u.number m (Action.Update u.register u.value) (loose_update_refusal class one m None) (loose_update_refusal class one m) refl (λ h. cc) none))
     its ActivateInactive none = cc
     its ActivateNba none = cc

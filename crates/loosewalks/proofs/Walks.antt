@@ -1,5 +1,6 @@
 -- How a walk of loose runs goes on, and that it stands for all.
-use Rattle.std.proofs.Common.{◌≡◌, ◌≢◌, ℕ, ◌+◌, ◌<◌, ◌≤◌, Bool, true, false, List, [], ◌∷◌, ◌++◌, length, Option, Some, None, refl, sym, ap, subst, ◌∙◌, append_assoc, arith, length-append}
+use Rattle.std.proofs.Common.{◌≡◌, ◌≢◌, ℕ, ◌+◌, ◌<◌, ◌≤◌, Bool, true, false, List, [], ◌∷◌, ◌++◌, length, Option, Some, None, is_some, refl, sym, ap, subst, ◌∙◌, append_assoc, arith, length-append}
+use Rattle.std.specs.Prelude.{IfSome}
 use Rattle.std.proofs.lemmas.List.{append-nil}
 use Rattle.std.proofs.lemmas.List.Elements.{All-nil}
 use Rattle.model.specs.declared.entry.Entry.{Entry}
@@ -15,8 +16,9 @@ use Rattle.regions.specs.Queue.{Core}
 use Rattle.regions.specs.declared.state.MadeEvent.{MadeEvent}
 use Rattle.regions.specs.Machine.{MachineView, state_at}
 use Rattle.regions.specs.StepLogs.{IsTaken}
+use Rattle.combinational.specs.declared.network.Network.{Network}
 use Rattle.combinational.specs.Found.{rank_in}
-use Rattle.settling.specs.Settling.{block_at}
+use Rattle.settling.specs.Settling.{block_at, IsPhaseOf}
 use Rattle.loose.specs.declared.transition.LooseTransition.{LooseTransition}
 use Rattle.loose.specs.declared.transition.LooseTransition.TheVariants.{Process, FirstOf, Change}
 use Rattle.loose.specs.Loose.{AlikeIn, loose_step, loose_transition_of, loose_transition_of_action}
@@ -243,3 +245,8 @@ phase_sole class limits old new moves stands some passed =
           (some_moves class limits old new moves like.order passed.takes some passed.over) passed.takes.actors taken.goes (ap (λ (t : State). t.active) (sym taken.state_is) ∙ passed.over);
       count = passed.takes.count;
     }
+
+-- where members were found, a machine stands in a phase
+pub found_phase : {V : Type 0} (o : Option V) (items : V → List ℕ) (m : MachineView) (network : Network) → is_some o ≡ true → IfSome o (λ v. IsPhaseOf m.code (state_at m) network (items v)) → StandsInPhase m
+found_phase None items m network is phase = cc
+found_phase (Some v) items m network is phase = record { network = network; members = items v; phase = phase }

@@ -1,6 +1,6 @@
 //! The entry that a walk takes next, with its transition.
 ghost use Rattle.std.specs.Prelude.{◌≡◌, [], None, IfSome};
-ghost use Rattle.model.specs.declared.entry.Entry.TheVariants.{Turn, Update};
+ghost use Rattle.model.specs.declared.entry.Entry.TheVariants as entries;
 ghost use Rattle.loose.specs.declared.transition.LooseTransition.TheVariants.{Process, FirstOf};
 ghost use Rattle.loose.specs.Classes.{class_in};
 ghost use Rattle.regions.specs.Machine.{state_at};
@@ -32,7 +32,7 @@ fn class_of(classes: &[u32], register: RegId) -> u32
 
 // The entry that takes an active update.
 fn update_entry(classes: &[u32], update: Update) -> NamedEntry
-    ensures entry { result.entry ≡ Update update.number }
+    ensures entry { result.entry ≡ entries.Update update.number }
     ensures transition { result.transition ≡ FirstOf (class_in classes.now update.register) }
 {
     NamedEntry {
@@ -43,7 +43,7 @@ fn update_entry(classes: &[u32], update: Update) -> NamedEntry
 
 // The entry that takes an active evaluation.
 fn turn_entry(evaluation: Evaluation) -> NamedEntry
-    ensures entry { result.entry ≡ Turn evaluation.number }
+    ensures entry { result.entry ≡ entries.Turn evaluation.number }
     ensures transition { result.transition ≡ Process evaluation.process }
 {
     NamedEntry {
