@@ -8,10 +8,9 @@ use Rattle.model.specs.declared.entry.Refusal.{Refusal}
 use Rattle.model.specs.declared.entry.Refusal.TheVariants.{Finished}
 use Rattle.model.specs.declared.end.Limits.{Limits}
 use Rattle.model.specs.States.{State, Event, Action, Evaluate}
-use Rattle.model.specs.Runs.{action_in, turn_refusal, update_refusal, refused_where, entry_refusal, refusal, IsTimely}
+use Rattle.model.specs.Runs.{action_in, turn_refusal, update_refusal, refused_where, refusal, IsTimely}
 use Rattle.model.proofs.RunLaws.{where_none}
 use Rattle.phases.specs.Phase.{TakesEvent}
-use Rattle.loose.specs.declared.transition.LooseTransition.{LooseTransition}
 use Rattle.loose.specs.declared.transition.LooseTransition.TheVariants.{Process, FirstOf, Change}
 use Rattle.loose.specs.Loose.{loose_update_refusal, loose_entry_refusal, loose_refusal, loose_transition_of, loose_transition_of_action}
 use Rattle.regions.specs.declared.queue.Update as queued

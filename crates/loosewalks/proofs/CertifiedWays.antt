@@ -1,21 +1,19 @@
 -- The actors of a certified run stand for all.
-use Rattle.std.proofs.Common.{◌≡◌, ◌≢◌, ℕ, true, false, List, [], ◌∷◌, Option, Some, refl, sym, subst, ◌∙◌}
+use Rattle.std.proofs.Common.{◌≡◌, ◌≢◌, ℕ, true, false, List, [], ◌∷◌, Some, refl, subst}
 use Rattle.model.specs.declared.end.Limits.{Limits}
-use Rattle.model.specs.declared.end.End.{End}
 use Rattle.model.specs.Design.{Design}
 use Rattle.model.specs.States.{Action, Event, State, start}
 use Rattle.model.specs.Runs.{silent, action_in, has_any}
 use Rattle.orders.specs.Alike.{IsInOrder}
-use Rattle.orders.specs.SearchLaws.{EndsHere}
 use Rattle.orders.proofs.StatesInOrder.{start_is_in_order}
 use Rattle.loose.specs.declared.transition.LooseTransition.{LooseTransition}
 use Rattle.loose.specs.Loose.{AlikeIn}
-use Rattle.loose.proofs.ClassStates.{states_in-sym, states_in-same}
+use Rattle.loose.proofs.ClassStates.{states_in-sym}
 use Rattle.loose.proofs.LooseSteps.{loose_run_keeps_order}
-use Rattle.traces.specs.Traces.{Moves, AreMoves, Runs}
+use Rattle.traces.specs.Traces.{AreMoves, Runs}
 use Rattle.traces.specs.Certificates.{IsCertificate}
 use Rattle.footprints.specs.Footprints.{Footprint}
-use Rattle.footprints.specs.Moves.{OrderedState, IsMove, loose_moves}
+use Rattle.footprints.specs.Moves.{OrderedState, loose_moves}
 use Rattle.footprints.proofs.Steps.{loose_parts}
 use Rattle.footprints.proofs.LooseMoves.{loose_steps_are_moves}
 use Rattle.certificates.specs.Certified.{AreCertified}
@@ -24,7 +22,7 @@ use Rattle.certificates.proofs.CertifiedRuns.{certified_is_certificate}
 use Rattle.certificates.proofs.Prefixes.{none_where_ended}
 use Rattle.certifiedruns.specs.CertifiedCover.{actors_of}
 use Rattle.certifiedruns.proofs.Covering.{certified_way_covers}
-use Rattle.loosewalks.specs.Sole.{StandsForAllLoosely, IsLikeReached}
+use Rattle.loosewalks.specs.Sole.{StandsForAllLoosely}
 use Rattle.loosewalks.specs.EventWays.{CertifiedWayStandsForAll}
 use Rattle.loosewalks.proofs.SoleLooseWays.{alike_stand_for_all}
 

@@ -1,11 +1,10 @@
 -- Steps that a machine took with notes are moves of which the notes tell.
-use Rattle.std.proofs.Common.{◌≡◌, ◌≢◌, ℕ, ◌+◌, Bool, true, false, List, [], ◌∷◌, ◌++◌, map, Option, Some, None, refl, sym, ap, subst, ◌∙◌}
+use Rattle.std.proofs.Common.{◌≡◌, ◌≢◌, ℕ, List, [], ◌∷◌, ◌++◌, Option, Some, None, refl, sym, ap, subst, ◌∙◌}
 use Rattle.std.proofs.lemmas.List.{map-append}
-use Rattle.model.specs.declared.entry.Entry.{Entry}
 use Rattle.model.specs.declared.end.Limits.{Limits}
 use Rattle.model.specs.Design.{Design}
 use Rattle.model.specs.States.{State, Action, Event}
-use Rattle.model.specs.Runs.{Effect, action_in}
+use Rattle.model.specs.Runs.{action_in}
 use Rattle.orders.specs.Alike.{IsInOrder}
 use Rattle.design.specs.Compiled.{Compiled, design_of}
 use Rattle.regions.specs.Machine.{MachineView, state_at}
@@ -16,11 +15,10 @@ use Rattle.loose.proofs.LooseSteps.{step_is_loose, loose_step_keeps_order}
 use Rattle.traces.specs.Traces.{Runs}
 use Rattle.footprints.specs.Footprints.{Footprint}
 use Rattle.footprints.specs.FootprintLaws.{IsStepWith}
-use Rattle.footprints.specs.Moves.{OrderedState, IsMove, IsWaiting, loose_moves}
+use Rattle.footprints.specs.Moves.{OrderedState, IsMove, loose_moves}
 use Rattle.footprints.proofs.AlikeFootprints.{footprint_tells}
 use Rattle.certificates.specs.Notes.{NoteView, TellOfAll, TellsOf}
 use Rattle.certificates.specs.CertificateLaws.{NobodyWaits}
-use Rattle.certifiedruns.specs.CertifiedCover.{actors_of}
 use Rattle.noted.specs.NotedSteps.{IsNoted}
 use Rattle.loosewalks.specs.declared.active.NamedEntry.{NamedEntry}
 use Rattle.loosewalks.specs.Sole.{StandsForAllLoosely}

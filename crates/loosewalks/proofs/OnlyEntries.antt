@@ -1,6 +1,6 @@
 -- The only entry that may be taken stands for all.
-use Rattle.std.proofs.Common.{◌≡◌, ℕ, List, [], ◌∷◌, Bool, true, false, Option, Some, None, refl, sym, ap, subst, ◌∙◌, arith}
-use Rattle.std.specs.Prelude.{option_and_then, option_map}
+use Rattle.std.proofs.Common.{◌≡◌, ℕ, [], ◌∷◌, Bool, true, false, Option, Some, None, refl, sym, ap, ◌∙◌, arith}
+use Rattle.std.specs.Prelude.{option_map}
 use Rattle.std.proofs.lemmas.List.Elements.{All-nil, All-cons}
 use Rattle.std.proofs.lemmas.Option.{option_and_then_some}
 use Rattle.model.specs.declared.entry.Entry.{Entry}
@@ -11,19 +11,18 @@ use Rattle.model.specs.declared.end.Limits.{Limits}
 use Rattle.model.specs.declared.end.End.{End}
 use Rattle.model.specs.Design.{Design}
 use Rattle.model.specs.States.{State}
-use Rattle.model.specs.Runs.{Effect, silent, joined, action_in, turn_refusal, refused_where, entry_refusal, refusal, turn_of, turn_effect, action_effect, effect, unless_refused, step, HasLongTurn}
-use Rattle.model.proofs.RunLaws.{where_none}
+use Rattle.model.specs.Runs.{Effect, silent, joined, action_in, turn_refusal, refused_where, entry_refusal, refusal, turn_effect, action_effect, effect, unless_refused, step, HasLongTurn}
 use Rattle.orders.specs.Alike.{IsInOrder}
 use Rattle.orders.specs.SearchLaws.{EndsHere}
 use Rattle.orders.proofs.SearchLaws.{then_some}
 use Rattle.loose.specs.declared.transition.LooseTransition.{LooseTransition}
-use Rattle.loose.specs.Loose.{loose_refusal, loose_step, loose_transition_of}
+use Rattle.loose.specs.Loose.{loose_refusal, loose_transition_of}
 use Rattle.loose.proofs.ClassStates.{states_in-same}
 use Rattle.runs.proofs.Halts.{only_long_turns_end}
 use Rattle.looseruns.specs.LooseMoves.{move, moves_from, IsTimelyMove}
 use Rattle.looseruns.specs.LooseCover.{LeadToOneLooseNode, CoverMoves}
 use Rattle.looseruns.proofs.Moves.{move_is_loose_step, transition_is_timely}
-use Rattle.loosewalks.specs.Sole.{StandsForAllLoosely, IsOnlyLooseEntry, OnlyEntryStandsForAll}
+use Rattle.loosewalks.specs.Sole.{IsOnlyLooseEntry, OnlyEntryStandsForAll}
 use Rattle.loosewalks.proofs.SoleLooseWays.{one_is}
 
 permitted_if : (o : Option Refusal) (x : Option Effect) (f : Effect) → unless_refused o x ≡ Some f → o ≡ None

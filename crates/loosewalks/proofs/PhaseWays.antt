@@ -1,5 +1,5 @@
 -- A way through a phase of combinational processes stands for all.
-use Rattle.std.proofs.Common.{◌≡◌, ◌≢◌, ℕ, ◌<◌, Bool, true, false, List, [], ◌∷◌, ◌++◌, length, Option, Some, None, refl, sym, ap, subst, ◌∙◌, arith}
+use Rattle.std.proofs.Common.{◌≡◌, ◌≢◌, ℕ, ◌<◌, false, List, [], ◌∷◌, ◌++◌, length, Some, None, refl, sym, ap, subst, ◌∙◌, arith}
 use Rattle.std.specs.Prelude.{option_and_then, option_map}
 use Rattle.std.specs.List.{All}
 use Rattle.std.proofs.lemmas.List.Elements.{All-nil, All-cons}
@@ -20,7 +20,6 @@ use Rattle.phases.specs.Phase.{Block, IsPhase, TakesEvent}
 use Rattle.loose.specs.declared.transition.LooseTransition.{LooseTransition}
 use Rattle.loose.specs.declared.transition.LooseTransition.TheVariants.{Process, FirstOf, Change}
 use Rattle.loose.specs.Loose.{updates_class, loose_step, loose_run_from, loose_transition_of}
-use Rattle.loose.specs.LooseLaws.{IsOneLooseNode}
 use Rattle.loose.proofs.ClassLists.{alike_in-has_any}
 use Rattle.loose.proofs.LooseSteps.{loose_step_keeps_order}
 use Rattle.loosephases.specs.LoosePhase.{EndsPhaseLoosely}

@@ -16,7 +16,7 @@ use Rattle.orders.specs.SearchLaws.{EndsHere}
 use Rattle.orders.proofs.SearchLaws.{then_some}
 use Rattle.orders.proofs.StatesInOrder.{start_is_in_order}
 use Rattle.loose.specs.declared.transition.LooseTransition.{LooseTransition}
-use Rattle.loose.specs.Loose.{AlikeIn, loose_step, loose_run_from, loose_run}
+use Rattle.loose.specs.Loose.{AlikeIn, loose_step, loose_run_from}
 use Rattle.loose.specs.LooseLaws.{IsOneLooseNode}
 use Rattle.loose.proofs.ClassStates.{states_in-same, states_in-sym, states_in-trans}
 use Rattle.loose.proofs.LooseSteps.{loose_run_keeps_order}
@@ -26,7 +26,7 @@ use Rattle.looseruns.specs.LooseGoing.{GoesLooselyTo}
 use Rattle.looseruns.proofs.Moves.{moves_keep_order, moves_are_loose_run, alike_moves_on}
 use Rattle.looseruns.proofs.RunsOfMoves.{moves_from-append, timely_moves_after, first_part_timely, ends_alike_in}
 use Rattle.looseruns.proofs.LooseGoing.{node_sym, node_trans, node_behind, leads_on}
-use Rattle.loosewalks.specs.Sole.{StandsForAllLoosely, IsLikeReached, LikeReachedGoesOn, AlikeStandForAll, SoleLooseWaysGoOn}
+use Rattle.loosewalks.specs.Sole.{StandsForAllLoosely, LikeReachedGoesOn, AlikeStandForAll, SoleLooseWaysGoOn}
 
 -- what holds of some of one holds of it, and the other way round
 pub of_one : {X : Type 0} (P : X → Type 0) (x : X) → Any P (x ∷ []) → P x

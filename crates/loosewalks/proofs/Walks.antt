@@ -1,14 +1,13 @@
 -- How a walk of loose runs goes on, and that it stands for all.
-use Rattle.std.proofs.Common.{◌≡◌, ◌≢◌, ℕ, ◌+◌, ◌<◌, ◌≤◌, Bool, true, false, List, [], ◌∷◌, ◌++◌, length, Option, Some, None, is_some, refl, sym, ap, subst, ◌∙◌, append_assoc, arith, length-append}
+use Rattle.std.proofs.Common.{◌≡◌, ◌≢◌, ℕ, ◌+◌, ◌≤◌, Bool, true, false, List, [], ◌∷◌, ◌++◌, length, Option, Some, None, is_some, refl, sym, ap, subst, ◌∙◌, append_assoc, arith, length-append}
 use Rattle.std.specs.Prelude.{IfSome}
 use Rattle.std.proofs.lemmas.List.{append-nil}
-use Rattle.std.proofs.lemmas.List.Elements.{All-nil}
 use Rattle.model.specs.declared.entry.Entry.{Entry}
 use Rattle.model.specs.declared.entry.Entry.TheVariants.{Turn, Update, ActivateInactive, ActivateNba, ActivateMonitor, Advance}
 use Rattle.model.specs.declared.end.Limits.{Limits}
 use Rattle.model.specs.Design.{Design}
 use Rattle.model.specs.States.{State, Action, Evaluate}
-use Rattle.model.specs.Runs.{Effect, silent, joined, step, action_in, has_any, IsTimely}
+use Rattle.model.specs.Runs.{Effect, silent, joined, action_in, has_any, IsTimely}
 use Rattle.orders.specs.Alike.{IsInOrder}
 use Rattle.phases.specs.Phase.{TakesEvent}
 use Rattle.design.specs.Compiled.{Compiled, design_of}
@@ -21,7 +20,7 @@ use Rattle.combinational.specs.Found.{rank_in}
 use Rattle.settling.specs.Settling.{block_at, IsPhaseOf}
 use Rattle.loose.specs.declared.transition.LooseTransition.{LooseTransition}
 use Rattle.loose.specs.declared.transition.LooseTransition.TheVariants.{Process, FirstOf, Change}
-use Rattle.loose.specs.Loose.{AlikeIn, loose_step, loose_transition_of, loose_transition_of_action}
+use Rattle.loose.specs.Loose.{AlikeIn, loose_transition_of, loose_transition_of_action}
 use Rattle.loose.proofs.ClassLists.{alike_in-has_any}
 use Rattle.loose.proofs.ClassStates.{states_in-sym}
 use Rattle.loose.proofs.LooseSteps.{step_is_loose}

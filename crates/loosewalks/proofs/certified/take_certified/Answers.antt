@@ -1,5 +1,5 @@
 -- One event after another with its note, until none is active.
-use Rattle.std.proofs.Common.{◌∙◌, sym, Option, refl, subst}
+use Rattle.std.proofs.Common.{◌∙◌, Option, refl, subst}
 use Rattle.std.specs.Prelude.{IfSome}
 use Rattle.regions.specs.Machine.{state_at}
 use Rattle.loose.specs.Classes.{class_in}
