@@ -1,5 +1,5 @@
 //! Lists of changes of registers.
-ghost use Rattle.std.specs.Prelude.{◌≡◌, [], ◌∷◌, ◌++◌, if◌then◌else◌, is_ok};
+ghost use Rattle.std.specs.Prelude.{◌≡◌, [], ◌∷◌, ◌++◌, if◌then◌else◌, is_ok, map};
 ghost use Rattle.std.specs.List.{list_any};
 ghost use Rattle.model.specs.Turns.{contains};
 ghost use Rattle.footprints.specs.Footprints.{changed};
@@ -95,6 +95,13 @@ impl Changes {
         self.mask |= bit_of(change.register);
         self.items.push(change)?;
         Ok(())
+    }
+
+    /// The changes, in order.
+    pub fn as_slice(&self) -> &[NotedChange]
+        ensures { map change_of result.now ≡ self.entry.now }
+    {
+        self.items.as_slice()
     }
 
     /// Whether one of them changes one of these registers.
