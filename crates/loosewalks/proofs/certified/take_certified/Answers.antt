@@ -33,4 +33,4 @@ loop-preserved c =
 
 pub returns-in-None-clause-certified : goal.returns-in-None-clause-certified
 returns-in-None-clause-certified c = λ on limits.
-    record { notes = c.loop.room.certificate; takes = c.loop.invariant.noted limits; certify = c.certifies.ensures on; over = c.first_active.ensures.none c.in-None.is }
+    record { notes = c.loop.room.certificate; takes = c.loop.invariant.noted limits; certify = c.certifies.ensures.certified on; over = c.first_active.ensures.none c.in-None.is }
