@@ -29,4 +29,5 @@ pub mod Begun
 pub mod Untaken
 pub mod FirstRegions
 pub mod Permitted
+pub mod BroughtForward
 pub mod Crossing

@@ -1,0 +1,120 @@
+//! Lists of changes of registers.
+ghost use Rattle.std.specs.Prelude.{◌≡◌, [], ◌∷◌, ◌++◌, if◌then◌else◌, is_ok, map};
+ghost use Rattle.std.specs.List.{list_any};
+ghost use Rattle.model.specs.Turns.{contains};
+ghost use Rattle.footprints.specs.Footprints.{changed};
+ghost use Rattle.certificates.specs.Masks.{meet};
+ghost use Rattle.certificates.specs.Changes.{change_of, may_wake, may_wake_any};
+
+use crate::numbers::{Numbers, bit_of};
+use crate::triggers::Triggers;
+use design::RegId;
+use logic4::bits::Bits;
+use std::alloc::{AllocError, Global};
+use std::marker::Model;
+
+/// A change of a register: its value before, and the one after.
+#[derive(Clone, Copy)]
+pub struct NotedChange {
+    pub register: RegId,
+    pub before: Bits,
+    pub after: Bits,
+}
+
+/// A list of changes, with the mask of their registers.
+#[derive(Drop)]
+pub struct Changes {
+    items: Vec<NotedChange>,
+    mask: u64,
+}
+
+impl Model for Changes {
+    ghost use Rattle.std.specs.Prelude.{List, map};
+    ghost use Rattle.footprints.specs.Footprints.{ValueChange, changed};
+    ghost use Rattle.certificates.specs.Masks.{IsMasked};
+
+    ghost Value = { List ValueChange };
+
+    ghost use Rattle.certificates.specs.Changes.{change_of};
+
+    ghost view = { λ c. map change_of c.items.items };
+
+    ghost invariant = { λ c. IsMasked (changed (map change_of c.items.items)) c.mask };
+}
+
+// Whether a change may wake somebody who waits for these events.
+fn may_wake_one(change: NotedChange, triggers: &Triggers) -> bool
+    ensures { result ≡ may_wake triggers.now (change_of change) }
+{
+    if change.before.width() == change.after.width() {
+        triggers.are_met(change.register, Bits::edge(change.before, change.after))
+    } else {
+        triggers.are_on(change.register)
+    }
+}
+
+// Whether one of these changes may wake somebody who waits for these events.
+fn may_any_wake(changes: &[NotedChange], triggers: &Triggers) -> bool
+    ensures { result ≡ list_any (λ c. may_wake triggers.now (change_of c)) changes.now }
+{
+    changes.iter().any(|change| may_wake_one(*change, triggers))
+}
+
+// Whether one of these changes a register that is among these.
+fn is_any_among(changes: &[NotedChange], registers: &Numbers) -> bool
+    ensures { result ≡ list_any (λ c. contains registers.now c.register) changes.now }
+{
+    changes
+        .iter()
+        .any(|change| registers.contains(change.register))
+}
+
+impl Changes {
+    /// No changes.
+    pub fn new(alloc: Global) -> Changes
+        ensures { result ≡ [] }
+    {
+        Changes {
+            items: Vec::new(alloc),
+            mask: 0,
+        }
+    }
+
+    /// Takes all changes out. The list keeps its room.
+    pub fn clear(&mut self)
+        ensures { self.new ≡ [] }
+    {
+        self.items.clear();
+        self.mask = 0;
+    }
+
+    /// Appends a change.
+    pub fn push(&mut self, change: NotedChange) -> Result<(), AllocError>
+        ensures { self.new ≡ (if is_ok result then self.old ++ change_of change ∷ [] else self.old) }
+    {
+        self.mask |= bit_of(change.register);
+        self.items.push(change)?;
+        Ok(())
+    }
+
+    /// The changes, in order.
+    pub fn as_slice(&self) -> &[NotedChange]
+        ensures { map change_of result.now ≡ self.entry.now }
+    {
+        self.items.as_slice()
+    }
+
+    /// Whether one of them changes one of these registers.
+    pub fn touch(&self, registers: &Numbers) -> bool
+        ensures { result ≡ meet (changed self.now) registers.now }
+    {
+        self.mask & registers.mask() != 0 && is_any_among(self.items.as_slice(), registers)
+    }
+
+    /// Whether one of them may wake somebody who waits for these events.
+    pub fn may_wake(&self, triggers: &Triggers) -> bool
+        ensures { result ≡ may_wake_any triggers.now self.now }
+    {
+        self.mask & triggers.mask() != 0 && may_any_wake(self.items.as_slice(), triggers)
+    }
+}

@@ -1,0 +1,92 @@
+//! Lists of numbers, as of registers and of processes.
+ghost use Rattle.std.specs.Prelude.{◌≡◌, ◌%◌, ◌^◌, [], ◌∷◌, ◌++◌, if◌then◌else◌, is_ok};
+ghost use Rattle.model.specs.Turns.{contains};
+ghost use Rattle.certificates.specs.Masks.{IsMasked, meet};
+
+use std::alloc::{AllocError, Global};
+use std::marker::Model;
+
+// How many bits a mask has.
+const MASK_BITS: u32 = 64;
+
+/// The bit of a number in a mask.
+pub(crate) fn bit_of(number: u32) -> u64
+    ensures { result ≡ 2 ^ (number % 64) }
+{
+    1_u64 << (number % MASK_BITS)
+}
+
+/// A list of numbers. Its mask has the bit of each, and so it tells of most lists without a look at them that no number is in both.
+#[derive(Drop)]
+pub struct Numbers {
+    items: Vec<u32>,
+    mask: u64,
+}
+
+impl Model for Numbers {
+    ghost use Rattle.std.specs.Prelude.{ℕ, List};
+    ghost use Rattle.certificates.specs.Masks.{IsMasked};
+
+    ghost Value = { List ℕ };
+
+    ghost view = { λ n. n.items.items };
+
+    ghost invariant = { λ n. IsMasked n.items.items n.mask };
+}
+
+impl Numbers {
+    /// No numbers.
+    pub fn new(alloc: Global) -> Numbers
+        ensures { result ≡ [] }
+    {
+        Numbers {
+            items: Vec::new(alloc),
+            mask: 0,
+        }
+    }
+
+    /// Takes all numbers out. The list keeps its room.
+    pub fn clear(&mut self)
+        ensures { self.new ≡ [] }
+    {
+        self.items.clear();
+        self.mask = 0;
+    }
+
+    /// Appends a number.
+    pub fn push(&mut self, number: u32) -> Result<(), AllocError>
+        ensures { self.new ≡ (if is_ok result then self.old ++ number ∷ [] else self.old) }
+    {
+        self.mask |= bit_of(number);
+        self.items.push(number)?;
+        Ok(())
+    }
+
+    /// The numbers, in order.
+    pub fn as_slice(&self) -> &[u32]
+        ensures { result.now ≡ self.entry.now }
+    {
+        self.items.as_slice()
+    }
+
+    /// The mask.
+    pub(crate) fn mask(&self) -> u64
+        ensures { IsMasked self.now result }
+    {
+        self.mask
+    }
+
+    /// Whether a number is among these.
+    pub fn contains(&self, number: u32) -> bool
+        ensures { result ≡ contains self.now number }
+    {
+        self.mask & bit_of(number) != 0 && self.items.contains(&number)
+    }
+
+    /// Whether a number is among both these and others.
+    pub fn meets(&self, others: &Numbers) -> bool
+        ensures { result ≡ meet self.now others.now }
+    {
+        self.mask & others.mask != 0 && self.items.iter().any(|number| others.contains(*number))
+    }
+}

@@ -1,0 +1,8 @@
+-- The proofs of what the ways from a node come to.
+pub mod Ordered
+pub mod LongTurns
+pub mod Ways
+pub mod Expansions
+pub mod Remade
+pub mod ShownLawfully
+pub mod LawfulTexts

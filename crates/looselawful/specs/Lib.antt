@@ -1,0 +1,5 @@
+pub mod Again
+pub mod LooseNodes
+pub mod Following
+pub mod Journals
+pub mod Serving

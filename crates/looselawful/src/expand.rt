@@ -1,0 +1,305 @@
+//! The loose runs that go on from a node: each transition that may be taken, and the ends that a run may have there.
+ghost use Rattle.std.specs.Prelude.{◌≡◌, ◌↔◌, ◌<◌, [], ◌∷◌, IfOk, IfErr, OnOk, OnErr, IsTrue};
+ghost use Rattle.std.specs.List.{All};
+ghost use Rattle.model.specs.declared.end.End.{End};
+ghost use Rattle.explore.specs.declared.EndedPath.{EndedPath};
+ghost use Rattle.orders.specs.Alike.{IsInOrder};
+ghost use Rattle.loose.specs.declared.transition.LooseTransition.{LooseTransition};
+ghost use Rattle.loose.specs.declared.transition.LooseTransition.TheVariants as transitions;
+ghost use Rattle.loose.specs.Classes.{class_in};
+ghost use Rattle.loosesteps.specs.LooselyTaken.{MayBeTaken, IsTakenLoosely, IsNotTakenLoosely};
+ghost use Rattle.looseruns.specs.LooseMoves.{IsTimelyMove};
+ghost use Rattle.runs.specs.Halting.{GoesOn};
+ghost use Rattle.regions.specs.Machine.{state_at};
+ghost use Rattle.regions.specs.declared.machine.TakeFault.TheVariants as faults;
+ghost use Rattle.looselawful.specs.Following.{IsAdded, IsWayBy, TellsTurn};
+ghost use Rattle.looselawful.specs.LooseNodes.{AreAllLooseWays, AreBounded, AreLooseWaysFor, IsReadyNode, IsLooseWayOn, IsLooseWayToEnd};
+
+use crate::node::{LooseNode, copy_of};
+use explore::{EndedPath, Expanded, Successor};
+use loose::transition::LooseTransition;
+use loosesteps::{loose_choices, take_loosely};
+use model::end::{End, Limits, Why};
+use regions::{Machine, TakeFault};
+use runs::halting::{end_at, is_timely};
+use std::alloc::{AllocError, Global};
+use turn::TurnLog;
+
+/// What one transition leads to.
+#[derive(Drop)]
+pub(crate) enum Way<'d> {
+    /// A node.
+    On(Successor<LooseNode<'d>, LooseTransition>),
+    /// The end of a run whose turn is too long.
+    Long(EndedPath<LooseTransition, End>),
+    /// Nothing, since the transition advances past the limit of time.
+    Past,
+}
+
+/// What following the transitions from a node has come to.
+#[derive(Drop)]
+pub(crate) struct Ways<'d> {
+    successors: Vec<Successor<LooseNode<'d>, LooseTransition>>,
+    ended: Vec<EndedPath<LooseTransition, End>>,
+}
+
+// The node of a machine that took these transitions, with the lines that they printed.
+fn next_of<'d>(
+    machine: Box<Machine<'d>>,
+    moves: Vec<LooseTransition>,
+) -> Successor<LooseNode<'d>, LooseTransition>
+    ensures moves { result.moves ≡ moves }
+    ensures printed { result.printed.items ≡ machine.entry.value.lines }
+    ensures ready { IsReadyNode machine.entry.value.code result.node }
+    ensures state { state_at result.node.machine.value ≡ state_at machine.entry.value }
+{
+    let mut machine = machine;
+    let printed = machine.take_lines().into_bytes();
+    machine.stands();
+    Successor {
+        node: LooseNode { machine },
+        printed,
+        moves,
+    }
+}
+
+// One transition alone.
+fn one(alloc: Global, transition: LooseTransition) -> Result<Vec<LooseTransition>, AllocError>
+    ensures { IfOk result (λ moves. moves.items ≡ transition ∷ []) }
+{
+    let mut moves = Vec::new(alloc);
+    moves.push(transition)?;
+    Ok(moves)
+}
+
+// Whether a transition is in time: no advance past the limit.
+fn is_timely_move(limits: Limits, transition: LooseTransition) -> bool
+    ensures { IsTrue result ↔ IsTimelyMove limits transition }
+{
+    match transition {
+        LooseTransition::Change(entry) => is_timely(limits, entry),
+        _ => true,
+    }
+}
+
+// The end of a run at the turn of a process that is too long.
+fn long_turn(alloc: Global, process: u32) -> EndedPath<LooseTransition, End>
+    ensures { TellsTurn (transitions.Process process) result }
+{
+    EndedPath {
+        printed: Vec::new(alloc),
+        end: End::Stopped(Why::TooLong(process)),
+        moves: Vec::new(alloc),
+    }
+}
+
+// The end of a run at a transition that may be taken, and that wasn't taken since it is a turn that is too long. Fails where memory was
+// refused to it instead.
+fn long_of(
+    alloc: Global,
+    transition: LooseTransition,
+    fault: TakeFault,
+) -> Result<EndedPath<LooseTransition, End>, AllocError>
+    ensures told { IfOk result (TellsTurn transition) }
+    ensures long { IfOk result (λ ended. fault ≡ faults.TooLong) }
+{
+    match fault {
+        TakeFault::TooLong => match transition {
+            LooseTransition::Process(process) => Ok(long_turn(alloc, process)),
+            _ => Err(AllocError),
+        },
+        _ => Err(AllocError),
+    }
+}
+
+// Takes a transition with a log that the machine is lent: each node takes just a few, and needs none of its own.
+fn take_with(
+    log: &mut TurnLog,
+    machine: &mut Machine<'_>,
+    classes: &[u32],
+    transition: LooseTransition,
+) -> Result<(), TakeFault>
+    requires { IsInOrder (state_at machine.old) }
+    ensures taken { OnOk result (IsTakenLoosely (class_in classes.now) machine.old.code (state_at machine.old) machine.old.lines transition (state_at machine.new) machine.new.lines) }
+    ensures stop { IfErr result (IsNotTakenLoosely (class_in classes.now) machine.old transition) }
+    ensures order { IsInOrder (state_at machine.new) }
+    ensures code { machine.new.code ≡ machine.old.code }
+{
+    machine.exchange_log(log);
+    let taken = take_loosely(machine, classes, transition);
+    machine.exchange_log(log);
+    taken
+}
+
+// Follows a transition with this machine.
+fn way_by<'d>(
+    alloc: Global,
+    classes: &[u32],
+    limits: Limits,
+    log: &mut TurnLog,
+    machine: Box<Machine<'d>>,
+    transition: LooseTransition,
+) -> Result<Way<'d>, AllocError>
+    requires order { IsInOrder (state_at machine.value) }
+    requires silent { machine.value.lines ≡ [] }
+    requires some_entry { 0 < limits.max_entries }
+    ensures { IfOk result (IsWayBy (class_in classes.now) machine.entry.value.code limits (state_at machine.entry.value) transition) }
+{
+    if !is_timely_move(limits, transition) {
+        return Ok(Way::Past);
+    }
+    let moves = one(alloc, transition)?;
+    let mut machine = machine;
+    match take_with(log, &mut machine, classes, transition) {
+        Ok(()) => Ok(Way::On(next_of(machine, moves))),
+        Err(fault) => {
+            let ended = long_of(alloc, transition, fault)?;
+            Ok(Way::Long(ended))
+        }
+    }
+}
+
+// Adds a way to those that were found.
+fn add<'d>(ways: &mut Ways<'d>, way: Way<'d>) -> Result<(), AllocError>
+    ensures { OnOk result (IsAdded way.entry ways.old.successors.items ways.old.ended.items ways.new.successors.items ways.new.ended.items) }
+{
+    match way {
+        Way::On(next) => ways.successors.push(next)?,
+        Way::Long(ended) => ways.ended.push(ended)?,
+        Way::Past => {}
+    }
+    Ok(())
+}
+
+// Follows each of these transitions with copies of a machine.
+fn follow_each<'d>(
+    alloc: Global,
+    classes: &[u32],
+    limits: Limits,
+    log: &mut TurnLog,
+    machine: &Machine<'d>,
+    transitions: &[LooseTransition],
+) -> Result<Ways<'d>, AllocError>
+    requires order { IsInOrder (state_at machine.now) }
+    requires silent { machine.now.lines ≡ [] }
+    requires some_entry { 0 < limits.max_entries }
+    ensures { IfOk result (λ ways. AreLooseWaysFor (class_in classes.now) machine.now.code limits (state_at machine.now) transitions.now ways.successors.items ways.ended.items) }
+{
+    let mut ways = Ways {
+        successors: Vec::new(alloc),
+        ended: Vec::new(alloc),
+    };
+    for transition in transitions {
+        let copy = copy_of(alloc, machine)?;
+        let way = way_by(alloc, classes, limits, log, copy, *transition)?;
+        add(&mut ways, way)?;
+    }
+    Ok(ways)
+}
+
+// Follows each of these transitions: the last of them with the machine itself.
+fn follow_all<'d>(
+    alloc: Global,
+    classes: &[u32],
+    limits: Limits,
+    log: &mut TurnLog,
+    machine: Box<Machine<'d>>,
+    transitions: &[LooseTransition],
+) -> Result<Ways<'d>, AllocError>
+    requires order { IsInOrder (state_at machine.value) }
+    requires silent { machine.value.lines ≡ [] }
+    requires some_entry { 0 < limits.max_entries }
+    ensures { IfOk result (λ ways. AreLooseWaysFor (class_in classes.now) machine.entry.value.code limits (state_at machine.entry.value) transitions.now ways.successors.items ways.ended.items) }
+{
+    match transitions.split_last() {
+        Some((last, others)) => {
+            let mut ways = follow_each(alloc, classes, limits, log, &machine, others)?;
+            let way = way_by(alloc, classes, limits, log, machine, *last)?;
+            add(&mut ways, way)?;
+            Ok(ways)
+        }
+        None => follow_each(alloc, classes, limits, log, &machine, transitions),
+    }
+}
+
+// A run may have this end here, and goes on in no way.
+fn halts<'d>(
+    alloc: Global,
+    end: End,
+) -> Result<Expanded<LooseNode<'d>, LooseTransition, End>, AllocError>
+    ensures one { IfOk result (λ x. (ended : EndedPath LooseTransition End) × (x.ended.items ≡ ended ∷ []) × (ended.end ≡ end) × (ended.printed.items ≡ []) × (ended.moves.items ≡ [])) }
+    ensures none { IfOk result (λ x. x.successors.items ≡ []) }
+{
+    let mut ended = Vec::new(alloc);
+    ended.push(EndedPath {
+        printed: Vec::new(alloc),
+        end,
+        moves: Vec::new(alloc),
+    })?;
+    Ok(Expanded {
+        successors: Vec::new(alloc),
+        ended,
+        whole: true,
+    })
+}
+
+// Follows each transition that may be taken, and none where the run has as many entries as it may have.
+fn branch<'d>(
+    alloc: Global,
+    classes: &[u32],
+    limits: Limits,
+    log: &mut TurnLog,
+    machine: Box<Machine<'d>>,
+) -> Result<Expanded<LooseNode<'d>, LooseTransition, End>, AllocError>
+    requires order { IsInOrder (state_at machine.value) }
+    requires silent { machine.value.lines ≡ [] }
+    requires some_entry { 0 < limits.max_entries }
+    requires goes_on { GoesOn limits (state_at machine.value) }
+    ensures next { IfOk result (λ x. All (IsLooseWayOn (class_in classes.now) machine.entry.value.code limits (state_at machine.entry.value)) x.successors.items) }
+    ensures sound { IfOk result (λ x. All (IsLooseWayToEnd (class_in classes.now) machine.entry.value.code limits (state_at machine.entry.value)) x.ended.items) }
+    ensures all { IfOk result (λ x. IsTrue x.whole → AreAllLooseWays (class_in classes.now) machine.entry.value.code limits (state_at machine.entry.value) x.successors.items x.ended.items) }
+{
+    if machine.state().entries() >= u64::from(limits.max_entries) {
+        return Ok(Expanded {
+            successors: Vec::new(alloc),
+            ended: Vec::new(alloc),
+            whole: false,
+        });
+    }
+    let transitions = loose_choices(alloc, &machine, classes)?;
+    let Ways { successors, ended } = follow_all(
+        alloc,
+        classes,
+        limits,
+        log,
+        machine,
+        &transitions,
+    )?;
+    Ok(Expanded {
+        successors,
+        ended,
+        whole: true,
+    })
+}
+
+/// Follows each loose transition that may be taken where a machine stands. Ways are left out where the run has as many entries as it may
+/// have, and goes on from there: no way leads past that.
+pub(crate) fn expand<'d>(
+    alloc: Global,
+    classes: &[u32],
+    limits: Limits,
+    log: &mut TurnLog,
+    machine: Box<Machine<'d>>,
+) -> Result<Expanded<LooseNode<'d>, LooseTransition, End>, AllocError>
+    requires order { IsInOrder (state_at machine.value) }
+    requires silent { machine.value.lines ≡ [] }
+    requires bounded { AreBounded limits }
+    ensures next { IfOk result (λ x. All (IsLooseWayOn (class_in classes.now) machine.entry.value.code limits (state_at machine.entry.value)) x.successors.items) }
+    ensures sound { IfOk result (λ x. All (IsLooseWayToEnd (class_in classes.now) machine.entry.value.code limits (state_at machine.entry.value)) x.ended.items) }
+    ensures all { IfOk result (λ x. IsTrue x.whole → AreAllLooseWays (class_in classes.now) machine.entry.value.code limits (state_at machine.entry.value) x.successors.items x.ended.items) }
+{
+    match end_at(limits, &machine) {
+        Some(end) => halts(alloc, end),
+        None => branch(alloc, classes, limits, log, machine),
+    }
+}

@@ -1,0 +1,63 @@
+//! A node of the search: where a loose run so far has come to.
+ghost use Rattle.std.specs.Prelude.{OnOk, IfOk, ◌≡◌};
+ghost use Rattle.loose.specs.Classes.{class_in};
+ghost use Rattle.statekeys.specs.ClassKeys.{IsClassKey};
+
+use regions::Machine;
+use statekeys::{Scratch, class_key};
+use std::alloc::{AllocError, Global};
+use turn::TurnLog;
+
+/// Where a loose run so far has come to: the machine that took its transitions, with none of their lines left in it. It is on the heap,
+/// so that a node is moved and dropped as a pointer.
+#[derive(Drop)]
+pub struct LooseNode<'d> {
+    pub machine: Box<Machine<'d>>,
+}
+
+/// What is kept from one node to the next: a log that machines are lent for their turns, and room in which keys are made.
+#[derive(Drop)]
+pub(crate) struct SearchRoom {
+    pub(crate) log: TurnLog,
+    scratch: Scratch,
+}
+
+impl SearchRoom {
+    /// No room yet.
+    pub(crate) fn new(alloc: Global) -> SearchRoom {
+        SearchRoom {
+            log: TurnLog::new(alloc),
+            scratch: Scratch::new(alloc),
+        }
+    }
+
+    /// Fills `bytes` with the class key of a machine's state.
+    pub(crate) fn fill_key(
+        &mut self,
+        bytes: &mut Vec<u8>,
+        machine: &Machine<'_>,
+        classes: &[u32],
+    ) -> Result<(), AllocError>
+        ensures { OnOk result (IsClassKey (class_in classes.now) machine.now.core machine.now.values bytes.new.items) }
+    {
+        class_key(
+            bytes,
+            &mut self.scratch,
+            machine.state(),
+            machine.store(),
+            classes,
+        )
+    }
+}
+
+/// A copy of a machine, on the heap.
+pub(crate) fn copy_of<'d>(
+    alloc: Global,
+    machine: &Machine<'d>,
+) -> Result<Box<Machine<'d>>, AllocError>
+    ensures { IfOk result (λ copy. copy.value ≡ machine.now) }
+{
+    let copy = machine.copy(alloc)?;
+    let boxed = Box::new(alloc, copy)?;
+    Ok(boxed)
+}
