@@ -13,7 +13,7 @@ use Rattle.model.specs.Design.{Design}
 use Rattle.model.specs.States.{Action, Evaluate, Event, State}
 use Rattle.model.specs.Runs.{Effect, action_in, has_any, any_of, turn_of, joined, least_time, time_refusal, EndsIn, HasLongTurn, IsPastLimit}
 use Rattle.model.proofs.RunLaws.{where_none}
-use Rattle.orders.specs.SearchLaws.{EndsHere}
+use Rattle.model.specs.Texts.{EndsHere}
 use Rattle.loose.specs.declared.transition.LooseTransition.{LooseTransition}
 use Rattle.loose.specs.declared.transition.LooseTransition.TheVariants.{Process, FirstOf}
 use Rattle.loose.specs.Loose.{AlikeIn, loose_step, loose_run_from}

@@ -12,8 +12,8 @@ use Rattle.model.specs.Design.{Design}
 use Rattle.model.specs.Turns as turns
 use Rattle.model.specs.States.{Action, Evaluate, State}
 use Rattle.model.specs.Runs.{Effect, action_in, has_any, turn_of, turn_effect, action_effect, joined, silent, EndsIn}
+use Rattle.model.specs.Texts.{EndsHere}
 use Rattle.orders.specs.Alike.{IsInOrder}
-use Rattle.orders.specs.SearchLaws.{EndsHere}
 use Rattle.loose.specs.declared.transition.LooseTransition.{LooseTransition}
 use Rattle.loose.specs.declared.transition.LooseTransition.TheVariants.{Process, FirstOf, Change}
 use Rattle.loose.specs.Loose.{AlikeIn, loose_step, loose_transition_of, loose_transition_of_action}

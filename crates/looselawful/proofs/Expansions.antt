@@ -8,8 +8,8 @@ use Rattle.model.specs.declared.end.End.{End}
 use Rattle.model.specs.Design.{Design}
 use Rattle.model.specs.States.{State}
 use Rattle.model.specs.Runs.{silent}
+use Rattle.model.specs.Texts.{EndsHere}
 use Rattle.orders.specs.Alike.{IsInOrder}
-use Rattle.orders.specs.SearchLaws.{EndsHere}
 use Rattle.design.specs.Compiled.{Compiled, design_of}
 use Rattle.loose.specs.declared.transition.LooseTransition.{LooseTransition}
 use Rattle.loose.proofs.ClassStates.{states_in-same}

@@ -6,12 +6,12 @@ use Rattle.std.proofs.lemmas.List.Elements.{All-weaker}
 use Rattle.model.specs.declared.entry.Entry.{Entry}
 use Rattle.model.specs.declared.end.Limits.{Limits}
 use Rattle.model.specs.declared.end.End.{End}
+use Rattle.model.specs.Texts.{AreAllTexts, IsLawfulText}
 use Rattle.design.specs.Compiled.{Compiled, design_of}
 use Rattle.explore.specs.declared.Shown.{Shown}
 use Rattle.explore.specs.Search.{IsShown, AreAllShown}
 use Rattle.loose.specs.declared.transition.LooseTransition.{LooseTransition}
 use Rattle.looseruns.proofs.LooseSearches.{all_loose_shown_are_all}
-use Rattle.walks.specs.JournalsInTime.{AreAllTexts, IsLawfulText}
 use Rattle.looselawful.specs.LooseNodes.{HoldsEffect, searched_runs}
 use Rattle.looselawful.specs.Journals.{HasJournal, AreShownLawfully}
 use Rattle.looselawful.proofs.ShownLawfully.{still_shown}

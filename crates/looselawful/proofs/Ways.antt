@@ -15,8 +15,8 @@ use Rattle.model.specs.Design.{Design}
 use Rattle.model.specs.States.{State, start}
 use Rattle.model.specs.Runs.{Effect, silent, joined, entry_refusal, HasLongTurn}
 use Rattle.model.proofs.RunLaws.{where_none}
+use Rattle.model.specs.Texts.{EndsHere}
 use Rattle.orders.specs.Alike.{IsInOrder}
-use Rattle.orders.specs.SearchLaws.{EndsHere}
 use Rattle.orders.proofs.SearchLaws.{then_some}
 use Rattle.orders.proofs.StatesInOrder.{start_is_in_order}
 use Rattle.design.specs.Compiled.{Compiled, design_of}

@@ -9,10 +9,10 @@ use Rattle.model.specs.declared.end.End.{End}
 use Rattle.model.specs.declared.end.End.TheVariants.{Stopped}
 use Rattle.model.specs.States.{State}
 use Rattle.model.specs.Runs.{Effect, silent, last_time, HasLongTurn}
+use Rattle.model.specs.Texts.{EndsHere}
 use Rattle.design.specs.Compiled.{Compiled, design_of}
 use Rattle.design.specs.DesignInvariant.{controls_of}
 use Rattle.regions.specs.Machine.{state_at}
-use Rattle.orders.specs.SearchLaws.{EndsHere}
 use Rattle.loose.specs.declared.transition.LooseTransition.{LooseTransition}
 use Rattle.loose.specs.declared.transition.LooseTransition.TheVariants.{Process}
 use Rattle.loose.specs.Loose.{loose_transition_of, loose_step}

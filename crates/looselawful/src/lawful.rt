@@ -2,9 +2,9 @@
 ghost use Rattle.std.specs.Prelude.{◌≡◌, ◌<◌, ◌≤◌, length, None, Some, IfOk, IfSome};
 ghost use Rattle.std.specs.List.{All, AllPairs};
 ghost use Rattle.model.specs.Runs.{last_time};
+ghost use Rattle.model.specs.Texts.{AreAllTexts, IsLawfulText};
 ghost use Rattle.explore.specs.Search.{AreDistinct, IsShown};
 ghost use Rattle.design.specs.Compiled.{design_of};
-ghost use Rattle.walks.specs.JournalsInTime.{AreAllTexts, IsLawfulText};
 ghost use Rattle.explore.specs.declared.stopped.Stopped.TheVariants as stop;
 
 use crate::journals::with_journals;

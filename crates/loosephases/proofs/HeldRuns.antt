@@ -17,10 +17,10 @@ use Rattle.model.specs.States.{Action, Evaluate, Event, Continuation, State, sta
 use Rattle.model.specs.Runs.{Effect, silent, action_in, HasLongTurn, remainder_of, joined, turn_of, turn_effect, update_effect}
 use Rattle.model.specs.Laws.{evaluations_in}
 use Rattle.model.proofs.TurnLaws.{short_turn_found}
+use Rattle.model.specs.Texts.{EndsHere}
 use Rattle.orders.specs.Alike.{IsInOrder, updates_in}
 use Rattle.orders.specs.Apart.{all_given, continuation_after}
 use Rattle.orders.specs.Flat.{IsActive}
-use Rattle.orders.specs.SearchLaws.{EndsHere}
 use Rattle.orders.proofs.EventLists.{updates_left}
 use Rattle.orders.proofs.FlatRuns.{active_at}
 use Rattle.orders.proofs.InertUpdates.{goes_on}

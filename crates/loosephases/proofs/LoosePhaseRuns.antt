@@ -12,8 +12,8 @@ use Rattle.model.specs.Turns.{contains, short_turn}
 use Rattle.model.specs.States.{Action, Evaluate, Event, Continuation, State, start}
 use Rattle.model.specs.Runs.{Effect, silent, has_any, HasLongTurn, joined, turn_of}
 use Rattle.model.specs.Laws.{evaluations_in}
+use Rattle.model.specs.Texts.{EndsHere}
 use Rattle.orders.specs.Alike.{Alike, IsInOrder}
-use Rattle.orders.specs.SearchLaws.{EndsHere}
 use Rattle.orders.proofs.EventLists.{alike-same}
 use Rattle.orders.proofs.FlatRuns.{active_at}
 use Rattle.orders.proofs.InertUpdates.{both_ways, goes_on}

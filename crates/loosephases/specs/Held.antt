@@ -9,10 +9,10 @@ use Rattle.model.specs.Turns.{contains}
 use Rattle.model.specs.Turns as turns
 use Rattle.model.specs.States.{Evaluate, State}
 use Rattle.model.specs.Runs.{Effect, action_in, joined, turn_of}
+use Rattle.model.specs.Texts.{EndsHere}
 use Rattle.orders.specs.Alike.{IsInOrder}
 use Rattle.orders.specs.Apart.{continuation_after, written_by}
 use Rattle.orders.specs.Flat.{IsActive}
-use Rattle.orders.specs.SearchLaws.{EndsHere}
 use Rattle.loose.specs.Loose.{loose_step, loose_run_from}
 use Rattle.loose.specs.LooseLaws.{IsOneLooseNode}
 use Rattle.phases.specs.Phase.{Block, continuation_of, IsBlock, IsTurnPending, HasSettled, waits_for_register, updated_in, IsOutput, IsPhase}

@@ -9,8 +9,9 @@ use Rattle.model.specs.declared.end.End.{End}
 use Rattle.model.specs.Design.{Design}
 use Rattle.model.specs.States.{Action, Evaluate, State}
 use Rattle.model.specs.Runs.{Effect, action_in, AreTimely}
+use Rattle.model.specs.Texts.{EndsHere}
 use Rattle.orders.specs.Alike.{IsInOrder}
-use Rattle.orders.specs.SearchLaws.{IsOneNode, EndsHere}
+use Rattle.orders.specs.SearchLaws.{IsOneNode}
 use Rattle.loose.specs.Loose.{has_earlier_of_class, loose_step, loose_run, loose_run_from}
 use Rattle.loose.specs.LooseLaws.{IsOneLooseNode}
 use Rattle.phases.specs.Phase.{Block, IsPhase, TakesEvent}

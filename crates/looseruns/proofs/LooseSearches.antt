@@ -9,7 +9,7 @@ use Rattle.model.specs.Design.{Design}
 use Rattle.model.specs.States.{start}
 use Rattle.model.specs.Runs.{Effect, silent, run, run_from, EndsIn, Ends}
 use Rattle.model.proofs.RunLaws.{run_from-append}
-use Rattle.orders.specs.SearchLaws.{EndsHere}
+use Rattle.model.specs.Texts.{EndsHere}
 use Rattle.orders.proofs.StatesInOrder.{start_is_in_order, run_is_in_order}
 use Rattle.orders.proofs.TimelyRuns.{timely_after}
 use Rattle.loose.specs.declared.transition.LooseTransition.{LooseTransition}

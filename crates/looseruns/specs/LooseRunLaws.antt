@@ -7,7 +7,7 @@ use Rattle.model.specs.declared.end.End.{End}
 use Rattle.model.specs.declared.end.End.TheVariants.{Stopped}
 use Rattle.model.specs.Design.{Design}
 use Rattle.model.specs.Runs.{Effect, run, lines, AreTimely, Ends}
-use Rattle.orders.specs.SearchLaws.{EndsHere}
+use Rattle.model.specs.Texts.{EndsHere}
 use Rattle.loose.specs.declared.transition.LooseTransition.{LooseTransition}
 use Rattle.loose.specs.Loose.{AlikeIn}
 use Rattle.explore.specs.declared.Shown.{Shown}

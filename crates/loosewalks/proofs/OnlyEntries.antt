@@ -12,8 +12,8 @@ use Rattle.model.specs.declared.end.End.{End}
 use Rattle.model.specs.Design.{Design}
 use Rattle.model.specs.States.{State}
 use Rattle.model.specs.Runs.{Effect, silent, joined, action_in, turn_refusal, refused_where, entry_refusal, refusal, turn_effect, action_effect, effect, unless_refused, step, HasLongTurn}
+use Rattle.model.specs.Texts.{EndsHere}
 use Rattle.orders.specs.Alike.{IsInOrder}
-use Rattle.orders.specs.SearchLaws.{EndsHere}
 use Rattle.orders.proofs.SearchLaws.{then_some}
 use Rattle.loose.specs.declared.transition.LooseTransition.{LooseTransition}
 use Rattle.loose.specs.Loose.{loose_refusal, loose_transition_of}

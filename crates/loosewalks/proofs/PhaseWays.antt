@@ -12,8 +12,8 @@ use Rattle.model.specs.Design.{Design}
 use Rattle.model.specs.States.{Event, State}
 use Rattle.model.specs.Runs.{Effect, silent, joined, has_any}
 use Rattle.model.specs.Laws.{evaluates}
+use Rattle.model.specs.Texts.{EndsHere}
 use Rattle.orders.specs.Alike.{IsInOrder}
-use Rattle.orders.specs.SearchLaws.{EndsHere}
 use Rattle.orders.proofs.SearchLaws.{then_some}
 use Rattle.orders.proofs.InertUpdates.{goes_on}
 use Rattle.phases.specs.Phase.{Block, IsPhase, TakesEvent}
