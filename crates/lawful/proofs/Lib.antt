@@ -2,4 +2,5 @@
 pub mod Searches
 pub mod Ways
 pub mod Expansions
+pub mod Taken
 pub mod Remade

@@ -1,13 +1,13 @@
 -- A node that is made again by the entries of a journal stands at that journal.
-use Rattle.std.proofs.Common.{◌≡◌, ℕ, ◌+◌, List, ◌++◌, length, length-append, Some, sym, ap, ◌∙◌, subst, arith}
+use Rattle.std.proofs.Common.{◌≡◌, ◌+◌, List, ◌++◌, length, length-append, Some, sym, ap, ◌∙◌, subst}
 use Rattle.model.specs.declared.entry.Entry.{Entry}
 use Rattle.model.specs.declared.end.Limits.{Limits}
 use Rattle.model.specs.States.{State}
 use Rattle.model.specs.Runs.{silent, joined, run_from}
 use Rattle.design.specs.Compiled.{Compiled, design_of}
 use Rattle.design.specs.DesignInvariant.{controls_of}
-use Rattle.walks.proofs.RunParts.{runs_on}
-use Rattle.walks.proofs.Serving.{comes_on, came_on}
+use Rattle.timely.proofs.RunParts.{runs_on}
+use Rattle.timely.proofs.Serving.{comes_on, came_on}
 use Rattle.regions.specs.Machine.{state_at}
 use Rattle.lawful.specs.Again.{HasGoneAgain}
 use Rattle.lawful.specs.SearchNodes.{IsReadyNode, counted_runs}

@@ -15,19 +15,19 @@ use Rattle.explore.specs.declared.Successor.{Successor}
 use Rattle.explore.specs.declared.EndedPath.{EndedPath}
 use Rattle.explore.specs.declared.Shown.{Shown}
 use Rattle.explore.specs.Search.{IsEndless, IsShown, IsOfRun, IsSuccessor, IsEndedPath, IsCovered, AreAllShown}
-use Rattle.walks.specs.JournalsInTime.{text_of, ComeToOneNode}
-use Rattle.walks.specs.Cover.{LeadOn, CoverRuns, FollowTransitions}
+use Rattle.timely.specs.JournalsInTime.{text_of, ComeToOneNode}
+use Rattle.timely.specs.Cover.{LeadOn, CoverRuns, FollowTransitions}
 use Rattle.lawful.specs.DesignRuns.{runs_of, AlikeRunsServe, KeyedRunsAreAlike, RunsBeginSilent, ShownIsLawful, AllShownAreAll}
-use Rattle.walks.specs.Going.{GoesOnTo}
+use Rattle.timely.specs.Going.{GoesOnTo}
 use Rattle.design.specs.Compiled.{Compiled, design_of}
 use Rattle.lawful.specs.SearchNodes.{HoldsEffect, counted_runs}
 use Rattle.lawful.specs.Expanding.{EntriesLeadToNext, EntriesLeadToEnd, ways_to, TellsEnds, CoveringIsCovered, FollowingIsCovered}
-use Rattle.walks.proofs.Lists.{all_map, any_of_map}
-use Rattle.walks.proofs.RunParts.{runs_on}
+use Rattle.timely.proofs.Lists.{all_map, any_of_map}
+use Rattle.timely.proofs.RunParts.{runs_on}
 use Rattle.lawful.specs.Serving.{alike_serve, keyed_alike}
-use Rattle.walks.proofs.Serving.{comes_on, text_is}
-use Rattle.walks.proofs.Covering.{followed_transitions_cover, ends_are_the_states}
-use Rattle.walks.proofs.LawfulTexts.{ends_are_lawful, all_may_end}
+use Rattle.timely.proofs.Serving.{comes_on, text_is}
+use Rattle.timely.proofs.Covering.{followed_transitions_cover, ends_are_the_states}
+use Rattle.timely.proofs.LawfulTexts.{ends_are_lawful, all_may_end}
 
 pub shown_of_run : {Node : Type 0} (HoldsEffect : Node → Effect → Type 0) (design : Design) (limits : Limits) (shown : Shown Entry End) → IsOfRun (runs_of HoldsEffect design limits) shown → IsLawfulText design limits shown.moves.items shown.text.items shown.end
 shown_of_run HoldsEffect design limits shown (ends, text, _) =

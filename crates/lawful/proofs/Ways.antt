@@ -1,5 +1,5 @@
 -- What following entries from a state comes to.
-use Rattle.std.proofs.Common.{◌≡◌, ℕ, ◌<◌, ◌≤◌, List, [], ◌∷◌, ◌++◌, length, length-append, Option, Some, None, false, refl, sym, ap, ◌∙◌, subst, arith, get_or}
+use Rattle.std.proofs.Common.{◌≡◌, ℕ, ◌<◌, List, [], ◌∷◌, ◌++◌, length, length-append, Option, Some, None, false, refl, sym, ap, ◌∙◌, subst, arith, get_or}
 use Rattle.std.specs.Prelude.{option_map, option_and_then}
 use Rattle.std.specs.List.{All, Contains}
 use Rattle.std.proofs.lemmas.List.Elements.{All-nil, All-cons, All-weaker, All-push, All-contains, Contains-append_left, Contains-append_right}
@@ -28,8 +28,8 @@ use Rattle.explore.specs.declared.EndedPath.{EndedPath}
 use Rattle.explore.specs.Grown.{Extends}
 use Rattle.explore.specs.Search.{IsSuccessor, IsEndedPath, IsCovered}
 use Rattle.explore.proofs.Complete.{Any-extends}
-use Rattle.walks.specs.Cover.{FollowTransitions}
-use Rattle.walks.specs.Going.{GoesOnTo}
+use Rattle.timely.specs.Cover.{FollowTransitions}
+use Rattle.timely.specs.Going.{GoesOnTo}
 use Rattle.lawful.specs.Expanding.{ways_to}
 use Rattle.lawful.specs.DesignRuns.{StandsAt}
 use Rattle.lawful.specs.SearchNodes.{CountsEntries, IsCountedOn, IsHere, IsReadyNode, HoldsEffect, lawful_runs, counted_runs, IsWayOn, IsWayToEnd, IsToldHere, IsFollowedIn, AreWaysFor, AreAllWays}
@@ -39,9 +39,8 @@ use Rattle.lawful.specs.declared.expand.Way.{Way}
 use Rattle.lawful.specs.declared.expand.Way.TheVariants.{On, Long, Past}
 use Rattle.runs.specs.Halting.{GoesOn}
 use Rattle.runs.proofs.Halts.{only_long_turns_end}
-use Rattle.walks.proofs.LongTurns.{step_is_permitted, stuck_is_long_turn, long_turn_is_stuck}
-use Rattle.walks.proofs.Covering.{followed_transitions_cover, permitted_are_followed}
-use Rattle.walks.proofs.Straight.{running}
+use Rattle.timely.proofs.LongTurns.{running, step_is_permitted, stuck_is_long_turn, long_turn_is_stuck}
+use Rattle.timely.proofs.Covering.{followed_transitions_cover, permitted_are_followed}
 use Rattle.lawful.proofs.Searches.{leads_to_next, leads_to_end, lead_on, covered_by}
 
 nothing : (o : Option Refusal) → unless_refused o None ≡ None
@@ -160,7 +159,7 @@ more_one_on begun xs more ys all Past before one (same, same') =
 -- where one entry leads to each successor, each is counted, as long as a run may have one more
 pub one_on_counted : (limits : Limits) (begun : ℕ) (xs : List (Successor DesignNode Entry)) → begun < limits.max_entries → All (IsOneOn begun) xs → All (IsCountedOn limits begun) xs
 one_on_counted limits begun xs less =
-    All-weaker (IsOneOn begun) (IsCountedOn limits begun) (λ next (long, count). record { count = omega (arith, long, count); within = λ _. omega (arith, less, count) }) xs
+    All-weaker (IsOneOn begun) (IsCountedOn limits begun) (λ next (long, count). record { count = omega (arith, long, count); within = omega (arith, less, count) }) xs
 
 -- successors whose entries are counted stand where a run has no more than it may have
 pub counted_next : (code : Compiled) (limits : Limits) (node : DesignNode) (run : List Entry) (successors : List (Successor DesignNode Entry)) → CountsEntries limits node run → All (IsSuccessor (lawful_runs code limits) run) successors → All (IsCountedOn limits node.machine.value.core.entries) successors → All (IsSuccessor (counted_runs code limits) run) successors
@@ -168,10 +167,8 @@ counted_next code limits node run successors counts nexts counted k d within =
     let next = get_or successors k d in
     let is = nexts k d within in
     let on = counted k d within in
-    let begun : node.machine.value.core.entries ≤ limits.max_entries = let few = counts.within in omega (arith, counts.count, few) in
-    let most = on.within begun in
     let same : next.node.machine.value.core.entries ≡ length (run ++ next.moves.items) = omega (arith, on.count, counts.count, length-append run next.moves.items) in
-    ((is.0, record { count = same; within = omega (arith, same, most) }), is.1)
+    ((is.0, record { count = same; within = omega (arith, same, on.within) }), is.1)
 
 -- ends to which no entry leads have no more entries than the run
 pub counted_ended : (code : Compiled) (limits : Limits) (node : DesignNode) (run : List Entry) (ended : List (EndedPath Entry End)) → CountsEntries limits node run → All (IsEndedPath (lawful_runs code limits) run) ended → All IsHere ended → All (IsEndedPath (counted_runs code limits) run) ended

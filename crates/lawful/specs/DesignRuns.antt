@@ -11,7 +11,7 @@ use Rattle.orders.specs.SearchLaws.{IsOneNode}
 use Rattle.explore.specs.declared.Shown.{Shown}
 use Rattle.explore.specs.SearchedRuns.{Runs}
 use Rattle.explore.specs.Search.{IsShown, IsOfRun, Serves, AreAllShown}
-use Rattle.walks.specs.JournalsInTime.{text_of, ComeToOneNode}
+use Rattle.timely.specs.JournalsInTime.{text_of, ComeToOneNode}
 
 -- a node stands at a journal if it holds what comes of it
 abbrev pub StandsAt : {Node : Type 0} → (Node → Effect → Type 0) → Design → Limits → Node → List Entry → Type 0

@@ -11,8 +11,8 @@ use Rattle.orders.specs.SearchLaws.{IsOneNode}
 use Rattle.explore.specs.declared.Successor.{Successor}
 use Rattle.explore.specs.declared.EndedPath.{EndedPath}
 use Rattle.explore.specs.Search.{IsSuccessor, IsEndedPath, IsCovered}
-use Rattle.walks.specs.Going.{GoesOnTo}
-use Rattle.walks.specs.Cover.{CoverRuns, FollowTransitions}
+use Rattle.timely.specs.Going.{GoesOnTo}
+use Rattle.timely.specs.Cover.{CoverRuns, FollowTransitions}
 use Rattle.lawful.specs.DesignRuns.{plain_runs}
 
 -- a successor whose node holds what its entries lead to, with the lines that these print, is a next one

@@ -12,8 +12,7 @@ use Rattle.model.specs.Runs.{action_in, turn_of, IsTimely}
 use Rattle.design.specs.Compiled.{Compiled, design_of}
 use Rattle.explore.specs.declared.Successor.{Successor}
 use Rattle.explore.specs.declared.EndedPath.{EndedPath}
-use Rattle.regions.specs.Machine.{MachineView, state_at}
-use Rattle.lawful.specs.SearchNodes.{IsHere, IsReadyNode, IsWayOn, IsWayToEnd}
+use Rattle.lawful.specs.SearchNodes.{IsHere, IsWayOn, IsWayToEnd}
 use Rattle.lawful.specs.declared.node.DesignNode.{DesignNode}
 use Rattle.lawful.specs.declared.expand.Way.{Way}
 use Rattle.lawful.specs.declared.expand.Way.TheVariants.{On, Long, Past}
@@ -65,9 +64,3 @@ abbrev pub IsAdded : Way → List (Successor DesignNode Entry) → List (EndedPa
 IsAdded (On next) successors ended more all = (more ≡ successors ++ next ∷ []) × (all ≡ ended)
 IsAdded (Long end) successors ended more all = (more ≡ successors) × (all ≡ ended ++ end ∷ [])
 IsAdded Past successors ended more all = (more ≡ successors) × (all ≡ ended)
-
--- There is one successor, at the node of a machine, with the lines that are left in it, by these entries.
-abbrev pub IsArrived : MachineView → List Entry → List (Successor DesignNode Entry) → Type 0
-IsArrived m moves xs =
-    (next : Successor DesignNode Entry) × (xs ≡ next ∷ []) × (next.moves.items ≡ moves) × (next.printed.items ≡ m.lines) × IsReadyNode m.code next.node × (state_at next.node.machine.value ≡ state_at m)
-    × (next.node.machine.value.core.entries ≡ m.core.entries)

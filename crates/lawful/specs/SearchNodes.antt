@@ -1,5 +1,5 @@
 -- What a node of the search holds, and what comes of following the ways from it.
-use Rattle.std.specs.Prelude.{◌≡◌, ℕ, ◌<◌, ◌≤◌, List, [], ◌∷◌, length, Some, None}
+use Rattle.std.specs.Prelude.{◌≡◌, ℕ, ◌+◌, ◌<◌, ◌≤◌, List, [], ◌∷◌, length, Some, None}
 use Rattle.std.specs.List.{All, Any, Contains}
 use Rattle.std.specs.Option.{ForSome}
 use Rattle.model.specs.declared.entry.Entry.{Entry}
@@ -17,10 +17,9 @@ use Rattle.regions.specs.Machine.{state_at}
 use Rattle.explore.specs.declared.Successor.{Successor}
 use Rattle.explore.specs.declared.EndedPath.{EndedPath}
 use Rattle.explore.specs.SearchedRuns.{Runs}
-use Rattle.walks.specs.JournalsInTime.{text_of, ComeToOneNode}
-use Rattle.walks.specs.Walking.{HasCounted}
-use Rattle.walks.specs.Cover.{CoverRuns}
-use Rattle.walks.specs.Going.{GoesOnTo}
+use Rattle.timely.specs.JournalsInTime.{text_of, ComeToOneNode}
+use Rattle.timely.specs.Cover.{CoverRuns}
+use Rattle.timely.specs.Going.{GoesOnTo}
 use Rattle.lawful.specs.Expanding.{ways_to}
 use Rattle.lawful.specs.DesignRuns.{runs_of, StandsAt}
 use Rattle.lawful.specs.declared.node.DesignNode.{DesignNode}
@@ -61,9 +60,10 @@ counted_runs code limits =
       Stands = λ node journal. StandsAt (HoldsEffect code) (design_of code) limits node journal × CountsEntries limits node journal;
     }
 
--- a successor's machine has counted the entries that lead to it, and has no more than a run may have
-abbrev pub IsCountedOn : Limits → ℕ → Successor DesignNode Entry → Type 0
-IsCountedOn limits begun next = HasCounted limits begun next.node.machine.value next.moves.items
+-- A successor's machine has counted the entries that lead to it, behind so many, and has no more than a run may have.
+pub record IsCountedOn (limits : Limits) (begun : ℕ) (next : Successor DesignNode Entry) : Type 0 where
+  pub count : next.node.machine.value.core.entries ≡ begun + length next.moves.items
+  pub within : next.node.machine.value.core.entries ≤ limits.max_entries
 
 -- no entry leads to an end
 abbrev pub IsHere : EndedPath Entry End → Type 0

@@ -13,8 +13,8 @@ use Rattle.regions.specs.Queue.{state_of}
 use Rattle.statekeys.specs.Keys.{IsKey}
 use Rattle.statekeys.proofs.Alikeness.{keys_tell_states}
 use Rattle.explore.specs.Search.{Serves}
-use Rattle.walks.specs.JournalsInTime.{text_of, ComeToOneNode}
-use Rattle.walks.proofs.Serving.{text_is, alike_journals_serve}
+use Rattle.timely.specs.JournalsInTime.{text_of, ComeToOneNode}
+use Rattle.timely.proofs.Serving.{text_is, alike_journals_serve}
 use Rattle.lawful.specs.DesignRuns.{StandsAt, runs_of, TellAlike}
 use Rattle.lawful.specs.SearchNodes.{HoldsEffect, lawful_runs}
 use Rattle.lawful.specs.declared.node.DesignNode.{DesignNode}

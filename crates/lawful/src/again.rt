@@ -1,14 +1,12 @@
 //! A machine made again by its entries, and how many bytes one takes.
 ghost use Rattle.std.specs.Prelude.{◌≡◌, IfOk, OnOk};
-ghost use Rattle.walks.specs.Walking.{HasTaken};
-ghost use Rattle.lawful.specs.Again.{HasGoneAgain};
+ghost use Rattle.lawful.specs.Again.{HasGoneAgain, HasTaken};
 
-use crate::node::SearchRoom;
+use crate::node::{SearchRoom, copy_of};
 use model::entry::Entry;
 use regions::{Continuation, Due, Evaluation, Machine, Update};
 use std::alloc::{AllocError, Global};
 use turn::TurnLog;
-use walks::copy_of;
 
 // About how many bytes a machine takes besides its registers, its processes and its events.
 const MACHINE_BYTES: usize = 1024;

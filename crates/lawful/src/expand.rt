@@ -11,20 +11,17 @@ ghost use Rattle.runs.specs.Halting.{GoesOn};
 ghost use Rattle.design.specs.Compiled.{design_of};
 ghost use Rattle.regions.specs.Machine.{most_entries, state_at, IsNotTaken};
 ghost use Rattle.regions.specs.StepLogs.{IsTaken};
-ghost use Rattle.walks.specs.Walking.{HasCounted, HasWalked};
-ghost use Rattle.lawful.specs.Following.{AreOneOn, IsAdded, IsArrived, IsCountedBy, IsTurnOf, IsWayBy, TellsLong};
+ghost use Rattle.lawful.specs.Following.{AreOneOn, IsAdded, IsCountedBy, IsTurnOf, IsWayBy, TellsLong};
 ghost use Rattle.lawful.specs.SearchNodes.{AreAllWays, AreBounded, AreWaysFor, IsCountedOn, IsHere, IsReadyNode, IsWayOn, IsWayToEnd};
 
-use crate::node::{DesignNode, SearchRoom};
+use crate::node::{DesignNode, copy_of};
 use explore::{EndedPath, Expanded, Successor};
 use model::end::{End, Limits, Why};
 use model::entry::Entry;
 use regions::{Machine, TakeFault};
 use runs::halting::{end_at, is_timely};
-use settling::AnalyzedDesign;
 use std::alloc::{AllocError, Global};
 use turn::TurnLog;
-use walks::{copy_of, tell_long, walk_on};
 
 /// What one entry leads to.
 #[derive(Drop)]
@@ -83,6 +80,23 @@ fn process_of(machine: &Machine<'_>, entry: Entry) -> u32
             None => unreachable!(),
         },
         _ => unreachable!(),
+    }
+}
+
+// Tells that an entry, which the rules permit, wasn't taken since it is a turn that isn't short. Fails where memory was refused to it
+// instead.
+fn tell_long(machine: &Machine<'_>, entry: Entry, fault: TakeFault) -> Result<(), AllocError>
+    requires permitted { refusal (state_at machine.now) entry ≡ None }
+    requires few { machine.now.core.entries < most_entries }
+    requires fault { IsNotTaken machine.now entry fault }
+    ensures { IfOk result (λ nothing. step (design_of machine.now.code) (state_at machine.now) entry ≡ None) }
+{
+    match fault {
+        TakeFault::TooLong => Ok(()),
+        TakeFault::ApplyMemory => Err(AllocError),
+        TakeFault::Memory => Err(AllocError),
+        TakeFault::Refused(_) => unreachable!(),
+        TakeFault::TooMany => unreachable!(),
     }
 }
 
@@ -267,56 +281,14 @@ fn branch<'d>(
     })
 }
 
-// Goes on by one node, to which the only way leads.
-fn arrive<'d>(
-    alloc: Global,
-    machine: Box<Machine<'d>>,
-    moves: Vec<Entry>,
-) -> Result<Expanded<DesignNode<'d>, Entry, End>, AllocError>
-    ensures one { IfOk result (λ x. IsArrived machine.entry.value moves.items x.successors.items) }
-    ensures none { IfOk result (λ x. x.ended.items ≡ []) }
-{
-    let next = next_of(machine, moves);
-    let mut successors = Vec::new(alloc);
-    successors.push(next)?;
-    Ok(Expanded {
-        successors,
-        ended: Vec::new(alloc),
-        whole: true,
-    })
-}
-
-// Goes on from where a machine stands as long as one order stands for all, with logs that are kept.
-fn walk_with(
-    alloc: Global,
-    analyzed_design: &AnalyzedDesign<'_>,
-    limits: Limits,
-    machine: &mut Machine<'_>,
-    room: &mut SearchRoom,
-) -> Result<Vec<Entry>, AllocError>
-    requires code { machine.old.code ≡ analyzed_design.now }
-    requires silent { machine.old.lines ≡ [] }
-    ensures code { machine.new.code ≡ machine.old.code }
-    ensures walked { IfOk result (λ moves. HasWalked limits (state_at machine.old) machine.new moves.items) }
-    ensures counted { IfOk result (λ moves. HasCounted limits machine.old.core.entries machine.new moves.items) }
-{
-    machine.exchange_log(&mut room.log);
-    let walked = walk_on(alloc, analyzed_design, limits, &mut room.logs, machine);
-    machine.exchange_log(&mut room.log);
-    walked
-}
-
-/// Follows each way from where a machine stands. Where one way stands for all it goes on by that, up to the next choice or for some
-/// hundred steps. Ways are left out where the journal has as many entries as it may have, and a run goes on from there: no way leads
-/// past that.
+/// Follows each entry that the rules permit where a machine stands, and tells the ends that a run may have there. Ways are left out where
+/// the journal has as many entries as it may have, and a run goes on from there: no way leads past that.
 pub(crate) fn expand<'d>(
     alloc: Global,
-    analyzed_design: &AnalyzedDesign<'_>,
     limits: Limits,
-    room: &mut SearchRoom,
+    log: &mut TurnLog,
     machine: Box<Machine<'d>>,
 ) -> Result<Expanded<DesignNode<'d>, Entry, End>, AllocError>
-    requires code { machine.value.code ≡ analyzed_design.now }
     requires silent { machine.value.lines ≡ [] }
     requires bounded { AreBounded limits }
     ensures next { IfOk result (λ x. All (IsWayOn machine.entry.value.code limits (state_at machine.entry.value)) x.successors.items) }
@@ -326,14 +298,7 @@ pub(crate) fn expand<'d>(
     ensures rest { IfOk result (λ x. All IsHere x.ended.items) }
 {
     match end_at(limits, &machine) {
-        Some(end) => return halts(alloc, end),
-        None => {}
-    }
-    let mut machine = machine;
-    let moves = walk_with(alloc, analyzed_design, limits, &mut machine, room)?;
-    if moves.is_empty() {
-        branch(alloc, limits, &mut room.log, machine)
-    } else {
-        arrive(alloc, machine, moves)
+        Some(end) => halts(alloc, end),
+        None => branch(alloc, limits, log, machine),
     }
 }

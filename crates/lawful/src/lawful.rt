@@ -1,133 +1,28 @@
-//! The lawful orders of a design, as a search follows them.
-ghost use Rattle.std.specs.Prelude.{◌≡◌, ◌<◌, ◌≤◌, [], length, None, Some, IfOk, IfSome};
+//! All lawful orders of a design: by its loose runs where these tell them, and else entry by entry.
+ghost use Rattle.std.specs.Prelude.{◌≡◌, ◌<◌, ◌≤◌, length, None, Some, IfSome};
 ghost use Rattle.std.specs.List.{All, AllPairs, Any};
-ghost use Rattle.model.specs.States.{start};
 ghost use Rattle.model.specs.Runs.{last_time};
 ghost use Rattle.model.specs.Texts.{IsWithinLimits, IsLawfulText, AreAllTexts, IsEndlessJournal};
-ghost use Rattle.regions.specs.Machine.{state_at};
 ghost use Rattle.design.specs.Compiled.{design_of};
-ghost use Rattle.lawful.specs.SearchNodes.{AreBounded};
 ghost use Rattle.explore.specs.declared.stopped.Stopped.TheVariants as stop;
 
-use crate::again::{again, weight};
-use crate::expand::expand;
-use crate::node::{DesignNode, SearchRoom};
+use crate::search::strict_orders;
 use design::Design;
-use explore::{Bounds, Expanded, Explored, Orders, explore};
+use explore::{Bounds, Explored};
+use looselawful::loose_orders;
 use model::end::{End, Limits};
 use model::entry::Entry;
 use progress::Progress;
-use regions::Machine;
-use settling::AnalyzedDesign;
-use std::alloc::{AllocError, Global};
-
-// The start of a design's run, on the heap.
-fn start_of<'d>(alloc: Global, design: &'d Design) -> Result<Box<Machine<'d>>, AllocError>
-    ensures code { IfOk result (λ machine. machine.value.code ≡ design.now) }
-    ensures state { IfOk result (λ machine. state_at machine.value ≡ start (design_of design.now)) }
-    ensures lines { IfOk result (λ machine. machine.value.lines ≡ []) }
-    ensures entries { IfOk result (λ machine. machine.value.core.entries ≡ 0) }
-{
-    let machine = Machine::start(alloc, design)?;
-    let boxed = Box::new(alloc, machine)?;
-    Ok(boxed)
-}
-
-// The lawful journals of a design in time.
-#[derive(Drop)]
-struct Lawful<'d> {
-    analyzed_design: AnalyzedDesign<'d>,
-    limits: Limits,
-    ghost bounded: { AreBounded limits },
-}
-
-impl<'d> Orders for Lawful<'d> {
-    ghost use Rattle.std.specs.Prelude.{refl};
-    ghost use Rattle.statekeys.specs.Keys.{IsKey};
-    ghost use Rattle.lawful.specs.SearchNodes.{counted_runs};
-    ghost use Rattle.lawful.specs.Serving.{lawful_alike, lawful_keyed};
-
-    type Move = Entry;
-
-    type Node = DesignNode<'d>;
-
-    type End = End;
-
-    type Room = SearchRoom;
-
-    ghost runs = { λ o. counted_runs o.analyzed_design o.limits };
-
-    ghost has_key = { λ _ node key. IsKey node.machine.value.core node.machine.value.values key };
-
-    // The machine at the start of the design's run.
-    fn start(&self, alloc: Global) -> Result<DesignNode<'d>, AllocError> {
-        let machine = start_of(alloc, self.analyzed_design.design())?;
-        machine.stands();
-        Ok(DesignNode { machine })
-    }
-
-    fn room(&self, alloc: Global) -> SearchRoom {
-        SearchRoom::new(alloc)
-    }
-
-    // Follows the ways that go on from a node in time, with the combinational processes that were found once.
-    fn expand(
-        &self,
-        alloc: Global,
-        room: &mut SearchRoom,
-        node: DesignNode<'d>,
-    ) -> Result<Expanded<DesignNode<'d>, Entry, End>, AllocError> {
-        let expanded = expand(
-            alloc,
-            &self.analyzed_design,
-            self.limits,
-            room,
-            node.machine,
-        )?;
-        Ok(expanded)
-    }
-
-    fn key(
-        &self,
-        room: &mut SearchRoom,
-        key: &mut Vec<u8>,
-        node: &DesignNode<'d>,
-    ) -> Result<(), AllocError> {
-        room.fill_key(key, &node.machine)
-    }
-
-    fn weight(&self, node: &DesignNode<'d>) -> usize {
-        weight(&node.machine)
-    }
-
-    // The machine of a node after these further entries; the node's own stays where it stands.
-    fn again(
-        &self,
-        alloc: Global,
-        room: &mut SearchRoom,
-        from: &DesignNode<'d>,
-        moves: &[Entry],
-    ) -> Result<DesignNode<'d>, AllocError> {
-        let machine = again(alloc, room, &from.machine, moves)?;
-        Ok(DesignNode { machine })
-    }
-
-    fn same_end(&self, a: &End, b: &End) -> bool {
-        *a == *b
-    }
-
-    ghost silent = { λ _. refl };
-
-    ghost alike = { λ o i j a. lawful_alike o.analyzed_design o.limits i j a };
-
-    ghost keyed = { λ o a b i j key of_a of_b at bt text. lawful_keyed o.analyzed_design o.limits a b i j key of_a of_b at.0 bt.0 text };
-}
+use std::alloc::Global;
 
 /// Searches all lawful orders of a design within these limits (11.4), on one thread. Each text that is shown is that of the lawful
 /// journal beside it, and so is its end; no two have one text and one end; and where the search wasn't stopped, every lawful journal
 /// in time that ends, but by the most entries or for want of memory, has a text and an end that are shown. What stopped it is told
 /// (`Unfollowed`: a run has the most entries), and so is a lawful journal from which no run comes to an end, where one is known. No
 /// journal has more than the most entries. How many states were reached is told at times.
+///
+/// The loose runs of the design are searched first. Where one of their texts has no lawful journal that is found, or where memory is
+/// refused to that search, each entry that the rules permit is followed instead.
 pub fn lawful_orders<P: Progress>(
     alloc: Global,
     design: &Design,
@@ -148,14 +43,8 @@ pub fn lawful_orders<P: Progress>(
     ensures full { result.stopped ≡ Some stop.Shown → length result.shown.items ≡ bounds.shown }
     ensures endless { IfSome result.endless (λ journal. IsEndlessJournal (design_of design.now) limits journal.items) }
 {
-    let analyzed_design = AnalyzedDesign::of(alloc, design);
-    explore(
-        alloc,
-        &Lawful {
-            analyzed_design,
-            limits,
-        },
-        bounds,
-        progress,
-    )
+    match loose_orders(alloc, design, limits, bounds, progress) {
+        Ok(Some(explored)) => explored,
+        _ => strict_orders(alloc, design, limits, bounds, progress),
+    }
 }

@@ -1,8 +1,7 @@
 //! A node of the search: where a run so far has come to.
-ghost use Rattle.std.specs.Prelude.{◌≡◌, OnOk};
+ghost use Rattle.std.specs.Prelude.{◌≡◌, IfOk, OnOk};
 ghost use Rattle.statekeys.specs.Keys.{IsKey};
 
-use flat::Logs;
 use regions::Machine;
 use statekeys::{Scratch, key};
 use std::alloc::{AllocError, Global};
@@ -15,12 +14,10 @@ pub struct DesignNode<'d> {
     pub machine: Box<Machine<'d>>,
 }
 
-/// What is kept from one node to the next: a log that machines are lent for their turns, the logs of turns that are evaluated before
-/// they are taken, and room in which keys are made.
+/// What is kept from one node to the next: a log that machines are lent for their turns, and room in which keys are made.
 #[derive(Drop)]
 pub(crate) struct SearchRoom {
     pub(crate) log: TurnLog,
-    pub(crate) logs: Logs,
     scratch: Scratch,
 }
 
@@ -29,7 +26,6 @@ impl SearchRoom {
     pub(crate) fn new(alloc: Global) -> SearchRoom {
         SearchRoom {
             log: TurnLog::new(alloc),
-            logs: Logs::new(alloc),
             scratch: Scratch::new(alloc),
         }
     }
@@ -44,4 +40,16 @@ impl SearchRoom {
     {
         key(bytes, &mut self.scratch, machine.state(), machine.store())
     }
+}
+
+/// A copy of a machine, on the heap.
+pub(crate) fn copy_of<'d>(
+    alloc: Global,
+    machine: &Machine<'d>,
+) -> Result<Box<Machine<'d>>, AllocError>
+    ensures { IfOk result (λ copy. copy.value ≡ machine.now) }
+{
+    let copy = machine.copy(alloc)?;
+    let boxed = Box::new(alloc, copy)?;
+    Ok(boxed)
 }

@@ -3,8 +3,8 @@ use Rattle.std.proofs.Common.{List, take, get_or, refl, sym, subst, ◌∙◌, a
 use Rattle.std.proofs.lemmas.List.{take_more}
 use Rattle.model.specs.declared.entry.Entry.{Entry}
 use Rattle.model.specs.declared.entry.Entry.TheVariants.{Turn}
-use Rattle.walks.specs.Walking.{HasTaken}
-use Rattle.walks.proofs.Walks.{taken_none, taken_more}
+use Rattle.lawful.specs.Again.{HasTaken}
+use Rattle.lawful.proofs.Taken.{taken_none, taken_more}
 use Rattle.lawful.proofs.again.take_each.Goals as goal
 
 pub loop-entry-init : goal.loop-entry-init

@@ -1,6 +1,6 @@
 -- The entries so far were taken.
 use Rattle.std.proofs.Common.{◌≡◌, take}
-use Rattle.walks.specs.Walking.{HasTaken}
+use Rattle.lawful.specs.Again.{HasTaken}
 use Rattle.lawful.proofs.again.take_each.Given as goal
 
 abbrev pub invariant-loop-entry : goal.invariant-loop-entry

@@ -1,0 +1,4 @@
+pub mod JournalsInTime
+pub mod Cover
+pub mod Going
+pub mod LongTurns
