@@ -18,7 +18,7 @@ use Rattle.orders.specs.Apart.{continuation_after}
 use Rattle.orders.proofs.StatesInOrder.{start_is_in_order}
 use Rattle.orders.proofs.AlikeSteps.{continuation_of}
 use Rattle.orders.proofs.EventLists.{evaluations-append, evaluations-taken, own_evaluation}
-use Rattle.orders.proofs.QuietTurns.{waits_now, waits_at}
+use Rattle.orders.proofs.Scheduling.{waits_now, waits_at}
 use Rattle.loose.specs.Loose.{loose_step, loose_run_from, loose_run}
 use Rattle.loose.proofs.LooseSteps.{loose_step_keeps_order}
 use Rattle.footprints.specs.Footprints.{ValueChange, Footprint, matches_any}

@@ -10,7 +10,7 @@ use Rattle.orders.specs.Alike.{IsInOrder, times, updates_in}
 use Rattle.orders.specs.Apart.{all_given, continuation_after, updates_for}
 use Rattle.orders.proofs.StatesInOrder.{in_order-change_all, in_order-taking, in_order-schedule_all, in_order-turned}
 use Rattle.orders.proofs.Stores.{append-none}
-use Rattle.orders.proofs.QuietTurns.{Scheduled, Waiting, schedule_all_is, schedule_wait_is, later_updates, later_times, waits_now, waits_at, wait_times}
+use Rattle.orders.proofs.Scheduling.{Scheduled, Waiting, schedule_all_is, schedule_wait_is, later_updates, later_times, waits_now, waits_at, wait_times}
 use Rattle.footprints.specs.Footprints.{ValueChange, changes_made}
 use Rattle.footprints.proofs.Waking.{after_changes, woken_from, evaluations_made, change_all_is}
 

@@ -14,7 +14,7 @@ use Rattle.orders.specs.Apart.{AgreeOn, of_register, all_given, NotBoth, updates
 use Rattle.orders.proofs.EventLists.{updates-append, evaluations-append, absent, rises-numbered}
 use Rattle.orders.proofs.FutureLists.{with_time}
 use Rattle.orders.proofs.Stores.{append-none, length_all, all_given-append, all_other, stores_same}
-use Rattle.orders.proofs.QuietTurns.{later_updates, later_times, waits_now, waits_at, wait_times}
+use Rattle.orders.proofs.Scheduling.{later_updates, later_times, waits_now, waits_at, wait_times}
 use Rattle.orders.proofs.Commuting.{apart_commute, swap_last, register-append, without_both}
 use Rattle.orders.proofs.AlikeSteps.{continuation_of}
 use Rattle.loose.specs.Loose.{of_class, AlikeIn}

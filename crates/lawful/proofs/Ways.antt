@@ -177,14 +177,6 @@ counted_ended code limits node run ended counts ends here k d within =
     let none = here k d within in
     (one.0, one.1, subst (λ (l : List Entry). IsWithinLimits limits (run ++ l)) (sym none) (subst (IsWithinLimits limits) (sym (append-nil run)) counts.within))
 
-pub no_ways : (code : Compiled) (limits : Limits) (s : State) → AreWaysFor code limits s [] [] []
-no_ways code limits s =
-    record {
-      nexts = All-nil (IsWayOn code limits s);
-      ends = All-nil (IsWayToEnd code limits s);
-      followed = All-nil (IsFollowedIn code limits s [] []);
-    }
-
 -- ways from the state to which a journal leads, as those of a search
 way_is_next : (code : Compiled) (limits : Limits) (run : List Entry) (e : Effect) (next : Successor DesignNode Entry) → ComesOf (design_of code) limits run e → IsWayOn code limits e.state next → IsSuccessor (lawful_runs code limits) run next
 way_is_next code limits run e next at_e on =

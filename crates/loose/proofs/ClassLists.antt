@@ -10,8 +10,7 @@ use Rattle.model.specs.States.{Event, Action, Evaluate, without}
 use Rattle.model.specs.Runs.{action_in, has_any, has_earlier_update}
 use Rattle.model.proofs.RunLaws.{either_false}
 use Rattle.orders.specs.Alike.{with_update, updates_in, AreAlike, EventsRise}
-use Rattle.orders.proofs.EventLists.{updates-append, evaluations-append, alike-same, alike-grown, absent, present_from, evaluations-taken, updates_left, own_evaluation}
-use Rattle.orders.proofs.InertUpdates.{both_ways}
+use Rattle.orders.proofs.EventLists.{both_ways, updates-append, evaluations-append, alike-same, alike-grown, absent, present_from, evaluations-taken, updates_left, own_evaluation}
 use Rattle.loose.specs.Loose.{of_class, updates_of_class, AreAlikeIn, updates_class, has_earlier_of_class}
 
 -- where all registers are of one class, those of that class are all

@@ -9,13 +9,12 @@ use Rattle.model.specs.Expressions.{value_of}
 use Rattle.model.specs.Turns.{contains}
 use Rattle.model.specs.States.{Event, Continuation, State, is_woken, change, change_all}
 use Rattle.model.specs.Laws.{evaluations_in}
-use Rattle.orders.specs.Flat.{IsActive}
 use Rattle.orders.proofs.Stores.{length_given, given_both}
 use Rattle.loose.specs.Loose.{of_class, updates_of_class, AreAlikeIn, IsAlikeFutureIn, AlikeIn}
 use Rattle.loose.proofs.ClassLists.{alike_in-same}
 use Rattle.loose.proofs.ClassFutures.{alike_future_in-same}
 use Rattle.loose.proofs.ClassStates.{states_in-sym, states_in-trans}
-use Rattle.phases.specs.Phase.{Block, continuation_of, IsBlock, waits_for_register, IsOutput}
+use Rattle.phases.specs.Phase.{IsActive, Block, continuation_of, IsBlock, waits_for_register, IsOutput}
 use Rattle.phases.proofs.Changes.{woke, awake, one_where, Changed, changed}
 use Rattle.phases.proofs.Members.{Standing, stands_changed}
 use Rattle.loosephases.specs.Held.{HasCone, IsOutsideCone}

@@ -12,16 +12,14 @@ use Rattle.model.specs.Runs.{action_in}
 use Rattle.model.specs.Laws.{evaluations_in}
 use Rattle.orders.specs.Alike.{IsInOrder}
 use Rattle.orders.specs.Apart.{AgreeOn, all_given, written_by, continuation_after}
-use Rattle.orders.specs.Flat.{IsActive}
 use Rattle.orders.proofs.EventLists.{updates_left}
-use Rattle.orders.proofs.FlatRuns.{active_at}
 use Rattle.orders.proofs.Stores.{append-none, length_all, all_other}
 use Rattle.orders.proofs.TurnFrame.{turn_has_frame}
 use Rattle.loose.specs.Loose.{of_class, AlikeIn}
 use Rattle.loose.proofs.ClassStates.{states_in-trans}
-use Rattle.phases.specs.Phase.{Block, triggers, ComputesOutputs, IsBlock, continuation_of, IsConsistent, IsTurnPending, HasSettled, waits_for_register, IsOutput}
+use Rattle.phases.specs.Phase.{IsActive, Block, triggers, ComputesOutputs, IsBlock, continuation_of, IsConsistent, IsTurnPending, HasSettled, waits_for_register, IsOutput}
 use Rattle.phases.proofs.Values.{written_again}
-use Rattle.phases.proofs.Events.{AllChanged, all_changed, stands_after, Unmoved, all_unmoved, taken_other, taken_own, stands_taken}
+use Rattle.phases.proofs.Events.{active_at, AllChanged, all_changed, stands_after, Unmoved, all_unmoved, taken_other, taken_own, stands_taken}
 use Rattle.phases.proofs.Members.{Standing}
 use Rattle.loosephases.specs.Held.{IsHeld, HasCone, IsOutsideCone}
 use Rattle.loosephases.proofs.Weights.{no_wait}

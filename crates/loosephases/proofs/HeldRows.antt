@@ -6,8 +6,7 @@ use Rattle.model.specs.Design.{Design}
 use Rattle.model.specs.Turns.{contains}
 use Rattle.model.specs.States.{Evaluate, State, start}
 use Rattle.model.specs.Laws.{evaluations_in}
-use Rattle.orders.specs.Flat.{IsActive}
-use Rattle.phases.specs.Phase.{Block}
+use Rattle.phases.specs.Phase.{IsActive, Block}
 use Rattle.loosephases.specs.Held.{HasCone, IsOutsideCone}
 
 abbrev two : Design

@@ -20,10 +20,8 @@ use Rattle.model.proofs.TurnLaws.{short_turn_found}
 use Rattle.model.specs.Texts.{EndsHere}
 use Rattle.orders.specs.Alike.{IsInOrder, updates_in}
 use Rattle.orders.specs.Apart.{all_given, continuation_after}
-use Rattle.orders.specs.Flat.{IsActive}
 use Rattle.orders.proofs.EventLists.{updates_left}
-use Rattle.orders.proofs.FlatRuns.{active_at}
-use Rattle.orders.proofs.InertUpdates.{goes_on}
+use Rattle.orders.proofs.GoingOn.{goes_on}
 use Rattle.orders.proofs.SearchLaws.{then_some}
 use Rattle.orders.proofs.StatesInOrder.{start_is_in_order}
 use Rattle.orders.proofs.Stores.{append-none}
@@ -32,9 +30,9 @@ use Rattle.loose.specs.LooseLaws.{IsOneLooseNode}
 use Rattle.loose.proofs.ClassLists.{own_first}
 use Rattle.loose.proofs.ClassStates.{states_in-same}
 use Rattle.loose.proofs.LooseSteps.{from_loose, loose_step_keeps_order, loose_run_keeps_order}
-use Rattle.phases.specs.Phase.{Block, ComputesOutputs, continuation_of, IsTurnPending, HasSettled, waits_for_register, updated_in, IsOutput, IsPhase, TakesEvent}
+use Rattle.phases.specs.Phase.{IsActive, Block, ComputesOutputs, continuation_of, IsTurnPending, HasSettled, waits_for_register, updated_in, IsOutput, IsPhase, TakesEvent}
 use Rattle.phases.proofs.Changes.{Changed, changed}
-use Rattle.phases.proofs.Events.{AllChanged, all_changed}
+use Rattle.phases.proofs.Events.{active_at, AllChanged, all_changed}
 use Rattle.phases.proofs.Members.{Standing}
 use Rattle.phases.proofs.PhaseSteps.{Stays}
 use Rattle.phases.proofs.PhaseRuns.{ends_store}

@@ -15,18 +15,16 @@ use Rattle.model.specs.Runs.{Effect, action_in, remainder_of, turn_of, turn_effe
 use Rattle.model.specs.Laws.{evaluations_in}
 use Rattle.orders.specs.Alike.{IsInOrder}
 use Rattle.orders.specs.Apart.{AgreeOn, all_given, continuation_after}
-use Rattle.orders.specs.Flat.{IsActive}
 use Rattle.orders.proofs.Commuting.{turn_step}
 use Rattle.orders.proofs.EventLists.{evaluations-taken, find_evaluation, updates_left}
-use Rattle.orders.proofs.FlatRuns.{active_at}
 use Rattle.orders.proofs.StatesInOrder.{in_order-change_all, in_order-schedule_all, in_order-taking}
 use Rattle.orders.proofs.TurnFrame.{turn_has_frame}
 use Rattle.loose.specs.Loose.{of_class, updates_of_class, has_earlier_of_class, AlikeIn, loose_step}
 use Rattle.loose.proofs.ClassLists.{alike_in-same, class_taken, find_first, first_taken}
 use Rattle.loose.proofs.ClassStates.{states_in-schedule_all, states_in-schedule_wait}
 use Rattle.loose.proofs.LooseSteps.{to_loose}
-use Rattle.phases.specs.Phase.{Block, IsBlock, IsConsistent, continuation_of, waits_for_register, IsOutput}
-use Rattle.phases.proofs.Events.{taken_other, taken_update, stands_taken}
+use Rattle.phases.specs.Phase.{IsActive, Block, IsBlock, IsConsistent, continuation_of, waits_for_register, IsOutput}
+use Rattle.phases.proofs.Events.{active_at, taken_other, taken_update, stands_taken}
 use Rattle.phases.proofs.Members.{Standing}
 use Rattle.loosephases.specs.Held.{KeepsOffHeld, OthersKeepOff, TakesOther}
 use Rattle.loosephases.proofs.Beside.{bare, Beside, Together, cone_before, one_together, all_together}

@@ -14,9 +14,9 @@ use Rattle.model.specs.Runs.{Effect, silent, has_any, HasLongTurn, joined, turn_
 use Rattle.model.specs.Laws.{evaluations_in}
 use Rattle.model.specs.Texts.{EndsHere}
 use Rattle.orders.specs.Alike.{Alike, IsInOrder}
-use Rattle.orders.proofs.EventLists.{alike-same}
-use Rattle.orders.proofs.FlatRuns.{active_at}
-use Rattle.orders.proofs.InertUpdates.{both_ways, goes_on}
+use Rattle.orders.proofs.EventLists.{both_ways, alike-same}
+use Rattle.phases.proofs.Events.{active_at}
+use Rattle.orders.proofs.GoingOn.{goes_on}
 use Rattle.orders.proofs.SearchLaws.{then_some}
 use Rattle.orders.proofs.StatesInOrder.{start_is_in_order}
 use Rattle.orders.proofs.Stores.{append-none}

@@ -15,7 +15,7 @@ use Rattle.model.specs.Runs.{Effect, action_in, remainder_of, turn_of, turn_effe
 use Rattle.model.specs.Laws.{evaluations_in}
 use Rattle.model.proofs.TurnLaws.{short_turn_found}
 use Rattle.orders.specs.Alike.{IsInOrder, updates_in}
-use Rattle.orders.proofs.FlatRuns.{active_at}
+use Rattle.phases.proofs.Events.{active_at}
 use Rattle.orders.proofs.Commuting.{turn_step}
 use Rattle.orders.proofs.SearchLaws.{then_some}
 use Rattle.loose.specs.Loose.{updates_of_class, loose_step, loose_run_from}

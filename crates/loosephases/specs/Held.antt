@@ -12,10 +12,9 @@ use Rattle.model.specs.Runs.{Effect, action_in, joined, turn_of}
 use Rattle.model.specs.Texts.{EndsHere}
 use Rattle.orders.specs.Alike.{IsInOrder}
 use Rattle.orders.specs.Apart.{continuation_after, written_by}
-use Rattle.orders.specs.Flat.{IsActive}
 use Rattle.loose.specs.Loose.{loose_step, loose_run_from}
 use Rattle.loose.specs.LooseLaws.{IsOneLooseNode}
-use Rattle.phases.specs.Phase.{Block, continuation_of, IsBlock, IsTurnPending, HasSettled, waits_for_register, updated_in, IsOutput, IsPhase}
+use Rattle.phases.specs.Phase.{IsActive, Block, continuation_of, IsBlock, IsTurnPending, HasSettled, waits_for_register, updated_in, IsOutput, IsPhase}
 use Rattle.loosephases.specs.LoosePhase.{EndsPhaseLoosely, IsLooselyReachable, IsLooselyVisited, CoversLoosely}
 
 -- The members are combinational processes, whatever else is active. Each of them is pending, or waits and would change nothing. No

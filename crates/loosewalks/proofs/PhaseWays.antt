@@ -15,7 +15,7 @@ use Rattle.model.specs.Laws.{evaluates}
 use Rattle.model.specs.Texts.{EndsHere}
 use Rattle.orders.specs.Alike.{IsInOrder}
 use Rattle.orders.proofs.SearchLaws.{then_some}
-use Rattle.orders.proofs.InertUpdates.{goes_on}
+use Rattle.orders.proofs.GoingOn.{goes_on}
 use Rattle.phases.specs.Phase.{Block, IsPhase, TakesEvent}
 use Rattle.loose.specs.declared.transition.LooseTransition.{LooseTransition}
 use Rattle.loose.specs.declared.transition.LooseTransition.TheVariants.{Process, FirstOf, Change}

@@ -23,7 +23,7 @@ use Rattle.model.proofs.StepLaws.{step_is_exact}
 use Rattle.orders.specs.Alike.{transition_of}
 use Rattle.orders.specs.SearchLaws.{IsReachable, IsAmongVisited, FollowsEachTransition, Shows, IsComplete}
 use Rattle.orders.proofs.AlikeStates.{alike_states-same}
-use Rattle.orders.proofs.InertUpdates.{goes_on}
+use Rattle.orders.proofs.GoingOn.{goes_on}
 use Rattle.orders.proofs.SearchLaws.{each_transition_covers}
 
 abbrev high : Vector
