@@ -2,7 +2,7 @@
 ghost use Rattle.std.specs.Prelude.{◌≡◌, ◌<◌, ◌≤◌, length, None, Some, IfOk, IfSome};
 ghost use Rattle.std.specs.List.{All, AllPairs};
 ghost use Rattle.model.specs.Runs.{last_time};
-ghost use Rattle.model.specs.Texts.{AreAllTexts, IsLawfulText};
+ghost use Rattle.model.specs.Texts.{AreAllTexts, IsEndlessJournal, IsLawfulText};
 ghost use Rattle.explore.specs.Search.{AreDistinct, IsShown};
 ghost use Rattle.design.specs.Compiled.{design_of};
 ghost use Rattle.explore.specs.declared.stopped.Stopped.TheVariants as stop;
@@ -44,7 +44,7 @@ pub fn loose_orders<P: Progress>(
     ensures few_shown { IfOk result (λ found. IfSome found (λ x. length x.shown.items ≤ bounds.shown)) }
     ensures nodes { IfOk result (λ found. IfSome found (λ x. x.stopped ≡ Some stop.Nodes → x.nodes ≡ bounds.nodes)) }
     ensures full { IfOk result (λ found. IfSome found (λ x. x.stopped ≡ Some stop.Shown → length x.shown.items ≡ bounds.shown)) }
-    ensures endless { IfOk result (λ found. IfSome found (λ x. x.endless ≡ None)) }
+    ensures endless { IfOk result (λ found. IfSome found (λ x. IfSome x.endless (λ journal. IsEndlessJournal (design_of design.now) limits journal.items))) }
 {
     let classes = classes_of(alloc, design)?;
     let orders = LooseRuns::new(design, classes, limits);
