@@ -6,7 +6,7 @@ ghost use Rattle.design.specs.Compiled.{Compiled};
 ghost use Rattle.runs.specs.RunRecords.{IsRun};
 ghost use Rattle.loosejournals.specs.FoundJournals.{IsJournalOf};
 
-use crate::led_run::LedRun;
+use crate::led_run::lead;
 use design::Design;
 use loose::transition::LooseTransition;
 use model::end::{End, Limits, Why};
@@ -48,16 +48,9 @@ fn journal_of(run: RunRecord, text: &[u8], end: End) -> Option<Vec<Entry>>
     Some(journal)
 }
 
-/// A lawful journal of the text and the end of a loose run, by the classes of registers by which that was taken. A machine is led by the
-/// run's transitions:
-///
-/// 1. For the turn of a process it takes first updates until an evaluation of the process is active, and then the turn of the first one.
-/// 2. For an update of a class it takes first updates until, since the last change of the regions, it took as many of the class as the loose
-///    run did.
-/// 3. For a change of the regions it takes the updates that are active, and then that change.
-///
-/// None where it can't go on so, or where its text or its end is another one: that doesn't say that there is no such journal. Fails where
-/// memory is refused.
+/// A lawful journal of the text and the end of a loose run, by the classes of registers by which that was taken: that of the run which the
+/// loose run's transitions lead. None where they lead none, or where its text or its end is another one: that doesn't say that there is no
+/// such journal. Fails where memory is refused.
 ///
 /// The limit of time isn't past the last time, as for every run.
 pub fn lawful_journal(
@@ -70,10 +63,10 @@ pub fn lawful_journal(
     requires until { IfSome limits.until (λ until. until ≤ last_time) }
     ensures { IfOk result (λ found. IfSome found (λ journal. IsJournalOf design.now limits run.entry.text.now run.entry.end journal.items)) }
 {
-    let mut led = LedRun::start(alloc, design)?;
-    if !led.follow(limits, classes, run.moves)? {
-        return Ok(None);
-    }
+    let mut led = match lead(alloc, design, limits, classes, run.moves)? {
+        Some(led) => led,
+        None => return Ok(None),
+    };
     match led.end_by(limits, long_process(run.end))? {
         Some(end) => Ok(journal_of(led.told(limits, end), run.text, run.end)),
         None => Ok(None),

@@ -3,6 +3,8 @@ pub mod Ordered
 pub mod LongTurns
 pub mod Ways
 pub mod Expansions
+pub mod Walked
 pub mod Remade
 pub mod ShownLawfully
 pub mod LawfulTexts
+pub mod EndlessRuns

@@ -223,10 +223,6 @@ node_covered class code limits node run successors ended at all =
     let covers = covering_moves_cover class (design_of code) limits run at.effect at.held.state (loose_ways_to successors) at.comes at.in_order at.one_node.1 there.cover in
     covering_loose_is_covered (HoldsEffect code) class (design_of code) limits successors ended node run at covers there.told
 
--- a machine that stands at a run has its events in order
-pub node_in_order : (class : ℕ → ℕ) (code : Compiled) (limits : Limits) (node : LooseNode) (run : List LooseTransition) → StandsLoosely (HoldsEffect code) class (design_of code) limits node run → IsInOrder (state_at node.machine.value)
-node_in_order class code limits node run at = subst IsInOrder (sym at.holds.state_is) at.in_order
-
 -- the node of a machine that took no transition stands at the run of none
 pub node_at_start : (class : ℕ → ℕ) (code : Compiled) (limits : Limits) (node : LooseNode) (m : MachineView) → node.machine.value ≡ m → m.code ≡ code → m.core.controls ≡ controls_of m.code → m.lines ≡ [] → state_at m ≡ start (design_of code) → StandsLoosely (HoldsEffect code) class (design_of code) limits node []
 node_at_start class code limits node m same code_is controls silent_is state =

@@ -12,7 +12,8 @@ use Rattle.explore.specs.declared.EndedPath.{EndedPath}
 use Rattle.loose.specs.declared.transition.LooseTransition.{LooseTransition}
 use Rattle.loose.specs.declared.transition.LooseTransition.TheVariants.{Process}
 use Rattle.looseruns.specs.LooseMoves.{IsTimelyMove}
-use Rattle.looselawful.specs.LooseNodes.{IsLooseWayOn, IsLooseWayToEnd, StepsLoosely}
+use Rattle.regions.specs.Machine.{MachineView, state_at}
+use Rattle.looselawful.specs.LooseNodes.{IsReadyNode, IsLooseWayOn, IsLooseWayToEnd, StepsLoosely}
 use Rattle.looselawful.specs.declared.node.LooseNode.{LooseNode}
 use Rattle.looselawful.specs.declared.expand.Way.{Way}
 use Rattle.looselawful.specs.declared.expand.Way.TheVariants.{On, Long, Past}
@@ -43,3 +44,9 @@ abbrev pub IsAdded : Way → List (Successor LooseNode LooseTransition) → List
 IsAdded (On next) successors ended more all = (more ≡ successors ++ next ∷ []) × (all ≡ ended)
 IsAdded (Long end) successors ended more all = (more ≡ successors) × (all ≡ ended ++ end ∷ [])
 IsAdded Past successors ended more all = (more ≡ successors) × (all ≡ ended)
+
+-- There is one successor, at the node of a machine, with the lines that are left in it, by these transitions.
+abbrev pub IsArrived : MachineView → List LooseTransition → List (Successor LooseNode LooseTransition) → Type 0
+IsArrived m moves xs =
+    (next : Successor LooseNode LooseTransition) × (xs ≡ next ∷ []) × (next.moves.items ≡ moves) × (next.printed.items ≡ m.lines) × IsReadyNode m.code next.node
+    × (state_at next.node.machine.value ≡ state_at m)

@@ -1,10 +1,12 @@
 -- The lawful journals of what a search of loose runs shows.
-use Rattle.std.specs.Prelude.{◌≡◌, ℕ, List, map}
+use Rattle.std.specs.Prelude.{◌≡◌, ℕ, List, map, IfSome}
 use Rattle.std.specs.List.{All}
 use Rattle.model.specs.declared.entry.Entry.{Entry}
 use Rattle.model.specs.declared.end.Limits.{Limits}
 use Rattle.model.specs.declared.end.End.{End}
-use Rattle.design.specs.Compiled.{Compiled}
+use Rattle.model.specs.Texts.{IsEndlessJournal}
+use Rattle.design.specs.Compiled.{Compiled, design_of}
+use Rattle.explore.specs.declared.Explored.{Explored}
 use Rattle.explore.specs.declared.Shown.{Shown}
 use Rattle.loose.specs.declared.transition.LooseTransition.{LooseTransition}
 use Rattle.loosejournals.specs.FoundJournals.{IsJournalOf}
@@ -27,3 +29,11 @@ pub record IsShownLawfully (code : Compiled) (limits : Limits) (shown : Shown Lo
 pub record AreShownLawfully (code : Compiled) (limits : Limits) (shown : List (Shown LooseTransition End)) (lawful : List (Shown Entry End)) : Type 0 where
   pub same : texts_and_ends lawful ≡ texts_and_ends shown
   pub journals : All (HasJournal code limits) lawful
+
+-- A search found the same texts and ends, with a lawful journal of each, in as many nodes, and it stopped for the same reason. A journal
+-- from which no run is said to come to an end is such a lawful one.
+pub record IsFoundLawfully (code : Compiled) (limits : Limits) (loosely : Explored LooseTransition End) (lawful : Explored Entry End) : Type 0 where
+  pub shown_is : AreShownLawfully code limits loosely.shown.items lawful.shown.items
+  pub stopped_is : lawful.stopped ≡ loosely.stopped
+  pub nodes_are : lawful.nodes ≡ loosely.nodes
+  pub never_ends : IfSome lawful.endless (λ journal. IsEndlessJournal (design_of code) limits journal.items)

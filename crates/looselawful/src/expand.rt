@@ -1,4 +1,5 @@
-//! The loose runs that go on from a node: each transition that may be taken, and the ends that a run may have there.
+//! The loose runs that go on from a node: one way that stands for all, or each transition that may be taken, and the ends that a run may
+//! have there.
 ghost use Rattle.std.specs.Prelude.{◌≡◌, ◌↔◌, ◌<◌, [], ◌∷◌, IfOk, IfErr, OnOk, OnErr, IsTrue};
 ghost use Rattle.std.specs.List.{All};
 ghost use Rattle.model.specs.declared.end.End.{End};
@@ -12,16 +13,21 @@ ghost use Rattle.looseruns.specs.LooseMoves.{IsTimelyMove};
 ghost use Rattle.runs.specs.Halting.{GoesOn};
 ghost use Rattle.regions.specs.Machine.{state_at};
 ghost use Rattle.regions.specs.declared.machine.TakeFault.TheVariants as faults;
-ghost use Rattle.looselawful.specs.Following.{IsAdded, IsWayBy, TellsTurn};
+ghost use Rattle.design.specs.Compiled.{design_of};
+ghost use Rattle.loosewalks.specs.Sole.{IsLikeReached};
+ghost use Rattle.loosewalks.specs.LooseWalking.{HasWalkedLoosely};
+ghost use Rattle.looselawful.specs.Following.{IsAdded, IsArrived, IsWayBy, TellsTurn};
 ghost use Rattle.looselawful.specs.LooseNodes.{AreAllLooseWays, AreBounded, AreLooseWaysFor, IsReadyNode, IsLooseWayOn, IsLooseWayToEnd};
 
-use crate::node::{LooseNode, copy_of};
+use crate::node::{LooseNode, SearchRoom, copy_of};
 use explore::{EndedPath, Expanded, Successor};
 use loose::transition::LooseTransition;
 use loosesteps::{loose_choices, take_loosely};
+use loosewalks::walk_loosely;
 use model::end::{End, Limits, Why};
 use regions::{Machine, TakeFault};
 use runs::halting::{end_at, is_timely};
+use settling::AnalyzedDesign;
 use std::alloc::{AllocError, Global};
 use turn::TurnLog;
 
@@ -282,9 +288,9 @@ fn branch<'d>(
     })
 }
 
-/// Follows each loose transition that may be taken where a machine stands. Ways are left out where the run has as many entries as it may
-/// have, and goes on from there: no way leads past that.
-pub(crate) fn expand<'d>(
+// Follows each loose transition that may be taken where a machine stands, or tells the end that a run has there. Ways are left out where
+// the run has as many entries as it may have, and goes on from there: no way leads past that.
+fn follow<'d>(
     alloc: Global,
     classes: &[u32],
     limits: Limits,
@@ -301,5 +307,83 @@ pub(crate) fn expand<'d>(
     match end_at(limits, &machine) {
         Some(end) => halts(alloc, end),
         None => branch(alloc, classes, limits, log, machine),
+    }
+}
+
+// Goes on by one node, to which the only way leads.
+fn arrive<'d>(
+    alloc: Global,
+    machine: Box<Machine<'d>>,
+    moves: Vec<LooseTransition>,
+) -> Result<Expanded<LooseNode<'d>, LooseTransition, End>, AllocError>
+    ensures one { IfOk result (λ x. IsArrived machine.entry.value moves.items x.successors.items) }
+    ensures none { IfOk result (λ x. x.ended.items ≡ []) }
+{
+    let next = next_of(machine, moves);
+    let mut successors = Vec::new(alloc);
+    successors.push(next)?;
+    Ok(Expanded {
+        successors,
+        ended: Vec::new(alloc),
+        whole: true,
+    })
+}
+
+// Goes on from where a machine stands as long as one way stands for all, with a log that is kept. A finished one goes nowhere.
+fn walk_with(
+    alloc: Global,
+    analyzed_design: &AnalyzedDesign<'_>,
+    classes: &[u32],
+    limits: Limits,
+    room: &mut SearchRoom,
+    machine: &mut Machine<'_>,
+) -> Result<Vec<LooseTransition>, AllocError>
+    requires code { machine.old.code ≡ analyzed_design.now }
+    requires silent { machine.old.lines ≡ [] }
+    requires reached { IsLikeReached (class_in classes.now) (design_of machine.old.code) (state_at machine.old) }
+    ensures walked { IfOk result (λ moves. HasWalkedLoosely (class_in classes.now) limits (state_at machine.old) machine.new moves.items) }
+    ensures code { machine.new.code ≡ machine.old.code }
+{
+    if machine.is_finished() {
+        return Ok(Vec::new(alloc));
+    }
+    machine.exchange_log(&mut room.log);
+    let walked = walk_loosely(
+        alloc,
+        analyzed_design,
+        classes,
+        limits,
+        &mut room.walk,
+        machine,
+    );
+    machine.exchange_log(&mut room.log);
+    walked
+}
+
+/// Follows each way from where a machine stands, by these classes of the registers. Where one way stands for all it goes on by that, up to
+/// the next choice or for some hundred steps; else it follows each loose transition that may be taken. Ways are left out where the run has
+/// as many entries as it may have, and goes on from there: no way leads past that.
+pub(crate) fn expand<'d>(
+    alloc: Global,
+    analyzed_design: &AnalyzedDesign<'_>,
+    classes: &[u32],
+    limits: Limits,
+    room: &mut SearchRoom,
+    machine: Box<Machine<'d>>,
+) -> Result<Expanded<LooseNode<'d>, LooseTransition, End>, AllocError>
+    requires code { machine.value.code ≡ analyzed_design.now }
+    requires silent { machine.value.lines ≡ [] }
+    requires reached { IsLikeReached (class_in classes.now) (design_of machine.value.code) (state_at machine.value) }
+    requires bounded { AreBounded limits }
+    ensures next { IfOk result (λ x. All (IsLooseWayOn (class_in classes.now) machine.entry.value.code limits (state_at machine.entry.value)) x.successors.items) }
+    ensures sound { IfOk result (λ x. All (IsLooseWayToEnd (class_in classes.now) machine.entry.value.code limits (state_at machine.entry.value)) x.ended.items) }
+    ensures all { IfOk result (λ x. IsTrue x.whole → AreAllLooseWays (class_in classes.now) machine.entry.value.code limits (state_at machine.entry.value) x.successors.items x.ended.items) }
+{
+    let mut machine = machine;
+    let moves = walk_with(alloc, analyzed_design, classes, limits, room, &mut machine)?;
+    if moves.is_empty() {
+        follow(alloc, classes, limits, &mut room.log, machine)
+    } else {
+        arrive(alloc, machine, moves)
     }
 }

@@ -7,7 +7,7 @@ ghost use Rattle.explore.specs.Search.{AreDistinct, IsShown};
 ghost use Rattle.design.specs.Compiled.{design_of};
 ghost use Rattle.explore.specs.declared.stopped.Stopped.TheVariants as stop;
 
-use crate::journals::with_journals;
+use crate::journals::with_all_journals;
 use crate::search::LooseRuns;
 use design::Design;
 use explore::{Bounds, Explored, explore};
@@ -15,17 +15,19 @@ use loosejournals::classes_of;
 use model::end::{End, Limits};
 use model::entry::Entry;
 use progress::Progress;
+use settling::AnalyzedDesign;
 use std::alloc::{AllocError, Global};
 
 /// Searches all loose runs of a design within these limits, on one thread, and gives each text that is shown a lawful journal (11.4).
 /// Each text that is shown is that of the lawful journal beside it, and so is its end; no two have one text and one end; and where the
 /// search wasn't stopped, every lawful journal in time that ends, but by the most entries or for want of memory, has a text and an end
-/// that are shown: each lawful journal is a loose run. What stopped it is told (`Unfollowed`: a run has the most entries). No journal has
-/// more than the most entries. How many states were reached is told at times.
+/// that are shown: each lawful journal is a loose run. What stopped it is told (`Unfollowed`: a run has the most entries), and so is a
+/// lawful journal from which no run comes to an end, where one is known. No journal has more than the most entries. How many states were
+/// reached is told at times.
 ///
-/// None where no lawful journal is found of a text that loose runs show. That text may be one of no lawful journal, and the others may be
-/// fewer than all. Fails where memory is refused before the search or behind it; where it is refused to the search itself, that is what
-/// stopped it.
+/// None where no lawful journal is found of a text that loose runs show, or none that leads where a loose run leads from which no run comes
+/// to an end. That text may be one of no lawful journal, and the others may be fewer than all; lawful runs may all come to an end. Fails
+/// where memory is refused before the search or behind it; where it is refused to the search itself, that is what stopped it.
 pub fn loose_orders<P: Progress>(
     alloc: Global,
     design: &Design,
@@ -47,21 +49,7 @@ pub fn loose_orders<P: Progress>(
     ensures endless { IfOk result (λ found. IfSome found (λ x. IfSome x.endless (λ journal. IsEndlessJournal (design_of design.now) limits journal.items))) }
 {
     let classes = classes_of(alloc, design)?;
-    let orders = LooseRuns::new(design, classes, limits);
+    let orders = LooseRuns::new(AnalyzedDesign::of(alloc, design), classes, limits);
     let explored = explore(alloc, &orders, bounds, progress);
-    let Explored {
-        shown,
-        stopped,
-        nodes,
-        ..
-    } = explored;
-    match with_journals(alloc, design, limits, &orders.classes, shown)? {
-        Some(shown) => Ok(Some(Explored {
-            shown,
-            stopped,
-            nodes,
-            endless: None,
-        })),
-        None => Ok(None),
-    }
+    with_all_journals(alloc, design, limits, &orders.classes, explored)
 }

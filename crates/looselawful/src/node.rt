@@ -3,6 +3,7 @@ ghost use Rattle.std.specs.Prelude.{OnOk, IfOk, ◌≡◌};
 ghost use Rattle.loose.specs.Classes.{class_in};
 ghost use Rattle.statekeys.specs.ClassKeys.{IsClassKey};
 
+use loosewalks::LooseRoom;
 use regions::Machine;
 use statekeys::{Scratch, class_key};
 use std::alloc::{AllocError, Global};
@@ -15,10 +16,12 @@ pub struct LooseNode<'d> {
     pub machine: Box<Machine<'d>>,
 }
 
-/// What is kept from one node to the next: a log that machines are lent for their turns, and room in which keys are made.
+/// What is kept from one node to the next: a log that machines are lent for their turns, what walks work in, and room in which keys are
+/// made.
 #[derive(Drop)]
 pub(crate) struct SearchRoom {
     pub(crate) log: TurnLog,
+    pub(crate) walk: LooseRoom,
     scratch: Scratch,
 }
 
@@ -27,6 +30,7 @@ impl SearchRoom {
     pub(crate) fn new(alloc: Global) -> SearchRoom {
         SearchRoom {
             log: TurnLog::new(alloc),
+            walk: LooseRoom::new(alloc),
             scratch: Scratch::new(alloc),
         }
     }

@@ -13,10 +13,14 @@ use explore::{Expanded, Orders};
 use loose::transition::LooseTransition;
 use model::end::{End, Limits};
 use regions::Machine;
+use settling::AnalyzedDesign;
 use std::alloc::{AllocError, Global};
 
-// The start of a design's run, on the heap.
-fn start_of<'d>(alloc: Global, design: &'d Design) -> Result<Box<Machine<'d>>, AllocError>
+/// The start of a design's run, on the heap.
+pub(crate) fn start_of<'d>(
+    alloc: Global,
+    design: &'d Design,
+) -> Result<Box<Machine<'d>>, AllocError>
     ensures code { IfOk result (λ machine. machine.value.code ≡ design.now) }
     ensures state { IfOk result (λ machine. state_at machine.value ≡ start (design_of design.now)) }
     ensures lines { IfOk result (λ machine. machine.value.lines ≡ []) }
@@ -29,7 +33,7 @@ fn start_of<'d>(alloc: Global, design: &'d Design) -> Result<Box<Machine<'d>>, A
 /// The loose runs of a design in time, by these classes of its registers.
 #[derive(Drop)]
 pub(crate) struct LooseRuns<'d> {
-    pub(crate) design: &'d Design,
+    pub(crate) analyzed_design: AnalyzedDesign<'d>,
     pub(crate) classes: Vec<u32>,
     pub(crate) limits: Limits,
     ghost bounded: { AreBounded limits },
@@ -37,14 +41,18 @@ pub(crate) struct LooseRuns<'d> {
 
 impl<'d> LooseRuns<'d> {
     /// The loose runs of a design within limits, by these classes of its registers.
-    pub(crate) fn new(design: &'d Design, classes: Vec<u32>, limits: Limits) -> LooseRuns<'d>
+    pub(crate) fn new(
+        analyzed_design: AnalyzedDesign<'d>,
+        classes: Vec<u32>,
+        limits: Limits,
+    ) -> LooseRuns<'d>
         requires { AreBounded limits }
-        ensures design { result.design.now ≡ design.now }
+        ensures design { result.analyzed_design ≡ analyzed_design }
         ensures classes { result.classes ≡ classes }
         ensures limits { result.limits ≡ limits }
     {
         LooseRuns {
-            design,
+            analyzed_design,
             classes,
             limits,
         }
@@ -66,13 +74,13 @@ impl<'d> Orders for LooseRuns<'d> {
 
     type Room = SearchRoom;
 
-    ghost runs = { λ o. searched_runs o.design.now (class_in o.classes.items) o.limits };
+    ghost runs = { λ o. searched_runs o.analyzed_design (class_in o.classes.items) o.limits };
 
     ghost has_key = { λ o node key. IsClassKey (class_in o.classes.items) node.machine.value.core node.machine.value.values key };
 
     // The machine at the start of the design's run.
     fn start(&self, alloc: Global) -> Result<LooseNode<'d>, AllocError> {
-        let machine = start_of(alloc, self.design)?;
+        let machine = start_of(alloc, self.analyzed_design.design())?;
         machine.stands();
         Ok(LooseNode { machine })
     }
@@ -81,7 +89,7 @@ impl<'d> Orders for LooseRuns<'d> {
         SearchRoom::new(alloc)
     }
 
-    // Follows the loose transitions that go on from a node in time.
+    // Follows the ways that go on loosely from a node in time, with the combinational processes that were found once.
     fn expand(
         &self,
         alloc: Global,
@@ -90,9 +98,10 @@ impl<'d> Orders for LooseRuns<'d> {
     ) -> Result<Expanded<LooseNode<'d>, LooseTransition, End>, AllocError> {
         let expanded = expand(
             alloc,
+            &self.analyzed_design,
             &self.classes,
             self.limits,
-            &mut room.log,
+            room,
             node.machine,
         )?;
         Ok(expanded)
@@ -129,7 +138,7 @@ impl<'d> Orders for LooseRuns<'d> {
 
     ghost silent = { λ _. refl };
 
-    ghost alike = { λ o i j a. loose_alike o.design.now (class_in o.classes.items) o.limits i j a };
+    ghost alike = { λ o i j a. loose_alike o.analyzed_design (class_in o.classes.items) o.limits i j a };
 
-    ghost keyed = { λ o a b i j key of_a of_b at bt text. loose_keyed o.design.now (class_in o.classes.items) o.limits a b i j key of_a of_b at bt text };
+    ghost keyed = { λ o a b i j key of_a of_b at bt text. loose_keyed o.analyzed_design (class_in o.classes.items) o.limits a b i j key of_a of_b at bt text };
 }

@@ -9,5 +9,5 @@ use Rattle.looselawful.proofs.search.LooseRunsOrders.start.Goals as goal
 pub returns : goal.returns
 returns c =
     let o = c.args.self.now in
-    node_at_start (class_in o.classes.items) o.design.now o.limits (record { machine = c.in_ok-machine.machine }) c.in_ok-machine.machine.value refl c.in_ok-machine.ensures.code
+    node_at_start (class_in o.classes.items) o.analyzed_design o.limits (record { machine = c.in_ok-machine.machine }) c.in_ok-machine.machine.value refl c.in_ok-machine.ensures.code
     (subst (λ (p : MachineView). p.core.controls ≡ controls_of p.code) c.deref.ensures c.stands.ensures.controls) c.in_ok-machine.ensures.lines c.in_ok-machine.ensures.state
