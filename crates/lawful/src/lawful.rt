@@ -1,19 +1,104 @@
-//! All lawful orders of a design: by its loose runs where these tell them, and else entry by entry.
-ghost use Rattle.std.specs.Prelude.{◌≡◌, ◌<◌, ◌≤◌, length, None, Some, IfSome};
+//! The lawful orders of a design, found by its loose runs.
+ghost use Rattle.std.specs.Prelude.{◌≡◌, ◌<◌, ◌≤◌, length, None, Some, IfOk, IfSome};
 ghost use Rattle.std.specs.List.{All, AllPairs, Any};
 ghost use Rattle.model.specs.Runs.{last_time};
-ghost use Rattle.model.specs.Texts.{IsWithinLimits, IsLawfulText, AreAllTexts, IsEndlessJournal};
+ghost use Rattle.model.specs.Texts.{AreAllTexts, IsEndlessJournal, IsLawfulText, IsWithinLimits};
+ghost use Rattle.model.specs.Design.{Design};
+ghost use Rattle.model.specs.declared.end.Limits.{Limits};
+ghost use Rattle.explore.specs.declared.Bounds.{Bounds};
 ghost use Rattle.design.specs.Compiled.{design_of};
 ghost use Rattle.explore.specs.declared.stopped.Stopped.TheVariants as stop;
+ghost use Rattle.lawful.specs.LawfulOrders.{AreLawfulOrders};
 
-use crate::search::strict_orders;
+use crate::journals::with_all_journals;
+use crate::search::LooseRuns;
 use design::Design;
-use explore::{Bounds, Explored};
-use looselawful::loose_orders;
+use explore::{Bounds, Explored, Stopped, explore};
+use loosejournals::classes_of;
 use model::end::{End, Limits};
 use model::entry::Entry;
 use progress::Progress;
-use std::alloc::Global;
+use settling::AnalyzedDesign;
+use std::alloc::{AllocError, Global};
+
+// What is found by a search that memory was refused to from the start.
+fn nothing_found(alloc: Global) -> Explored<Entry, End>
+    ensures { (design : Design) (limits : Limits) (bounds : Bounds) → AreLawfulOrders design limits bounds result }
+{
+    Explored {
+        shown: Vec::new(alloc),
+        stopped: Some(Stopped::Memory),
+        nodes: 0,
+        endless: None,
+    }
+}
+
+// Searches all loose runs of a design, in which an update waits for those of its class alone, and gives each text that is shown a lawful
+// journal. None where no lawful journal is found of a text that loose runs show, or none that leads where a loose run leads from which no
+// run comes to an end: that text may be one of no lawful journal, and the others may be fewer than all; lawful runs may all come to an end.
+// Fails where memory is refused behind the search; where it is refused to the search itself, that is what stopped it.
+fn orders_by<P: Progress>(
+    alloc: Global,
+    design: &Design,
+    limits: Limits,
+    bounds: Bounds,
+    progress: &P,
+    classes: Vec<u32>,
+) -> Result<Option<Explored<Entry, End>>, AllocError>
+    requires room { 0 < bounds.nodes }
+    requires some_entry { 0 < limits.max_entries }
+    requires until { IfSome limits.until (λ until. until ≤ last_time) }
+    ensures { IfOk result (λ found. IfSome found (AreLawfulOrders (design_of design.now) limits bounds)) }
+{
+    let orders = LooseRuns::new(AnalyzedDesign::of(alloc, design), classes, limits);
+    let explored = explore(alloc, &orders, bounds, progress);
+    with_all_journals(alloc, design, limits, &orders.classes, explored)
+}
+
+// Searches with all registers in one class: each loose run is a lawful one then.
+fn strict_orders<P: Progress>(
+    alloc: Global,
+    design: &Design,
+    limits: Limits,
+    bounds: Bounds,
+    progress: &P,
+) -> Explored<Entry, End>
+    requires room { 0 < bounds.nodes }
+    requires some_entry { 0 < limits.max_entries }
+    requires until { IfSome limits.until (λ until. until ≤ last_time) }
+    ensures { AreLawfulOrders (design_of design.now) limits bounds result }
+{
+    // A register that isn't listed is of class 0.
+    let one_class = Vec::new(alloc);
+    match orders_by(alloc, design, limits, bounds, progress, one_class) {
+        Ok(Some(explored)) => explored,
+        _ => nothing_found(alloc),
+    }
+}
+
+// Searches by the classes that the design's nonblocking assignments need, and where these don't tell strictly.
+fn orders_of<P: Progress>(
+    alloc: Global,
+    design: &Design,
+    limits: Limits,
+    bounds: Bounds,
+    progress: &P,
+) -> Explored<Entry, End>
+    requires room { 0 < bounds.nodes }
+    requires some_entry { 0 < limits.max_entries }
+    requires until { IfSome limits.until (λ until. until ≤ last_time) }
+    ensures { AreLawfulOrders (design_of design.now) limits bounds result }
+{
+    let classes = match classes_of(alloc, design) {
+        Ok(classes) => classes,
+        Err(_) => return nothing_found(alloc),
+    };
+    match orders_by(alloc, design, limits, bounds, progress, classes) {
+        Ok(Some(explored)) => explored,
+        Ok(None) => strict_orders(alloc, design, limits, bounds, progress),
+        Err(_) => nothing_found(alloc),
+    }
+}
 
 /// Searches all lawful orders of a design within these limits (11.4), on one thread. Each text that is shown is that of the lawful
 /// journal beside it, and so is its end; no two have one text and one end; and where the search wasn't stopped, every lawful journal
@@ -21,8 +106,8 @@ use std::alloc::Global;
 /// (`Unfollowed`: a run has the most entries), and so is a lawful journal from which no run comes to an end, where one is known. No
 /// journal has more than the most entries. How many states were reached is told at times.
 ///
-/// The loose runs of the design are searched first. Where one of their texts has no lawful journal that is found, or where memory is
-/// refused to that search, each entry that the rules permit is followed instead.
+/// The loose runs of the design are searched, and each lawful journal is one. Where one of their texts has no lawful journal that is
+/// found, the search is made once more with all registers in one class.
 pub fn lawful_orders<P: Progress>(
     alloc: Global,
     design: &Design,
@@ -43,8 +128,5 @@ pub fn lawful_orders<P: Progress>(
     ensures full { result.stopped ≡ Some stop.Shown → length result.shown.items ≡ bounds.shown }
     ensures endless { IfSome result.endless (λ journal. IsEndlessJournal (design_of design.now) limits journal.items) }
 {
-    match loose_orders(alloc, design, limits, bounds, progress) {
-        Ok(Some(explored)) => explored,
-        _ => strict_orders(alloc, design, limits, bounds, progress),
-    }
+    orders_of(alloc, design, limits, bounds, progress)
 }

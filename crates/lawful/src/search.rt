@@ -1,82 +1,109 @@
-//! The lawful journals of a design, as a search follows them entry by entry.
-ghost use Rattle.std.specs.Prelude.{◌≡◌, ◌<◌, ◌≤◌, [], length, None, Some, IfOk, IfSome};
-ghost use Rattle.std.specs.List.{All, AllPairs, Any};
+//! The loose runs of a design, as a search follows them.
+ghost use Rattle.std.specs.Prelude.{◌≡◌, [], IfOk};
 ghost use Rattle.model.specs.States.{start};
-ghost use Rattle.model.specs.Runs.{last_time};
-ghost use Rattle.model.specs.Texts.{IsWithinLimits, IsLawfulText, AreAllTexts, IsEndlessJournal};
 ghost use Rattle.regions.specs.Machine.{state_at};
 ghost use Rattle.design.specs.Compiled.{design_of};
-ghost use Rattle.lawful.specs.SearchNodes.{AreBounded};
-ghost use Rattle.explore.specs.declared.stopped.Stopped.TheVariants as stop;
+ghost use Rattle.lawful.specs.LooseNodes.{AreBounded};
 
 use crate::again::{again, weight};
 use crate::expand::expand;
-use crate::node::{DesignNode, SearchRoom};
+use crate::node::{LooseNode, SearchRoom};
 use design::Design;
-use explore::{Bounds, Expanded, Explored, Orders, explore};
+use explore::{Expanded, Orders};
+use loose::transition::LooseTransition;
 use model::end::{End, Limits};
-use model::entry::Entry;
-use progress::Progress;
 use regions::Machine;
+use settling::AnalyzedDesign;
 use std::alloc::{AllocError, Global};
 
-// The start of a design's run, on the heap.
-fn start_of<'d>(alloc: Global, design: &'d Design) -> Result<Box<Machine<'d>>, AllocError>
+/// The start of a design's run, on the heap.
+pub(crate) fn start_of<'d>(
+    alloc: Global,
+    design: &'d Design,
+) -> Result<Box<Machine<'d>>, AllocError>
     ensures code { IfOk result (λ machine. machine.value.code ≡ design.now) }
     ensures state { IfOk result (λ machine. state_at machine.value ≡ start (design_of design.now)) }
     ensures lines { IfOk result (λ machine. machine.value.lines ≡ []) }
-    ensures entries { IfOk result (λ machine. machine.value.core.entries ≡ 0) }
 {
     let machine = Machine::start(alloc, design)?;
     let boxed = Box::new(alloc, machine)?;
     Ok(boxed)
 }
 
-// The lawful journals of a design in time.
+/// The loose runs of a design in time, by these classes of its registers.
 #[derive(Drop)]
-struct LawfulRuns<'d> {
-    design: &'d Design,
-    limits: Limits,
+pub(crate) struct LooseRuns<'d> {
+    pub(crate) analyzed_design: AnalyzedDesign<'d>,
+    pub(crate) classes: Vec<u32>,
+    pub(crate) limits: Limits,
     ghost bounded: { AreBounded limits },
 }
 
-impl<'d> Orders for LawfulRuns<'d> {
+impl<'d> LooseRuns<'d> {
+    /// The loose runs of a design within limits, by these classes of its registers.
+    pub(crate) fn new(
+        analyzed_design: AnalyzedDesign<'d>,
+        classes: Vec<u32>,
+        limits: Limits,
+    ) -> LooseRuns<'d>
+        requires { AreBounded limits }
+        ensures design { result.analyzed_design ≡ analyzed_design }
+        ensures classes { result.classes ≡ classes }
+        ensures limits { result.limits ≡ limits }
+    {
+        LooseRuns {
+            analyzed_design,
+            classes,
+            limits,
+        }
+    }
+}
+
+impl<'d> Orders for LooseRuns<'d> {
     ghost use Rattle.std.specs.Prelude.{refl};
-    ghost use Rattle.statekeys.specs.Keys.{IsKey};
-    ghost use Rattle.lawful.specs.SearchNodes.{counted_runs};
-    ghost use Rattle.lawful.specs.Serving.{lawful_alike, lawful_keyed};
+    ghost use Rattle.loose.specs.Classes.{class_in};
+    ghost use Rattle.statekeys.specs.ClassKeys.{IsClassKey};
+    ghost use Rattle.lawful.specs.LooseNodes.{searched_runs};
+    ghost use Rattle.lawful.specs.Serving.{loose_alike, loose_keyed};
 
-    type Move = Entry;
+    type Move = LooseTransition;
 
-    type Node = DesignNode<'d>;
+    type Node = LooseNode<'d>;
 
     type End = End;
 
     type Room = SearchRoom;
 
-    ghost runs = { λ o. counted_runs o.design.now o.limits };
+    ghost runs = { λ o. searched_runs o.analyzed_design (class_in o.classes.items) o.limits };
 
-    ghost has_key = { λ _ node key. IsKey node.machine.value.core node.machine.value.values key };
+    ghost has_key = { λ o node key. IsClassKey (class_in o.classes.items) node.machine.value.core node.machine.value.values key };
 
     // The machine at the start of the design's run.
-    fn start(&self, alloc: Global) -> Result<DesignNode<'d>, AllocError> {
-        let machine = start_of(alloc, self.design)?;
+    fn start(&self, alloc: Global) -> Result<LooseNode<'d>, AllocError> {
+        let machine = start_of(alloc, self.analyzed_design.design())?;
         machine.stands();
-        Ok(DesignNode { machine })
+        Ok(LooseNode { machine })
     }
 
     fn room(&self, alloc: Global) -> SearchRoom {
         SearchRoom::new(alloc)
     }
 
-    // Follows the entries that go on from a node in time.
+    // Follows the ways that go on loosely from a node in time, with the combinational processes that were found once.
     fn expand(
         &self,
         alloc: Global,
         room: &mut SearchRoom,
-        node: DesignNode<'d>,
-    ) -> Result<Expanded<DesignNode<'d>, Entry, End>, AllocError> {
-        let expanded = expand(alloc, self.limits, &mut room.log, node.machine)?;
+        node: LooseNode<'d>,
+    ) -> Result<Expanded<LooseNode<'d>, LooseTransition, End>, AllocError> {
+        let expanded = expand(
+            alloc,
+            &self.analyzed_design,
+            &self.classes,
+            self.limits,
+            room,
+            node.machine,
+        )?;
         Ok(expanded)
     }
 
@@ -84,25 +111,25 @@ impl<'d> Orders for LawfulRuns<'d> {
         &self,
         room: &mut SearchRoom,
         key: &mut Vec<u8>,
-        node: &DesignNode<'d>,
+        node: &LooseNode<'d>,
     ) -> Result<(), AllocError> {
-        room.fill_key(key, &node.machine)
+        room.fill_key(key, &node.machine, &self.classes)
     }
 
-    fn weight(&self, node: &DesignNode<'d>) -> usize {
+    fn weight(&self, node: &LooseNode<'d>) -> usize {
         weight(&node.machine)
     }
 
-    // The machine of a node after these further entries; the node's own stays where it stands.
+    // The machine of a node after these further transitions; the node's own stays where it stands.
     fn again(
         &self,
         alloc: Global,
         room: &mut SearchRoom,
-        from: &DesignNode<'d>,
-        moves: &[Entry],
-    ) -> Result<DesignNode<'d>, AllocError> {
-        let machine = again(alloc, room, &from.machine, moves)?;
-        Ok(DesignNode { machine })
+        from: &LooseNode<'d>,
+        moves: &[LooseTransition],
+    ) -> Result<LooseNode<'d>, AllocError> {
+        let machine = again(alloc, room, &from.machine, &self.classes, moves)?;
+        Ok(LooseNode { machine })
     }
 
     fn same_end(&self, a: &End, b: &End) -> bool {
@@ -111,32 +138,7 @@ impl<'d> Orders for LawfulRuns<'d> {
 
     ghost silent = { λ _. refl };
 
-    ghost alike = { λ o i j a. lawful_alike o.design.now o.limits i j a };
+    ghost alike = { λ o i j a. loose_alike o.analyzed_design (class_in o.classes.items) o.limits i j a };
 
-    ghost keyed = { λ o a b i j key of_a of_b at bt text. lawful_keyed o.design.now o.limits a b i j key of_a of_b at.0 bt.0 text };
-}
-
-/// Searches all lawful orders of a design within these limits, and follows each entry that the rules permit. What it shows and tells is
-/// what `lawful_orders` does.
-pub(crate) fn strict_orders<P: Progress>(
-    alloc: Global,
-    design: &Design,
-    limits: Limits,
-    bounds: Bounds,
-    progress: &P,
-) -> Explored<Entry, End>
-    requires room { 0 < bounds.nodes }
-    requires some_entry { 0 < limits.max_entries }
-    requires until { IfSome limits.until (λ until. until ≤ last_time) }
-    ensures sound { All (λ s. IsLawfulText (design_of design.now) limits s.moves.items s.text.items s.end) result.shown.items }
-    ensures distinct { AllPairs (λ s t. s.text.items ≡ t.text.items → s.end ≡ t.end → ⊥) result.shown.items }
-    ensures within { All (λ s. IsWithinLimits limits s.moves.items) result.shown.items }
-    ensures all { result.stopped ≡ None → AreAllTexts (design_of design.now) limits (λ text end. Any (λ s. (s.text.items ≡ text) × (s.end ≡ end)) result.shown.items) }
-    ensures few { result.nodes ≤ bounds.nodes }
-    ensures few_shown { length result.shown.items ≤ bounds.shown }
-    ensures nodes { result.stopped ≡ Some stop.Nodes → result.nodes ≡ bounds.nodes }
-    ensures full { result.stopped ≡ Some stop.Shown → length result.shown.items ≡ bounds.shown }
-    ensures endless { IfSome result.endless (λ journal. IsEndlessJournal (design_of design.now) limits journal.items) }
-{
-    explore(alloc, &LawfulRuns { design, limits }, bounds, progress)
+    ghost keyed = { λ o a b i j key of_a of_b at bt text. loose_keyed o.analyzed_design (class_in o.classes.items) o.limits a b i j key of_a of_b at bt text };
 }

@@ -1,5 +1,0 @@
-pub mod Again
-pub mod LooseNodes
-pub mod Following
-pub mod Journals
-pub mod Serving

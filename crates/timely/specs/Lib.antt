@@ -1,4 +1,0 @@
-pub mod JournalsInTime
-pub mod Cover
-pub mod Going
-pub mod LongTurns
