@@ -47,6 +47,13 @@ impl<'d> AnalyzedDesign<'d> {
         }
     }
 
+    /// The design.
+    pub fn design(&self) -> &'d Design
+        ensures { result.now ≡ self.now }
+    {
+        self.design
+    }
+
     /// Its combinational processes.
     pub fn network(&self) -> &Network
         ensures { IsNetworkOf self.now result.now }
