@@ -21,7 +21,8 @@ use Rattle.loose.specs.Loose.{AlikeIn}
 use Rattle.loose.proofs.ClassStates.{states_in-sym, states_in-trans}
 use Rattle.looseruns.specs.LooseGoing.{GoesLooselyTo}
 use Rattle.looseruns.proofs.LooseSearches.{loose_endless_is_endless}
-use Rattle.lawful.specs.Again.{HasGoneAgain}
+use Rattle.looseruns.specs.LooseMoves.{moves_run}
+use Rattle.lawful.specs.Again.{HasGoneAgain, LeadLooselyTo}
 use Rattle.lawful.specs.LooseNodes.{HoldsEffect, searched_runs}
 
 -- machines of one design and one class key stand in states that are alike in classes
@@ -35,28 +36,26 @@ keys_alike class one other key code of_one of_other keyed keyed' =
 same_outcome : (o : Option Effect) (a b : Effect) → o ≡ Some a → o ≡ Some b → a ≡ b
 same_outcome o a b is is' = cc
 
--- where a machine stands that took the transitions of a loose run
-where_it_leads : (class : ℕ → ℕ) (code : Compiled) (limits : Limits) (moves : List LooseTransition) (begun loosely : MachineView) (endless : IsEndless (searched_runs code class limits) moves) → begun.code ≡ code → state_at begun ≡ start (design_of code) → HasGoneAgain class begun moves loosely
-    → AlikeIn class (state_at loosely) endless.stands.effect.state
-where_it_leads class code limits moves begun loosely endless code_is state again =
+-- where a machine stands that took loose transitions from the start, and each that stands alike
+pub leads_there : (class : ℕ → ℕ) (code : Compiled) (moves : List LooseTransition) (begun loosely : MachineView) (s : State) → begun.code ≡ code → state_at begun ≡ start (design_of code) → HasGoneAgain class begun moves loosely → AlikeIn class s (state_at loosely) → LeadLooselyTo class code moves s
+leads_there class code moves begun loosely s code_is state again alike limits e comes =
     let design = design_of code in
-    let at = endless.stands in
     let g : Effect = again.gone.effect in
-    let here : GoesLooselyTo class design limits (state_at begun) moves g = subst (λ (k : Compiled). GoesLooselyTo class (design_of k) limits (state_at begun) moves g) code_is (again.gone.goes limits at.comes.1) in
-    let there : GoesLooselyTo class design limits (start design) moves g = subst (λ (s : State). GoesLooselyTo class design limits s moves g) state here in
-    let same : there.effect ≡ at.effect = same_outcome _ there.effect at.effect there.goes at.comes.0 in
-    let near : AlikeIn class at.effect.state g.state = subst (λ (e : Effect). AlikeIn class e.state g.state) same there.one_node.1 in
-    subst (λ (s : State). AlikeIn class s at.effect.state) (sym again.gone.state_is) (states_in-sym class at.effect.state g.state near)
+    let here : GoesLooselyTo class design limits (state_at begun) moves g = subst (λ (k : Compiled). GoesLooselyTo class (design_of k) limits (state_at begun) moves g) code_is (again.gone.goes limits comes.1) in
+    let there : GoesLooselyTo class design limits (start design) moves g = subst (λ (x : State). GoesLooselyTo class design limits x moves g) state here in
+    let same : there.effect ≡ e = same_outcome (moves_run class design moves) there.effect e there.goes comes.0 in
+    let near : AlikeIn class e.state g.state = subst (λ (x : Effect). AlikeIn class x.state g.state) same there.one_node.1 in
+    let like : AlikeIn class s g.state = subst (AlikeIn class s) again.gone.state_is alike in
+    states_in-trans class e.state g.state s near (states_in-sym class s g.state like)
 
 -- a journal that leads to a state which is alike to where such a loose run leads
-pub endless_if_alike : (class : ℕ → ℕ) (code : Compiled) (limits : Limits) (journal : List Entry) (moves : List LooseTransition) (begun loosely m : MachineView) → IsEndless (searched_runs code class limits) moves → begun.code ≡ code → state_at begun ≡ start (design_of code) → HasGoneAgain class begun moves loosely
-    → HasComeTo limits journal m → m.code ≡ code → AlikeIn class (state_at m) (state_at loosely) → IsEndlessJournal (design_of code) limits journal
-endless_if_alike class code limits journal moves begun loosely m endless code_is state again come of_code alike =
+pub endless_if_alike : (class : ℕ → ℕ) (code : Compiled) (limits : Limits) (journal : List Entry) (moves : List LooseTransition) (m : MachineView) → IsEndless (searched_runs code class limits) moves → HasComeTo limits journal m → m.code ≡ code
+    → LeadLooselyTo class code moves (state_at m) → IsEndlessJournal (design_of code) limits journal
+endless_if_alike class code limits journal moves m endless come of_code leads =
     let design = design_of code in
     let at = endless.stands in
-    let leads = where_it_leads class code limits moves begun loosely endless code_is state again in
-    let near : AlikeIn class come.effect.state (state_at loosely) = subst (λ (s : State). AlikeIn class s (state_at loosely)) (sym come.state_is) alike in
-    let led : AlikeIn class come.effect.state at.effect.state = states_in-trans class come.effect.state (state_at loosely) at.effect.state near leads in
+    let near : AlikeIn class at.effect.state (state_at m) = leads limits at.effect at.comes in
+    let led : AlikeIn class come.effect.state at.effect.state = subst (λ (s : State). AlikeIn class s at.effect.state) (sym come.state_is) (states_in-sym class at.effect.state (state_at m) near) in
     let lawful : run design journal ≡ Some come.effect = subst (λ (k : Compiled). run (design_of k) journal ≡ Some come.effect) of_code come.lawful in
     record {
       effect = come.effect;

@@ -1,11 +1,14 @@
 -- A machine made again by its loose transitions.
 use Rattle.std.specs.Prelude.{◌≡◌, ℕ, List, []}
 use Rattle.model.specs.declared.end.Limits.{Limits}
+use Rattle.model.specs.States.{State}
 use Rattle.model.specs.Runs.{Effect}
-use Rattle.design.specs.Compiled.{design_of}
+use Rattle.design.specs.Compiled.{Compiled, design_of}
 use Rattle.design.specs.DesignInvariant.{controls_of}
 use Rattle.loose.specs.declared.transition.LooseTransition.{LooseTransition}
+use Rattle.loose.specs.Loose.{AlikeIn}
 use Rattle.looseruns.specs.LooseMoves.{AreTimelyMoves}
+use Rattle.looseruns.specs.LooseRuns.{ComesOfMoves}
 use Rattle.looseruns.specs.LooseGoing.{GoesLooselyTo}
 use Rattle.regions.specs.Machine.{MachineView, state_at}
 
@@ -23,3 +26,8 @@ pub record HasGoneAgain (class : ℕ → ℕ) (old : MachineView) (moves : List 
   pub gone : HasGoneBy class old moves new
   pub silent_is : new.lines ≡ []
   pub controls : new.core.controls ≡ controls_of new.code
+
+-- Loose transitions lead from the start of a design's run, where they are in time, to what is alike in classes to a state.
+abbrev pub LeadLooselyTo : (ℕ → ℕ) → Compiled → List LooseTransition → State → Type 0
+LeadLooselyTo class code moves s =
+    (limits : Limits) (e : Effect) → ComesOfMoves class (design_of code) limits moves e → AlikeIn class e.state s

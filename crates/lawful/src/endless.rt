@@ -1,5 +1,5 @@
 //! The lawful journal of a loose run from which no run comes to an end.
-ghost use Rattle.std.specs.Prelude.{◌≡◌, ◌≤◌, IfOk, IfSome, IsTrue};
+ghost use Rattle.std.specs.Prelude.{◌≡◌, ◌≤◌, true, IfOk, IfSome};
 ghost use Rattle.model.specs.Runs.{last_time};
 ghost use Rattle.model.specs.Texts.{IsEndlessJournal};
 ghost use Rattle.design.specs.Compiled.{design_of};
@@ -7,6 +7,7 @@ ghost use Rattle.regions.specs.Machine.{state_at};
 ghost use Rattle.loose.specs.Classes.{class_in};
 ghost use Rattle.loose.specs.Loose.{AlikeIn};
 ghost use Rattle.explore.specs.Search.{IsEndless};
+ghost use Rattle.lawful.specs.Again.{LeadLooselyTo};
 ghost use Rattle.lawful.specs.LooseNodes.{searched_runs};
 
 use crate::again::again;
@@ -14,7 +15,7 @@ use crate::node::SearchRoom;
 use crate::search::start_of;
 use design::Design;
 use loose::transition::LooseTransition;
-use loosejournals::{LedRun, lead};
+use loosejournals::{LedJournal, journal_to};
 use model::end::Limits;
 use model::entry::Entry;
 use regions::Machine;
@@ -29,7 +30,7 @@ fn stand_alike(
     classes: &[u32],
 ) -> Result<bool, AllocError>
     requires code { one.now.code ≡ other.now.code }
-    ensures { IfOk result (λ alike. IsTrue alike → AlikeIn (class_in classes.now) (state_at one.now) (state_at other.now)) }
+    ensures { IfOk result (λ alike. alike ≡ true → AlikeIn (class_in classes.now) (state_at one.now) (state_at other.now)) }
 {
     one.stands();
     other.stands();
@@ -38,6 +39,24 @@ fn stand_alike(
     let mut other_key = Vec::new(alloc);
     room.fill_key(&mut other_key, other, classes)?;
     Ok(key.as_slice() == other_key.as_slice())
+}
+
+// Whether a machine stands where these loose transitions lead from the start of its design's run, up to the order of updates of different
+// classes.
+fn stands_there(
+    alloc: Global,
+    design: &Design,
+    classes: &[u32],
+    moves: &[LooseTransition],
+    machine: &Machine<'_>,
+) -> Result<bool, AllocError>
+    requires code { machine.now.code ≡ design.now }
+    ensures { IfOk result (λ there. there ≡ true → LeadLooselyTo (class_in classes.now) design.now moves.now (state_at machine.now)) }
+{
+    let mut room = Box::new(alloc, SearchRoom::new(alloc))?;
+    let start = start_of(alloc, design)?;
+    let loosely = again(alloc, &mut room, &start, classes, moves)?;
+    stand_alike(alloc, &mut room, machine, &loosely, classes)
 }
 
 /// A lawful journal from which no run comes to an end, as none does from a loose run of these transitions: it is led by them, and leads
@@ -54,16 +73,13 @@ pub(crate) fn endless_journal(
     requires endless { IsEndless (searched_runs design.now (class_in classes.now) limits) moves.now }
     ensures { IfOk result (λ found. IfSome found (λ journal. IsEndlessJournal (design_of design.now) limits journal.items)) }
 {
-    let mut room = SearchRoom::new(alloc);
-    let start = start_of(alloc, design)?;
-    let loosely = again(alloc, &mut room, &start, classes, moves)?;
-    let led = match lead(alloc, design, limits, classes, moves)? {
+    let led = match journal_to(alloc, design, limits, classes, moves)? {
         Some(led) => led,
         None => return Ok(None),
     };
-    if !stand_alike(alloc, &mut room, &led.machine, &loosely, classes)? {
+    if !stands_there(alloc, design, classes, moves, &led.machine)? {
         return Ok(None);
     }
-    let LedRun { journal, .. } = led;
+    let LedJournal { journal, .. } = led;
     Ok(Some(journal))
 }

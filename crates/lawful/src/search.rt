@@ -47,7 +47,7 @@ impl<'d> LooseRuns<'d> {
         limits: Limits,
     ) -> LooseRuns<'d>
         requires { AreBounded limits }
-        ensures design { result.analyzed_design ≡ analyzed_design }
+        ensures design { result.analyzed_design ≡ analyzed_design.entry }
         ensures classes { result.classes ≡ classes }
         ensures limits { result.limits ≡ limits }
     {

@@ -10,8 +10,8 @@ use Rattle.loosewalks.specs.LooseWalking.{HasWalkedLoosely}
 use Rattle.lawful.proofs.Walked.{walked_nowhere, none_if_empty, some_if_not_empty, followed_next, followed_sound, followed_all, arrived_next, arrived_sound, arrived_all}
 use Rattle.lawful.proofs.expand.expand.Goals as goal
 
-pub walk_with-moves-requires-clause-reached : goal.walk_with-moves-requires-clause-reached
-walk_with-moves-requires-clause-reached c =
+pub walk_with-requires-clause-reached : goal.walk_with-requires-clause-reached
+walk_with-requires-clause-reached c =
     subst (λ (p : MachineView). IsLikeReached (class_in c.args.classes.now) (design_of p.code) (state_at p)) (sym c.deref_mut.ensures.value) c.requires.reached
 
 pub follow-requires-clause-order : goal.follow-requires-clause-order
