@@ -137,14 +137,9 @@ impl<K: Naming, P: Probe, R: Wait> RunContext<'_, '_, K, P, R> {
         }
     }
 
-    // Tells the gate of a turn that is too long, by the reads of the log behind those of the batch. The turns before it are committed first.
+    // Gives up a turn that is too long: the gate is told of the reads of the log behind those of the batch, whose turns are committed first.
     // Answers whether the worker goes on, and then the batch is empty.
-    fn tell_long(
-        &self,
-        batch: &mut Batch<K>,
-        worker: &mut Worker<K>,
-        ticket: Ticket<K>,
-    ) -> NextRound
+    fn give_up(&self, batch: &mut Batch<K>, worker: &mut Worker<K>, ticket: Ticket<K>) -> NextRound
         requires place { HasPlace K.named batch.old worker.old }
         requires tries { ticket.tries < most_tries }
         requires long { IsLong K.named batch.old ticket worker.old.seat }
@@ -195,7 +190,7 @@ impl<K: Naming, P: Probe, R: Wait> RunContext<'_, '_, K, P, R> {
                 }
                 Err((ticket, FillFault::TooLong)) => {
                     batch.throttle.stay_alone();
-                    after(self.tell_long(batch, worker, ticket))
+                    after(self.give_up(batch, worker, ticket))
                 }
                 Err((_, FillFault::Memory)) => {
                     self.gate.stop(self.rt, &mut worker.seat);

@@ -13,8 +13,8 @@ pub returns-in-Err-default-Memory-clause-fills : goal.returns-in-Err-default-Mem
 returns-in-Err-default-Memory-clause-fills g c =
     fills_begun _ _ _ _ (goes_then 0 0 _ _ _ c.add.ensures.goes (told _ _ _ c.stop.ensures).0) (search rules) (search rules) (puts_none c.args.worker.now.owner c.args.worker.now.owner refl) refl
 
-pub tell_long-requires-clause-long : goal.tell_long-requires-clause-long
-tell_long-requires-clause-long g c κs lives =
+pub give_up-requires-clause-long : goal.give_up-requires-clause-long
+give_up-requires-clause-long g c κs lives =
     let refused = c.in-Err-default-TooLong.ensures in
     subst (λ (ticket : TicketView). IsLong g.K.Naming.named c.add.new.batch ticket c.add.new.seat) (sym refused.added.1) (refused.long c.in-Err-default-TooLong.field-0-1-is)
 
@@ -27,7 +27,7 @@ returns-else-is_enough-clause-keeps g c = keeps_offered g.K.Naming.named _ _ _ _
 pub returns-in-Err-default-TooLong-clause-keeps : goal.returns-in-Err-default-TooLong-clause-keeps
 returns-in-Err-default-TooLong-clause-keeps g c =
     let refused = c.in-Err-default-TooLong.ensures in
-    keeps_long g.K.Naming.named _ c.tell_long.result _ _ _ _ _ _ _ _ c.after.ensures c.add.ensures.goes refl refl (ap (λ tickets. tickets.items) refused.added.0) refused.added.1 c.tell_long.ensures.empty c.tell_long.ensures.keeps
+    keeps_long g.K.Naming.named _ c.give_up.result _ _ _ _ _ _ _ _ c.after.ensures c.add.ensures.goes refl refl (ap (λ tickets. tickets.items) refused.added.0) refused.added.1 c.give_up.ensures.empty c.give_up.ensures.keeps
 
 pub returns-else-tries-lt-MAX_TRIES-clause-keeps : goal.returns-else-tries-lt-MAX_TRIES-clause-keeps
 returns-else-tries-lt-MAX_TRIES-clause-keeps g c =

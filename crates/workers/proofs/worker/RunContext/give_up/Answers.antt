@@ -10,7 +10,7 @@ use Rattle.workers.proofs.Seats.{goes_then}
 use Rattle.workers.proofs.Told.{gave_later, long_goes}
 use Rattle.workers.proofs.Kept.{settled, long_deals}
 use Rattle.workers.proofs.Hands.{keeps_behind}
-use Rattle.workers.proofs.worker.RunContext.tell_long.Goals as goal
+use Rattle.workers.proofs.worker.RunContext.give_up.Goals as goal
 
 pub returns-clause-fills : goal.returns-clause-fills
 returns-clause-fills g c =
