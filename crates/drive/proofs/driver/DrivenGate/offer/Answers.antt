@@ -9,7 +9,7 @@ use Rattle.commitgate.specs.declared.reply.Reply.{Reply}
 use Rattle.commitgate.specs.declared.reply.Reply.TheVariants.{Accepted, Stale, Gone, Stopped, NoMemory}
 use Rattle.regcells.specs.Meetings.{fresh_of}
 use Rattle.drive.specs.Leading.{IsReplied}
-use Rattle.drive.proofs.driver.offer.Goals as goal
+use Rattle.drive.proofs.driver.DrivenGate.offer.Goals as goal
 
 prefix_self : {A : Type 0} (xs : List A) → IsPrefix xs xs
 prefix_self [] = ([], refl)

@@ -4,7 +4,7 @@ use Rattle.std.specs.Prelude.{Result, MatchResult}
 use Rattle.turn.specs.TurnAnswers.{IsTurnLog, IsNoTurn}
 use Rattle.turn.specs.declared.log.FillFault.{FillFault}
 use Rattle.turn.specs.declared.log.FillFault.TheVariants.{TooLong}
-use Rattle.drive.proofs.driver.give.Goals as goal
+use Rattle.drive.proofs.driver.DrivenGate.give.Goals as goal
 
 pub too_long-requires-clause-turn : goal.too_long-requires-clause-turn
 too_long-requires-clause-turn g c =
