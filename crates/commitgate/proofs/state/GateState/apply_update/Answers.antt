@@ -18,7 +18,7 @@ use Rattle.commitgate.proofs.Meetings.{rises_self}
 use Rattle.commitgate.proofs.Waits.{none_least}
 use Rattle.commitgate.proofs.Tellings.{after_ledger, tell_refused, tell_stopped, tell_ended, tell_appended, no_updates}
 use Rattle.commitgate.proofs.Validating.{met_update}
-use Rattle.commitgate.proofs.state.GateState.update.Goals as goal
+use Rattle.commitgate.proofs.state.GateState.apply_update.Goals as goal
 
 pub returns-in-Some-clause-seat : goal.returns-in-Some-clause-seat
 returns-in-Some-clause-seat g c =
