@@ -171,27 +171,9 @@ fn find_texts<P: Progress>(
     ensures grown { IfOk result (λ texts. Extends known.items texts.shown.items) }
 {
     match search_options.samples {
-        Some(count) => sampled(alloc, design, search_options, count, progress),
-        None => Ok(searched(alloc, design, search_options, known, progress)),
+        Some(count) => return sampled(alloc, design, search_options, count, progress),
+        None => {}
     }
-}
-
-/// The texts of all lawful orders, as far as they are searched, behind those that are known.
-fn searched<P: Progress>(
-    alloc: Global,
-    design: &Design,
-    search_options: SearchOptions,
-    known: Vec<Shown<Entry, End>>,
-    progress: &P,
-) -> FoundTexts
-    requires can { CanSearch search_options }
-    requires all { search_options.samples ≡ None }
-    requires lawful { All (IsLawfulShown design.now (limits_in search_options)) known.items }
-    requires distinct { AllPairs AreDistinct known.items }
-    requires few { length known.items ≤ search_options.max_texts }
-    ensures found { AreFound design.now search_options result.claim result.shown.items (option_map (λ journal. journal.items) result.endless) }
-    ensures grown { Extends known.items result.shown.items }
-{
     let limits = Limits {
         until: search_options.until,
         max_entries: search_options.max_entries,
@@ -219,11 +201,11 @@ fn searched<P: Progress>(
     let endless = endless_of(stopped, endless);
     let number = number_of(&endless, shown.as_slice());
     let claim = claim_of(search_options, stopped, nodes, number);
-    FoundTexts {
+    Ok(FoundTexts {
         claim,
         shown,
         endless,
-    }
+    })
 }
 
 /// For what a search stopped whose texts were put behind those that are known: for its own reason, for the most texts where one of them was left out, and for want of

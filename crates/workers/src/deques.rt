@@ -13,9 +13,6 @@ use eventpool::{Owner, Stolen, Thief};
 use std::sync::Wait;
 use std::thread;
 
-/// How often a worker looks again for a ticket before it rests: some microseconds, at the end of which it lets others run.
-pub(crate) const LOOKS: u32 = 11;
-
 // Steals the first ticket of a deque. Where another is quicker it tries again.
 fn steal_one<T: Drop, R: Wait>(rt: &R, thief: &mut Thief<T>) -> Option<T>
     ensures end { thief_card thief.new ≡ thief_card thief.old }
