@@ -10,8 +10,8 @@ use Rattle.statekeys.proofs.class_keys.put_future_grouped.Goals as goal
 pub returns-clause-due : goal.returns-clause-due
 returns-clause-due c =
     on_ok_weaker c.put_slice.result
-    (λ _. due_listed (class_in c.args.classes.now) c.args.future.now.items c.list_future.new.list.items c.sort_future.new.future.items
-    c.in_ok-list_future.ensures c.in_ok-sort_future.ensures.in_order c.in_ok-sort_future.ensures.rising)
+    (λ _. due_listed (class_in c.args.classes.now) c.args.future.now.items c.list_items.new.list.items c.sort_future.new.future.items
+    c.in_ok-list_items.ensures c.in_ok-sort_future.ensures.in_order c.in_ok-sort_future.ensures.rising)
     c.put_slice.ensures
 
 pub returns-clause-in_time : goal.returns-clause-in_time
