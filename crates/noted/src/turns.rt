@@ -2,12 +2,12 @@
 ghost use Rattle.std.specs.Prelude.{◌≡◌, ◌<◌, ◌++◌, map, length, slice_get, Some, OnOk};
 ghost use Rattle.model.specs.States.{triggers_of};
 ghost use Rattle.design.specs.Fits.{FitsRegister};
-ghost use Rattle.turn.specs.TurnLogs.{assignment_of, wait_of};
+ghost use Rattle.loose.specs.Classes.{class_in};
 ghost use Rattle.turn.specs.Reads.{registers};
+ghost use Rattle.turn.specs.TurnLogs.{assignment_of, wait_of};
+ghost use Rattle.footprints.specs.Footprints.{assigned, update_footprint};
 ghost use Rattle.regions.specs.Machine.{state_at};
 ghost use Rattle.regions.specs.StepLogs.{IsLogFor};
-ghost use Rattle.footprints.specs.Footprints.{assigned, update_footprint};
-ghost use Rattle.loose.specs.Classes.{class_in};
 ghost use Rattle.noted.specs.NotedSteps.{AreWritesOf, HasNoEffects, IsTurnNoted, note_of, own_note, with_effects};
 
 use crate::changes::{note_changes, note_writes};
@@ -124,11 +124,11 @@ fn note_own(
 
 /// Notes a turn of a process, which the log is.
 pub(crate) fn note_turn(
-    note: &mut Note,
     machine: &Machine<'_>,
-    classes: &[u32],
     process: u32,
     log: &TurnLog,
+    classes: &[u32],
+    note: &mut Note,
 ) -> Result<(), AllocError>
     requires { IsLogFor machine.now.code (state_at machine.now) process log.now }
     ensures { OnOk result (IsTurnNoted (class_in classes.now) machine.now.code (state_at machine.now) process note.new) }
@@ -140,11 +140,11 @@ pub(crate) fn note_turn(
 
 /// Notes an update of a register to a value.
 pub(crate) fn note_update(
-    note: &mut Note,
     machine: &Machine<'_>,
-    classes: &[u32],
     register: RegId,
     value: Bits,
+    classes: &[u32],
+    note: &mut Note,
 ) -> Result<(), AllocError>
     requires { FitsRegister machine.now.code.widths register value }
     ensures { OnOk result (note.new ≡ note_of (update_footprint (class_in classes.now) (state_at machine.now) register value)) }
