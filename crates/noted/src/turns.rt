@@ -1,5 +1,5 @@
 //! What turns and updates have to do with other steps.
-ghost use Rattle.std.specs.Prelude.{◌≡◌, ◌<◌, ◌++◌, map, length, slice_get, Some, OnOk};
+ghost use Rattle.std.specs.Prelude.{◌≡◌, ◌++◌, map, OnOk};
 ghost use Rattle.model.specs.States.{triggers_of};
 ghost use Rattle.design.specs.Fits.{FitsRegister};
 ghost use Rattle.loose.specs.Classes.{class_in};
@@ -33,23 +33,15 @@ fn class_of(classes: &[u32], register: RegId) -> u32
     }
 }
 
-// The register that was read at a place.
-fn register_at(reads: &IndexMap<RegId, Seen>, place: usize) -> RegId
-    requires { place < length reads.now.entries }
-    ensures { slice_get (registers reads.now.entries) place ≡ Some result }
-{
-    match reads.get_index(place) {
-        Some((register, _)) => *register,
-        None => unreachable!(),
-    }
-}
-
 // Notes the registers that a turn used without having written them.
 fn note_uses(uses: &mut Numbers, reads: &IndexMap<RegId, Seen>) -> Result<(), AllocError>
     ensures { OnOk result (uses.new ≡ uses.old ++ registers reads.now.entries) }
 {
     for place in 0..reads.len() {
-        uses.push(register_at(reads, place))?;
+        let Some((register, _)) = reads.get_index(place) else {
+            unreachable!();
+        };
+        uses.push(*register)?;
     }
     Ok(())
 }
