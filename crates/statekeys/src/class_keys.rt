@@ -1,10 +1,11 @@
 //! States as bytes that leave the order of updates of different classes out.
 ghost use Rattle.std.specs.Prelude.{◌≡◌, ℕ, ◌==◌, ◌++◌, map, filter, OnOk};
 ghost use Rattle.std.specs.List.Sorted.{IsNonDecreasingBy};
+ghost use Rattle.loose.specs.Classes.{class_in};
 ghost use Rattle.statekeys.specs.KeyCodes.{nat_code, pair_code, list_code};
 ghost use Rattle.statekeys.specs.Keys.{update_code, at_time};
 ghost use Rattle.statekeys.specs.KeyParts.{unnumbered_update, due_assignment};
-ghost use Rattle.statekeys.specs.ClassKeys.{class_in, IsGrouped, IsClassKey};
+ghost use Rattle.statekeys.specs.ClassKeys.{IsGrouped, IsClassKey};
 
 use crate::encode::put_slice;
 use crate::keys::{

@@ -2,7 +2,8 @@ use Rattle.std.proofs.Common.{◌≡◌, ℕ, List, ◌++◌, map, refl, ◌∙�
 use Rattle.std.proofs.lemmas.Result.{on_ok_weaker}
 use Rattle.statekeys.specs.KeyCodes.{nat_code, pair_code, list_code}
 use Rattle.statekeys.specs.Keys.{KeyContent, process_code, update_code}
-use Rattle.statekeys.specs.ClassKeys.{class_in, IsToldInClasses, IsClassKey}
+use Rattle.loose.specs.Classes.{class_in}
+use Rattle.statekeys.specs.ClassKeys.{IsToldInClasses, IsClassKey}
 use Rattle.statekeys.specs.KeyParts.{going_on, unnumbered_update, due_assignment}
 use Rattle.statekeys.proofs.Events.{inactive_told, future_inactive_told, processes_told}
 use Rattle.statekeys.proofs.ClassKeys.{active_told_in, nonblocking_told_in, future_told_in}

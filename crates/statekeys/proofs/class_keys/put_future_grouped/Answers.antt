@@ -2,7 +2,7 @@ use Rattle.std.proofs.lemmas.Result.{on_ok_weaker}
 use Rattle.statekeys.specs.KeyCodes.{nat_code, pair_code}
 use Rattle.statekeys.specs.Keys.{update_code}
 use Rattle.statekeys.specs.KeyParts.{due_assignment}
-use Rattle.statekeys.specs.ClassKeys.{class_in}
+use Rattle.loose.specs.Classes.{class_in}
 use Rattle.statekeys.proofs.Parts.{put_map_of}
 use Rattle.statekeys.proofs.Classes.{due_listed, rising_times}
 use Rattle.statekeys.proofs.class_keys.put_future_grouped.Goals as goal

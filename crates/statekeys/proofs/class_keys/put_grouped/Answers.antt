@@ -1,7 +1,7 @@
 use Rattle.std.proofs.lemmas.Result.{on_ok_weaker}
 use Rattle.statekeys.specs.Keys.{update_code}
 use Rattle.statekeys.specs.KeyParts.{unnumbered_update}
-use Rattle.statekeys.specs.ClassKeys.{class_in}
+use Rattle.loose.specs.Classes.{class_in}
 use Rattle.statekeys.proofs.Parts.{put_map_of}
 use Rattle.statekeys.proofs.Classes.{grouped_listed}
 use Rattle.statekeys.proofs.class_keys.put_grouped.Goals as goal
