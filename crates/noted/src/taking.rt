@@ -1,5 +1,5 @@
 //! An entry that a machine takes, with its note.
-ghost use Rattle.std.specs.Prelude.{◌≡◌, ◌+◌, ◌<◌, map, IsSome, None, MatchOption, IfErr, OnOk, OnErr};
+ghost use Rattle.std.specs.Prelude.{◌≡◌, ◌+◌, ◌<◌, map, IsSome, None, MatchOption, MatchResult, IfErr, OnOk, OnErr};
 ghost use Rattle.model.specs.declared.entry.Entry.TheVariants as entries;
 ghost use Rattle.model.specs.Runs.{refusal};
 ghost use Rattle.regions.specs.Evaluations.{made_event};
