@@ -1,8 +1,7 @@
 -- Lists that a loop appends to.
 use Rattle.std.proofs.Common.{◌≡◌, ℕ, zero, suc, ◌+◌, ◌<◌, List, [], ◌∷◌, ◌++◌, map, length, take, get_or, sym, ap, ◌∙◌, arith, append_assoc, Some}
-use Rattle.std.specs.Prelude.{slice_get, option_map}
+use Rattle.std.specs.Prelude.{slice_get}
 use Rattle.std.proofs.lemmas.List.{take_more, map_push}
-use Rattle.std.proofs.lemmas.Option.{slice_get-map, slice_get_within, get_or_from_slice_get}
 
 -- one element more is appended, where what the loop appends grows by it
 pub grown : {A : Type 0} (start now new more next : List A) (x : A) → now ≡ start ++ more → new ≡ now ++ x ∷ [] → next ≡ more ++ x ∷ [] → new ≡ start ++ next
@@ -29,10 +28,3 @@ pub got_more : (rs : List ℕ) (i r : ℕ) → slice_get rs i ≡ Some r → tak
 got_more rs i r got =
     let next : i + 1 ≡ suc i = omega arith in
     ap (λ n. take n rs) next ∙ take_got rs i r got
-
--- the first of what a list is mapped to, and the next, which was read
-pub mapped_read : {A B : Type 0} (f : A → B) (xs : List A) (k : ℕ) (x : A) → slice_get xs k ≡ Some x → take (k + 1) (map f xs) ≡ take k (map f xs) ++ f x ∷ []
-mapped_read f xs k x read =
-    let there : slice_get (map f xs) k ≡ Some (f x) = slice_get-map f xs k ∙ ap (option_map f) read in
-    take_more (map f xs) k (f x) (slice_get_within (map f xs) k (f x) there)
-    ∙ ap (λ y. take k (map f xs) ++ y ∷ []) (get_or_from_slice_get (map f xs) k (f x) (f x) there)
