@@ -139,6 +139,18 @@ impl<'d> Observer<'d> {
         }
     }
 
+    // Leads the machine over entries. The answer is whether it takes them, and another entry is one of a pair's first role behind them.
+    fn leaves_first(&mut self, over: &[Entry], one: Entry, pair: Pair) -> bool
+        ensures led { IsTrue result → IsLed self.old.machine over.now self.new.machine }
+        ensures code { self.new.machine.code ≡ self.old.machine.code }
+        ensures first { IsTrue result → IsOneAt (state_at self.new.machine) one pair.site pair.time pair.first }
+    {
+        if !lead(&mut self.machine, over) {
+            return false;
+        }
+        self.is_one(one, pair, pair.first)
+    }
+
     // Whether an entry is what is asked of it by a role, at a pair's site and time.
     fn is_asked(&mut self, entry: Entry, pair: Pair, role: Role, asked: Asked) -> bool
         ensures holds { IsTrue result → IsAskedAt asked (design_of self.old.machine.code) (state_at self.old.machine) entry pair.site pair.time role }
@@ -171,11 +183,7 @@ impl<'d> Observer<'d> {
         if !self.is_asked(exchanged.other, pair, pair.second, asked) {
             return false;
         }
-        let over = [exchanged.other];
-        if !lead(&mut self.machine, &over) {
-            return false;
-        }
-        self.is_one(split.one, pair, pair.first)
+        self.leaves_first(&[exchanged.other], split.one, pair)
     }
 
     /// Whether two entries do what a pair says behind the same entries, and the first one is still of its role behind a segment that
@@ -190,9 +198,6 @@ impl<'d> Observer<'d> {
         if !self.has_role(held.other, pair, pair.second) {
             return false;
         }
-        if !lead(&mut self.machine, held.segment) {
-            return false;
-        }
-        self.is_one(held.one, pair, pair.first)
+        self.leaves_first(held.segment, held.one, pair)
     }
 }

@@ -1,10 +1,10 @@
 //! What a search keeps of the nodes that it reached.
 ghost use Rattle.std.specs.Prelude.{◌≡◌, ◌<◌, ◌≤◌, ◌++◌, [], ◌∷◌, false, true, length, get_or, IsTrue, IfOk, OnOk};
 ghost use Rattle.std.specs.List.{All, Any};
-ghost use Rattle.explore.specs.SearchKept.{AreKept, Grows, IsText, LeadsOn, StayUnmarked};
 ghost use Rattle.explore.specs.Search.{IsSuccessor};
 ghost use Rattle.explore.specs.NumberedTexts.{texts};
 ghost use Rattle.explore.specs.Lineage.{ways};
+ghost use Rattle.explore.specs.SearchKept.{AreKept, AreKeptFurther, IsText, LeadsOn};
 
 use crate::again::{Nodes, most_newest};
 use crate::lineage::Lineage;
@@ -74,7 +74,7 @@ pub(crate) fn first<O: Orders>(
     let mut key = Vec::new(alloc);
     scope.orders.key(room, &mut key, &node)?;
     let mut visited = Visited::new(alloc);
-    let _there = visited.add(alloc, 0, key.as_slice())?;
+    let _there = visited.add(0, key.as_slice())?;
     let mut links = Links::new(alloc);
     links.add()?;
     let mut pending = Vec::new(alloc);
@@ -111,10 +111,7 @@ fn follow<O: Orders>(
     requires from { IsText (O.runs scope.orders.now) (ways kept.old.lineage) (texts kept.old.texts) from }
     requires next { IsSuccessor (O.runs scope.orders.now) (get_or (ways kept.old.lineage) from.number []) next }
     requires room { length (ways kept.old.lineage) ≤ scope.bounds.nodes }
-    ensures kept { OnOk result (AreKept (O.runs scope.entry.orders.now) (O.has_key scope.entry.orders.now) kept.new) }
-    ensures grows { OnOk result (Grows kept.old kept.new) }
-    ensures room { OnOk result (length (ways kept.new.lineage) ≤ scope.entry.bounds.nodes) }
-    ensures unmarked { OnOk result (StayUnmarked kept.old kept.new) }
+    ensures further { OnOk result (AreKeptFurther (O.runs scope.entry.orders.now) (O.has_key scope.entry.orders.now) scope.entry.bounds.nodes kept.old kept.new) }
     ensures full { IfOk result (λ there. there ≡ false → length (ways kept.new.lineage) ≡ scope.entry.bounds.nodes) }
     ensures leads { IfOk result (λ there. IsTrue there → LeadsOn (O.runs scope.entry.orders.now) kept.new from.number (get_or (ways kept.old.lineage) from.number [] ++ next.moves.items)) }
 {
@@ -129,11 +126,11 @@ fn follow<O: Orders>(
     let weight = scope.orders.weight(&node);
     let number = kept.lineage.len();
     if number >= scope.bounds.nodes {
-        let seen = kept.visited.find(scope.alloc, text, bytes)?;
+        let seen = kept.visited.find(text, bytes)?;
         let known = kept.links.join(from.number, seen)?;
         return Ok(known);
     }
-    let there = kept.visited.add(scope.alloc, text, bytes)?;
+    let there = kept.visited.add(text, bytes)?;
     let joined = kept.links.join(from.number, there)?;
     if joined {
         return Ok(true);
@@ -163,10 +160,7 @@ pub(crate) fn follow_all<O: Orders>(
     requires from { IsText (O.runs scope.orders.now) (ways kept.old.lineage) (texts kept.old.texts) from }
     requires successors { All (IsSuccessor (O.runs scope.orders.now) (get_or (ways kept.old.lineage) from.number [])) successors.items }
     requires room { length (ways kept.old.lineage) ≤ scope.bounds.nodes }
-    ensures kept { OnOk result (AreKept (O.runs scope.entry.orders.now) (O.has_key scope.entry.orders.now) kept.new) }
-    ensures grows { OnOk result (Grows kept.old kept.new) }
-    ensures room { OnOk result (length (ways kept.new.lineage) ≤ scope.entry.bounds.nodes) }
-    ensures unmarked { OnOk result (StayUnmarked kept.old kept.new) }
+    ensures further { OnOk result (AreKeptFurther (O.runs scope.entry.orders.now) (O.has_key scope.entry.orders.now) scope.entry.bounds.nodes kept.old kept.new) }
     ensures full { IfOk result (λ all. all ≡ false → length (ways kept.new.lineage) ≡ scope.entry.bounds.nodes) }
     ensures leads { IfOk result (λ all. IsTrue all → All (λ next. LeadsOn (O.runs scope.entry.orders.now) kept.new from.number (get_or (ways kept.old.lineage) from.number [] ++ next.moves.items)) successors.items) }
 {

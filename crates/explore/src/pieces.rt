@@ -23,8 +23,7 @@ pub(crate) struct Pieces<T> {
 impl<T: Copy> Pieces<T> {
     /// No lists.
     pub(crate) fn new(alloc: Global) -> Self
-        ensures whole { ArePieces result }
-        ensures none { pieces result ≡ [] }
+        ensures { pieces result ≡ [] }
     {
         Pieces {
             rows: Vec::new(alloc),

@@ -1,2 +1,3 @@
 pub mod Classes
 pub mod FoundJournals
+pub mod LedRuns

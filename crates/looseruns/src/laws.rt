@@ -6,18 +6,18 @@ ghost use Rattle.looseruns.specs.LooseRunLaws.{AlikeLooseRunsServe, AlikeHeldRun
 ghost use Rattle.looseruns.specs.LooseGoing.{NoMoveStays, LooseStepGoesOn, LooseWaysGoOn, MovesLeadToNext, MovesLeadToEnd};
 ghost use Rattle.looseruns.specs.LooseCover.{FollowedMovesCover, CoveringMovesCover, CoveringLooseIsCovered, FollowingLooseIsCovered};
 
+/// A transition does the same in states that are alike in classes, and so do transitions one after another.
+pub fn alike_in_states_move_alike()
+    ensures one { AlikeInStatesMoveAlike }
+    ensures more { OneLooseNodeMovesOn }
+{}
+
 /// A move is a loose step of its transition, each loose step has its move, and an entry is in time where its transition is.
 pub fn moves_are_loose_steps()
     ensures transition { EntryHasTransition }
     ensures step { MoveIsLooseStep }
     ensures moves { LooseStepHasMove }
     ensures timely { TransitionIsTimely }
-{}
-
-/// A transition does the same in states that are alike in classes, and so do transitions one after another.
-pub fn alike_in_states_move_alike()
-    ensures one { AlikeInStatesMoveAlike }
-    ensures more { OneLooseNodeMovesOn }
 {}
 
 /// What comes of transitions comes of as many entries, and the other way round up to likeness in classes. The events stay in the order of

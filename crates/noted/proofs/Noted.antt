@@ -1,6 +1,6 @@
 -- Notes of footprints, and the update that the rules permit.
 use Rattle.std.proofs.Common.{◌≡◌, ℕ, ◌+◌, ◌==◌, Bool, true, false, not, List, [], ◌∷◌, ◌++◌, map, length, Option, Some, None, option_map, refl, sym, ap, subst, ◌∙◌, eqb, eq-eqb, eqb-true, if◌then◌else◌}
-use Rattle.std.specs.Prelude.{◌≢◌, IsSome, IfSome, is_some, MatchOption}
+use Rattle.std.specs.Prelude.{◌≢◌, IsSome, IfSome, is_some, MatchOption, Result, Ok, Err, MatchResult}
 use Rattle.std.specs.Option.{option_eq}
 use Rattle.std.proofs.lemmas.List.{append-nil}
 use Rattle.logic4.specs.Vector.{Vector}
@@ -21,11 +21,12 @@ use Rattle.regions.specs.Queue.{Core, state_of}
 use Rattle.regions.specs.Find.{update_numbers, IsFirstUpdate}
 use Rattle.regions.specs.Order.{InOrder, IsSoundAction, IsOrdered}
 use Rattle.regions.specs.StepLogs.{IsLogFor}
-use Rattle.regions.specs.Machine.{IsTurnLogged, IsChange}
+use Rattle.regions.specs.Machine.{MachineView, IsTurnLogged, IsChange}
 use Rattle.regions.proofs.Permitted.{other_update}
 use Rattle.footprints.specs.Footprints.{Footprint, changes_made, woken_by, awaited_by, assigned, turn_footprint, update_footprint, action_footprint, footprint}
 use Rattle.certificates.specs.Notes.{NoteView, TellsOf}
-use Rattle.noted.specs.NotedSteps.{note_of, IsNoted, awaited_at, with_effects, own_note, IsTurnNoted, IsFirstUpdated}
+use Rattle.noted.specs.declared.fault.NotedFault.{NotedFault}
+use Rattle.noted.specs.NotedSteps.{note_of, IsNoted, IsTakenNoted, IsLeftOut, awaited_at, with_effects, own_note, IsTurnNoted, IsFirstUpdated}
 
 -- a footprint's note tells of it
 
@@ -93,6 +94,12 @@ log_noted class code controls s p log note h same is =
       finishes = l.finish k;
     } in
     record { turn = t; is_turn = h.is_turn; is = is ∙ whole }
+
+-- the code stays, whatever came of an entry
+pub code_stays : (class : ℕ → ℕ) (old : MachineView) (entry : Entry) (new : MachineView) (note : NoteView) (r : Result (Unit {0}) NotedFault)
+    → MatchResult r (λ _. IsTakenNoted class old entry new note) (IsLeftOut old entry new) → new.code ≡ old.code
+code_stays class old entry new note (Ok x) took = took.code
+code_stays class old entry new note (Err fault) left = ap (λ (m : MachineView). m.code) left.same
 
 -- such an entry has a step
 

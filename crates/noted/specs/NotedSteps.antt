@@ -1,5 +1,5 @@
 -- Notes of steps, and why an entry isn't taken with a note.
-use Rattle.std.specs.Prelude.{◌≡◌, ℕ, List, [], ◌∷◌, ◌++◌, map, length, Some, None, IsSome, slice_index_or}
+use Rattle.std.specs.Prelude.{◌≡◌, ℕ, ◌+◌, ◌<◌, List, [], ◌∷◌, ◌++◌, map, length, Some, None, IsSome, slice_index_or}
 use Rattle.std.specs.List.{All}
 use Rattle.logic4.specs.Vector.{Vector}
 use Rattle.model.specs.declared.entry.Entry.{Entry}
@@ -13,7 +13,10 @@ use Rattle.design.specs.Compiled.{Compiled, design_of}
 use Rattle.design.specs.Fits.{FitsRegister}
 use Rattle.turn.specs.Reads.{registers}
 use Rattle.turn.specs.TurnLogs.{LogView, assignment_of, wait_of}
-use Rattle.regions.specs.Machine.{MachineView, state_at, IsChange, IsNotTaken}
+use Rattle.regions.specs.Evaluations.{made_event}
+use Rattle.regions.specs.Machine.{MachineView, most_entries, state_at, IsChange, IsNotTaken}
+use Rattle.regions.specs.MadeEvents.{made_events}
+use Rattle.regions.specs.StepLogs.{IsTaken}
 use Rattle.loose.specs.declared.transition.LooseTransition.TheVariants.{Process}
 use Rattle.footprints.specs.Footprints.{ValueChange, Footprint, changes_made, woken_by, awaited_by, assigned, written, turn_footprint, footprint}
 use Rattle.certificates.specs.Notes.{NoteView, TellsOf}
@@ -50,6 +53,21 @@ abbrev pub IsNotNoted : MachineView → Entry → NotedFault → Type 0
 IsNotNoted p entry (NotTaken fault) = IsNotTaken p entry fault
 IsNotNoted p entry NoteMemory = IsSome (step (design_of p.code) (state_at p) entry)
 IsNotNoted p entry NoEvent = IsChange entry
+
+-- A machine took an entry with a note: it is one step of the rules, which the machine counts and of which it tells the events that came, and
+-- the note is the entry's footprint where the machine stood.
+pub record IsTakenNoted (class : ℕ → ℕ) (old : MachineView) (entry : Entry) (new : MachineView) (note : NoteView) : Type 0 where
+  pub taken : IsTaken old.code (state_at old) old.lines entry (state_at new) new.lines
+  pub noted : IsNoted class old.code (state_at old) entry note
+  pub entries : new.core.entries ≡ old.core.entries + 1
+  pub made : map made_event new.made ≡ made_events old.core new.core
+  pub code : new.code ≡ old.code
+  pub few : old.core.entries < most_entries
+
+-- An entry wasn't taken, for a reason, and the machine stands where it stood.
+pub record IsLeftOut (old : MachineView) (entry : Entry) (new : MachineView) (fault : NotedFault) : Type 0 where
+  pub stop : IsNotNoted old entry fault
+  pub same : new ≡ record old { made = new.made }
 
 -- each value that is written is one of its register, which the store has
 abbrev pub AreWritesOf : Store → List (ℕ × Vector) → Type 0

@@ -1,5 +1,5 @@
 //! An entry that a machine takes, with its note.
-ghost use Rattle.std.specs.Prelude.{◌≡◌, ◌+◌, ◌<◌, map, IsSome, None, MatchOption, IfErr, OnOk, OnErr};
+ghost use Rattle.std.specs.Prelude.{◌≡◌, ◌+◌, ◌<◌, map, IsSome, None, MatchOption, MatchResult, IfErr, OnOk, OnErr};
 ghost use Rattle.model.specs.declared.entry.Entry.TheVariants as entries;
 ghost use Rattle.model.specs.Runs.{refusal};
 ghost use Rattle.regions.specs.Evaluations.{made_event};
@@ -7,7 +7,7 @@ ghost use Rattle.regions.specs.Machine.{most_entries, state_at, IsTurnLogged};
 ghost use Rattle.regions.specs.MadeEvents.{made_events};
 ghost use Rattle.regions.specs.StepLogs.{IsTaken};
 ghost use Rattle.loose.specs.Classes.{class_in};
-ghost use Rattle.noted.specs.NotedSteps.{IsFirstUpdated, IsNoted, IsNotNoted};
+ghost use Rattle.noted.specs.NotedSteps.{IsFirstUpdated, IsLeftOut, IsNoted, IsNotNoted, IsTakenNoted};
 
 use crate::fault::NotedFault;
 use crate::turns::{note_turn, note_update};
@@ -35,8 +35,7 @@ fn update_at(machine: &Machine<'_>, number: u64) -> Option<(RegId, Bits)>
 // The machine's fault where the rules don't permit an entry.
 fn refused(machine: &mut Machine<'_>, entry: Entry) -> NotedFault
     requires { IsSome (refusal (state_at machine.old) entry) }
-    ensures stop { IsNotNoted machine.old entry result }
-    ensures same { machine.new ≡ record machine.old { made = machine.new.made } }
+    ensures { IsLeftOut machine.old entry machine.new result }
 {
     match machine.take(entry) {
         Ok(()) => unreachable!(),
@@ -47,23 +46,19 @@ fn refused(machine: &mut Machine<'_>, entry: Entry) -> NotedFault
 // Takes a turn of a process that was evaluated, with its note.
 fn take_evaluated(
     machine: &mut Machine<'_>,
-    classes: &[u32],
     number: u64,
     process: u32,
     log: &TurnLog,
+    classes: &[u32],
     note: &mut Note,
 ) -> Result<(), NotedFault>
     requires { IsTurnLogged machine.old.code (state_at machine.old) number process log.now }
-    ensures taken { OnOk result (IsTaken machine.old.code (state_at machine.old) machine.old.lines (entries.Turn number) (state_at machine.new) machine.new.lines) }
-    ensures noted { OnOk result (IsNoted (class_in classes.now) machine.old.code (state_at machine.old) (entries.Turn number) note.new) }
-    ensures entries { OnOk result (machine.new.core.entries ≡ machine.old.core.entries + 1) }
-    ensures made { OnOk result (map made_event machine.new.made ≡ made_events machine.old.core machine.new.core) }
-    ensures code { machine.new.code ≡ machine.old.code }
-    ensures few { OnOk result (machine.old.core.entries < most_entries) }
-    ensures stop { IfErr result (IsNotNoted machine.old (entries.Turn number)) }
-    ensures err { OnErr result (machine.new ≡ record machine.old { made = machine.new.made }) }
+    ensures { MatchResult result (λ _. IsTakenNoted (class_in classes.now) machine.old (entries.Turn number) machine.new note.new) (IsLeftOut machine.old (entries.Turn number) machine.new) }
 {
-    note_turn(note, machine, classes, process, log)?;
+    match note_turn(machine, process, log, classes, note) {
+        Ok(()) => {}
+        Err(_) => return Err(NotedFault::NoteMemory),
+    }
     match machine.take_turn(number, log) {
         Ok(()) => Ok(()),
         Err(fault) => Err(NotedFault::NotTaken(fault)),
@@ -73,22 +68,15 @@ fn take_evaluated(
 // Takes a turn, with its note.
 fn take_turn(
     machine: &mut Machine<'_>,
-    classes: &[u32],
     number: u64,
     log: &mut TurnLog,
+    classes: &[u32],
     note: &mut Note,
 ) -> Result<(), NotedFault>
-    ensures taken { OnOk result (IsTaken machine.old.code (state_at machine.old) machine.old.lines (entries.Turn number) (state_at machine.new) machine.new.lines) }
-    ensures noted { OnOk result (IsNoted (class_in classes.now) machine.old.code (state_at machine.old) (entries.Turn number) note.new) }
-    ensures entries { OnOk result (machine.new.core.entries ≡ machine.old.core.entries + 1) }
-    ensures made { OnOk result (map made_event machine.new.made ≡ made_events machine.old.core machine.new.core) }
-    ensures code { machine.new.code ≡ machine.old.code }
-    ensures few { OnOk result (machine.old.core.entries < most_entries) }
-    ensures stop { IfErr result (IsNotNoted machine.old (entries.Turn number)) }
-    ensures err { OnErr result (machine.new ≡ record machine.old { made = machine.new.made }) }
+    ensures { MatchResult result (λ _. IsTakenNoted (class_in classes.now) machine.old (entries.Turn number) machine.new note.new) (IsLeftOut machine.old (entries.Turn number) machine.new) }
 {
     match machine.evaluate(log, number, 0) {
-        Ok(Some(process)) => take_evaluated(machine, classes, number, process, log, note),
+        Ok(Some(process)) => take_evaluated(machine, number, process, log, classes, note),
         Ok(None) => Err(refused(machine, Entry::Turn(number))),
         Err(FillFault::TooLong) => Err(NotedFault::NotTaken(TakeFault::TooLong)),
         Err(FillFault::Memory) => Err(NotedFault::NotTaken(TakeFault::Memory)),
@@ -98,22 +86,18 @@ fn take_turn(
 // Takes the first update, which gives a register a value, with its note.
 fn take_updated(
     machine: &mut Machine<'_>,
-    classes: &[u32],
     number: u64,
     updated: (RegId, Bits),
+    classes: &[u32],
     note: &mut Note,
 ) -> Result<(), NotedFault>
     requires { IsFirstUpdated machine.old.code (state_at machine.old) number updated }
-    ensures taken { OnOk result (IsTaken machine.old.code (state_at machine.old) machine.old.lines (entries.Update number) (state_at machine.new) machine.new.lines) }
-    ensures noted { OnOk result (IsNoted (class_in classes.now) machine.old.code (state_at machine.old) (entries.Update number) note.new) }
-    ensures entries { OnOk result (machine.new.core.entries ≡ machine.old.core.entries + 1) }
-    ensures made { OnOk result (map made_event machine.new.made ≡ made_events machine.old.core machine.new.core) }
-    ensures code { machine.new.code ≡ machine.old.code }
-    ensures few { OnOk result (machine.old.core.entries < most_entries) }
-    ensures stop { IfErr result (IsNotNoted machine.old (entries.Update number)) }
-    ensures err { OnErr result (machine.new ≡ record machine.old { made = machine.new.made }) }
+    ensures { MatchResult result (λ _. IsTakenNoted (class_in classes.now) machine.old (entries.Update number) machine.new note.new) (IsLeftOut machine.old (entries.Update number) machine.new) }
 {
-    note_update(note, machine, classes, updated.0, updated.1)?;
+    match note_update(machine, updated.0, updated.1, classes, note) {
+        Ok(()) => {}
+        Err(_) => return Err(NotedFault::NoteMemory),
+    }
     match machine.take(Entry::Update(number)) {
         Ok(()) => Ok(()),
         Err(fault) => Err(NotedFault::NotTaken(fault)),
@@ -123,21 +107,14 @@ fn take_updated(
 // Takes an update, with its note.
 fn take_update(
     machine: &mut Machine<'_>,
-    classes: &[u32],
     number: u64,
+    classes: &[u32],
     note: &mut Note,
 ) -> Result<(), NotedFault>
-    ensures taken { OnOk result (IsTaken machine.old.code (state_at machine.old) machine.old.lines (entries.Update number) (state_at machine.new) machine.new.lines) }
-    ensures noted { OnOk result (IsNoted (class_in classes.now) machine.old.code (state_at machine.old) (entries.Update number) note.new) }
-    ensures entries { OnOk result (machine.new.core.entries ≡ machine.old.core.entries + 1) }
-    ensures made { OnOk result (map made_event machine.new.made ≡ made_events machine.old.core machine.new.core) }
-    ensures code { machine.new.code ≡ machine.old.code }
-    ensures few { OnOk result (machine.old.core.entries < most_entries) }
-    ensures stop { IfErr result (IsNotNoted machine.old (entries.Update number)) }
-    ensures err { OnErr result (machine.new ≡ record machine.old { made = machine.new.made }) }
+    ensures { MatchResult result (λ _. IsTakenNoted (class_in classes.now) machine.old (entries.Update number) machine.new note.new) (IsLeftOut machine.old (entries.Update number) machine.new) }
 {
     match update_at(machine, number) {
-        Some(updated) => take_updated(machine, classes, number, updated, note),
+        Some(updated) => take_updated(machine, number, updated, classes, note),
         None => Err(refused(machine, Entry::Update(number))),
     }
 }
@@ -165,8 +142,8 @@ pub fn take_noted(
     ensures err { OnErr result (machine.new ≡ record machine.old { made = machine.new.made }) }
 {
     match entry {
-        Entry::Turn(number) => take_turn(machine, classes, number, log, note),
-        Entry::Update(number) => take_update(machine, classes, number, note),
+        Entry::Turn(number) => take_turn(machine, number, log, classes, note),
+        Entry::Update(number) => take_update(machine, number, classes, note),
         _ => Err(NotedFault::NoEvent),
     }
 }

@@ -1,13 +1,13 @@
 //! What turns and updates have to do with other steps.
-ghost use Rattle.std.specs.Prelude.{◌≡◌, ◌<◌, ◌++◌, map, length, slice_get, Some, OnOk};
+ghost use Rattle.std.specs.Prelude.{◌≡◌, ◌++◌, map, OnOk};
 ghost use Rattle.model.specs.States.{triggers_of};
 ghost use Rattle.design.specs.Fits.{FitsRegister};
-ghost use Rattle.turn.specs.TurnLogs.{assignment_of, wait_of};
+ghost use Rattle.loose.specs.Classes.{class_in};
 ghost use Rattle.turn.specs.Reads.{registers};
+ghost use Rattle.turn.specs.TurnLogs.{assignment_of, wait_of};
+ghost use Rattle.footprints.specs.Footprints.{assigned, update_footprint};
 ghost use Rattle.regions.specs.Machine.{state_at};
 ghost use Rattle.regions.specs.StepLogs.{IsLogFor};
-ghost use Rattle.footprints.specs.Footprints.{assigned, update_footprint};
-ghost use Rattle.loose.specs.Classes.{class_in};
 ghost use Rattle.noted.specs.NotedSteps.{AreWritesOf, HasNoEffects, IsTurnNoted, note_of, own_note, with_effects};
 
 use crate::changes::{note_changes, note_writes};
@@ -33,23 +33,15 @@ fn class_of(classes: &[u32], register: RegId) -> u32
     }
 }
 
-// The register that was read at a place.
-fn register_at(reads: &IndexMap<RegId, Seen>, place: usize) -> RegId
-    requires { place < length reads.now.entries }
-    ensures { slice_get (registers reads.now.entries) place ≡ Some result }
-{
-    match reads.get_index(place) {
-        Some((register, _)) => *register,
-        None => unreachable!(),
-    }
-}
-
 // Notes the registers that a turn used without having written them.
 fn note_uses(uses: &mut Numbers, reads: &IndexMap<RegId, Seen>) -> Result<(), AllocError>
     ensures { OnOk result (uses.new ≡ uses.old ++ registers reads.now.entries) }
 {
     for place in 0..reads.len() {
-        uses.push(register_at(reads, place))?;
+        let Some((register, _)) = reads.get_index(place) else {
+            unreachable!();
+        };
+        uses.push(*register)?;
     }
     Ok(())
 }
@@ -124,11 +116,11 @@ fn note_own(
 
 /// Notes a turn of a process, which the log is.
 pub(crate) fn note_turn(
-    note: &mut Note,
     machine: &Machine<'_>,
-    classes: &[u32],
     process: u32,
     log: &TurnLog,
+    classes: &[u32],
+    note: &mut Note,
 ) -> Result<(), AllocError>
     requires { IsLogFor machine.now.code (state_at machine.now) process log.now }
     ensures { OnOk result (IsTurnNoted (class_in classes.now) machine.now.code (state_at machine.now) process note.new) }
@@ -140,11 +132,11 @@ pub(crate) fn note_turn(
 
 /// Notes an update of a register to a value.
 pub(crate) fn note_update(
-    note: &mut Note,
     machine: &Machine<'_>,
-    classes: &[u32],
     register: RegId,
     value: Bits,
+    classes: &[u32],
+    note: &mut Note,
 ) -> Result<(), AllocError>
     requires { FitsRegister machine.now.code.widths register value }
     ensures { OnOk result (note.new ≡ note_of (update_footprint (class_in classes.now) (state_at machine.now) register value)) }

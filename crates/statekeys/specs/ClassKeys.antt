@@ -1,5 +1,5 @@
 -- What a class key tells of a state: what a key tells, but for the order of updates of different classes.
-use Rattle.std.specs.Prelude.{◌≡◌, ℕ, List, [], ◌++◌, map, slice_index_or}
+use Rattle.std.specs.Prelude.{◌≡◌, ℕ, List, [], ◌++◌, map}
 use Rattle.std.specs.List.Sorted.{IsNonDecreasingBy}
 use Rattle.logic4.specs.Vector.{Vector}
 use Rattle.model.specs.States.{Event, due_at}
@@ -11,10 +11,6 @@ use Rattle.regions.specs.Queue.{Core}
 use Rattle.regions.specs.ProcessWaking.{triggers_at}
 use Rattle.statekeys.specs.KeyCodes.{nat_code, list_code}
 use Rattle.statekeys.specs.Keys.{KeyContent, at_time, AreEvents, AreToCome, key_code}
-
--- the class of a register: its number in a list, and 0 where the list is shorter
-abbrev pub class_in : List ℕ → ℕ → ℕ
-class_in classes r = slice_index_or classes r 0
 
 -- The updates are grouped by class: their classes rise, and those of each class stand in their own order.
 pub record IsGrouped (class : ℕ → ℕ) (updates grouped : List (ℕ × Vector)) : Type 0 where

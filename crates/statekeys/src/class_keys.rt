@@ -1,14 +1,15 @@
 //! States as bytes that leave the order of updates of different classes out.
 ghost use Rattle.std.specs.Prelude.{◌≡◌, ℕ, ◌==◌, ◌++◌, map, filter, OnOk};
 ghost use Rattle.std.specs.List.Sorted.{IsNonDecreasingBy};
+ghost use Rattle.loose.specs.Classes.{class_in};
 ghost use Rattle.statekeys.specs.KeyCodes.{nat_code, pair_code, list_code};
 ghost use Rattle.statekeys.specs.Keys.{update_code, at_time};
 ghost use Rattle.statekeys.specs.KeyParts.{unnumbered_update, due_assignment};
-ghost use Rattle.statekeys.specs.ClassKeys.{class_in, IsGrouped, IsClassKey};
+ghost use Rattle.statekeys.specs.ClassKeys.{IsGrouped, IsClassKey};
 
-use crate::encode::{Encode, put_slice};
+use crate::encode::put_slice;
 use crate::keys::{
-    KEY_ROOM, Scratch, put_evaluations, put_future_evaluations, put_processes, put_times,
+    Scratch, begin_key, put_evaluations, put_future_evaluations, put_processes, put_times,
 };
 use regions::{Due, PlainStore, State, Update};
 use std::alloc::AllocError;
@@ -32,15 +33,14 @@ fn sort_by_class(updates: &mut Vec<Update>, classes: &[u32]) -> Result<(), Alloc
     updates.sort_by_key(|update| class_of(classes, update.register))
 }
 
-// Lists updates in their order.
-fn list_updates(list: &mut Vec<Update>, updates: &VecDeque<Update>) -> Result<(), AllocError>
-    ensures { OnOk result (list.new.items ≡ updates.now.items) }
+// Lists the items of a queue in their order.
+fn list_items<T: Copy>(list: &mut Vec<T>, queue: &VecDeque<T>) -> Result<(), AllocError>
+    ensures { OnOk result (list.new.items ≡ queue.now.items) }
 {
+    let (first, second) = queue.as_slices();
     list.clear();
-    for update in updates {
-        list.push(*update)?;
-    }
-    Ok(())
+    list.extend_from_slice(first)?;
+    list.extend_from_slice(second)
 }
 
 // Appends updates, grouped by class.
@@ -53,7 +53,7 @@ fn put_grouped(
     ensures grouped { OnOk result (IsGrouped (class_in classes.now) (map unnumbered_update updates.now.items) (map unnumbered_update grouped.new.items)) }
     ensures bytes { OnOk result (bytes.new.items ≡ bytes.old.items ++ list_code update_code (map unnumbered_update grouped.new.items)) }
 {
-    list_updates(grouped, updates)?;
+    list_items(grouped, updates)?;
     sort_by_class(grouped, classes)?;
     put_slice(bytes, grouped)
 }
@@ -69,20 +69,6 @@ fn sort_future(future: &mut Vec<Due<Update>>, classes: &[u32]) -> Result<(), All
     Ok(())
 }
 
-// Lists updates to come in their order.
-fn list_future(
-    list: &mut Vec<Due<Update>>,
-    future: &VecDeque<Due<Update>>,
-) -> Result<(), AllocError>
-    ensures { OnOk result (list.new.items ≡ future.now.items) }
-{
-    list.clear();
-    for due in future {
-        list.push(*due)?;
-    }
-    Ok(())
-}
-
 // Appends updates to come with their times, which rise; those of each time are grouped by class.
 fn put_future_grouped(
     bytes: &mut Vec<u8>,
@@ -94,7 +80,7 @@ fn put_future_grouped(
     ensures in_time { OnOk result (IsNonDecreasingBy (λ u. u.0) (map due_assignment grouped.new.items)) }
     ensures bytes { OnOk result (bytes.new.items ≡ bytes.old.items ++ list_code (pair_code nat_code update_code) (map due_assignment grouped.new.items)) }
 {
-    list_future(grouped, future)?;
+    list_items(grouped, future)?;
     sort_future(grouped, classes)?;
     put_slice(bytes, grouped)
 }
@@ -114,11 +100,7 @@ pub fn class_key(
     let (updates, evaluations) = state.active();
     let future = state.future_evaluations();
     let future_updates = state.future_updates();
-    bytes.clear();
-    bytes.reserve(KEY_ROOM)?;
-    state.time().encode(bytes)?;
-    state.is_finished().encode(bytes)?;
-    put_slice(bytes, store.values())?;
+    begin_key(bytes, state, store)?;
     put_processes(bytes, state.processes())?;
     put_grouped(bytes, &mut scratch.updates, updates, classes)?;
     put_evaluations(bytes, &mut scratch.active, evaluations)?;

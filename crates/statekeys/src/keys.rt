@@ -1,7 +1,7 @@
 //! States as bytes.
 ghost use Rattle.std.specs.Prelude.{◌≡◌, ◌++◌, map, OnOk};
 ghost use Rattle.std.specs.List.Sorted.{IsPermutation};
-ghost use Rattle.statekeys.specs.KeyCodes.{nat_code, pair_code, list_code};
+ghost use Rattle.statekeys.specs.KeyCodes.{nat_code, bool_code, pair_code, list_code, vector_code};
 ghost use Rattle.statekeys.specs.Keys.{process_code, update_code, IsKey};
 ghost use Rattle.statekeys.specs.KeyParts.{going_on, unnumbered_update, due_process, due_assignment};
 
@@ -10,6 +10,9 @@ use design::ProcState;
 use regions::{Continuation, Due, Evaluation, PlainStore, State, Update};
 use std::alloc::{AllocError, Global};
 use std::collections::VecDeque;
+
+// Room that most keys fit in.
+const KEY_ROOM: usize = 256;
 
 /// Room in which the processes of evaluations are sorted, and updates by their classes. It is kept from one key to the next, so
 /// that keys take no memory of their own once it has grown; but a class key does while it sorts a list of more than 20 updates that
@@ -82,6 +85,21 @@ impl<E: Encode> Encode for Due<E> {
         self.time.encode(bytes)?;
         self.event.encode(bytes)
     }
+}
+
+/// Begins a key, in place of what stood in `bytes`: the time of a state, whether its run is finished, and the values of its registers.
+pub(crate) fn begin_key(
+    bytes: &mut Vec<u8>,
+    state: &State,
+    store: &PlainStore,
+) -> Result<(), AllocError>
+    ensures { OnOk result (bytes.new.items ≡ nat_code state.now.time ++ bool_code state.now.finished ++ list_code vector_code store.now) }
+{
+    bytes.clear();
+    bytes.reserve(KEY_ROOM)?;
+    state.time().encode(bytes)?;
+    state.is_finished().encode(bytes)?;
+    put_slice(bytes, store.values())
 }
 
 /// Appends where each process goes on, and what it waits at.
@@ -177,9 +195,6 @@ pub(crate) fn put_future_evaluations(
     put_slice(bytes, processes)
 }
 
-// Room that most keys fit in.
-pub(crate) const KEY_ROOM: usize = 256;
-
 /// Fills `bytes` with the key of a state and the values of its registers. What stood there is dropped; where memory is refused,
 /// a part of the key may stand there.
 pub fn key(
@@ -192,11 +207,7 @@ pub fn key(
 {
     let (updates, evaluations) = state.active();
     let future = state.future_evaluations();
-    bytes.clear();
-    bytes.reserve(KEY_ROOM)?;
-    state.time().encode(bytes)?;
-    state.is_finished().encode(bytes)?;
-    put_slice(bytes, store.values())?;
+    begin_key(bytes, state, store)?;
     put_processes(bytes, state.processes())?;
     put_updates(bytes, updates)?;
     put_evaluations(bytes, &mut scratch.active, evaluations)?;

@@ -1,8 +1,9 @@
-use Rattle.std.proofs.Common.{◌≡◌, ℕ, List, ◌++◌, map, ◌∙◌, ap}
+use Rattle.std.proofs.Common.{◌≡◌, ℕ, List, ◌++◌, map, refl, ◌∙◌, ap}
 use Rattle.std.proofs.lemmas.Result.{on_ok_weaker}
-use Rattle.statekeys.specs.KeyCodes.{nat_code, bool_code, pair_code, list_code, vector_code}
+use Rattle.statekeys.specs.KeyCodes.{nat_code, pair_code, list_code}
 use Rattle.statekeys.specs.Keys.{KeyContent, process_code, update_code}
-use Rattle.statekeys.specs.ClassKeys.{class_in, IsToldInClasses, IsClassKey}
+use Rattle.loose.specs.Classes.{class_in}
+use Rattle.statekeys.specs.ClassKeys.{IsToldInClasses, IsClassKey}
 use Rattle.statekeys.specs.KeyParts.{going_on, unnumbered_update, due_assignment}
 use Rattle.statekeys.proofs.Events.{inactive_told, future_inactive_told, processes_told}
 use Rattle.statekeys.proofs.ClassKeys.{active_told_in, nonblocking_told_in, future_told_in}
@@ -12,9 +13,9 @@ use Rattle.statekeys.proofs.class_keys.class_key.Goals as goal
 abbrev told : goal.After-put_times-2 → KeyContent
 told c =
     record {
-      time = c.time.result;
-      finished = c.is_finished.result;
-      values = c.values.result.now;
+      time = c.args.state.now.time;
+      finished = c.args.state.now.finished;
+      values = c.args.store.now;
       processes = map going_on c.processes.result.now;
       updates = map unnumbered_update c.put_grouped.new.grouped.items;
       evaluations = c.put_evaluations.new.processes.items;
@@ -32,9 +33,9 @@ update_times c = map (λ d. d.time) c.future_updates-future_updates.result.now.i
 
 is_told : (c : goal.After-put_times-2) → IsToldInClasses (class_in c.args.classes.now) c.args.state.now c.args.store.now (told c) (update_times c)
 is_told c = record {
-  time = c.time.ensures;
-  finished = c.is_finished.ensures;
-  store = c.values.ensures;
+  time = refl;
+  finished = refl;
+  store = refl;
   processes = processes_told _ _ _ c.processes.ensures;
   active = active_told_in (class_in c.args.classes.now) c.active.result.0.now.items (map unnumbered_update c.put_grouped.new.grouped.items)
       c.active.result.1.now.items c.put_evaluations.new.processes.items c.args.state.now.active
@@ -55,21 +56,18 @@ is_told c = record {
 pub returns : goal.returns
 returns c =
     let t : KeyContent = told c in
-    let s1 = c.in_ok-encode.ensures ∙ ap (λ bs. bs ++ nat_code t.time) (c.reserve.ensures.items ∙ c.clear.ensures.items) in
-    let s2 = c.in_ok-encode-2.ensures ∙ ap (λ bs. bs ++ bool_code t.finished) s1 in
-    let s3 = c.in_ok-put_slice.ensures ∙ ap (λ bs. bs ++ list_code vector_code t.values) s2 in
-    let s4 = c.in_ok-put_processes.ensures ∙ ap (λ bs. bs ++ list_code process_code t.processes) s3 in
-    let s5 = c.in_ok-put_grouped.ensures.bytes ∙ ap (λ bs. bs ++ list_code update_code t.updates) s4 in
-    let s6 = c.in_ok-put_evaluations.ensures.bytes ∙ ap (λ bs. bs ++ list_code nat_code t.evaluations) s5 in
-    let s7 = c.in_ok-put_evaluations-2.ensures.bytes ∙ ap (λ bs. bs ++ list_code nat_code t.inactive) s6 in
-    let s8 = c.in_ok-put_grouped-2.ensures.bytes ∙ ap (λ bs. bs ++ list_code update_code t.nonblocking) s7 in
-    let s9 = c.in_ok-put_slice-2.ensures ∙ ap (λ bs. bs ++ list_code nat_code t.monitor) s8 in
-    let s10 = c.in_ok-put_times.ensures ∙ ap (λ bs. bs ++ list_code nat_code t.future_times) s9 in
-    let s11 = c.in_ok-put_future_evaluations.ensures.bytes ∙ ap (λ bs. bs ++ list_code (pair_code nat_code nat_code) t.future_evaluations) s10 in
-    let s12 = c.in_ok-put_future_grouped.ensures.bytes ∙ ap (λ bs. bs ++ list_code (pair_code nat_code update_code) t.future_updates) s11 in
+    let s1 = c.in_ok-put_processes.ensures ∙ ap (λ bs. bs ++ list_code process_code t.processes) c.in_ok-begin_key.ensures in
+    let s2 = c.in_ok-put_grouped.ensures.bytes ∙ ap (λ bs. bs ++ list_code update_code t.updates) s1 in
+    let s3 = c.in_ok-put_evaluations.ensures.bytes ∙ ap (λ bs. bs ++ list_code nat_code t.evaluations) s2 in
+    let s4 = c.in_ok-put_evaluations-2.ensures.bytes ∙ ap (λ bs. bs ++ list_code nat_code t.inactive) s3 in
+    let s5 = c.in_ok-put_grouped-2.ensures.bytes ∙ ap (λ bs. bs ++ list_code update_code t.nonblocking) s4 in
+    let s6 = c.in_ok-put_slice.ensures ∙ ap (λ bs. bs ++ list_code nat_code t.monitor) s5 in
+    let s7 = c.in_ok-put_times.ensures ∙ ap (λ bs. bs ++ list_code nat_code t.future_times) s6 in
+    let s8 = c.in_ok-put_future_evaluations.ensures.bytes ∙ ap (λ bs. bs ++ list_code (pair_code nat_code nat_code) t.future_evaluations) s7 in
+    let s9 = c.in_ok-put_future_grouped.ensures.bytes ∙ ap (λ bs. bs ++ list_code (pair_code nat_code update_code) t.future_updates) s8 in
     let last : List ℕ = list_code nat_code (update_times c) in
     let before : List ℕ = c.put_future_grouped.new.bytes.items in
     let after : List ℕ = c.put_times-2.new.bytes.items in
     let all : after ≡ before ++ last → IsClassKey (class_in c.args.classes.now) c.args.state.now c.args.store.now after =
-    λ e. record { told = told c; update_times = update_times c; of_state = is_told c; bytes = e ∙ ap (λ bs. bs ++ last) s12 } in
+    λ e. record { told = told c; update_times = update_times c; of_state = is_told c; bytes = e ∙ ap (λ bs. bs ++ last) s9 } in
     on_ok_weaker c.put_times-2.result all c.put_times-2.ensures

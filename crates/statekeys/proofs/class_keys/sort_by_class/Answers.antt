@@ -2,7 +2,7 @@ use Rattle.std.proofs.Common.{◌≡◌, rules}
 use Rattle.std.proofs.lemmas.Fn.{always_returns_same}
 use Rattle.std.proofs.lemmas.List.Sorted.{IsNonDecreasingBy-from_sort_by_key}
 use Rattle.std.proofs.lemmas.Result.{on_ok_weaker}
-use Rattle.statekeys.specs.ClassKeys.{class_in}
+use Rattle.loose.specs.Classes.{class_in}
 use Rattle.statekeys.proofs.Classes.{stable_kept}
 use Rattle.statekeys.proofs.class_keys.sort_by_class.Goals as goal
 

@@ -1,7 +1,7 @@
 use Rattle.std.proofs.Common.{◌≡◌, rules}
 use Rattle.std.proofs.lemmas.Fn.{always_returns_same}
 use Rattle.std.proofs.lemmas.List.Sorted.{answers_always, IsNonDecreasingBy-from_sort, IsNonDecreasingBy-from_sort_by_key}
-use Rattle.statekeys.specs.ClassKeys.{class_in}
+use Rattle.loose.specs.Classes.{class_in}
 use Rattle.statekeys.proofs.Classes.{kept_twice, rising_twice}
 use Rattle.statekeys.proofs.class_keys.sort_future.Goals as goal
 

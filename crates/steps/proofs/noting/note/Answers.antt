@@ -50,5 +50,4 @@ returns-in_default c =
       sound = λ effect is. other_sound p.code (state_at p) c.args.entry c.in_default.not-Turn c.in_default.not-Update c.requires.kept.sound effect is;
       given = search rules;
       registers = search rules;
-      fault = search rules;
     }
