@@ -63,8 +63,8 @@ fn note_where(woken: &mut Numbers, process: u32, is_woken: bool) -> Result<(), A
     Ok(())
 }
 
-/// Notes the processes that changes wake.
-pub(crate) fn note_woken(
+// Notes the processes that changes wake, one process after another.
+fn note_each_woken(
     woken: &mut Numbers,
     machine: &Machine<'_>,
     changes: &Changes,
@@ -80,6 +80,22 @@ pub(crate) fn note_woken(
         note_where(woken, process, is_woken(controls, waits, changes))?;
     }
     Ok(())
+}
+
+/// Notes the processes that changes wake.
+pub(crate) fn note_woken(
+    woken: &mut Numbers,
+    machine: &Machine<'_>,
+    changes: &Changes,
+) -> Result<(), AllocError>
+    requires { KeepWidths changes.now }
+    ensures { OnOk result (woken.new ≡ woken.old ++ woken_by changes.now (state_at machine.now).processes) }
+{
+    // Turns that only make nonblocking assignments change nothing.
+    if changes.as_slice().is_empty() {
+        return Ok(());
+    }
+    note_each_woken(woken, machine, changes)
 }
 
 /// Notes events that are waited for.

@@ -9,7 +9,7 @@ use Rattle.regions.specs.Machine.{state_at}
 use Rattle.footprints.specs.Footprints.{matches_any, woken_by}
 use Rattle.noted.proofs.Growing.{grown_by}
 use Rattle.noted.proofs.Woken.{one_where, woken_more, awaited_is, count_is}
-use Rattle.noted.proofs.waking.note_woken.Goals as goal
+use Rattle.noted.proofs.waking.note_each_woken.Goals as goal
 
 pub loop-place-preserved : goal.loop-place-preserved
 loop-place-preserved c =
