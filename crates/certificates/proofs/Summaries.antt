@@ -1,20 +1,18 @@
 -- A step that keeps off all that a summary holds is apart from each of which it tells.
 use Rattle.std.proofs.Common.{◌≡◌, ℕ, Bool, true, false, not, ◌&&◌, ◌||◌, ◌==◌, List, [], ◌∷◌, ◌++◌, inl, inr, refl, sym, ap, subst, ◌∙◌, eqb-true}
 use Rattle.std.specs.List.{list_any}
-use Rattle.model.specs.Design.{Trigger}
 use Rattle.model.specs.Turns.{contains}
 use Rattle.loose.specs.declared.transition.LooseTransition.{LooseTransition}
 use Rattle.loose.specs.declared.transition.LooseTransition.TheVariants.{Process, FirstOf, Change}
-use Rattle.footprints.specs.Footprints.{ValueChange, changed, process_of}
+use Rattle.footprints.specs.Footprints.{changed, process_of}
 use Rattle.certificates.specs.declared.summary.Summary.{Summary}
 use Rattle.certificates.specs.Masks.{registers_of, meet}
 use Rattle.certificates.specs.Marks.{is_marked}
 use Rattle.certificates.specs.Actors.{has}
 use Rattle.certificates.specs.Apart.{differ, share, SayApart}
-use Rattle.certificates.specs.Changes.{may_wake_any}
 use Rattle.certificates.specs.Coming.{is_same, begins, ComesOrIsApart}
 use Rattle.certificates.specs.Notes.{NoteView}
-use Rattle.certificates.specs.Summaries.{is_event, HasMarked, HasMore, IsSummed, AreSummed, LeavesMarked, KeepsOff}
+use Rattle.certificates.specs.Summaries.{is_event, HasMarked, HasMore, IsSummed, AreSummed, KeepsOff}
 use Rattle.certificates.proofs.Tests.{or_left, or_right, or_cases, and_parts, is_or_not, false_by, never_true, implied, not_both, same_number, any_at, any_in, one_of}
 use Rattle.certificates.proofs.Masks.{wake_none}
 

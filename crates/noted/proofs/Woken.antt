@@ -44,6 +44,10 @@ woken_push cs k (y ∷ ps) x =
     more_if (matches_any y.triggers cs) k y (filter test (enumerate_from (k + 1) (ps ++ x ∷ []))) (filter test (enumerate_from (k + 1) ps)) (one_where (matches_any x.triggers cs) (k + length (y ∷ ps)))
     (woken_push cs (k + 1) ps x ∙ ap (λ n. woken_from cs (k + 1) ps ++ one_where (matches_any x.triggers cs) n) same)
 
+pub no_elements : {X : Type 0} (xs : List X) → length xs ≡ 0 → xs ≡ []
+no_elements [] none = refl
+no_elements (x ∷ xs) none = absurd (omega (arith, none))
+
 -- where nothing changes, nobody is woken
 woken_none : (k : ℕ) (ps : List Continuation) → filter (λ (e : ℕ × Continuation). matches_any e.1.triggers []) (enumerate_from k ps) ≡ []
 woken_none k [] = refl
