@@ -1,6 +1,5 @@
 //! Numbers that are marked: each has its mark at its place.
 ghost use Rattle.std.specs.Prelude.{◌≡◌, ◌<◌, ℕ, ◌||◌, ◌==◌, false, OnOk};
-ghost use Rattle.std.specs.List.{list_any};
 ghost use Rattle.std.specs.Vec.{vec_len};
 ghost use Rattle.model.specs.Turns.{contains};
 ghost use Rattle.certificates.specs.Marks.{is_marked};
@@ -15,13 +14,6 @@ pub(crate) fn is_marked_at(marks: &[bool], number: u32) -> bool
         Some(mark) => *mark,
         None => false,
     }
-}
-
-/// Whether one of these numbers is marked.
-pub(crate) fn is_any_marked(marks: &[bool], numbers: &[u32]) -> bool
-    ensures { result ≡ list_any (λ n. is_marked marks.now n) numbers.now }
-{
-    numbers.iter().any(|number| is_marked_at(marks, *number))
 }
 
 // Makes room for the mark of a number.
