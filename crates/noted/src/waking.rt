@@ -63,25 +63,6 @@ fn note_where(woken: &mut Numbers, process: u32, is_woken: bool) -> Result<(), A
     Ok(())
 }
 
-// Notes the processes that changes wake, one process after another.
-fn note_each_woken(
-    woken: &mut Numbers,
-    machine: &Machine<'_>,
-    changes: &Changes,
-) -> Result<(), AllocError>
-    requires { KeepWidths changes.now }
-    ensures { OnOk result (woken.new ≡ woken.old ++ woken_by changes.now (state_at machine.now).processes) }
-{
-    let controls = machine.state().controls();
-    let processes = machine.state().processes();
-    for place in 0..processes.len() {
-        let process = number_at(machine, place);
-        let waits = processes[place].waits;
-        note_where(woken, process, is_woken(controls, waits, changes))?;
-    }
-    Ok(())
-}
-
 /// Notes the processes that changes wake.
 pub(crate) fn note_woken(
     woken: &mut Numbers,
@@ -95,7 +76,14 @@ pub(crate) fn note_woken(
     if changes.as_slice().is_empty() {
         return Ok(());
     }
-    note_each_woken(woken, machine, changes)
+    let controls = machine.state().controls();
+    let processes = machine.state().processes();
+    for place in 0..processes.len() {
+        let process = number_at(machine, place);
+        let waits = processes[place].waits;
+        note_where(woken, process, is_woken(controls, waits, changes))?;
+    }
+    Ok(())
 }
 
 /// Notes events that are waited for.
