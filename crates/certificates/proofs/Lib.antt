@@ -3,6 +3,7 @@ pub mod Ordering
 pub mod Telling
 pub mod Masks
 pub mod Marks
+pub mod Summaries
 pub mod Walking
 pub mod Adding
 pub mod OneEvent

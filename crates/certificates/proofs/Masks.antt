@@ -103,9 +103,12 @@ changes_more cs c mask masked =
     ap changed (map-append change_of cs (c ∷ [])) ∙ map-append (λ (d : ValueChange). d.register) (map change_of cs) (change_of c ∷ []) in
     subst (λ rs. IsMasked rs (bit_or mask (2 ^ (c.register % 64)))) (sym all) (masked_more (changed (map change_of cs)) mask c.register masked)
 
+-- a test of the registers that are changed
+pub any_changed : (test : ℕ → Bool) (cs : List NotedChange) → list_any test (changed (map change_of cs)) ≡ list_any (λ (c : NotedChange). test c.register) cs
+any_changed test cs = any_mapped test (λ (d : ValueChange). d.register) (map change_of cs) ∙ any_mapped (λ (d : ValueChange). test d.register) change_of cs
+
 pub touched_is : (cs : List NotedChange) (registers : List ℕ) → meet (changed (map change_of cs)) registers ≡ list_any (λ (c : NotedChange). contains registers c.register) cs
-touched_is cs registers =
-    any_mapped (λ r. contains registers r) (λ (d : ValueChange). d.register) (map change_of cs) ∙ any_mapped (λ (d : ValueChange). contains registers d.register) change_of cs
+touched_is cs registers = any_changed (λ r. contains registers r) cs
 
 pub may_wake_is : (ts : List Trigger) (cs : List NotedChange) → may_wake_any ts (map change_of cs) ≡ list_any (λ (c : NotedChange). may_wake ts (change_of c)) cs
 may_wake_is ts cs = any_mapped (λ (d : ValueChange). may_wake ts d) change_of cs
@@ -115,8 +118,8 @@ on_either true woken there more h = more h
 on_either false woken there more h = h
 
 -- events of other registers than those that are changed
-pub changes_apart : (cs : List ValueChange) (ts : List Trigger) (a b : ℕ) → IsMasked (changed cs) a → AreTriggersMasked ts b → bit_and a b ≡ 0 → may_wake_any ts cs ≡ false
-changes_apart cs ts a b masked masked' h =
+pub wake_none : (cs : List ValueChange) (ts : List Trigger) → meet (changed cs) (registers_of ts) ≡ false → may_wake_any ts cs ≡ false
+wake_none cs ts none =
     false_by (may_wake_any ts cs) (meet (changed cs) (registers_of ts))
     (λ is.
     let (c, there, it) = any_at (λ (d : ValueChange). may_wake ts d) cs is in
@@ -124,7 +127,11 @@ changes_apart cs ts a b masked masked' h =
     on_either (length c.before == length c.after) (wakes ts c.register c.before c.after) (contains (registers_of ts) c.register) (wakes_on ts c.register (edge c.before c.after)) it in
     any_mapped (λ r. contains (registers_of ts) r) (λ (d : ValueChange). d.register) cs
     ∙ any_in (λ (d : ValueChange). contains (registers_of ts) d.register) cs c there on)
-    (masks_apart (changed cs) (registers_of ts) a b masked masked' h)
+    none
+
+-- events of registers whose bits the changes don't have
+pub changes_apart : (cs : List ValueChange) (ts : List Trigger) (a b : ℕ) → IsMasked (changed cs) a → AreTriggersMasked ts b → bit_and a b ≡ 0 → may_wake_any ts cs ≡ false
+changes_apart cs ts a b masked masked' h = wake_none cs ts (masks_apart (changed cs) (registers_of ts) a b masked masked' h)
 
 -- a choice that is made
 pub if_so : (b : Bool) (x y z : Bool) → b ≡ true → z ≡ x → z ≡ (if b then x else y)

@@ -6,5 +6,6 @@ pub mod Coming
 pub mod Apart
 pub mod Marks
 pub mod Actors
+pub mod Summaries
 pub mod Certified
 pub mod CertificateLaws

@@ -1,12 +1,10 @@
 //! Sets of actors.
-ghost use Rattle.std.specs.Prelude.{◌≡◌, ◌<◌, ℕ, ◌||◌, ◌==◌, false, OnOk};
-ghost use Rattle.std.specs.List.{list_any};
-ghost use Rattle.std.specs.Vec.{vec_len};
+ghost use Rattle.std.specs.Prelude.{◌≡◌, ◌||◌, false, OnOk};
 ghost use Rattle.loose.specs.declared.transition.LooseTransition.{LooseTransition as Actor};
-ghost use Rattle.certificates.specs.Coming.{is_same, is_of_any};
-ghost use Rattle.certificates.specs.Marks.{is_marked};
+ghost use Rattle.certificates.specs.Coming.{is_same, is_of_any, begins};
 ghost use Rattle.certificates.specs.Actors.{has};
 
+use crate::marked::{is_marked_at, mark};
 use crate::note::Note;
 use loose::transition::LooseTransition;
 use std::alloc::{AllocError, Global};
@@ -16,44 +14,6 @@ use std::alloc::{AllocError, Global};
 pub(crate) struct Actors {
     processes: Vec<bool>,
     classes: Vec<bool>,
-}
-
-// Whether a number is marked.
-fn is_marked_at(marks: &[bool], number: u32) -> bool
-    ensures { result ≡ is_marked marks.now number }
-{
-    match marks.get(number as usize) {
-        Some(mark) => *mark,
-        None => false,
-    }
-}
-
-// Whether one of these numbers is marked.
-fn is_any_marked(marks: &[bool], numbers: &[u32]) -> bool
-    ensures { result ≡ list_any (λ n. is_marked marks.now n) numbers.now }
-{
-    numbers.iter().any(|number| is_marked_at(marks, *number))
-}
-
-// Makes room for the mark of a number.
-fn make_room(marks: &mut Vec<bool>, number: u32) -> Result<(), AllocError>
-    ensures room { OnOk result (number < vec_len marks.new) }
-    ensures same { OnOk result ((n : ℕ) → is_marked marks.new.items n ≡ is_marked marks.old.items n) }
-{
-    let count = number as usize + 1;
-    if marks.len() < count {
-        marks.resize(count, false)?;
-    }
-    Ok(())
-}
-
-// Marks a number.
-fn mark(marks: &mut Vec<bool>, number: u32) -> Result<(), AllocError>
-    ensures { OnOk result ((n : ℕ) → is_marked marks.new.items n ≡ (is_marked marks.old.items n || number == n)) }
-{
-    make_room(marks, number)?;
-    marks[number as usize] = true;
-    Ok(())
 }
 
 impl Actors {
@@ -99,6 +59,14 @@ impl Actors {
     pub fn begin_in(&self, note: &Note) -> bool
         ensures { result ≡ is_of_any (has self.now) note.now }
     {
-        self.contains(note.owner) || is_any_marked(self.processes.as_slice(), note.woken.as_slice())
+        self.contains(note.owner) || note.woken.is_any_marked(self.processes.as_slice())
+    }
+
+    /// Takes in those whose next step comes of a noted step: its own actor, and the processes that it wakes.
+    pub fn insert_begun(&mut self, note: &Note) -> Result<(), AllocError>
+        ensures { OnOk result ((a : Actor) → has self.new a ≡ (has self.old a || begins note.now a)) }
+    {
+        self.insert(note.owner)?;
+        note.woken.mark_all(&mut self.processes)
     }
 }

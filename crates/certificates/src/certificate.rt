@@ -6,10 +6,12 @@ ghost use Rattle.certificates.specs.Coming.{is_same, is_of_any, AreOrdered, Come
 ghost use Rattle.certificates.specs.Apart.{SayApart};
 ghost use Rattle.certificates.specs.Actors.{has};
 ghost use Rattle.certificates.specs.Certified.{Certify};
+ghost use Rattle.certificates.specs.Summaries.{AreSummed};
 
 use crate::actors::Actors;
 use crate::apart::apart;
 use crate::note::Note;
+use crate::summary::Summary;
 use loose::transition::LooseTransition;
 use std::alloc::{AllocError, Global};
 use std::marker::Model;
@@ -45,13 +47,33 @@ fn comes_or_is_apart(leading: &mut Actors, notes: &[Note], last: &Note) -> Resul
     Ok(true)
 }
 
-// Whether steps that certified still do with a last one more.
-fn still_certifies(
-    certified: bool,
+// Whether a last step comes of each of these, or is apart from it. Mostly it is apart from all of them together.
+fn is_apart_or_comes(
+    summary: &Summary,
     leading: &mut Actors,
     notes: &[Note],
     last: &Note,
 ) -> Result<bool, AllocError>
+    requires summed { summary.now.holds ≡ true → AreSummed summary.now notes.now }
+    requires goes_on { last.now.finishes ≡ false }
+    ensures so { IfOk result (λ answer. answer ≡ true → ComesOrIsApart notes.now last.now) }
+    ensures only_so { IfOk result (λ answer. ComesOrIsApart notes.now last.now → answer ≡ true) }
+{
+    if summary.keeps_off(last) {
+        return Ok(true);
+    }
+    comes_or_is_apart(leading, notes, last)
+}
+
+// Whether steps that certified still do with a last one more.
+fn still_certifies(
+    certified: bool,
+    summary: &Summary,
+    leading: &mut Actors,
+    notes: &[Note],
+    last: &Note,
+) -> Result<bool, AllocError>
+    requires summed { summary.now.holds ≡ true → AreSummed summary.now notes.now }
     ensures before { IfOk result (λ answer. answer ≡ true → certified ≡ true) }
     ensures goes_on { IfOk result (λ answer. answer ≡ true → last.now.finishes ≡ false) }
     ensures apart { IfOk result (λ answer. answer ≡ true → ComesOrIsApart notes.now last.now) }
@@ -60,7 +82,7 @@ fn still_certifies(
     if !certified || last.finishes {
         return Ok(false);
     }
-    comes_or_is_apart(leading, notes, last)
+    is_apart_or_comes(summary, leading, notes, last)
 }
 
 // Makes room for one note more, behind the first ones.
@@ -97,6 +119,7 @@ pub struct Certificate {
     notes: Vec<Note>,
     count: usize,
     certifies: bool,
+    summary: Summary,
     leading: Actors,
     alloc: Global,
 }
@@ -106,12 +129,13 @@ impl Model for Certificate {
     ghost use Rattle.std.specs.Vec.{vec_len};
     ghost use Rattle.certificates.specs.Notes.{NoteView};
     ghost use Rattle.certificates.specs.Coming.{AreOrdered};
+    ghost use Rattle.certificates.specs.Summaries.{AreSummed};
 
     ghost Value = { List NoteView };
 
     ghost view = { λ c. take c.count c.notes.items };
 
-    ghost invariant = { λ c. (c.count ≤ vec_len c.notes) × (c.certifies ≡ true → AreOrdered (take c.count c.notes.items)) × (AreOrdered (take c.count c.notes.items) → c.certifies ≡ true) };
+    ghost invariant = { λ c. (c.count ≤ vec_len c.notes) × (c.certifies ≡ true → AreOrdered (take c.count c.notes.items)) × (AreOrdered (take c.count c.notes.items) → c.certifies ≡ true) × (c.summary.holds ≡ true → AreSummed c.summary (take c.count c.notes.items)) };
 }
 
 impl Certificate {
@@ -123,6 +147,7 @@ impl Certificate {
             notes: Vec::new(alloc),
             count: 0,
             certifies: true,
+            summary: Summary::new(alloc),
             leading: Actors::new(alloc),
             alloc,
         }
@@ -134,6 +159,7 @@ impl Certificate {
     {
         self.count = 0;
         self.certifies = true;
+        self.summary.clear();
     }
 
     /// The notes, in the order of the steps.
@@ -165,10 +191,12 @@ impl Certificate {
         make_room(&mut self.notes, self.count, note.owner, self.alloc)?;
         let certifies = still_certifies(
             self.certifies,
+            &self.summary,
             &mut self.leading,
             &self.notes[..self.count],
             note,
         )?;
+        self.summary.add(note)?;
         self.certifies = certifies;
         exchange(&mut self.notes, self.count, note);
         self.count += 1;

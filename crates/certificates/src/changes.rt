@@ -1,11 +1,13 @@
 //! Lists of changes of registers.
-ghost use Rattle.std.specs.Prelude.{◌≡◌, [], ◌∷◌, ◌++◌, if◌then◌else◌, is_ok, map};
+ghost use Rattle.std.specs.Prelude.{◌≡◌, ℕ, ◌==◌, ◌||◌, [], ◌∷◌, ◌++◌, if◌then◌else◌, is_ok, map, OnOk};
 ghost use Rattle.std.specs.List.{list_any};
 ghost use Rattle.model.specs.Turns.{contains};
 ghost use Rattle.footprints.specs.Footprints.{changed};
 ghost use Rattle.certificates.specs.Masks.{meet};
 ghost use Rattle.certificates.specs.Changes.{change_of, may_wake, may_wake_any};
+ghost use Rattle.certificates.specs.Marks.{is_marked};
 
+use crate::marked::{is_marked_at, mark};
 use crate::numbers::{Numbers, bit_of};
 use crate::triggers::Triggers;
 use design::RegId;
@@ -69,6 +71,25 @@ fn is_any_among(changes: &[NotedChange], registers: &Numbers) -> bool
         .any(|change| registers.contains(change.register))
 }
 
+// Whether the register of one of these changes is marked.
+fn is_any_change_marked(marks: &[bool], changes: &[NotedChange]) -> bool
+    ensures { result ≡ list_any (λ c. is_marked marks.now c.register) changes.now }
+{
+    changes
+        .iter()
+        .any(|change| is_marked_at(marks, change.register))
+}
+
+// Marks the register of each of these changes.
+fn mark_changed(marks: &mut Vec<bool>, changes: &[NotedChange]) -> Result<(), AllocError>
+    ensures { OnOk result ((r : ℕ) → is_marked marks.new.items r ≡ (is_marked marks.old.items r || list_any (λ c. c.register == r) changes.now)) }
+{
+    for change in changes {
+        mark(marks, change.register)?;
+    }
+    Ok(())
+}
+
 impl Changes {
     /// No changes.
     pub fn new(alloc: Global) -> Changes
@@ -116,5 +137,20 @@ impl Changes {
         ensures { result ≡ may_wake_any triggers.now self.now }
     {
         self.mask & triggers.mask() != 0 && may_any_wake(self.items.as_slice(), triggers)
+    }
+
+    /// Whether one of the changed registers is marked.
+    pub(crate) fn is_any_marked(&self, marks: &[bool]) -> bool
+        ensures { result ≡ list_any (λ r. is_marked marks.now r) (changed self.now) }
+    {
+        is_any_change_marked(marks, self.items.as_slice())
+    }
+
+    /// Marks each of the changed registers.
+    pub(crate) fn mark_all(&self, marks: &mut Vec<bool>) -> Result<(), AllocError>
+        ensures { OnOk result ((r : ℕ) → is_marked marks.new.items r ≡ (is_marked marks.old.items r || contains (changed self.now) r)) }
+    {
+        mark_changed(marks, self.items.as_slice())?;
+        Ok(())
     }
 }

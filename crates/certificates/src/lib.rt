@@ -5,7 +5,7 @@
 //! 1. `numbers`, `triggers` and `changes` are the lists of a note. Each keeps a word that tells quickly of most lists that they have
 //!    nothing in common.
 //! 2. `note` is what is noted of a step, and `apart` whether two steps are apart by their notes.
-//! 3. `actors` is a set of actors, and `certificate` the notes of a run that certify so far.
+//! 3. `actors` is a set of actors, `summary` what several notes say together, and `certificate` the notes of a run that certify so far.
 //! 4. `laws` has what a run with such notes stands for.
 #![tactic(auto)]
 
@@ -14,6 +14,8 @@ pub mod apart;
 pub mod certificate;
 pub mod changes;
 pub mod laws;
+mod marked;
 pub mod note;
 pub mod numbers;
+mod summary;
 pub mod triggers;

@@ -1,8 +1,11 @@
 //! Lists of numbers, as of registers and of processes.
-ghost use Rattle.std.specs.Prelude.{◌≡◌, ◌%◌, ◌^◌, [], ◌∷◌, ◌++◌, if◌then◌else◌, is_ok};
+ghost use Rattle.std.specs.Prelude.{◌≡◌, ℕ, ◌%◌, ◌^◌, ◌||◌, [], ◌∷◌, ◌++◌, if◌then◌else◌, is_ok, OnOk};
+ghost use Rattle.std.specs.List.{list_any};
 ghost use Rattle.model.specs.Turns.{contains};
 ghost use Rattle.certificates.specs.Masks.{IsMasked, meet};
+ghost use Rattle.certificates.specs.Marks.{is_marked};
 
+use crate::marked::{is_marked_at, mark_all};
 use std::alloc::{AllocError, Global};
 use std::marker::Model;
 
@@ -88,5 +91,19 @@ impl Numbers {
         ensures { result ≡ meet self.now others.now }
     {
         self.mask & others.mask != 0 && self.items.iter().any(|number| others.contains(*number))
+    }
+
+    /// Whether one of the numbers is marked.
+    pub(crate) fn is_any_marked(&self, marks: &[bool]) -> bool
+        ensures { result ≡ list_any (λ n. is_marked marks.now n) self.now }
+    {
+        self.items.iter().any(|number| is_marked_at(marks, *number))
+    }
+
+    /// Marks each of the numbers.
+    pub(crate) fn mark_all(&self, marks: &mut Vec<bool>) -> Result<(), AllocError>
+        ensures { OnOk result ((n : ℕ) → is_marked marks.new.items n ≡ (is_marked marks.old.items n || contains self.now n)) }
+    {
+        mark_all(marks, self.items.as_slice())
     }
 }

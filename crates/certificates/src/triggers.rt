@@ -1,11 +1,13 @@
 //! Lists of the events that processes wait for.
-ghost use Rattle.std.specs.Prelude.{◌≡◌, ◌==◌, [], ◌∷◌, ◌++◌, if◌then◌else◌, is_ok};
+ghost use Rattle.std.specs.Prelude.{◌≡◌, ℕ, ◌==◌, ◌||◌, [], ◌∷◌, ◌++◌, if◌then◌else◌, is_ok, OnOk};
 ghost use Rattle.std.specs.List.{list_any};
 ghost use Rattle.design.specs.ControlWaking.{wakes_by};
 ghost use Rattle.model.specs.Turns.{contains};
 ghost use Rattle.model.specs.States as states;
 ghost use Rattle.certificates.specs.Masks.{AreTriggersMasked, registers_of};
+ghost use Rattle.certificates.specs.Marks.{is_marked};
 
+use crate::marked::{is_marked_at, mark};
 use crate::numbers::bit_of;
 use design::{RegId, Trigger};
 use logic4::digit::Edge;
@@ -50,6 +52,25 @@ fn is_any_on(triggers: &[Trigger], register: RegId) -> bool
     ensures { result ≡ list_any (λ t. t.1 == register) triggers.now }
 {
     triggers.iter().any(|trigger| trigger.1 == register)
+}
+
+// Whether the register of one of these events is marked.
+fn is_any_register_marked(marks: &[bool], triggers: &[Trigger]) -> bool
+    ensures { result ≡ list_any (λ t. is_marked marks.now t.1) triggers.now }
+{
+    triggers
+        .iter()
+        .any(|trigger| is_marked_at(marks, trigger.1))
+}
+
+// Marks the register of each of these events.
+fn mark_registers(marks: &mut Vec<bool>, triggers: &[Trigger]) -> Result<(), AllocError>
+    ensures { OnOk result ((r : ℕ) → is_marked marks.new.items r ≡ (is_marked marks.old.items r || list_any (λ t. t.1 == r) triggers.now)) }
+{
+    for trigger in triggers {
+        mark(marks, trigger.1)?;
+    }
+    Ok(())
 }
 
 impl Triggers {
@@ -100,5 +121,20 @@ impl Triggers {
     {
         self.mask & bit_of(register) != 0
             && self.items.iter().any(|trigger| trigger.1 == register && matches(trigger.0, edge))
+    }
+
+    /// Whether one of their registers is marked.
+    pub(crate) fn is_any_marked(&self, marks: &[bool]) -> bool
+        ensures { result ≡ list_any (λ r. is_marked marks.now r) (registers_of self.now) }
+    {
+        is_any_register_marked(marks, self.items.as_slice())
+    }
+
+    /// Marks each of their registers.
+    pub(crate) fn mark_all(&self, marks: &mut Vec<bool>) -> Result<(), AllocError>
+        ensures { OnOk result ((r : ℕ) → is_marked marks.new.items r ≡ (is_marked marks.old.items r || contains (registers_of self.now) r)) }
+    {
+        mark_registers(marks, self.items.as_slice())?;
+        Ok(())
     }
 }

@@ -44,6 +44,18 @@ woken_push cs k (y ∷ ps) x =
     more_if (matches_any y.triggers cs) k y (filter test (enumerate_from (k + 1) (ps ++ x ∷ []))) (filter test (enumerate_from (k + 1) ps)) (one_where (matches_any x.triggers cs) (k + length (y ∷ ps)))
     (woken_push cs (k + 1) ps x ∙ ap (λ n. woken_from cs (k + 1) ps ++ one_where (matches_any x.triggers cs) n) same)
 
+pub no_elements : {X : Type 0} (xs : List X) → length xs ≡ 0 → xs ≡ []
+no_elements [] none = refl
+no_elements (x ∷ xs) none = absurd (omega (arith, none))
+
+-- where nothing changes, nobody is woken
+woken_none : (k : ℕ) (ps : List Continuation) → filter (λ (e : ℕ × Continuation). matches_any e.1.triggers []) (enumerate_from k ps) ≡ []
+woken_none k [] = refl
+woken_none k (p ∷ ps) = woken_none (k + 1) ps
+
+pub none_woken : (cs : List ValueChange) (ps : List Continuation) → cs ≡ [] → woken_by cs ps ≡ []
+none_woken cs ps none = ap (λ ds. woken_by ds ps) none ∙ ap (λ es. map (λ (e : ℕ × Continuation). e.0) es) (woken_none 0 ps)
+
 -- one process more
 pub woken_more : (cs : List ValueChange) (ps : List Continuation) (i n : ℕ) (b : Bool) (ts : List Trigger) → i < length ps → n ≡ i → b ≡ matches_any ts cs → awaited_at ps i ≡ ts
     → woken_by cs (take (i + 1) ps) ≡ woken_by cs (take i ps) ++ one_where b n

@@ -72,6 +72,10 @@ pub(crate) fn note_woken(
     requires { KeepWidths changes.now }
     ensures { OnOk result (woken.new ≡ woken.old ++ woken_by changes.now (state_at machine.now).processes) }
 {
+    // Turns that only make nonblocking assignments change nothing.
+    if changes.as_slice().is_empty() {
+        return Ok(());
+    }
     let controls = machine.state().controls();
     let processes = machine.state().processes();
     for place in 0..processes.len() {

@@ -1,5 +1,6 @@
 -- One process more, where it is woken.
-use Rattle.std.proofs.Common.{◌≡◌, ◌+◌, ◌<◌, List, map, take, length, sym, ap, subst, ◌∙◌, arith}
+use Rattle.std.proofs.Common.{◌≡◌, ◌+◌, ◌<◌, List, [], ◌++◌, map, take, length, sym, ap, subst, ◌∙◌, arith, eqb-true}
+use Rattle.std.proofs.lemmas.List.{append-nil}
 use Rattle.model.specs.Design.{Trigger}
 use Rattle.design.specs.DesignInvariant.{remainder_of_state}
 use Rattle.regions.specs.declared.queue.Continuation as queued
@@ -7,8 +8,9 @@ use Rattle.regions.specs.ProcessWaking.{triggers_at}
 use Rattle.regions.specs.Queue.{Core, process_wait_of}
 use Rattle.regions.specs.Machine.{state_at}
 use Rattle.footprints.specs.Footprints.{matches_any, woken_by}
+use Rattle.certificates.specs.Changes.{change_of}
 use Rattle.noted.proofs.Growing.{grown_by}
-use Rattle.noted.proofs.Woken.{one_where, woken_more, awaited_is, count_is}
+use Rattle.noted.proofs.Woken.{no_elements, none_woken, one_where, woken_more, awaited_is, count_is}
 use Rattle.noted.proofs.waking.note_woken.Goals as goal
 
 pub loop-place-preserved : goal.loop-place-preserved
@@ -32,3 +34,9 @@ loop-place-preserved c =
     let test = c.is_woken.ensures ∙ ap (λ (q : queued.Continuation). matches_any (triggers_at controls q.waits) cs) (sym c.index-processes-place.is) in
     grown_by c.args.woken.now c.loop-place.woken c.note_where.new.woken (woken_by cs (take i ps)) (woken_by cs (take (i + 1) ps)) (one_where b n) c.loop-place.invariant c.in_ok-note_where.ensures
     (woken_more cs ps i n b ts within c.number_at-process.ensures test waits)
+
+pub returns-then-is_empty : goal.returns-then-is_empty
+returns-then-is_empty c =
+    let ps = (state_at c.args.machine.now).processes in
+    let none : c.as_slice.result.now ≡ [] = no_elements c.as_slice.result.now (eqb-true (length c.as_slice.result.now) 0 (sym c.is_empty.ensures ∙ c.if-is_empty.true)) in
+    sym (ap (λ ns. c.args.woken.now ++ ns) (none_woken c.args.changes.now ps (sym c.as_slice.ensures ∙ ap (λ cs. map change_of cs) none)) ∙ append-nil c.args.woken.now)

@@ -1,7 +1,9 @@
 -- One note more.
-use Rattle.std.proofs.Common.{◌+◌, length, take, ap, arith}
+use Rattle.std.proofs.Common.{◌+◌, length, take, sym, ap, subst, arith}
 use Rattle.certificates.proofs.Ordering.{ordered_certifies}
-use Rattle.certificates.proofs.Adding.{added_ordered, ordered_before}
+use Rattle.certificates.specs.Summaries.{AreSummed}
+use Rattle.certificates.proofs.Summaries.{are_summed_more}
+use Rattle.certificates.proofs.Adding.{one_added, added_ordered, ordered_before}
 use Rattle.certificates.proofs.certificate.Certificate.add.Goals as goal
 
 pub invariant_of-self-2 : goal.invariant_of-self-2
@@ -21,6 +23,10 @@ invariant_of-self-2 c =
           (omega (arith, c.in_ok-make_room.ensures.room, c.deref.ensures.len, ap length c.deref.ensures.value)) c.make_room.ensures.same c.exchange.ensures.items
           (ap (λ ns. take n ns) c.deref.ensures.value) ordered in
           c.in_ok-certifies.ensures.only_so (c.self.invariant.2 rest) free each),
+      (λ holds.
+          subst (AreSummed c.add.new.self) (sym (one_added xs ys c.exchange.new.notes.items n c.args.note.now
+          (omega (arith, c.in_ok-make_room.ensures.room, c.deref.ensures.len, ap length c.deref.ensures.value)) c.make_room.ensures.same c.exchange.ensures.items))
+          (are_summed_more c.self.inside.summary c.add.new.self (take n xs) c.args.note.now c.in_ok-add.ensures.more (c.self.invariant.3 (c.in_ok-add.ensures.before holds)) (c.in_ok-add.ensures.summed holds))),
     )
 
 pub returns-clause-certified : goal.returns-clause-certified
