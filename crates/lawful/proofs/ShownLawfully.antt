@@ -1,6 +1,6 @@
 -- What is shown with lawful journals has the texts and the ends that loose runs showed.
 use Rattle.std.proofs.Common.{◌≡◌, ℕ, zero, suc, ◌<◌, List, [], ◌∷◌, ◌++◌, append_assoc, length, map, get_or, refl, sym, ap, ◌∙◌, subst, arith}
-use Rattle.std.specs.List.{All, AllPairs, Any}
+use Rattle.std.specs.List.{AllPairs, Any}
 use Rattle.std.proofs.lemmas.List.{length-map, append-nil, map-append}
 use Rattle.model.specs.declared.entry.Entry.{Entry}
 use Rattle.model.specs.declared.end.End.{End}

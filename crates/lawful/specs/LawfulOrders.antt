@@ -1,15 +1,22 @@
 -- What a search of lawful orders answers.
-use Rattle.std.specs.Prelude.{◌≡◌, ℕ, ◌≤◌, length, None, Some, IfSome}
+use Rattle.std.specs.Prelude.{◌≡◌, ℕ, ◌<◌, ◌≤◌, length, None, Some, IfSome}
 use Rattle.std.specs.List.{All, AllPairs}
 use Rattle.model.specs.declared.entry.Entry.{Entry}
 use Rattle.model.specs.declared.end.Limits.{Limits}
 use Rattle.model.specs.declared.end.End.{End}
 use Rattle.model.specs.Design.{Design}
+use Rattle.model.specs.Runs.{last_time}
 use Rattle.model.specs.Texts.{AreAllTexts, IsEndlessJournal, IsLawfulText, IsWithinLimits}
 use Rattle.explore.specs.declared.Bounds.{Bounds}
 use Rattle.explore.specs.declared.Explored.{Explored}
 use Rattle.explore.specs.declared.stopped.Stopped.TheVariants as stop
 use Rattle.explore.specs.Search.{AreDistinct, IsShown}
+
+-- what a search asks of its limits and its bounds: room for a node, and for an entry, and no time past the last one
+pub record MaySearch (limits : Limits) (bounds : Bounds) : Type 0 where
+  pub some_node : 0 < bounds.nodes
+  pub some_entry : 0 < limits.max_entries
+  pub in_time : IfSome limits.until (λ until. until ≤ last_time)
 
 -- Each text that is shown is that of the lawful journal beside it, and so is its end; no two have one text and one end; they are all where
 -- the search wasn't stopped; the search kept to its bounds, and to the one that stopped it; and what is said to be endless is.

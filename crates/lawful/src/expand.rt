@@ -1,6 +1,6 @@
 //! The loose runs that go on from a node: one way that stands for all, or each transition that may be taken, and the ends that a run may
 //! have there.
-ghost use Rattle.std.specs.Prelude.{◌≡◌, ◌↔◌, ◌<◌, [], ◌∷◌, IfOk, IfErr, OnOk, OnErr, IsTrue};
+ghost use Rattle.std.specs.Prelude.{◌≡◌, ◌↔◌, ◌<◌, [], ◌∷◌, IfOk, IfErr, OnOk, IsTrue};
 ghost use Rattle.std.specs.List.{All};
 ghost use Rattle.model.specs.declared.end.End.{End};
 ghost use Rattle.explore.specs.declared.EndedPath.{EndedPath};
@@ -8,7 +8,7 @@ ghost use Rattle.orders.specs.Alike.{IsInOrder};
 ghost use Rattle.loose.specs.declared.transition.LooseTransition.{LooseTransition};
 ghost use Rattle.loose.specs.declared.transition.LooseTransition.TheVariants as transitions;
 ghost use Rattle.loose.specs.Classes.{class_in};
-ghost use Rattle.loosesteps.specs.LooselyTaken.{MayBeTaken, IsTakenLoosely, IsNotTakenLoosely};
+ghost use Rattle.loosesteps.specs.LooselyTaken.{IsTakenLoosely, IsNotTakenLoosely};
 ghost use Rattle.looseruns.specs.LooseMoves.{IsTimelyMove};
 ghost use Rattle.runs.specs.Halting.{GoesOn};
 ghost use Rattle.regions.specs.Machine.{state_at};

@@ -8,7 +8,7 @@ ghost use Rattle.model.specs.declared.end.Limits.{Limits};
 ghost use Rattle.explore.specs.declared.Bounds.{Bounds};
 ghost use Rattle.design.specs.Compiled.{design_of};
 ghost use Rattle.explore.specs.declared.stopped.Stopped.TheVariants as stop;
-ghost use Rattle.lawful.specs.LawfulOrders.{AreLawfulOrders};
+ghost use Rattle.lawful.specs.LawfulOrders.{AreLawfulOrders, MaySearch};
 
 use crate::journals::with_all_journals;
 use crate::search::LooseRuns;
@@ -21,7 +21,16 @@ use progress::Progress;
 use settling::AnalyzedDesign;
 use std::alloc::{AllocError, Global};
 
-// What is found by a search that memory was refused to from the start.
+// What is searched: the lawful orders of a design within these limits, and how far.
+#[derive(Clone, Copy)]
+struct Scope<'a> {
+    alloc: Global,
+    design: &'a Design,
+    limits: Limits,
+    bounds: Bounds,
+}
+
+// What is found where memory is refused to a search from its start.
 fn nothing_found(alloc: Global) -> Explored<Entry, End>
     ensures { (design : Design) (limits : Limits) (bounds : Bounds) → AreLawfulOrders design limits bounds result }
 {
@@ -38,65 +47,43 @@ fn nothing_found(alloc: Global) -> Explored<Entry, End>
 // run comes to an end: that text may be one of no lawful journal, and the others may be fewer than all; lawful runs may all come to an end.
 // Fails where memory is refused behind the search; where it is refused to the search itself, that is what stopped it.
 fn orders_by<P: Progress>(
-    alloc: Global,
-    design: &Design,
-    limits: Limits,
-    bounds: Bounds,
+    scope: Scope<'_>,
     progress: &P,
     classes: Vec<u32>,
 ) -> Result<Option<Explored<Entry, End>>, AllocError>
-    requires room { 0 < bounds.nodes }
-    requires some_entry { 0 < limits.max_entries }
-    requires until { IfSome limits.until (λ until. until ≤ last_time) }
-    ensures { IfOk result (λ found. IfSome found (AreLawfulOrders (design_of design.now) limits bounds)) }
+    requires { MaySearch scope.limits scope.bounds }
+    ensures { IfOk result (λ found. IfSome found (AreLawfulOrders (design_of scope.design.now) scope.limits scope.bounds)) }
 {
+    let Scope {
+        alloc,
+        design,
+        limits,
+        bounds,
+    } = scope;
     let orders = LooseRuns::new(AnalyzedDesign::of(alloc, design), classes, limits);
     let explored = explore(alloc, &orders, bounds, progress);
     with_all_journals(alloc, design, limits, &orders.classes, explored)
 }
 
-// Searches with all registers in one class: each loose run is a lawful one then.
-fn strict_orders<P: Progress>(
-    alloc: Global,
-    design: &Design,
-    limits: Limits,
-    bounds: Bounds,
-    progress: &P,
-) -> Explored<Entry, End>
-    requires room { 0 < bounds.nodes }
-    requires some_entry { 0 < limits.max_entries }
-    requires until { IfSome limits.until (λ until. until ≤ last_time) }
-    ensures { AreLawfulOrders (design_of design.now) limits bounds result }
+// Searches by the classes that the design's nonblocking assignments need, and where these don't tell with all registers in one class: then
+// each loose run is a lawful one.
+fn orders_of<P: Progress>(scope: Scope<'_>, progress: &P) -> Explored<Entry, End>
+    requires { MaySearch scope.limits scope.bounds }
+    ensures { AreLawfulOrders (design_of scope.design.now) scope.limits scope.bounds result }
 {
-    // A register that isn't listed is of class 0.
-    let one_class = Vec::new(alloc);
-    match orders_by(alloc, design, limits, bounds, progress, one_class) {
-        Ok(Some(explored)) => explored,
-        _ => nothing_found(alloc),
-    }
-}
-
-// Searches by the classes that the design's nonblocking assignments need, and where these don't tell strictly.
-fn orders_of<P: Progress>(
-    alloc: Global,
-    design: &Design,
-    limits: Limits,
-    bounds: Bounds,
-    progress: &P,
-) -> Explored<Entry, End>
-    requires room { 0 < bounds.nodes }
-    requires some_entry { 0 < limits.max_entries }
-    requires until { IfSome limits.until (λ until. until ≤ last_time) }
-    ensures { AreLawfulOrders (design_of design.now) limits bounds result }
-{
-    let classes = match classes_of(alloc, design) {
+    let classes = match classes_of(scope.alloc, scope.design) {
         Ok(classes) => classes,
-        Err(_) => return nothing_found(alloc),
+        Err(_) => return nothing_found(scope.alloc),
     };
-    match orders_by(alloc, design, limits, bounds, progress, classes) {
+    match orders_by(scope, progress, classes) {
+        Ok(Some(explored)) => return explored,
+        Ok(None) => {}
+        Err(_) => return nothing_found(scope.alloc),
+    }
+    // a register that isn't listed is of class 0
+    match orders_by(scope, progress, Vec::new(scope.alloc)) {
         Ok(Some(explored)) => explored,
-        Ok(None) => strict_orders(alloc, design, limits, bounds, progress),
-        Err(_) => nothing_found(alloc),
+        _ => nothing_found(scope.alloc),
     }
 }
 
@@ -128,5 +115,11 @@ pub fn lawful_orders<P: Progress>(
     ensures full { result.stopped ≡ Some stop.Shown → length result.shown.items ≡ bounds.shown }
     ensures endless { IfSome result.endless (λ journal. IsEndlessJournal (design_of design.now) limits journal.items) }
 {
-    orders_of(alloc, design, limits, bounds, progress)
+    let scope = Scope {
+        alloc,
+        design,
+        limits,
+        bounds,
+    };
+    orders_of(scope, progress)
 }

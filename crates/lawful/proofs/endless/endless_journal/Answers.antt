@@ -15,4 +15,4 @@ returns c =
     let come : HasComeTo c.args.limits led.journal.items led.machine.value = subst (λ (o : Option LedJournal). IfSome o (λ r. HasComeTo c.args.limits r.journal.items r.machine.value)) c.in-Some.is c.in_ok-led.ensures.come in
     let code : led.machine.value.code ≡ c.args.design.now = subst (λ (o : Option LedJournal). IfSome o (λ r. r.machine.value.code ≡ c.args.design.now)) c.in-Some.is c.in_ok-led.ensures.code in
     let leads = subst (λ (p : MachineView). LeadLooselyTo (class_in c.args.classes.now) c.args.design.now c.args.moves.now (state_at p)) c.deref.ensures (c.in_ok-stands_there.ensures c.if-not-branch.false) in
-    endless_if_alike (class_in c.args.classes.now) c.args.design.now c.args.limits led.journal.items c.args.moves.now led.machine.value c.requires.endless come code ?
+    endless_if_alike (class_in c.args.classes.now) c.args.design.now c.args.limits led.journal.items c.args.moves.now led.machine.value c.requires.endless come code leads

@@ -4,7 +4,6 @@ use Rattle.std.proofs.lemmas.Result.{IfOk-weaker}
 use Rattle.loose.specs.Classes.{class_in}
 use Rattle.loose.specs.Loose.{AlikeIn}
 use Rattle.regions.specs.Machine.{MachineView, state_at}
-use Rattle.lawful.specs.Again.{HasGoneAgain}
 use Rattle.lawful.proofs.EndlessRuns.{leads_there}
 use Rattle.lawful.proofs.endless.stands_there.Goals as goal
 

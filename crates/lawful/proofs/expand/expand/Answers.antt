@@ -1,7 +1,6 @@
 -- Each transition is followed where a walk took none, and else the walk leads on.
 use Rattle.std.proofs.Common.{ap, subst, sym, ◌≡◌, ◌∙◌}
 use Rattle.std.proofs.lemmas.Result.{IfOk-weaker}
-use Rattle.orders.specs.Alike.{IsInOrder}
 use Rattle.loose.specs.Classes.{class_in}
 use Rattle.design.specs.Compiled.{design_of}
 use Rattle.regions.specs.Machine.{MachineView, state_at}

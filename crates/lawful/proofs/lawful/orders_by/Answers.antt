@@ -14,10 +14,10 @@ pub with_all_journals-requires-clause-endless : goal.with_all_journals-requires-
 with_all_journals-requires-clause-endless g c =
     let o = c.new-orders.result in
     let loosely = c.explore-explored.result in
-    let code : o.analyzed_design ≡ c.args.design.now = c.new-orders.ensures.design ∙ c.of.ensures in
+    let code : o.analyzed_design ≡ c.args.scope.design.now = c.new-orders.ensures.design ∙ c.of.ensures in
     let of_design = subst (λ (k : Compiled). IfSome loosely.endless (λ moves. IsEndless (searched_runs k (class_in o.classes.items) o.limits) moves.items)) code c.explore-explored.ensures.endless in
-    let of_limits = subst (λ (l : Limits). IfSome loosely.endless (λ moves. IsEndless (searched_runs c.args.design.now (class_in o.classes.items) l) moves.items)) c.new-orders.ensures.limits of_design in
-    subst (λ (cs : List ℕ). IfSome loosely.endless (λ moves. IsEndless (searched_runs c.args.design.now (class_in cs) c.args.limits) moves.items)) (sym c.deref.ensures.value) of_limits
+    let of_limits = subst (λ (l : Limits). IfSome loosely.endless (λ moves. IsEndless (searched_runs c.args.scope.design.now (class_in o.classes.items) l) moves.items)) c.new-orders.ensures.limits of_design in
+    subst (λ (cs : List ℕ). IfSome loosely.endless (λ moves. IsEndless (searched_runs c.args.scope.design.now (class_in cs) c.args.scope.limits) moves.items)) (sym c.deref.ensures.value) of_limits
 
 pub returns-clause : goal.returns-clause
 returns-clause g c =
@@ -25,16 +25,16 @@ returns-clause g c =
     let class = class_in o.classes.items in
     let loosely = c.explore-explored.result in
     let ensures = c.explore-explored.ensures in
-    let code : o.analyzed_design ≡ c.args.design.now = c.new-orders.ensures.design ∙ c.of.ensures in
+    let code : o.analyzed_design ≡ c.args.scope.design.now = c.new-orders.ensures.design ∙ c.of.ensures in
     let searched =
     record {
       distinct = ensures.distinct;
       all = λ none.
           let of_design = subst (λ (k : Compiled). AreAllShown (searched_runs k class o.limits) loosely.shown.items) code (ensures.all none) in
-          subst (λ (l : Limits). AreAllShown (searched_runs c.args.design.now class l) loosely.shown.items) c.new-orders.ensures.limits of_design;
+          subst (λ (l : Limits). AreAllShown (searched_runs c.args.scope.design.now class l) loosely.shown.items) c.new-orders.ensures.limits of_design;
       few = ensures.few;
       few_shown = ensures.few_shown;
       nodes_full = ensures.nodes;
       shown_full = ensures.full;
     } in
-    found_so c.with_all_journals.result _ _ (λ x found. are_lawful_orders c.args.design.now class c.args.limits c.args.bounds loosely x searched found) c.with_all_journals.ensures
+    found_so c.with_all_journals.result _ _ (λ x found. are_lawful_orders c.args.scope.design.now class c.args.scope.limits c.args.scope.bounds loosely x searched found) c.with_all_journals.ensures
