@@ -1,5 +1,5 @@
 -- Masks of numbers.
-use Rattle.std.proofs.Common.{◌≡◌, ℕ, ◌*◌, ◌%◌, ◌^◌, ◌<◌, min, max, Bool, true, false, not, if◌then◌else◌, ◌==◌, List, [], ◌∷◌, ◌++◌, map, length, inl, inr, sym, ap, subst, ◌∙◌, arith, eqb-true}
+use Rattle.std.proofs.Common.{◌≡◌, ℕ, ◌*◌, ◌%◌, ◌^◌, ◌<◌, min, max, Bool, true, false, not, if◌then◌else◌, ◌==◌, List, [], ◌∷◌, ◌++◌, map, length, inl, inr, refl, sym, ap, subst, ◌∙◌, arith, eqb-true}
 use Rattle.std.specs.Prelude.{bit_and, bit_or}
 use Rattle.std.specs.Int.{bit_at}
 use Rattle.std.specs.List.{list_any}
@@ -15,11 +15,12 @@ use Rattle.design.specs.ControlWaking.{wakes_by}
 use Rattle.footprints.specs.Footprints.{ValueChange, changed}
 use Rattle.certificates.specs.declared.changes.NotedChange.{NotedChange}
 use Rattle.certificates.specs.Changes.{change_of, may_wake, may_wake_any}
-use Rattle.certificates.specs.Masks.{IsMasked, registers_of, AreTriggersMasked, meet}
+use Rattle.certificates.specs.declared.mask.Mask.{Mask}
+use Rattle.certificates.specs.Masks.{IsMasked, registers_of, meet}
 use Rattle.certificates.proofs.Tests.{or_cases, is_or_not, false_by, any_at, any_in, any_mapped, one_of}
 use Rattle.certificates.proofs.Telling.{contains_both, wakes_on}
 
-pub nothing_masked : (mask : ℕ) → IsMasked [] mask
+pub nothing_masked : (mask : Mask) → IsMasked [] mask
 nothing_masked mask n h = cc
 
 max_left : (a b : ℕ) → a ≡ 1 → b < 2 → max a b ≡ 1
@@ -43,65 +44,62 @@ or_one a b k h = bit_at_or a b k ∙ max_left (bit_at a k) (bit_at b k) h (bit_a
 or_other : (a b k : ℕ) → bit_at b k ≡ 1 → bit_at (bit_or a b) k ≡ 1
 or_other a b k h = bit_at_or a b k ∙ max_right (bit_at a k) (bit_at b k) h (bit_at-lt a k)
 
-pub masked_wider : (xs : List ℕ) (mask b : ℕ) → IsMasked xs mask → IsMasked xs (bit_or mask b)
-masked_wider xs mask b masked n h = or_one mask b (n % 64) (masked n h)
-
 only_one : (n m : ℕ) → contains (n ∷ []) m ≡ true → n ≡ m
 only_one n m h = elim (or_cases (n == m) false h) [ inl is ↦ eqb-true n m is | inr none ↦ cc ]
 
-pub masked_more : (xs : List ℕ) (mask n : ℕ) → IsMasked xs mask → IsMasked (xs ++ n ∷ []) (bit_or mask (2 ^ (n % 64)))
-masked_more xs mask n masked m h =
+pub masked_more : (xs : List ℕ) (mask : Mask) (n b : ℕ) → b ≡ 2 ^ (n % 64) → IsMasked xs mask → IsMasked (xs ++ n ∷ []) (record { bits = bit_or mask.bits b })
+masked_more xs mask n b is masked m h =
     elim (contains_both xs (n ∷ []) m h) [
-      | inl before ↦ or_one mask (2 ^ (n % 64)) (m % 64) (masked m before)
+      | inl before ↦ or_one mask.bits b (m % 64) (masked m before)
       | inr own ↦
-          subst (λ z. bit_at (bit_or mask (2 ^ (n % 64))) (z % 64) ≡ 1) (only_one n m own)
-          (or_other mask (2 ^ (n % 64)) (n % 64) (bit_at-pow_same (n % 64)))
+          subst (λ z. bit_at (bit_or mask.bits b) (z % 64) ≡ 1) (only_one n m own)
+          (or_other mask.bits b (n % 64) (ap (λ z. bit_at z (n % 64)) is ∙ bit_at-pow_same (n % 64)))
     ]
 
+not_false : (b : Bool) → not b ≡ false → b ≡ true
+not_false true h = refl
+not_false false h = cc
+
+-- a word with no bit
+is_none : (a : ℕ) → not (a == 0) ≡ false → a ≡ 0
+is_none a h = eqb-true a 0 (not_false (a == 0) h)
+
 -- a number whose bit isn't there is none of them
-pub not_masked : (xs : List ℕ) (mask n : ℕ) → IsMasked xs mask → bit_and mask (2 ^ (n % 64)) ≡ 0 → contains xs n ≡ false
-not_masked xs mask n masked h =
+pub not_masked : (xs : List ℕ) (mask : Mask) (n b : ℕ) → b ≡ 2 ^ (n % 64) → IsMasked xs mask → not (bit_and mask.bits b == 0) ≡ false → contains xs n ≡ false
+not_masked xs mask n b of masked h =
     elim (is_or_not (contains xs n)) [
       | inl is ↦
-          let there : bit_at mask (n % 64) * 2 ^ (n % 64) ≡ 0 = sym (and_pow mask (n % 64)) ∙ h in
+          let there : bit_at mask.bits (n % 64) * 2 ^ (n % 64) ≡ 0 = sym (and_pow mask.bits (n % 64)) ∙ ap (λ z. bit_and mask.bits z) (sym of) ∙ is_none (bit_and mask.bits b) h in
           let one : 1 * 2 ^ (n % 64) ≡ 0 = subst (λ z. z * 2 ^ (n % 64) ≡ 0) (masked n is) there in
           absurd (not_none (2 ^ (n % 64)) one (pow_pos (n % 64)))
       | inr none ↦ none
     ]
 
 -- lists whose masks have no bit in common have no number in common
-pub masks_apart : (xs ys : List ℕ) (a b : ℕ) → IsMasked xs a → IsMasked ys b → bit_and a b ≡ 0 → meet xs ys ≡ false
+pub masks_apart : (xs ys : List ℕ) (a b : Mask) → IsMasked xs a → IsMasked ys b → not (bit_and a.bits b.bits == 0) ≡ false → meet xs ys ≡ false
 masks_apart xs ys a b masked masked' h =
     elim (is_or_not (meet xs ys)) [
       | inl is ↦
           let (n, among, is') = one_of (λ m. contains ys m) xs is in
-          let one : bit_at (bit_and a b) (n % 64) ≡ 1 = bit_at_and a b (n % 64) ∙ min_both (bit_at a (n % 64)) (bit_at b (n % 64)) (masked n among) (masked' n is') in
-          absurd (one_not_none (bit_at (bit_and a b) (n % 64)) one (ap (λ z. bit_at z (n % 64)) h ∙ bit_at-zero (n % 64)))
+          let one : bit_at (bit_and a.bits b.bits) (n % 64) ≡ 1 = bit_at_and a.bits b.bits (n % 64) ∙ min_both (bit_at a.bits (n % 64)) (bit_at b.bits (n % 64)) (masked n among) (masked' n is') in
+          absurd (one_not_none (bit_at (bit_and a.bits b.bits) (n % 64)) one (ap (λ z. bit_at z (n % 64)) (is_none (bit_and a.bits b.bits) h) ∙ bit_at-zero (n % 64)))
       | inr none ↦ none
     ]
 
-pub not_there : (a : ℕ) (t : Bool) → a ≡ 0 → t ≡ false → not (a == 0) ≡ t
-not_there a t h none = ap (λ k. not (k == 0)) h ∙ sym none
-
 -- events
 
-pub triggers_more : (ts : List Trigger) (t : Trigger) (mask : ℕ) → AreTriggersMasked ts mask → AreTriggersMasked (ts ++ t ∷ []) (bit_or mask (2 ^ (t.1 % 64)))
-triggers_more ts t mask masked = rw (map-append (λ (u : Trigger). u.1) ts (t ∷ [])) (masked_more (registers_of ts) mask t.1 masked)
+pub registers_more : (ts : List Trigger) (t : Trigger) → registers_of (ts ++ t ∷ []) ≡ registers_of ts ++ t.1 ∷ []
+registers_more ts t = map-append (λ (u : Trigger). u.1) ts (t ∷ [])
 
 -- a register of no event is awaited by none
-unawaited : (ts : List Trigger) (r : ℕ) (e : Edge) → contains (registers_of ts) r ≡ false → wakes_by ts r e ≡ false
+pub unawaited : (ts : List Trigger) (r : ℕ) (e : Edge) → contains (registers_of ts) r ≡ false → wakes_by ts r e ≡ false
 unawaited ts r e none = false_by (wakes_by ts r e) (contains (registers_of ts) r) (wakes_on ts r e) none
-
-pub not_awaited : (ts : List Trigger) (mask r : ℕ) (e : Edge) → AreTriggersMasked ts mask → bit_and mask (2 ^ (r % 64)) ≡ 0 → wakes_by ts r e ≡ false
-not_awaited ts mask r e masked h = unawaited ts r e (not_masked (registers_of ts) mask r masked h)
 
 -- changes
 
-pub changes_more : (cs : List NotedChange) (c : NotedChange) (mask : ℕ) → IsMasked (changed (map change_of cs)) mask → IsMasked (changed (map change_of (cs ++ c ∷ []))) (bit_or mask (2 ^ (c.register % 64)))
-changes_more cs c mask masked =
-    let all : changed (map change_of (cs ++ c ∷ [])) ≡ changed (map change_of cs) ++ c.register ∷ [] =
-    ap changed (map-append change_of cs (c ∷ [])) ∙ map-append (λ (d : ValueChange). d.register) (map change_of cs) (change_of c ∷ []) in
-    subst (λ rs. IsMasked rs (bit_or mask (2 ^ (c.register % 64)))) (sym all) (masked_more (changed (map change_of cs)) mask c.register masked)
+pub changed_more : (cs : List NotedChange) (c : NotedChange) → changed (map change_of (cs ++ c ∷ [])) ≡ changed (map change_of cs) ++ c.register ∷ []
+changed_more cs c =
+    ap changed (map-append change_of cs (c ∷ [])) ∙ map-append (λ (d : ValueChange). d.register) (map change_of cs) (change_of c ∷ [])
 
 -- a test of the registers that are changed
 pub any_changed : (test : ℕ → Bool) (cs : List NotedChange) → list_any test (changed (map change_of cs)) ≡ list_any (λ (c : NotedChange). test c.register) cs
@@ -128,10 +126,6 @@ wake_none cs ts none =
     any_mapped (λ r. contains (registers_of ts) r) (λ (d : ValueChange). d.register) cs
     ∙ any_in (λ (d : ValueChange). contains (registers_of ts) d.register) cs c there on)
     none
-
--- events of registers whose bits the changes don't have
-pub changes_apart : (cs : List ValueChange) (ts : List Trigger) (a b : ℕ) → IsMasked (changed cs) a → AreTriggersMasked ts b → bit_and a b ≡ 0 → may_wake_any ts cs ≡ false
-changes_apart cs ts a b masked masked' h = wake_none cs ts (masks_apart (changed cs) (registers_of ts) a b masked masked' h)
 
 -- a choice that is made
 pub if_so : (b : Bool) (x y z : Bool) → b ≡ true → z ≡ x → z ≡ (if b then x else y)

@@ -47,25 +47,7 @@ fn comes_or_is_apart(leading: &mut Actors, notes: &[Note], last: &Note) -> Resul
     Ok(true)
 }
 
-// Whether a last step comes of each of these, or is apart from it. Mostly it is apart from all of them together.
-fn is_apart_or_comes(
-    summary: &Summary,
-    leading: &mut Actors,
-    notes: &[Note],
-    last: &Note,
-) -> Result<bool, AllocError>
-    requires summed { summary.now.holds ≡ true → AreSummed summary.now notes.now }
-    requires goes_on { last.now.finishes ≡ false }
-    ensures so { IfOk result (λ answer. answer ≡ true → ComesOrIsApart notes.now last.now) }
-    ensures only_so { IfOk result (λ answer. ComesOrIsApart notes.now last.now → answer ≡ true) }
-{
-    if summary.keeps_off(last) {
-        return Ok(true);
-    }
-    comes_or_is_apart(leading, notes, last)
-}
-
-// Whether steps that certified still do with a last one more.
+// Whether steps that certified still do with a last one more. Mostly it is apart from all of them together.
 fn still_certifies(
     certified: bool,
     summary: &Summary,
@@ -82,7 +64,10 @@ fn still_certifies(
     if !certified || last.finishes {
         return Ok(false);
     }
-    is_apart_or_comes(summary, leading, notes, last)
+    if summary.keeps_off(last) {
+        return Ok(true);
+    }
+    comes_or_is_apart(leading, notes, last)
 }
 
 // Makes room for one note more, behind the first ones.

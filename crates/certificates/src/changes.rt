@@ -8,7 +8,8 @@ ghost use Rattle.certificates.specs.Changes.{change_of, may_wake, may_wake_any};
 ghost use Rattle.certificates.specs.Marks.{is_marked};
 
 use crate::marked::{is_marked_at, mark};
-use crate::numbers::{Numbers, bit_of};
+use crate::mask::Mask;
+use crate::numbers::Numbers;
 use crate::triggers::Triggers;
 use design::RegId;
 use logic4::bits::Bits;
@@ -27,7 +28,7 @@ pub struct NotedChange {
 #[derive(Drop)]
 pub struct Changes {
     items: Vec<NotedChange>,
-    mask: u64,
+    mask: Mask,
 }
 
 impl Model for Changes {
@@ -97,7 +98,7 @@ impl Changes {
     {
         Changes {
             items: Vec::new(alloc),
-            mask: 0,
+            mask: Mask::empty(),
         }
     }
 
@@ -106,15 +107,16 @@ impl Changes {
         ensures { self.new ≡ [] }
     {
         self.items.clear();
-        self.mask = 0;
+        self.mask = Mask::empty();
     }
 
     /// Appends a change.
     pub fn push(&mut self, change: NotedChange) -> Result<(), AllocError>
         ensures { self.new ≡ (if is_ok result then self.old ++ change_of change ∷ [] else self.old) }
     {
-        self.mask |= bit_of(change.register);
+        let register = change.register;
         self.items.push(change)?;
+        self.mask.insert(register);
         Ok(())
     }
 
@@ -129,14 +131,14 @@ impl Changes {
     pub fn touch(&self, registers: &Numbers) -> bool
         ensures { result ≡ meet (changed self.now) registers.now }
     {
-        self.mask & registers.mask() != 0 && is_any_among(self.items.as_slice(), registers)
+        self.mask.may_meet(registers.mask()) && is_any_among(self.items.as_slice(), registers)
     }
 
     /// Whether one of them may wake somebody who waits for these events.
     pub fn may_wake(&self, triggers: &Triggers) -> bool
         ensures { result ≡ may_wake_any triggers.now self.now }
     {
-        self.mask & triggers.mask() != 0 && may_any_wake(self.items.as_slice(), triggers)
+        self.mask.may_meet(triggers.mask()) && may_any_wake(self.items.as_slice(), triggers)
     }
 
     /// Whether one of the changed registers is marked.

@@ -1,29 +1,20 @@
 //! Lists of numbers, as of registers and of processes.
-ghost use Rattle.std.specs.Prelude.{◌≡◌, ℕ, ◌%◌, ◌^◌, ◌||◌, [], ◌∷◌, ◌++◌, if◌then◌else◌, is_ok, OnOk};
+ghost use Rattle.std.specs.Prelude.{◌≡◌, ℕ, ◌||◌, [], ◌∷◌, ◌++◌, if◌then◌else◌, is_ok, OnOk};
 ghost use Rattle.std.specs.List.{list_any};
 ghost use Rattle.model.specs.Turns.{contains};
 ghost use Rattle.certificates.specs.Masks.{IsMasked, meet};
 ghost use Rattle.certificates.specs.Marks.{is_marked};
 
 use crate::marked::{is_marked_at, mark_all};
+use crate::mask::Mask;
 use std::alloc::{AllocError, Global};
 use std::marker::Model;
 
-// How many bits a mask has.
-const MASK_BITS: u32 = 64;
-
-/// The bit of a number in a mask.
-pub(crate) fn bit_of(number: u32) -> u64
-    ensures { result ≡ 2 ^ (number % 64) }
-{
-    1_u64 << (number % MASK_BITS)
-}
-
-/// A list of numbers. Its mask has the bit of each, and so it tells of most lists without a look at them that no number is in both.
+/// A list of numbers, with its mask.
 #[derive(Drop)]
 pub struct Numbers {
     items: Vec<u32>,
-    mask: u64,
+    mask: Mask,
 }
 
 impl Model for Numbers {
@@ -44,7 +35,7 @@ impl Numbers {
     {
         Numbers {
             items: Vec::new(alloc),
-            mask: 0,
+            mask: Mask::empty(),
         }
     }
 
@@ -53,15 +44,15 @@ impl Numbers {
         ensures { self.new ≡ [] }
     {
         self.items.clear();
-        self.mask = 0;
+        self.mask = Mask::empty();
     }
 
     /// Appends a number.
     pub fn push(&mut self, number: u32) -> Result<(), AllocError>
         ensures { self.new ≡ (if is_ok result then self.old ++ number ∷ [] else self.old) }
     {
-        self.mask |= bit_of(number);
         self.items.push(number)?;
+        self.mask.insert(number);
         Ok(())
     }
 
@@ -73,7 +64,7 @@ impl Numbers {
     }
 
     /// The mask.
-    pub(crate) fn mask(&self) -> u64
+    pub(crate) fn mask(&self) -> Mask
         ensures { IsMasked self.now result }
     {
         self.mask
@@ -83,14 +74,14 @@ impl Numbers {
     pub fn contains(&self, number: u32) -> bool
         ensures { result ≡ contains self.now number }
     {
-        self.mask & bit_of(number) != 0 && self.items.contains(&number)
+        self.mask.may_have(number) && self.items.contains(&number)
     }
 
     /// Whether a number is among both these and others.
     pub fn meets(&self, others: &Numbers) -> bool
         ensures { result ≡ meet self.now others.now }
     {
-        self.mask & others.mask != 0 && self.items.iter().any(|number| others.contains(*number))
+        self.mask.may_meet(others.mask) && self.items.iter().any(|number| others.contains(*number))
     }
 
     /// Whether one of the numbers is marked.

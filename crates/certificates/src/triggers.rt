@@ -8,7 +8,7 @@ ghost use Rattle.certificates.specs.Masks.{AreTriggersMasked, registers_of};
 ghost use Rattle.certificates.specs.Marks.{is_marked};
 
 use crate::marked::{is_marked_at, mark};
-use crate::numbers::bit_of;
+use crate::mask::Mask;
 use design::{RegId, Trigger};
 use logic4::digit::Edge;
 use model::tree::Change;
@@ -19,7 +19,7 @@ use std::marker::Model;
 #[derive(Drop)]
 pub struct Triggers {
     items: Vec<Trigger>,
-    mask: u64,
+    mask: Mask,
 }
 
 impl Model for Triggers {
@@ -80,7 +80,7 @@ impl Triggers {
     {
         Triggers {
             items: Vec::new(alloc),
-            mask: 0,
+            mask: Mask::empty(),
         }
     }
 
@@ -89,20 +89,20 @@ impl Triggers {
         ensures { self.new ≡ [] }
     {
         self.items.clear();
-        self.mask = 0;
+        self.mask = Mask::empty();
     }
 
     /// Appends an event.
     pub fn push(&mut self, trigger: Trigger) -> Result<(), AllocError>
         ensures { self.new ≡ (if is_ok result then self.old ++ trigger ∷ [] else self.old) }
     {
-        self.mask |= bit_of(trigger.1);
         self.items.push(trigger)?;
+        self.mask.insert(trigger.1);
         Ok(())
     }
 
     /// The mask of their registers.
-    pub(crate) fn mask(&self) -> u64
+    pub(crate) fn mask(&self) -> Mask
         ensures { AreTriggersMasked self.now result }
     {
         self.mask
@@ -112,14 +112,14 @@ impl Triggers {
     pub fn are_on(&self, register: RegId) -> bool
         ensures { result ≡ contains (registers_of self.now) register }
     {
-        self.mask & bit_of(register) != 0 && is_any_on(self.items.as_slice(), register)
+        self.mask.may_have(register) && is_any_on(self.items.as_slice(), register)
     }
 
     /// Whether a change of a register, of this kind, is one that somebody waits for.
     pub fn are_met(&self, register: RegId, edge: Edge) -> bool
         ensures { result ≡ wakes_by self.now register edge }
     {
-        self.mask & bit_of(register) != 0
+        self.mask.may_have(register)
             && self.items.iter().any(|trigger| trigger.1 == register && matches(trigger.0, edge))
     }
 

@@ -1,13 +1,11 @@
 -- Lists whose masks have no bit in common have no number in common.
-use Rattle.std.proofs.Common.{◌∙◌, ap, sym, bit_and}
+use Rattle.std.proofs.Common.{◌∙◌, ap, sym}
 use Rattle.certificates.specs.Masks.{meet}
-use Rattle.certificates.proofs.Masks.{masks_apart, not_there}
 use Rattle.certificates.proofs.numbers.Numbers.meets.Goals as goal
 
-pub returns-else-self-others-ne0 : goal.returns-else-self-others-ne0
-returns-else-self-others-ne0 c =
+pub returns-else-may_meet : goal.returns-else-may_meet
+returns-else-may_meet c =
     let xs = c.self.inside.items.items in
     let ys = c.others.inside.items.items in
-    not_there (bit_and c.self.inside.mask c.others.inside.mask) (meet c.args.self.now c.args.others.now) c.if-self-others-ne0.false
-    (ap (λ zs. meet zs c.args.others.now) (sym c.self.view_is) ∙ ap (λ zs. meet xs zs) (sym c.others.view_is)
-    ∙ masks_apart xs ys c.self.inside.mask c.others.inside.mask c.self.invariant c.others.invariant c.if-self-others-ne0.false)
+    c.if-may_meet.false ∙ sym (c.may_meet.ensures xs ys c.self.invariant c.others.invariant c.if-may_meet.false)
+    ∙ ap (λ zs. meet xs zs) c.others.view_is ∙ ap (λ zs. meet zs c.args.others.now) c.self.view_is
