@@ -5,9 +5,10 @@ ghost use Rattle.loose.specs.Classes.{class_in};
 ghost use Rattle.regions.specs.Machine.{state_at};
 ghost use Rattle.lawful.specs.Again.{HasGoneAgain, HasGoneBy};
 
-use crate::node::{SearchRoom, copy_of};
+use crate::node::SearchRoom;
 use loose::transition::LooseTransition;
 use loosesteps::take_loosely;
+use loosewalks::copy_of;
 use regions::{Continuation, Due, Evaluation, Machine, Update};
 use std::alloc::{AllocError, Global};
 use turn::TurnLog;

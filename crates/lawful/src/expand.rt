@@ -19,11 +19,11 @@ ghost use Rattle.loosewalks.specs.LooseWalking.{HasWalkedLoosely};
 ghost use Rattle.lawful.specs.Following.{IsAdded, IsArrived, IsWayBy, TellsTurn};
 ghost use Rattle.lawful.specs.LooseNodes.{AreAllLooseWays, AreBounded, AreLooseWaysFor, IsReadyNode, IsLooseWayOn, IsLooseWayToEnd};
 
-use crate::node::{LooseNode, SearchRoom, copy_of};
+use crate::node::{LooseNode, SearchRoom};
 use explore::{EndedPath, Expanded, Successor};
 use loose::transition::LooseTransition;
 use loosesteps::{loose_choices, take_loosely};
-use loosewalks::walk_loosely;
+use loosewalks::{copy_of, walk_loosely};
 use model::end::{End, Limits, Why};
 use regions::{Machine, TakeFault};
 use runs::halting::{end_at, is_timely};

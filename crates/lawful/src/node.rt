@@ -1,5 +1,5 @@
 //! A node of the search: where a loose run so far has come to.
-ghost use Rattle.std.specs.Prelude.{OnOk, IfOk, ◌≡◌};
+ghost use Rattle.std.specs.Prelude.{OnOk};
 ghost use Rattle.loose.specs.Classes.{class_in};
 ghost use Rattle.statekeys.specs.ClassKeys.{IsClassKey};
 
@@ -52,16 +52,4 @@ impl SearchRoom {
             classes,
         )
     }
-}
-
-/// A copy of a machine, on the heap.
-pub(crate) fn copy_of<'d>(
-    alloc: Global,
-    machine: &Machine<'d>,
-) -> Result<Box<Machine<'d>>, AllocError>
-    ensures { IfOk result (λ copy. copy.value ≡ machine.now) }
-{
-    let copy = machine.copy(alloc)?;
-    let boxed = Box::new(alloc, copy)?;
-    Ok(boxed)
 }

@@ -11,10 +11,7 @@ use std::alloc::{AllocError, Global};
 use std::mem;
 
 /// A copy of a machine, on the heap.
-pub(crate) fn copy_of<'d>(
-    alloc: Global,
-    machine: &Machine<'d>,
-) -> Result<Box<Machine<'d>>, AllocError>
+pub fn copy_of<'d>(alloc: Global, machine: &Machine<'d>) -> Result<Box<Machine<'d>>, AllocError>
     ensures { IfOk result (λ copy. copy.value ≡ machine.now) }
 {
     let copy = machine.copy(alloc)?;

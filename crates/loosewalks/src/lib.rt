@@ -18,5 +18,6 @@ mod phase;
 mod room;
 mod walk;
 
+pub use attempt::copy_of;
 pub use room::LooseRoom;
 pub use walk::walk_loosely;
