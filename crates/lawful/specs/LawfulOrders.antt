@@ -30,3 +30,7 @@ pub record AreLawfulOrders (design : Design) (limits : Limits) (bounds : Bounds)
   pub nodes_full : found.stopped ≡ Some stop.Nodes → found.nodes ≡ bounds.nodes
   pub shown_full : found.stopped ≡ Some stop.Shown → length found.shown.items ≡ bounds.shown
   pub never_ends : IfSome found.endless (λ journal. IsEndlessJournal design limits journal.items)
+
+-- nothing was found, of whichever design and within whichever limits and bounds, and the search says that it was stopped
+abbrev pub IsNothingFound : Explored Entry End → Type 0
+IsNothingFound found = (design : Design) (limits : Limits) (bounds : Bounds) → AreLawfulOrders design limits bounds found

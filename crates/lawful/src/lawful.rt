@@ -3,12 +3,9 @@ ghost use Rattle.std.specs.Prelude.{◌≡◌, ◌<◌, ◌≤◌, length, None,
 ghost use Rattle.std.specs.List.{All, AllPairs, Any};
 ghost use Rattle.model.specs.Runs.{last_time};
 ghost use Rattle.model.specs.Texts.{AreAllTexts, IsEndlessJournal, IsLawfulText, IsWithinLimits};
-ghost use Rattle.model.specs.Design.{Design};
-ghost use Rattle.model.specs.declared.end.Limits.{Limits};
-ghost use Rattle.explore.specs.declared.Bounds.{Bounds};
 ghost use Rattle.design.specs.Compiled.{design_of};
 ghost use Rattle.explore.specs.declared.stopped.Stopped.TheVariants as stop;
-ghost use Rattle.lawful.specs.LawfulOrders.{AreLawfulOrders, MaySearch};
+ghost use Rattle.lawful.specs.LawfulOrders.{AreLawfulOrders, IsNothingFound, MaySearch};
 
 use crate::journals::with_all_journals;
 use crate::search::LooseRuns;
@@ -32,7 +29,7 @@ struct Scope<'a> {
 
 // What is found where memory is refused to a search from its start.
 fn nothing_found(alloc: Global) -> Explored<Entry, End>
-    ensures { (design : Design) (limits : Limits) (bounds : Bounds) → AreLawfulOrders design limits bounds result }
+    ensures { IsNothingFound result }
 {
     Explored {
         shown: Vec::new(alloc),
@@ -52,7 +49,7 @@ fn orders_by<P: Progress>(
     classes: Vec<u32>,
 ) -> Result<Option<Explored<Entry, End>>, AllocError>
     requires { MaySearch scope.limits scope.bounds }
-    ensures { IfOk result (λ found. IfSome found (AreLawfulOrders (design_of scope.design.now) scope.limits scope.bounds)) }
+    ensures { IfOk result (λ found. IfSome found (AreLawfulOrders (design_of scope.entry.design.now) scope.entry.limits scope.entry.bounds)) }
 {
     let Scope {
         alloc,
@@ -69,7 +66,7 @@ fn orders_by<P: Progress>(
 // each loose run is a lawful one.
 fn orders_of<P: Progress>(scope: Scope<'_>, progress: &P) -> Explored<Entry, End>
     requires { MaySearch scope.limits scope.bounds }
-    ensures { AreLawfulOrders (design_of scope.design.now) scope.limits scope.bounds result }
+    ensures { AreLawfulOrders (design_of scope.entry.design.now) scope.entry.limits scope.entry.bounds result }
 {
     let classes = match classes_of(scope.alloc, scope.design) {
         Ok(classes) => classes,

@@ -7,7 +7,7 @@ use Rattle.explore.specs.Search.{AreAllShown, IsEndless}
 use Rattle.loose.specs.Classes.{class_in}
 use Rattle.lawful.specs.LooseNodes.{searched_runs}
 use Rattle.lawful.proofs.EndlessRuns.{found_so}
-use Rattle.lawful.proofs.FoundOrders.{are_lawful_orders}
+use Rattle.lawful.proofs.FoundOrders.{Searched, are_lawful_orders}
 use Rattle.lawful.proofs.lawful.orders_by.Goals as goal
 
 pub with_all_journals-requires-clause-endless : goal.with_all_journals-requires-clause-endless
@@ -19,14 +19,14 @@ with_all_journals-requires-clause-endless g c =
     let of_limits = subst (λ (l : Limits). IfSome loosely.endless (λ moves. IsEndless (searched_runs c.args.scope.design.now (class_in o.classes.items) l) moves.items)) c.new-orders.ensures.limits of_design in
     subst (λ (cs : List ℕ). IfSome loosely.endless (λ moves. IsEndless (searched_runs c.args.scope.design.now (class_in cs) c.args.scope.limits) moves.items)) (sym c.deref.ensures.value) of_limits
 
-pub returns-clause : goal.returns-clause
-returns-clause g c =
+pub returns : goal.returns
+returns g c =
     let o = c.new-orders.result in
     let class = class_in o.classes.items in
     let loosely = c.explore-explored.result in
     let ensures = c.explore-explored.ensures in
     let code : o.analyzed_design ≡ c.args.scope.design.now = c.new-orders.ensures.design ∙ c.of.ensures in
-    let searched =
+    let searched : Searched c.args.scope.design.now class c.args.scope.limits c.args.scope.bounds loosely =
     record {
       distinct = ensures.distinct;
       all = λ none.
