@@ -9,9 +9,11 @@ use Rattle.regions.specs.Machine.{MachineView, state_at}
 use Rattle.accesses.specs.declared.pair.Pair.{Pair}
 use Rattle.accesses.specs.declared.role.Site.{Site}
 use Rattle.accesses.specs.declared.role.Role.{Role}
+use Rattle.accesses.specs.declared.role.Asked.{Asked}
+use Rattle.accesses.specs.declared.role.Asked.TheVariants.{OfRole, InRole}
 use Rattle.accesses.specs.declared.role.Does.TheVariants.{Finishes}
 use Rattle.accesses.specs.Roles.{IsEvent, IsRoleBehind, IsOneBehind, HasPair, HasBothOrders, swapped, cut_off, held_back}
-use Rattle.accesses.specs.ExchangedEntries.{IsAtStart, IsLed, IsPair, IsSwapped, IsCutJournal, IsHeldJournal, IsOneAt, HasRoleAt, SeesBoth, SeesSwapped, SeesCut, SeesHeld}
+use Rattle.accesses.specs.ExchangedEntries.{IsAtStart, IsLed, IsPair, IsSwapped, IsCutJournal, IsHeldJournal, IsOneAt, HasRoleAt, IsAskedAt, SeesBoth, SeesSwapped, SeesCut, SeesExchanged, SeesHeld}
 
 -- a machine of a design stands behind a journal
 abbrev IsBehind : Compiled → List Entry → MachineView → Type 0
@@ -52,34 +54,30 @@ sees_both before segment one other c p q r s start to_one led first seen to_othe
       second = role_behind d (before ++ segment) s other c.site c.time c.second at_s second;
     }
 
--- a machine is led from the start to the second role's entry, and over it to the first one's
-pub sees_swapped : (before needed : List Entry) (other one : Entry) (c : Pair) (p q r s : MachineView) → IsAtStart p → q.code ≡ p.code → IsLed p before q
-    → r.code ≡ q.code → IsLed q needed r → IsOneAt (state_at r) other c.site c.time c.second → s.code ≡ r.code → IsLed r (other ∷ []) s
-    → IsOneAt (state_at s) one c.site c.time c.first → SeesSwapped (design_of p.code) before needed other one c
-sees_swapped before needed other one c p q r s start to_before led to_other more second to_one over first =
-    let d : Compiled = p.code in
-    let at_q : IsBehind d before q = led_on d [] before p q (refl, start) to_before led in
-    let at_r : IsBehind d (before ++ needed) r = led_on d before needed q r at_q to_other more in
-    let at_s : IsBehind d ((before ++ needed) ++ other ∷ []) s = led_on d (before ++ needed) (other ∷ []) r s at_r to_one over in
-    record {
-      second = one_behind d (before ++ needed) r other c.site c.time c.second at_r second;
-      first = one_behind d ((before ++ needed) ++ other ∷ []) s one c.site c.time c.first at_s first;
-    }
+-- what is seen of the second role's entry, by what is asked of it, and of the first one's behind it
+seen_exchanged : (asked : Asked) (d : Compiled) (before needed : List Entry) (other one : Entry) (c : Pair) (r t : MachineView) → IsBehind d (before ++ needed) r
+    → IsAskedAt asked (design_of r.code) (state_at r) other c.site c.time c.second → IsBehind d ((before ++ needed) ++ other ∷ []) t
+    → IsOneAt (state_at t) one c.site c.time c.first → SeesExchanged asked (design_of d) before needed other one c
+seen_exchanged OfRole d before needed other one c r t at_r second at_t first = record {
+  second = one_behind d (before ++ needed) r other c.site c.time c.second at_r second;
+  first = one_behind d ((before ++ needed) ++ other ∷ []) t one c.site c.time c.first at_t first;
+}
+seen_exchanged InRole d before needed other one c r t at_r second at_t first = record {
+  second = role_behind d (before ++ needed) r other c.site c.time c.second at_r second;
+  first = one_behind d ((before ++ needed) ++ other ∷ []) t one c.site c.time c.first at_t first;
+}
 
--- a machine is led from the start to the entry that finishes, and over it to where the first role's is left
-pub sees_cut : (before needed : List Entry) (other one : Entry) (c : Pair) (p q r s t : MachineView) → IsAtStart p → q.code ≡ p.code → IsLed p before q
-    → r.code ≡ q.code → IsLed q needed r → HasRoleAt (design_of r.code) (state_at r) other c.site c.time c.second → s ≡ r → t.code ≡ s.code
-    → IsLed s (other ∷ []) t → IsOneAt (state_at t) one c.site c.time c.first → SeesCut (design_of p.code) before needed other one c
-sees_cut before needed other one c p q r s t start to_before led to_other more second seen to_one over first =
+-- a machine is led from the start to the second role's entry, and over it to where the first one's comes or is left
+pub sees_exchanged : (asked : Asked) (before needed : List Entry) (other one : Entry) (c : Pair) (p q r s t : MachineView) → IsAtStart p → q.code ≡ p.code → IsLed p before q
+    → r.code ≡ q.code → IsLed q needed r → IsAskedAt asked (design_of r.code) (state_at r) other c.site c.time c.second → s ≡ r → t.code ≡ s.code
+    → IsLed s (other ∷ []) t → IsOneAt (state_at t) one c.site c.time c.first → SeesExchanged asked (design_of p.code) before needed other one c
+sees_exchanged asked before needed other one c p q r s t start to_before led to_other more second seen to_one over first =
     let d : Compiled = p.code in
     let at_q : IsBehind d before q = led_on d [] before p q (refl, start) to_before led in
     let at_r : IsBehind d (before ++ needed) r = led_on d before needed q r at_q to_other more in
     let at_t : IsBehind d ((before ++ needed) ++ other ∷ []) t =
     led_on d (before ++ needed) (other ∷ []) s t (still_behind d (before ++ needed) r s seen at_r) to_one over in
-    record {
-      second = role_behind d (before ++ needed) r other c.site c.time c.second at_r second;
-      first = one_behind d ((before ++ needed) ++ other ∷ []) t one c.site c.time c.first at_t first;
-    }
+    seen_exchanged asked d before needed other one c r t at_r second at_t first
 
 -- a machine is led from the start to where either entry may be next, and over a segment to where the first one still may
 pub sees_held : (before segment : List Entry) (one other : Entry) (c : Pair) (p q r s t : MachineView) → IsAtStart p → q.code ≡ p.code → IsLed p before q

@@ -9,6 +9,8 @@ use Rattle.design.specs.Compiled.{design_of}
 use Rattle.regions.specs.Machine.{MachineView, state_at}
 use Rattle.accesses.specs.declared.role.Site.{Site}
 use Rattle.accesses.specs.declared.role.Role.{Role}
+use Rattle.accesses.specs.declared.role.Asked.{Asked}
+use Rattle.accesses.specs.declared.role.Asked.TheVariants.{OfRole, InRole}
 use Rattle.accesses.specs.declared.pair.Pair.{Pair}
 use Rattle.accesses.specs.Roles.{IsEvent, HasRole, IsOfRole, IsOneBehind, IsRoleBehind}
 
@@ -39,6 +41,10 @@ pub record SeesBoth (design : Design) (before segment : List Entry) (one other :
   pub first : IsRoleBehind design before one p.site p.time p.first
   pub second : IsRoleBehind design (before ++ segment) other p.site p.time p.second
 
+-- two entries stand in a journal, and do there what a pair says
+abbrev pub IsSeenPair : Design → List Entry → List Entry → List Entry → Entry → Entry → Pair → Type 0
+IsSeenPair design journal before segment one other p = IsPair journal before segment one other × SeesBoth design before segment one other p
+
 -- A second journal has, behind these entries, some without a change of the regions, and then what is left.
 pub record IsParted (exchanged before middle behind : List Entry) : Type 0 where
   pub exchanged_is : exchanged ≡ before ++ (middle ++ behind)
@@ -53,6 +59,11 @@ pub record IsSwapped (exchanged before needed : List Entry) (other one : Entry) 
 -- at this time an entry is one of a role
 abbrev pub IsOneAt : State → Entry → Site → ℕ → Role → Type 0
 IsOneAt s entry site time role = (s.time ≡ time) × IsOfRole s entry site role
+
+-- at this time an entry is what is asked of it: one of a role, or one that does at a site what that says
+abbrev pub IsAskedAt : Asked → Design → State → Entry → Site → ℕ → Role → Type 0
+IsAskedAt OfRole design s entry site time role = IsOneAt s entry site time role
+IsAskedAt InRole design s entry site time role = HasRoleAt design s entry site time role
 
 -- two entries, the second role's behind these journals and the first one's right behind it, are of the roles of a pair
 pub record SeesSwapped (design : Design) (before needed : List Entry) (other one : Entry) (p : Pair) : Type 0 where
@@ -69,6 +80,12 @@ pub record IsCutJournal (exchanged before needed : List Entry) (other : Entry) :
 pub record SeesCut (design : Design) (before needed : List Entry) (other one : Entry) (p : Pair) : Type 0 where
   pub second : IsRoleBehind design (before ++ needed) other p.site p.time p.second
   pub first : IsOneBehind design ((before ++ needed) ++ other ∷ []) one p.site p.time p.first
+
+-- two entries, the second role's behind these journals and the first one's behind it, are of the roles of a pair, and the second one is
+-- what is asked of it
+abbrev pub SeesExchanged : Asked → Design → List Entry → List Entry → Entry → Entry → Pair → Type 0
+SeesExchanged OfRole design before needed other one p = SeesSwapped design before needed other one p
+SeesExchanged InRole design before needed other one p = SeesCut design before needed other one p
 
 -- An entry is the last of a journal, behind these, and in a second one it stands behind the same entries and then a segment that
 -- another one begins, without a change of the regions.

@@ -33,23 +33,13 @@ fn reads(log: &TurnLog, register: RegId) -> bool
     log.reads().contains_key(&register)
 }
 
-// Whether an event control waits for changes of a register.
-fn has_trigger(control: &Control, register: RegId) -> bool
-    ensures { result ≡ list_any (λ t. t.1 == register) control.now }
-{
-    control
-        .triggers()
-        .iter()
-        .any(|trigger| trigger.1 == register)
-}
-
 // Whether the process of a turn goes on to wait for a register, where these are the event controls.
 fn waits(log: &TurnLog, controls: &[Control], register: RegId) -> bool
     ensures { result ≡ roles.waits_for register (wait_of controls.now log.now.suspend) }
 {
     match log.suspend() {
         Suspend::Event(control) => match controls.get(control) {
-            Some(control) => has_trigger(control, register),
+            Some(control) => control.waits_for(register),
             None => false,
         },
         Suspend::Ended | Suspend::Inactive | Suspend::Until(_) => false,
@@ -70,50 +60,18 @@ fn does_to(log: &TurnLog, controls: &[Control], register: RegId, does: Does) -> 
     }
 }
 
-// Whether a turn does this where lines are printed.
-fn does_print(log: &TurnLog, controls: &[Control], does: Does) -> bool
-    ensures { (turn : Turn) → IsTurnInLog controls.now log.now turn → result ≡ roles.does_print does turn }
-{
-    match does {
-        Does::Prints => !log.lines().is_empty(),
-        Does::Writes | Does::Assigns | Does::Updates | Does::Reads => false,
-        Does::Waits | Does::Strobes | Does::Finishes | Does::Runs => false,
-    }
-}
-
-// Whether a turn does this where the lines of `$strobe` statements are put in order.
-fn does_strobe(log: &TurnLog, controls: &[Control], does: Does) -> bool
-    ensures { (turn : Turn) → IsTurnInLog controls.now log.now turn → result ≡ roles.does_strobe does turn }
-{
-    match does {
-        Does::Strobes => !log.strobes().is_empty(),
-        Does::Writes | Does::Assigns | Does::Updates | Does::Reads => false,
-        Does::Waits | Does::Prints | Does::Finishes | Does::Runs => false,
-    }
-}
-
-// Whether a turn does this where the run ends.
-fn does_finish(log: &TurnLog, controls: &[Control], does: Does) -> bool
-    ensures { (turn : Turn) → IsTurnInLog controls.now log.now turn → result ≡ roles.does_finish does turn }
-{
-    match does {
-        Does::Finishes => log.is_finish(),
-        Does::Prints => !log.lines().is_empty(),
-        Does::Runs => true,
-        Does::Writes | Does::Assigns | Does::Updates | Does::Reads => false,
-        Does::Waits | Does::Strobes => false,
-    }
-}
-
 /// Whether a turn does this at a site, where these are the event controls.
 pub(crate) fn does_at(log: &TurnLog, controls: &[Control], site: Site, does: Does) -> bool
     ensures { (turn : Turn) → IsTurnInLog controls.now log.now turn → result ≡ roles.does_at site does turn }
 {
-    match site {
-        Site::Register(register) => does_to(log, controls, register, does),
-        Site::Printing => does_print(log, controls, does),
-        Site::Strobing => does_strobe(log, controls, does),
-        Site::Finishing => does_finish(log, controls, does),
+    match (site, does) {
+        (Site::Register(register), _) => does_to(log, controls, register, does),
+        (Site::Printing, Does::Prints) => !log.lines().is_empty(),
+        (Site::Strobing, Does::Strobes) => !log.strobes().is_empty(),
+        (Site::Finishing, Does::Prints) => !log.lines().is_empty(),
+        (Site::Finishing, Does::Finishes) => log.is_finish(),
+        (Site::Finishing, Does::Runs) => true,
+        _ => false,
     }
 }
 

@@ -5,12 +5,12 @@ ghost use Rattle.model.specs.Runs.{action_in};
 ghost use Rattle.design.specs.Compiled.{design_of};
 ghost use Rattle.regions.specs.Machine.{state_at};
 ghost use Rattle.accesses.specs.Roles as roles;
-ghost use Rattle.accesses.specs.ExchangedEntries.{IsAtStart, IsLed, IsOneAt, HasRoleAt, SeesBoth, SeesSwapped, SeesCut, SeesHeld};
+ghost use Rattle.accesses.specs.ExchangedEntries.{IsAtStart, IsLed, IsOneAt, HasRoleAt, IsAskedAt, SeesBoth, SeesExchanged, SeesHeld};
 
 use crate::accesses::{does_at, updated};
 use crate::pair::Pair;
-use crate::role::{Does, Role, Site};
-use crate::split::{Exchanged, HeldJournal, Split};
+use crate::role::{Asked, Does, Role, Site};
+use crate::split::{Exchanged, Split};
 use design::Design;
 use model::entry::Entry;
 use regions::Machine;
@@ -89,15 +89,24 @@ impl<'d> Observer<'d> {
         }
     }
 
+    // Leads the machine to the first entry of a pair. The answer is whether it gets there, and that does what the pair says.
+    fn sees_first(&mut self, split: Split<'_>, pair: Pair) -> bool
+        ensures led { IsTrue result → IsLed self.old.machine split.entry.before.now self.new.machine }
+        ensures code { self.new.machine.code ≡ self.old.machine.code }
+        ensures first { IsTrue result → HasRoleAt (design_of self.new.machine.code) (state_at self.new.machine) split.entry.one pair.site pair.time pair.first }
+    {
+        if !lead(&mut self.machine, split.before) {
+            return false;
+        }
+        self.has_role(split.one, pair, pair.first)
+    }
+
     /// Whether both entries of a pair do what it says, where the machine stands at the start.
     pub(crate) fn sees(&mut self, split: Split<'_>, pair: Pair) -> bool
         requires start { IsAtStart self.old.machine }
         ensures { IsTrue result → SeesBoth (design_of self.old.machine.code) split.entry.before.now split.entry.segment.now split.entry.one split.entry.other pair }
     {
-        if !lead(&mut self.machine, split.before) {
-            return false;
-        }
-        if !self.has_role(split.one, pair, pair.first) {
+        if !self.sees_first(split, pair) {
             return false;
         }
         if !lead(&mut self.machine, split.segment) {
@@ -130,72 +139,65 @@ impl<'d> Observer<'d> {
         }
     }
 
-    /// Whether two entries are of the roles of a pair, the second one's first, where the machine stands at the start.
-    pub(crate) fn sees_swapped(
-        &mut self,
-        split: Split<'_>,
-        swapped: Exchanged<'_>,
-        pair: Pair,
-    ) -> bool
-        requires start { IsAtStart self.old.machine }
-        ensures { IsTrue result → SeesSwapped (design_of self.old.machine.code) split.entry.before.now swapped.entry.needed.now swapped.entry.other split.entry.one pair }
+    // Leads the machine over entries. The answer is whether it takes them, and another entry is one of a pair's first role behind them.
+    fn leaves_first(&mut self, over: &[Entry], one: Entry, pair: Pair) -> bool
+        ensures led { IsTrue result → IsLed self.old.machine over.now self.new.machine }
+        ensures code { self.new.machine.code ≡ self.old.machine.code }
+        ensures first { IsTrue result → IsOneAt (state_at self.new.machine) one pair.site pair.time pair.first }
     {
-        if !lead(&mut self.machine, split.before) {
+        if !lead(&mut self.machine, over) {
             return false;
         }
-        if !lead(&mut self.machine, swapped.needed) {
-            return false;
-        }
-        if !self.is_one(swapped.other, pair, pair.second) {
-            return false;
-        }
-        let over = [swapped.other];
-        if !lead(&mut self.machine, &over) {
-            return false;
-        }
-        self.is_one(split.one, pair, pair.first)
+        self.is_one(one, pair, pair.first)
     }
 
-    /// Whether an entry of the second role does what that says, and one of the first role is left behind it, where the machine
-    /// stands at the start.
-    pub(crate) fn sees_cut(&mut self, split: Split<'_>, cut: Exchanged<'_>, pair: Pair) -> bool
+    // Whether an entry is what is asked of it by a role, at a pair's site and time.
+    fn is_asked(&mut self, entry: Entry, pair: Pair, role: Role, asked: Asked) -> bool
+        ensures holds { IsTrue result → IsAskedAt asked (design_of self.old.machine.code) (state_at self.old.machine) entry pair.site pair.time role }
+        ensures machine { self.new.machine ≡ self.old.machine }
+    {
+        match asked {
+            Asked::OfRole => self.is_one(entry, pair, role),
+            Asked::InRole => self.has_role(entry, pair, role),
+        }
+    }
+
+    /// Whether an entry is what is asked of it by the second role of a pair, and one of the first role comes behind it, or is left there,
+    /// where the machine stands at the start.
+    pub(crate) fn sees_exchanged(
+        &mut self,
+        split: Split<'_>,
+        exchanged: Exchanged<'_>,
+        pair: Pair,
+        asked: Asked,
+    ) -> bool
         requires start { IsAtStart self.old.machine }
-        ensures { IsTrue result → SeesCut (design_of self.old.machine.code) split.entry.before.now cut.entry.needed.now cut.entry.other split.entry.one pair }
+        ensures { IsTrue result → SeesExchanged asked (design_of self.old.machine.code) split.entry.before.now exchanged.entry.needed.now exchanged.entry.other split.entry.one pair }
     {
         if !lead(&mut self.machine, split.before) {
             return false;
         }
-        if !lead(&mut self.machine, cut.needed) {
+        if !lead(&mut self.machine, exchanged.needed) {
             return false;
         }
-        if !self.has_role(cut.other, pair, pair.second) {
+        if !self.is_asked(exchanged.other, pair, pair.second, asked) {
             return false;
         }
-        let over = [cut.other];
-        if !lead(&mut self.machine, &over) {
-            return false;
-        }
-        self.is_one(split.one, pair, pair.first)
+        self.leaves_first(&[exchanged.other], split.one, pair)
     }
 
     /// Whether two entries do what a pair says behind the same entries, and the first one is still of its role behind a segment that
     /// the second one begins, where the machine stands at the start.
-    pub(crate) fn sees_held(&mut self, held: HeldJournal<'_>, pair: Pair) -> bool
+    pub(crate) fn sees_held(&mut self, held: Split<'_>, pair: Pair) -> bool
         requires start { IsAtStart self.old.machine }
         ensures { IsTrue result → SeesHeld (design_of self.old.machine.code) held.entry.before.now held.entry.segment.now held.entry.one held.entry.other pair }
     {
-        if !lead(&mut self.machine, held.before) {
-            return false;
-        }
-        if !self.has_role(held.one, pair, pair.first) {
+        if !self.sees_first(held, pair) {
             return false;
         }
         if !self.has_role(held.other, pair, pair.second) {
             return false;
         }
-        if !lead(&mut self.machine, held.segment) {
-            return false;
-        }
-        self.is_one(held.one, pair, pair.first)
+        self.leaves_first(held.segment, held.one, pair)
     }
 }

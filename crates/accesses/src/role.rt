@@ -36,6 +36,13 @@ pub struct Role {
     pub does: Does,
 }
 
+/// What is asked of the later entry of two in a second run: that it is one of its role, or that it does what that says.
+#[derive(Clone, Copy)]
+pub(crate) enum Asked {
+    OfRole,
+    InRole,
+}
+
 impl Role {
     /// Whether it is said to finish the run.
     pub(crate) fn finishes(self) -> bool

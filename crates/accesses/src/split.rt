@@ -1,5 +1,5 @@
 //! A journal, split at two of its entries, and that of a second run, split at theirs.
-ghost use Rattle.std.specs.Prelude.{◌≡◌, IsTrue, IfSome};
+ghost use Rattle.std.specs.Prelude.{◌≡◌, ◌↔◌, IsTrue, IfSome};
 ghost use Rattle.std.specs.List.{All};
 ghost use Rattle.accesses.specs.Roles as roles;
 ghost use Rattle.accesses.specs.ExchangedEntries.{IsPair, IsParted, IsSwapped, IsCutJournal, IsHeldJournal};
@@ -7,8 +7,8 @@ ghost use Rattle.accesses.specs.ExchangedEntries.{IsPair, IsParted, IsSwapped, I
 use crate::pair::Pair;
 use model::entry::Entry;
 
-/// A journal, split at two of its entries: what stands before the first, what stands from the first on before the second, and
-/// the two.
+/// The two entries of a pair, and a journal that is split at them: what stands before the one that comes first there, and what stands
+/// from that on before the other one.
 #[derive(Clone, Copy)]
 pub(crate) struct Split<'j> {
     pub(crate) before: &'j [Entry],
@@ -21,16 +21,6 @@ pub(crate) struct Split<'j> {
 #[derive(Clone, Copy)]
 pub(crate) struct Exchanged<'j> {
     pub(crate) needed: &'j [Entry],
-    pub(crate) other: Entry,
-}
-
-/// Two journals, split at the last entry of the first one: what stands before it in both, what stands from another one on before
-/// it in the second, and the two.
-#[derive(Clone, Copy)]
-pub(crate) struct HeldJournal<'j> {
-    pub(crate) before: &'j [Entry],
-    pub(crate) segment: &'j [Entry],
-    pub(crate) one: Entry,
     pub(crate) other: Entry,
 }
 
@@ -92,14 +82,14 @@ pub(crate) fn split_of<'j>(journal: &'j [Entry], pair: Pair) -> Option<Split<'j>
 }
 
 fn is_same(one: Entry, other: Entry) -> bool
-    ensures { IsTrue result → one ≡ other }
+    ensures { IsTrue result ↔ (one ≡ other) }
 {
     one == other
 }
 
-// Whether two lists have the same entries in the same order.
-fn are_same(one: &[Entry], other: &[Entry]) -> bool
-    ensures { IsTrue result → one.now ≡ other.now }
+/// Whether two journals have the same entries in the same order.
+pub fn are_same(one: &[Entry], other: &[Entry]) -> bool
+    ensures { IsTrue result ↔ (one.now ≡ other.now) }
 {
     if one.len() != other.len() {
         return false;
@@ -174,14 +164,14 @@ pub(crate) fn cut_of<'j>(
     }
 }
 
-/// A journal, split at its last entry, which has this place, and a second one, where that entry comes again behind another one and
-/// so many entries, with no change of the regions.
+/// A second journal, split where the last entry of a first one, which has this place there, comes again behind another one and so many
+/// entries, with no change of the regions.
 pub(crate) fn held_of<'j>(
     journal: &'j [Entry],
     exchanged: &'j [Entry],
     place: usize,
     between: usize,
-) -> Option<HeldJournal<'j>>
+) -> Option<Split<'j>>
     ensures { IfSome result (λ h. IsHeldJournal journal.entry.now exchanged.entry.now h.before.now h.segment.now h.one h.other) }
 {
     if place >= journal.len() || between >= exchanged.len() {
@@ -201,7 +191,7 @@ pub(crate) fn held_of<'j>(
         [] => return None,
     };
     match parted.behind {
-        [again, ..] if is_same(*again, one) => Some(HeldJournal {
+        [again, ..] if is_same(*again, one) => Some(Split {
             before,
             segment: parted.middle,
             one,

@@ -7,7 +7,8 @@ ghost use Rattle.arguments.specs.Arguments.{Gives, HasRules, rules_of};
 ghost use Rattle.arguments.specs.CommandWords.{app_by, bare_app, faults_by, other_faults, rows_by, texts_of, whole_app, word_of};
 
 use crate::command_task::CommandTask;
-use crate::parameters::{argument, parameters};
+use crate::parameters::argument;
+use crate::task_parameters::parameters;
 use crate::version::VERSION;
 use clap::error::ErrorKind;
 use clap::{ArgMatches, Command, Error};

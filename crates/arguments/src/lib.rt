@@ -1,7 +1,8 @@
 //! The command line: from its words to what is asked, or to why nothing is.
 //!
 //! 1. `request` is what may be asked. `run_options` and `search_options` say how a design is run, and how far its orders are searched.
-//! 2. `parameters` has the words and options of the commands, and `commands` the commands, as `clap` knows them.
+//! 2. `parameters` has the words and options as `clap` knows them, `task_parameters` which of them each command takes, and `commands`
+//!    the commands, as `clap` knows them.
 //! 3. `given` makes a request of what `clap` finds in the words, and `parsing` finds the `command_task` that the word after the
 //!    program's name asks for, and reads its words.
 //!
@@ -17,6 +18,7 @@ mod parsing;
 mod request;
 mod run_options;
 mod search_options;
+mod task_parameters;
 mod version;
 
 pub use parsing::read_request;

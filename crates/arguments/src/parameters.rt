@@ -1,11 +1,10 @@
-//! The words and options that the commands take, as `clap` knows them.
+//! The words and options of the commands, as `clap` knows them.
 
 ghost use Rattle.std.specs.Prelude.{◌≡◌, None, Some, true, false, codes};
 ghost use Rattle.clap.specs.Words.{rule_of};
-ghost use Rattle.arguments.specs.Arguments.{FollowsRule, parameters_of, rule, flag_rule, rule_for, workers_parser, until_parser, entries_parser, seed_parser};
+ghost use Rattle.arguments.specs.Arguments.{FollowsRule, rule, flag_rule, rule_for, workers_parser, until_parser, entries_parser, seed_parser};
 ghost use Rattle.arguments.specs.CommandWords.{argument_of, choice, flag, place};
 
-use crate::command_task::CommandTask;
 use clap::{Arg, ArgAction, value_parser};
 use std::alloc::Global;
 
@@ -38,42 +37,6 @@ pub enum Parameter {
     JournalsTo,
     Out,
     All,
-}
-
-/// What the command of a task takes, in the order in which help shows it.
-pub fn parameters(task: CommandTask) -> &'static [Parameter]
-    ensures { result.now ≡ parameters_of task }
-{
-    match task {
-        CommandTask::Run => &[
-            Parameter::File,
-            Parameter::Workers,
-            Parameter::Until,
-            Parameter::MaxEntries,
-            Parameter::JournalTo,
-            Parameter::Seed,
-        ],
-        CommandTask::Replay => &[Parameter::File, Parameter::Journal],
-        CommandTask::Races => &[
-            Parameter::File,
-            Parameter::Until,
-            Parameter::MaxEntries,
-            Parameter::MaxStates,
-            Parameter::MaxTexts,
-            Parameter::MaxMemory,
-            Parameter::JournalsTo,
-            Parameter::Samples,
-            Parameter::Seed,
-        ],
-        CommandTask::Check => &[Parameter::File, Parameter::All],
-        CommandTask::Explain => &[
-            Parameter::File,
-            Parameter::Journal,
-            Parameter::From,
-            Parameter::To,
-        ],
-        CommandTask::Waves => &[Parameter::File, Parameter::Journal, Parameter::Out],
-    }
 }
 
 const FROM: &str = "First entry that is told, 1 to 4294967295 [default: 1]";

@@ -1,4 +1,5 @@
 pub mod Lists
+pub mod Flow
 pub mod Forms
 pub mod Places
 pub mod Waits

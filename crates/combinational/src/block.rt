@@ -9,7 +9,7 @@ ghost use Rattle.design.specs.CodePlaces.{remainder_at};
 ghost use Rattle.phases.specs.Combinational.{reads as all_reads, written, settled};
 ghost use Rattle.combinational.specs.Found.{any_change, HasLogic};
 
-use crate::body::{is_plain, may_read, may_write, must_write};
+use crate::body::{data_flow, is_plain};
 use design::code::Node;
 use design::tree::{Process, Statement};
 use design::{Design, RegId, Trigger};
@@ -55,7 +55,7 @@ fn outputs_of(alloc: Global, registers: u32, body: &[Statement]) -> Result<Vec<R
 {
     let mut outputs = Vec::new(alloc);
     for register in 0..registers {
-        if may_write(body, register) {
+        if data_flow(body, register).may_write {
             outputs.push(register)?;
         }
     }
@@ -66,7 +66,7 @@ fn outputs_of(alloc: Global, registers: u32, body: &[Statement]) -> Result<Vec<R
 fn reads_input(body: &[Statement], inputs: &[RegId], register: RegId) -> bool
     ensures { result ≡ true → contains (all_reads (statements_of body.now) []) register ≡ true → contains inputs.now register ≡ true }
 {
-    !may_read(body, register, false) | is_among(inputs, register)
+    !data_flow(body, register).may_read | is_among(inputs, register)
 }
 
 // Whether a body reads none of the first registers but these before it writes it.
@@ -86,7 +86,7 @@ fn settles_output(body: &[Statement], inputs: &[RegId], register: RegId) -> bool
     ensures settled { result ≡ true → contains (settled (statements_of body.now)) register ≡ true }
     ensures apart { result ≡ true → contains inputs.now register ≡ false }
 {
-    must_write(body, register) & !is_among(inputs, register)
+    data_flow(body, register).must_write & !is_among(inputs, register)
 }
 
 // Whether a body writes each of these registers on every way through it, and none of them is an input.

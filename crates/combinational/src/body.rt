@@ -1,5 +1,5 @@
-//! What the statements of a body may read and write, and what they write for certain.
-ghost use Rattle.std.specs.Prelude.{◌≡◌, ℕ, List};
+//! What the statements of a body do with a register: whether they may read it and write it, and whether they write it for certain.
+ghost use Rattle.std.specs.Prelude.{◌≡◌, ◌||◌, ℕ, List, []};
 ghost use Rattle.model.specs.Turns.{contains};
 ghost use Rattle.design.specs.DesignTrees.{statement_of, statements_of};
 ghost use Rattle.phases.specs.Combinational.{is_plain_one, is_plain as plain, reads_one, reads as all_reads, written_one, written, settled_one, settled};
@@ -40,84 +40,77 @@ fn is_plain_statement(statement: &Statement) -> bool
     }
 }
 
-/// Whether statements may write a register, where they are plain.
-#[cycle(writes)]
-pub(crate) fn may_write(statements: &[Statement], register: RegId) -> bool
-    ensures { result ≡ contains (written (statements_of statements.now)) register }
-{
-    for statement in statements {
-        if may_write_in(statement, register) {
-            return true;
-        }
-    }
-    false
+/// What becomes of a register on the ways through statements, and through what stands behind them.
+#[derive(Clone, Copy)]
+pub(crate) struct DataFlow {
+    /// On some way it is read before it is written.
+    pub(crate) may_read: bool,
+    /// On some way it is written.
+    pub(crate) may_write: bool,
+    /// On every way it is written.
+    pub(crate) must_write: bool,
 }
 
-// Whether a statement may write a register, itself or by one inside it, where it is plain.
-#[cycle(writes)]
-fn may_write_in(statement: &Statement, register: RegId) -> bool
-    ensures { result ≡ contains (written_one (statement_of statement.now)) register }
+/// What plain statements do with a register.
+pub(crate) fn data_flow(statements: &[Statement], register: RegId) -> DataFlow
+    ensures read { result.may_read ≡ contains (all_reads (statements_of statements.now) []) register }
+    ensures written { result.may_write ≡ contains (written (statements_of statements.now)) register }
+    ensures settled { result.must_write ≡ contains (settled (statements_of statements.now)) register }
 {
-    match statement {
-        Statement::Assign(own, _) => *own == register,
-        Statement::If(_, body, otherwise) => {
-            may_write(body, register) || may_write(otherwise, register)
-        }
-        _ => false,
-    }
+    let none = DataFlow {
+        may_read: false,
+        may_write: false,
+        must_write: false,
+    };
+    flow_before(statements, register, none)
 }
 
-/// Whether statements write a register on every way through them, where they are plain.
-#[cycle(settles)]
-pub(crate) fn must_write(statements: &[Statement], register: RegId) -> bool
-    ensures { result ≡ contains (settled (statements_of statements.now)) register }
+// What statements do with a register, where they are plain, and what stands behind them.
+#[cycle(flow)]
+fn flow_before(statements: &[Statement], register: RegId, behind: DataFlow) -> DataFlow
+    ensures read { (registers : List ℕ) → contains registers register ≡ behind.may_read → contains (all_reads (statements_of statements.now) registers) register ≡ result.may_read }
+    ensures written { (contains (written (statements_of statements.now)) register || behind.may_write) ≡ result.may_write }
+    ensures settled { (contains (settled (statements_of statements.now)) register || behind.must_write) ≡ result.must_write }
 {
-    for statement in statements {
-        if must_write_in(statement, register) {
-            return true;
-        }
-    }
-    false
-}
-
-// Whether a statement writes a register on every way through it, where it is plain.
-#[cycle(settles)]
-fn must_write_in(statement: &Statement, register: RegId) -> bool
-    ensures { result ≡ contains (settled_one (statement_of statement.now)) register }
-{
-    match statement {
-        Statement::Assign(own, _) => *own == register,
-        Statement::If(_, body, otherwise) => {
-            must_write(body, register) & must_write(otherwise, register)
-        }
-        _ => false,
-    }
-}
-
-/// Whether statements may read a register before they write it, where they are plain, and where it is read behind them or isn't.
-#[cycle(reading)]
-pub(crate) fn may_read(statements: &[Statement], register: RegId, later: bool) -> bool
-    ensures { (registers : List ℕ) → contains registers register ≡ later → contains (all_reads (statements_of statements.now) registers) register ≡ result }
-{
-    let mut read = later;
+    let mut flow = behind;
     for at in (0..statements.len()).rev() {
-        read = may_read_in(&statements[at], register, read);
+        flow = flow_before_one(&statements[at], register, flow);
     }
-    read
+    flow
 }
 
-// Whether a statement may read a register before it writes it, where it is plain, and where it is read behind it or isn't.
-#[cycle(reading)]
-fn may_read_in(statement: &Statement, register: RegId, later: bool) -> bool
-    ensures { (registers : List ℕ) → contains registers register ≡ later → contains (reads_one (statement_of statement.now) registers) register ≡ result }
+// What a statement does with a register, where it is plain, and what stands behind it.
+#[cycle(flow)]
+fn flow_before_one(statement: &Statement, register: RegId, behind: DataFlow) -> DataFlow
+    ensures read { (registers : List ℕ) → contains registers register ≡ behind.may_read → contains (reads_one (statement_of statement.now) registers) register ≡ result.may_read }
+    ensures written { (contains (written_one (statement_of statement.now)) register || behind.may_write) ≡ result.may_write }
+    ensures settled { (contains (settled_one (statement_of statement.now)) register || behind.must_write) ≡ result.must_write }
 {
     match statement {
-        Statement::Assign(own, value) => reads(value, register) | ((*own != register) & later),
-        Statement::If(condition, body, otherwise) => {
-            reads(condition, register)
-                | may_read(body, register, later)
-                | may_read(otherwise, register, later)
+        Statement::Assign(own, value) => {
+            let same = *own == register;
+            DataFlow {
+                may_read: reads(value, register) | (!same & behind.may_read),
+                may_write: same | behind.may_write,
+                must_write: same | behind.must_write,
+            }
         }
-        _ => later,
+        Statement::If(condition, body, otherwise) => {
+            let first = flow_before(body, register, behind);
+            let second = flow_before(otherwise, register, behind);
+            DataFlow {
+                may_read: reads(condition, register) | first.may_read | second.may_read,
+                may_write: first.may_write | second.may_write,
+                must_write: first.must_write & second.must_write,
+            }
+        }
+        Statement::Empty
+        | Statement::AssignAfter(_, _, _)
+        | Statement::AssignLater(_, _, _)
+        | Statement::Delay(_, _)
+        | Statement::Await(_, _)
+        | Statement::While(_, _)
+        | Statement::Print(_, _, _)
+        | Statement::Finish => behind,
     }
 }

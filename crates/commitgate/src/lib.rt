@@ -11,7 +11,7 @@
 //!    a register has changed since, the ticket comes back with one more try. After `MAX_TRIES` of them the turn is evaluated
 //!    under the lock, and then it can't be stale (`state/under_lock`).
 //! 3. Write phase, still under the lock. The entry is applied and appended, the seat is told of it, and each evaluation that
-//!    became active gets a ticket (`state`, over `runstate`). A turn that is too long stops the run in its place
+//!    became active gets a ticket (`state/append`, over `runstate`). A turn that is too long stops the run in its place
 //!    (`state/long`).
 //!
 //! A worker without a ticket asks for the first active update, or for all of them in one holding of the lock

@@ -1,10 +1,10 @@
 //! The read phase: a turn is evaluated without the lock, with a seat as its reader.
 ghost use Rattle.std.specs.Prelude.{◌≡◌, MatchResult};
+ghost use Rattle.commitgate.specs.Seats.{SeatReadsOn};
+ghost use Rattle.runstate.specs.Histories.{IsRead};
 ghost use Rattle.turn.specs.Reads.{GaveAll};
 ghost use Rattle.turn.specs.TurnAnswers.{IsTurnLog, IsNoTurn};
 ghost use Rattle.turn.specs.declared.log.FillFault.TheVariants as fault_of;
-ghost use Rattle.runstate.specs.Histories.{IsRead};
-ghost use Rattle.commitgate.specs.Seats.{SeatReadsOn};
 
 use crate::gate::Gate;
 use crate::naming::Naming;

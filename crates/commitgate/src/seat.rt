@@ -1,12 +1,12 @@
 //! Seats, one for each worker.
 ghost use Rattle.std.specs.Prelude.{◌≡◌, ◌+◌, ◌<◌, [], None, length, slice_set};
-ghost use mathlib.Core.List.{IsPrefix};
+ghost use Rattle.commitgate.specs.Seats.{SeatReadsOn, LooksOn};
 ghost use Rattle.crossbeam_utils.specs.Seq.{cell_view};
+ghost use Rattle.regcells.specs.Meetings.{fresh_of};
+ghost use Rattle.runstate.specs.Histories.{StandsInHistory};
 ghost use Rattle.runstate.specs.Ledger.{entries_of, positions_of, stored_of};
 ghost use Rattle.runstate.specs.Marked.{seated};
-ghost use Rattle.regcells.specs.Meetings.{fresh_of};
-ghost use Rattle.commitgate.specs.Seats.{SeatReadsOn, LooksOn};
-ghost use Rattle.runstate.specs.Histories.{StandsInHistory};
+ghost use mathlib.Core.List.{IsPrefix};
 
 use crate::naming::Naming;
 use crate::ticket::Ticket;

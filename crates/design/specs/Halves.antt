@@ -9,24 +9,26 @@ use Rattle.design.specs.declared.packed_bits.PackedBits.TheInside.{Inside}
 abbrev pub joined_halves : ℕ → ℕ → ℕ
 joined_halves low high = high * 2 ^ 64 + low
 
+-- the word that has a pair of halves, the low one first
+abbrev pub word_of : ℕ × ℕ → ℕ
+word_of halves = joined_halves halves.0 halves.1
+
 -- the vector in them
 abbrev pub vector_in : Inside → Vector
-vector_in s = of_words s.width (joined_halves s.a_low s.a_high) (joined_halves s.b_low s.b_high)
+vector_in s = of_words s.width (word_of s.a) (word_of s.b)
 
 -- they hold a vector, and the low ones are halves
 pub record HoldsVector (s : Inside) : Type 0 where
-  pub words : AreWords s.width (joined_halves s.a_low s.a_high) (joined_halves s.b_low s.b_high)
-  pub a_low : s.a_low < 2 ^ 64
-  pub b_low : s.b_low < 2 ^ 64
+  pub words : AreWords s.width (word_of s.a) (word_of s.b)
+  pub a_low : s.a.0 < 2 ^ 64
+  pub b_low : s.b.0 < 2 ^ 64
 
 -- the halves of a vector
 abbrev pub halves_of : Vector → Inside
 halves_of v = record {
   width = length v;
-  a_low = first_word v % 2 ^ 64;
-  a_high = first_word v / 2 ^ 64;
-  b_low = second_word v % 2 ^ 64;
-  b_high = second_word v / 2 ^ 64;
+  a = (first_word v % 2 ^ 64, first_word v / 2 ^ 64);
+  b = (second_word v % 2 ^ 64, second_word v / 2 ^ 64);
 }
 
 -- the low half of a joined word
@@ -40,12 +42,10 @@ high_of low high n h e = omega arith
 -- a vector in halves has these halves
 pub halves_of-vector_in : (s : Inside) → HoldsVector s → halves_of (vector_in s) ≡ s
 halves_of-vector_in s h =
-    let first = first_word-of_words s.width (joined_halves s.a_low s.a_high) (joined_halves s.b_low s.b_high) h.words.first in
-    let second = second_word-of_words s.width (joined_halves s.a_low s.a_high) (joined_halves s.b_low s.b_high) h.words.second in
+    let first = first_word-of_words s.width (word_of s.a) (word_of s.b) h.words.first in
+    let second = second_word-of_words s.width (word_of s.a) (word_of s.b) h.words.second in
     λ i. record {
-      width = length-of_words s.width (joined_halves s.a_low s.a_high) (joined_halves s.b_low s.b_high) i;
-      a_low = low_of s.a_low s.a_high _ h.a_low first i;
-      a_high = high_of s.a_low s.a_high _ h.a_low first i;
-      b_low = low_of s.b_low s.b_high _ h.b_low second i;
-      b_high = high_of s.b_low s.b_high _ h.b_low second i;
+      width = length-of_words s.width (word_of s.a) (word_of s.b) i;
+      a = (low_of s.a.0 s.a.1 _ h.a_low first i, high_of s.a.0 s.a.1 _ h.a_low first i);
+      b = (low_of s.b.0 s.b.1 _ h.b_low second i, high_of s.b.0 s.b.1 _ h.b_low second i);
     }

@@ -1,5 +1,6 @@
 //! Registers' numbers, and the event controls that wait for them.
-ghost use Rattle.std.specs.Prelude.{◌≡◌};
+ghost use Rattle.std.specs.Prelude.{◌≡◌, ◌==◌};
+ghost use Rattle.std.specs.List.{list_any};
 ghost use Rattle.design.specs.ControlWaking.{wakes_by};
 ghost use Rattle.model.specs.States as states;
 
@@ -41,6 +42,13 @@ impl Control {
         ensures { result.now ≡ self.entry.now }
     {
         self.triggers.as_slice()
+    }
+
+    /// Whether it waits for a register: an event of it is a change of that, of whatever kind.
+    pub fn waits_for(&self, register: RegId) -> bool
+        ensures { result ≡ list_any (λ t. t.1 == register) self.now }
+    {
+        self.triggers.iter().any(|trigger| trigger.1 == register)
     }
 
     /// Whether a change of a register, of this kind, is one that it waits for.

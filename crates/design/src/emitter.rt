@@ -235,22 +235,12 @@ impl Emitter {
                 self.assign(widths, *register, AssignmentKind::AtOnce, value, next)
             }
             Statement::AssignAfter(register, delay, value) => {
-                self.assign(
-                    widths,
-                    *register,
-                    AssignmentKind::After(*delay),
-                    value,
-                    next,
-                )
+                let after = AssignmentKind::After(*delay);
+                self.assign(widths, *register, after, value, next)
             }
             Statement::AssignLater(register, delay, value) => {
-                self.assign(
-                    widths,
-                    *register,
-                    AssignmentKind::Later(*delay),
-                    value,
-                    next,
-                )
+                let later = AssignmentKind::Later(*delay);
+                self.assign(widths, *register, later, value, next)
             }
             Statement::Delay(delay, body) => {
                 self.delay(*delay, body, next)?;

@@ -10,10 +10,9 @@ use std::marker::Model;
 #[derive(Clone, Copy, Debug)]
 pub struct PackedBits {
     width: u32,
-    a_low: u64,
-    a_high: u64,
-    b_low: u64,
-    b_high: u64,
+    /// The low half and the high half of each word.
+    a: (u64, u64),
+    b: (u64, u64),
 }
 
 impl Model for PackedBits {
@@ -57,14 +56,10 @@ impl PackedBits {
         ensures { result ≡ value }
     {
         let (a, b) = value.words();
-        let (a_low, a_high) = halves(a);
-        let (b_low, b_high) = halves(b);
         PackedBits {
             width: value.width(),
-            a_low,
-            a_high,
-            b_low,
-            b_high,
+            a: halves(a),
+            b: halves(b),
         }
     }
 
@@ -73,11 +68,9 @@ impl PackedBits {
     pub fn get(self) -> Bits
         ensures { result ≡ self }
     {
-        Bits::from_words(
-            self.width,
-            join(self.a_low, self.a_high),
-            join(self.b_low, self.b_high),
-        )
+        let a = join(self.a.0, self.a.1);
+        let b = join(self.b.0, self.b.1);
+        Bits::from_words(self.width, a, b)
     }
 }
 

@@ -17,12 +17,11 @@ use std::alloc::Global;
 use tokens::cut::CutFault;
 use vparse::ParseFault;
 
+/// A location, if there is one; it fails where a cut of the source into tokens does.
+type LocationResult = Result<Option<Location>, CutFault>;
+
 /// The location of a fault of the text, which want of memory hasn't. Fails where a cut of the source into tokens does.
-fn text_location(
-    alloc: Global,
-    source: &[u8],
-    fault: ParseFault,
-) -> Result<Option<Location>, CutFault>
+fn text_location(alloc: Global, source: &[u8], fault: ParseFault) -> LocationResult
     ensures { IfOk result (λ location. IsTextLocation source.now fault location) }
 {
     match fault {
@@ -36,11 +35,7 @@ fn text_location(
 }
 
 /// The location of the token that a fault of the module tells, if it tells one. Fails where a cut of the source into tokens does.
-fn module_location(
-    alloc: Global,
-    source: &[u8],
-    fault: &ElabFault,
-) -> Result<Option<Location>, CutFault>
+fn module_location(alloc: Global, source: &[u8], fault: &ElabFault) -> LocationResult
     ensures { IfOk result (λ location. IsModuleLocation source.now fault.now location) }
 {
     let spots = spots(alloc, source)?;
@@ -51,11 +46,7 @@ fn module_location(
 }
 
 /// The location of a fault, if that is known. Fails where a cut of the source into tokens does.
-fn fault_location(
-    alloc: Global,
-    source: &[u8],
-    fault: &SourceFault,
-) -> Result<Option<Location>, CutFault>
+fn fault_location(alloc: Global, source: &[u8], fault: &SourceFault) -> LocationResult
     ensures { IfOk result (λ location. IsFaultLocation source.now fault.now location) }
 {
     match fault {

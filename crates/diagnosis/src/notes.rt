@@ -23,6 +23,13 @@ pub struct Note {
     pub advice: Advice,
 }
 
+/// What stands before a lexeme and behind it.
+#[derive(Clone, Copy)]
+struct Surroundings<'a> {
+    before: LexemeContext<'a>,
+    following: Following<'a>,
+}
+
 /// The length of the byte or the conversion at the front of a format, 0 where it is a conversion that the language lacks.
 fn conversion_len(b: u8, rest: &[u8]) -> usize
     ensures { result ≤ length rest.now + 1 }
@@ -103,13 +110,10 @@ fn is_count(before: LexemeContext<'_>, text: &[u8], following: Following<'_>) ->
 }
 
 /// The advice on an operator. One of several bytes has it at its first.
-fn advice_on_operator(
-    before: LexemeContext<'_>,
-    text: &[u8],
-    following: Following<'_>,
-) -> Option<Advice>
+fn advice_on_operator(around: Surroundings<'_>, text: &[u8]) -> Option<Advice>
     ensures { IfSome result (λ advice. suits advice text.now ≡ true) }
 {
+    let Surroundings { before, following } = around;
     match text {
         [b'*'] if before.takes_events() => Some(Advice::Triggers),
         [b'*'] if before.is_told(following) => None,
@@ -128,13 +132,10 @@ fn advice_on_operator(
 }
 
 /// The advice on a lexeme of one byte that is no operator, if it has one.
-fn advice_on_sign(
-    before: LexemeContext<'_>,
-    text: &[u8],
-    following: Following<'_>,
-) -> Option<Advice>
+fn advice_on_sign(around: Surroundings<'_>, text: &[u8]) -> Option<Advice>
     ensures { IfSome result (λ advice. suits advice text.now ≡ true) }
 {
+    let Surroundings { before, following } = around;
     match text {
         [b'.'] => Some(Advice::OneModule),
         [b'('] if before.takes_ports() => Some(Advice::OneModule),
@@ -145,18 +146,15 @@ fn advice_on_sign(
         [b'{'] if before.begins_statement() => Some(Advice::LeftSide),
         [b':'] if before.takes_name() => Some(Advice::BlockName),
         [b':'] if before.in_select() => Some(Advice::Index),
-        _ => advice_on_operator(before, text, following),
+        _ => advice_on_operator(around, text),
     }
 }
 
 /// The advice on a word that isn't in the table, if it has one.
-fn advice_on_word(
-    before: LexemeContext<'_>,
-    text: &[u8],
-    following: Following<'_>,
-) -> Option<Advice>
+fn advice_on_word(around: Surroundings<'_>, text: &[u8]) -> Option<Advice>
     ensures { IfSome result (λ advice. suits advice text.now ≡ true) }
 {
+    let Surroundings { before, following } = around;
     match text {
         [b, ..] if is_letter(*b) && before.in_brackets() => Some(Advice::Index),
         [b, ..] if is_letter(*b) && before.is_event() => Some(Advice::BareEvent),
@@ -171,9 +169,10 @@ fn advice_on_word(
 }
 
 /// The advice on a lexeme that is no word of the table, by what stands around it.
-fn advice_around(before: LexemeContext<'_>, text: &[u8], following: Following<'_>) -> Option<Advice>
+fn advice_around(around: Surroundings<'_>, text: &[u8]) -> Option<Advice>
     ensures { IfSome result (λ advice. suits advice text.now ≡ true) }
 {
+    let Surroundings { before, following } = around;
     if before.lacks_block(text) {
         return Some(Advice::Block);
     }
@@ -190,8 +189,8 @@ fn advice_around(before: LexemeContext<'_>, text: &[u8], following: Following<'_
         [b'"', ..] if conversions(text).is_none() => Some(Advice::Conversion),
         [b, rest @ ..] if begins_number(*b) && before.lacks_size(*b, rest) => Some(Advice::Size),
         [b, ..] if begins_number(*b) && has_large(text) => Some(Advice::Digits),
-        [b, ..] if is_letter(*b) => advice_on_word(before, text, following),
-        _ => advice_on_sign(before, text, following),
+        [b, ..] if is_letter(*b) => advice_on_word(around, text),
+        _ => advice_on_sign(around, text),
     }
 }
 
@@ -207,12 +206,12 @@ fn note_on(lexeme: &Lexeme<'_>, advice: Advice) -> Note
 }
 
 /// The note on a lexeme, if there is advice on it: as a word of the table, or else by what stands before it.
-fn note_of(before: LexemeContext<'_>, lexeme: &Lexeme<'_>, following: Following<'_>) -> Option<Note>
+fn note_of(around: Surroundings<'_>, lexeme: &Lexeme<'_>) -> Option<Note>
     ensures { MatchOption result (advice_of (plain_lexeme lexeme.now).text ≡ None) (IsNoteOf (plain_lexeme lexeme.now)) }
 {
     match advice_of(lexeme.text) {
         Some(advice) => Some(note_on(lexeme, advice)),
-        None => match advice_around(before, lexeme.text, following) {
+        None => match advice_around(around, lexeme.text) {
             Some(advice) => Some(note_on(lexeme, advice)),
             None => None,
         },
@@ -239,7 +238,8 @@ pub fn notes(alloc: Global, source: &[u8]) -> Result<Vec<Note>, AllocError>
     let mut before = NOTHING;
     let mut left = lexemes.as_slice();
     while let [lexeme, rest @ ..] = left {
-        let note = note_of(before, lexeme, next_two(rest));
+        let following = next_two(rest);
+        let note = note_of(Surroundings { before, following }, lexeme);
         add(&mut found, note)?;
         before = before.after(lexeme.text, note);
         left = rest;

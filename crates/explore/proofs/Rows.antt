@@ -1,5 +1,5 @@
 -- Lists in an arena, each beside its number.
-use Rattle.std.proofs.Common.{◌≡◌, ℕ, zero, suc, ◌+◌, ◌-◌, ◌≤◌, List, [], ◌∷◌, ◌++◌, length, map, take, drop, refl, sym, ap, ◌∙◌, arith, length-append, length-drop, inl, inr, Some}
+use Rattle.std.proofs.Common.{◌≡◌, ℕ, zero, suc, ◌+◌, ◌-◌, ◌≤◌, List, [], ◌∷◌, ◌++◌, length, map, take, drop, refl, sym, ap, ◌∙◌, arith, length-append, length-drop, inl, inr, Option, Some, None}
 use Rattle.std.proofs.lemmas.List.{map-append, take-append-le, drop-append-le}
 use Rattle.std.proofs.Math.Seq.{drop-append_seam}
 use Rattle.std.specs.Prelude.{slice_get, slice_range}
@@ -40,6 +40,11 @@ rows_append {T} arena more (r ∷ rows) known =
     let first : piece (arena ++ more) r ≡ piece arena r = ap (λ (l : List T). (r.number, l)) (range_append arena more r.begin (r.begin + r.length) (omega arith) here) in
     ap (λ (p : ℕ × List T). p ∷ rows_of (arena ++ more) rows) first
     ∙ ap (λ (ps : List (ℕ × List T)). piece arena r ∷ ps) (rows_append arena more rows (λ k row e. known (suc k) row e))
+
+-- where there are no lists there are no rows
+pub AreRows-none : {T : Type 0} (arena : List T) (rows : List NumberedSpan) → rows_of arena rows ≡ [] → AreRows arena rows
+AreRows-none arena [] none k row at = let clash : ◌≡◌ {A = Option NumberedSpan} None (Some row) = at in cc
+AreRows-none {T} arena (r ∷ rows) none k row at = let clash : ◌≡◌ {A = List (ℕ × List T)} (piece arena r ∷ rows_of arena rows) [] = none in cc
 
 -- a row that is added, whose list is added too, gives a list more
 pub rows-push : {T : Type 0} (arena more arena' : List T) (rows rows' : List NumberedSpan) (row : NumberedSpan) → AreRows arena rows → arena' ≡ arena ++ more → rows' ≡ rows ++ row ∷ [] → row.begin ≡ length arena → row.length ≡ length more →

@@ -1,6 +1,6 @@
 -- The texts that have numbers.
-use Rattle.std.specs.Prelude.{◌≡◌, ℕ, ◌<◌, ◌≤◌, List, [], ◌∷◌, flat_map, get_or, length, map, Some, slice_get, vec_items}
-use Rattle.explore.specs.Grown.{grown_all}
+use Rattle.std.specs.Prelude.{◌≡◌, ℕ, ◌<◌, ◌≤◌, List, [], ◌∷◌, ◌++◌, flat_map, get_or, length, map, Some, slice_get, vec_items}
+use Rattle.explore.specs.Grown.{Extends, grown_all}
 use Rattle.explore.specs.declared.line_groups.LineGroups.{LineGroups}
 use Rattle.explore.specs.declared.text_table.TextEdge.{TextEdge}
 use Rattle.explore.specs.declared.text_table.TextTable.{TextTable}
@@ -29,3 +29,10 @@ pub record AreTextEdges (groups : List (List ℕ)) (edges : List TextEdge) : Typ
 -- the edges of a table are such
 abbrev pub IsTexts : TextTable → Type 0
 IsTexts held = AreTextEdges (line_groups held.groups) held.edges.keys
+
+-- In a table that grew from another, this is the number of the text that goes on from one by these bytes; each text that was there has its number still.
+pub record HasLonger (old new : TextTable) (before : ℕ) (bytes : List ℕ) (number : ℕ) : Type 0 where
+  pub ok : IsTexts new
+  pub grows : Extends (texts old) (texts new)
+  pub within : number < length (texts new)
+  pub text : get_or (texts new) number [] ≡ get_or (texts old) before [] ++ bytes

@@ -61,6 +61,17 @@ pub record Grows {Node Move : Type 0} (old new : KeptNodes Node Move) : Type 0 w
   pub count : length new.pending.items + length (ways old.lineage) ≡ length old.pending.items + length (ways new.lineage)
   pub waits : (k : ℕ) → length (ways old.lineage) ≤ k → k < length (ways new.lineage) → Any (λ reached. reached.number ≡ k) new.pending.items
 
+-- a node at which no run ends now was one before
+abbrev pub StayUnmarked : {Node Move : Type 0} → KeptNodes Node Move → KeptNodes Node Move → Type 0
+StayUnmarked old new = (k : ℕ) → IsUnmarked new.links.may_end.items k → IsUnmarked old.links.may_end.items k
+
+-- What is kept of these runs grew, and is of no more runs than there may be; nodes at which no run ends stay so.
+pub record AreKeptFurther {Move Node End : Type 0} (runs : Runs Move Node End) (HasKey : Node → List ℕ → Type 0) (most : ℕ) (old new : KeptNodes Node Move) : Type 0 where
+  pub kept : AreKept runs HasKey new
+  pub grows : Grows old new
+  pub room : length (ways new.lineage) ≤ most
+  pub unmarked : StayUnmarked old new
+
 -- one of the runs that were reached serves this one
 abbrev pub IsServed : {Move Node End : Type 0} → Runs Move Node End → List (List Move) → List Move → Type 0
 IsServed runs reached run = Any (λ way. Serves runs run way) reached
@@ -89,7 +100,3 @@ pub record IsContinued {Move Node End : Type 0} (runs : Runs Move Node End) (kep
 -- each node at which no run ends is continued
 abbrev pub AreContinued : {Move Node End : Type 0} → Runs Move Node End → KeptNodes Node Move → Type 0
 AreContinued runs kept = (k : ℕ) → IsUnmarked kept.links.may_end.items k → IsContinued runs kept k
-
--- a node at which no run ends now was one before
-abbrev pub StayUnmarked : {Node Move : Type 0} → KeptNodes Node Move → KeptNodes Node Move → Type 0
-StayUnmarked old new = (k : ℕ) → IsUnmarked new.links.may_end.items k → IsUnmarked old.links.may_end.items k

@@ -3,11 +3,11 @@
 //! A run whose node isn't kept goes on from others, and on its way checkpoints are kept: nodes at half of the way, at three quarters of
 //! it, at seven eighths and so on. The runs that are asked for next go on from the same ones for most of their way, so that a chain
 //! of them costs about as many moves as it has runs, times the logarithm of that. Which checkpoints there are is no matter of what is made.
-ghost use Rattle.std.specs.Prelude.{◌≡◌, ◌<◌, [], length, get_or, IfOk, IfSome, OnOk};
+ghost use Rattle.std.specs.Prelude.{◌≡◌, ◌<◌, [], length, get_or, IfOk, OnOk};
 ghost use Rattle.std.specs.List.{All};
 ghost use Rattle.explore.specs.Grown.{Extends};
 ghost use Rattle.explore.specs.Lineage.{ways, IsLineage};
-ghost use Rattle.explore.specs.Placed.{ArePlaced, AreStood, IsPlaced};
+ghost use Rattle.explore.specs.Placed.{ArePlaced, AreStood, IsPlaced, IsReachedRun};
 
 use crate::lineage::Lineage;
 use crate::recent::{Most, Placed, Recent};
@@ -61,90 +61,46 @@ impl<N: Drop> Nodes<N> {
     }
 }
 
-// The node of a run, made from that of another, where the run goes on from that.
-fn make_from<O: Orders>(
-    scope: SearchScope,
-    orders: &O,
-    room: &mut O::Room,
-    lineage: &Lineage<O::Move>,
-    checkpoint: &Placed<O::Node>,
-    number: usize,
-) -> Result<Option<O::Node>, AllocError>
-    requires lineage { IsLineage lineage.now }
-    requires within { number < length (ways lineage.now) }
-    requires stood { AreStood (O.runs orders.now) (ways lineage.now) }
-    requires checkpoint { IsPlaced (O.runs orders.now) (ways lineage.now) checkpoint.now }
-    ensures { IfOk result (λ found. IfSome found (λ node. (O.runs orders.now).Stands node (get_or (ways lineage.now) number []))) }
-{
-    let further = lineage.way_from(scope.alloc, checkpoint.number, number)?;
-    match further {
-        Some(moves) => {
-            let node = orders.again(scope.alloc, room, &checkpoint.node, &moves)?;
-            Ok(Some(node))
-        }
-        None => Ok(None),
-    }
-}
-
 // The node of a run, made from the start.
 fn make_whole<O: Orders>(
-    scope: SearchScope,
-    orders: &O,
+    scope: SearchScope<'_, O>,
     room: &mut O::Room,
     lineage: &Lineage<O::Move>,
     number: usize,
 ) -> Result<O::Node, AllocError>
-    requires lineage { IsLineage lineage.now }
-    requires within { number < length (ways lineage.now) }
-    requires stood { AreStood (O.runs orders.now) (ways lineage.now) }
-    ensures { IfOk result (λ node. (O.runs orders.now).Stands node (get_or (ways lineage.now) number [])) }
+    requires { IsReachedRun (O.runs scope.orders.now) lineage.now number }
+    ensures { IfOk result (λ node. (O.runs scope.entry.orders.now).Stands node (get_or (ways lineage.now) number [])) }
 {
     let moves = lineage.way(scope.alloc, number)?;
-    let start = orders.start(scope.alloc)?;
-    let node = orders.again(scope.alloc, room, &start, &moves)?;
+    let start = scope.orders.start(scope.alloc)?;
+    let node = scope.orders.again(scope.alloc, room, &start, &moves)?;
     Ok(node)
 }
 
-// The node of a run, made from the newest checkpoint, where there is one and the run goes on from it.
-fn make_near<O: Orders>(
-    scope: SearchScope,
-    orders: &O,
-    room: &mut O::Room,
-    lineage: &Lineage<O::Move>,
-    checkpoints: &Recent<O::Node>,
-    number: usize,
-) -> Result<Option<O::Node>, AllocError>
-    requires lineage { IsLineage lineage.now }
-    requires within { number < length (ways lineage.now) }
-    requires stood { AreStood (O.runs orders.now) (ways lineage.now) }
-    requires checkpoints { All (IsPlaced (O.runs orders.now) (ways lineage.now)) checkpoints.now.nodes.items }
-    ensures { IfOk result (λ found. IfSome found (λ node. (O.runs orders.now).Stands node (get_or (ways lineage.now) number []))) }
-{
-    match checkpoints.nodes.back() {
-        Some(checkpoint) => make_from(scope, orders, room, lineage, checkpoint, number),
-        None => Ok(None),
-    }
-}
-
-// The node of a run, made again.
+// The node of a run, made from the newest checkpoint where the run goes on from that, and else from the start.
 fn make<O: Orders>(
-    scope: SearchScope,
-    orders: &O,
+    scope: SearchScope<'_, O>,
     room: &mut O::Room,
     lineage: &Lineage<O::Move>,
     checkpoints: &Recent<O::Node>,
     number: usize,
 ) -> Result<O::Node, AllocError>
-    requires lineage { IsLineage lineage.now }
-    requires within { number < length (ways lineage.now) }
-    requires stood { AreStood (O.runs orders.now) (ways lineage.now) }
-    requires checkpoints { All (IsPlaced (O.runs orders.now) (ways lineage.now)) checkpoints.now.nodes.items }
-    ensures { IfOk result (λ node. (O.runs orders.now).Stands node (get_or (ways lineage.now) number [])) }
+    requires reached { IsReachedRun (O.runs scope.orders.now) lineage.now number }
+    requires checkpoints { All (IsPlaced (O.runs scope.orders.now) (ways lineage.now)) checkpoints.now.nodes.items }
+    ensures { IfOk result (λ node. (O.runs scope.entry.orders.now).Stands node (get_or (ways lineage.now) number [])) }
 {
-    let found = make_near(scope, orders, room, lineage, checkpoints, number)?;
-    match found {
-        Some(node) => Ok(node),
-        None => make_whole(scope, orders, room, lineage, number),
+    let Some(checkpoint) = checkpoints.nodes.back() else {
+        return make_whole(scope, room, lineage, number);
+    };
+    let further = lineage.way_from(scope.alloc, checkpoint.number, number)?;
+    match further {
+        Some(moves) => {
+            let node = scope
+                .orders
+                .again(scope.alloc, room, &checkpoint.node, &moves)?;
+            Ok(node)
+        }
+        None => make_whole(scope, room, lineage, number),
     }
 }
 
@@ -167,52 +123,31 @@ fn drop_astray<N: Drop, M: Copy>(lineage: &Lineage<M>, checkpoints: &mut Recent<
     }
 }
 
-// Keeps the node of a run as a checkpoint.
-fn place<O: Orders>(
-    scope: SearchScope,
-    orders: &O,
-    room: &mut O::Room,
-    lineage: &Lineage<O::Move>,
-    checkpoints: &mut Recent<O::Node>,
-    number: usize,
-) -> Result<(), AllocError>
-    requires lineage { IsLineage lineage.now }
-    requires within { number < length (ways lineage.now) }
-    requires stood { AreStood (O.runs orders.now) (ways lineage.now) }
-    requires checkpoints { All (IsPlaced (O.runs orders.now) (ways lineage.now)) checkpoints.old.nodes.items }
-    ensures { OnOk result (All (IsPlaced (O.runs orders.now) (ways lineage.now)) checkpoints.new.nodes.items) }
-{
-    let node = make(scope, orders, room, lineage, checkpoints, number)?;
-    let weight = orders.weight(&node);
-    let placed = Placed {
-        number,
-        node,
-        weight,
-    };
-    checkpoints.push(placed, most_checkpoints(scope.bounds))?;
-    Ok(())
-}
-
 // Places checkpoints on the way to a run from the newest one, or else from the start: each at half of the way that is left.
 fn place_all<O: Orders>(
-    scope: SearchScope,
-    orders: &O,
+    scope: SearchScope<'_, O>,
     room: &mut O::Room,
     lineage: &Lineage<O::Move>,
     checkpoints: &mut Recent<O::Node>,
     number: usize,
 ) -> Result<(), AllocError>
-    requires lineage { IsLineage lineage.now }
-    requires within { number < length (ways lineage.now) }
-    requires stood { AreStood (O.runs orders.now) (ways lineage.now) }
-    requires checkpoints { All (IsPlaced (O.runs orders.now) (ways lineage.now)) checkpoints.old.nodes.items }
-    ensures { OnOk result (All (IsPlaced (O.runs orders.now) (ways lineage.now)) checkpoints.new.nodes.items) }
+    requires reached { IsReachedRun (O.runs scope.orders.now) lineage.now number }
+    requires checkpoints { All (IsPlaced (O.runs scope.orders.now) (ways lineage.now)) checkpoints.old.nodes.items }
+    ensures { OnOk result (All (IsPlaced (O.runs scope.entry.orders.now) (ways lineage.now)) checkpoints.new.nodes.items) }
 {
     let from = checkpoints.newest().unwrap_or(0);
     let passed = lineage.passed(scope.alloc, from, number)?;
     let mut left = passed.len() / 2;
     while left > 0 {
-        place(scope, orders, room, lineage, checkpoints, passed[left])?;
+        let number = passed[left];
+        let node = make(scope, room, lineage, checkpoints, number)?;
+        let weight = scope.orders.weight(&node);
+        let placed = Placed {
+            number,
+            node,
+            weight,
+        };
+        checkpoints.push(placed, most_checkpoints(scope.bounds))?;
         left /= 2;
     }
     Ok(())
@@ -220,8 +155,7 @@ fn place_all<O: Orders>(
 
 /// The node of a run that was reached: the newest one that is kept, where it is that of this run, and else made again.
 pub(crate) fn node_at<O: Orders>(
-    scope: SearchScope,
-    orders: &O,
+    scope: SearchScope<'_, O>,
     room: &mut O::Room,
     lineage: &Lineage<O::Move>,
     nodes: &mut Nodes<O::Node>,
@@ -229,17 +163,17 @@ pub(crate) fn node_at<O: Orders>(
 ) -> Result<O::Node, AllocError>
     requires lineage { IsLineage lineage.now }
     requires within { number < length (ways lineage.now) }
-    requires stood { AreStood (O.runs orders.now) (ways lineage.now) }
-    requires placed { ArePlaced (O.runs orders.now) (ways lineage.now) nodes.old }
-    ensures placed { OnOk result (ArePlaced (O.runs orders.now) (ways lineage.now) nodes.new) }
-    ensures node { IfOk result (λ node. (O.runs orders.now).Stands node (get_or (ways lineage.now) number [])) }
+    requires stood { AreStood (O.runs scope.orders.now) (ways lineage.now) }
+    requires placed { ArePlaced (O.runs scope.orders.now) (ways lineage.now) nodes.old }
+    ensures placed { OnOk result (ArePlaced (O.runs scope.entry.orders.now) (ways lineage.now) nodes.new) }
+    ensures node { IfOk result (λ node. (O.runs scope.entry.orders.now).Stands node (get_or (ways lineage.now) number [])) }
 {
     match nodes.newest.take(number) {
         Some(node) => return Ok(node),
         None => {}
     }
     drop_astray(lineage, &mut nodes.checkpoints, number);
-    place_all(scope, orders, room, lineage, &mut nodes.checkpoints, number)?;
-    let node = make(scope, orders, room, lineage, &nodes.checkpoints, number)?;
+    place_all(scope, room, lineage, &mut nodes.checkpoints, number)?;
+    let node = make(scope, room, lineage, &nodes.checkpoints, number)?;
     Ok(node)
 }

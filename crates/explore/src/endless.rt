@@ -10,7 +10,7 @@ ghost use Rattle.explore.specs.Pieces.{pieces};
 
 use crate::lineage::Lineage;
 use crate::links::{Links, SearchEdge};
-use crate::pieces::narrow;
+use sharing::narrow;
 use std::alloc::{AllocError, Global};
 
 /// The edges that lead to each node: the first of them, and behind each edge the next one that leads to the same node.

@@ -1,10 +1,10 @@
 //! What a search keeps of the nodes that it reached.
 ghost use Rattle.std.specs.Prelude.{◌≡◌, ◌<◌, ◌≤◌, ◌++◌, [], ◌∷◌, false, true, length, get_or, IsTrue, IfOk, OnOk};
 ghost use Rattle.std.specs.List.{All, Any};
-ghost use Rattle.explore.specs.SearchKept.{AreKept, Grows, IsText, LeadsOn, StayUnmarked};
 ghost use Rattle.explore.specs.Search.{IsSuccessor};
 ghost use Rattle.explore.specs.NumberedTexts.{texts};
 ghost use Rattle.explore.specs.Lineage.{ways};
+ghost use Rattle.explore.specs.SearchKept.{AreKept, AreKeptFurther, IsText, LeadsOn};
 
 use crate::again::{Nodes, most_newest};
 use crate::lineage::Lineage;
@@ -60,27 +60,26 @@ impl<N: Drop, M: Copy> KeptNodes<N, M> {
 
 /// What is kept at first: the node at which each run starts.
 pub(crate) fn first<O: Orders>(
-    scope: SearchScope,
-    orders: &O,
+    scope: SearchScope<'_, O>,
     room: &mut O::Room,
 ) -> Result<KeptNodes<O::Node, O::Move>, AllocError>
-    ensures kept { IfOk result (λ kept. AreKept (O.runs orders.now) (O.has_key orders.now) kept) }
+    ensures kept { IfOk result (λ kept. AreKept (O.runs scope.entry.orders.now) (O.has_key scope.entry.orders.now) kept) }
     ensures ways { IfOk result (λ kept. ways kept.lineage ≡ [] ∷ []) }
     ensures one { IfOk result (λ kept. length kept.pending.items ≡ 1) }
     ensures unmarked { IfOk result (λ kept. kept.links.may_end.items ≡ true ∷ []) }
     ensures waits { IfOk result (λ kept. Any (λ reached. reached.number ≡ 0) kept.pending.items) }
 {
     let alloc = scope.alloc;
-    let node = orders.start(alloc)?;
+    let node = scope.orders.start(alloc)?;
     let mut key = Vec::new(alloc);
-    orders.key(room, &mut key, &node)?;
+    scope.orders.key(room, &mut key, &node)?;
     let mut visited = Visited::new(alloc);
-    let _there = visited.add(alloc, 0, key.as_slice())?;
+    let _there = visited.add(0, key.as_slice())?;
     let mut links = Links::new(alloc);
     links.add()?;
     let mut pending = Vec::new(alloc);
     pending.push(Reached { number: 0, text: 0 })?;
-    let weight = orders.weight(&node);
+    let weight = scope.orders.weight(&node);
     let placed = Placed {
         number: 0,
         node,
@@ -102,23 +101,19 @@ pub(crate) fn first<O: Orders>(
 /// Adds the node that a way from a run leads to, unless one that goes on alike was reached. The answer is whether one is
 /// there now: it isn't where the most nodes are kept.
 fn follow<O: Orders>(
-    scope: SearchScope,
-    orders: &O,
+    scope: SearchScope<'_, O>,
     room: &mut O::Room,
     kept: &mut KeptNodes<O::Node, O::Move>,
     from: Reached,
     next: Successor<O::Node, O::Move>,
 ) -> Result<bool, AllocError>
-    requires kept { AreKept (O.runs orders.now) (O.has_key orders.now) kept.old }
-    requires from { IsText (O.runs orders.now) (ways kept.old.lineage) (texts kept.old.texts) from }
-    requires next { IsSuccessor (O.runs orders.now) (get_or (ways kept.old.lineage) from.number []) next }
+    requires kept { AreKept (O.runs scope.orders.now) (O.has_key scope.orders.now) kept.old }
+    requires from { IsText (O.runs scope.orders.now) (ways kept.old.lineage) (texts kept.old.texts) from }
+    requires next { IsSuccessor (O.runs scope.orders.now) (get_or (ways kept.old.lineage) from.number []) next }
     requires room { length (ways kept.old.lineage) ≤ scope.bounds.nodes }
-    ensures kept { OnOk result (AreKept (O.runs orders.now) (O.has_key orders.now) kept.new) }
-    ensures grows { OnOk result (Grows kept.old kept.new) }
-    ensures room { OnOk result (length (ways kept.new.lineage) ≤ scope.bounds.nodes) }
-    ensures unmarked { OnOk result (StayUnmarked kept.old kept.new) }
-    ensures full { IfOk result (λ there. there ≡ false → length (ways kept.new.lineage) ≡ scope.bounds.nodes) }
-    ensures leads { IfOk result (λ there. IsTrue there → LeadsOn (O.runs orders.now) kept.new from.number (get_or (ways kept.old.lineage) from.number [] ++ next.moves.items)) }
+    ensures further { OnOk result (AreKeptFurther (O.runs scope.entry.orders.now) (O.has_key scope.entry.orders.now) scope.entry.bounds.nodes kept.old kept.new) }
+    ensures full { IfOk result (λ there. there ≡ false → length (ways kept.new.lineage) ≡ scope.entry.bounds.nodes) }
+    ensures leads { IfOk result (λ there. IsTrue there → LeadsOn (O.runs scope.entry.orders.now) kept.new from.number (get_or (ways kept.old.lineage) from.number [] ++ next.moves.items)) }
 {
     let Successor {
         node,
@@ -126,16 +121,16 @@ fn follow<O: Orders>(
         moves,
     } = next;
     let text = kept.texts.longer(scope.alloc, from.text, &printed)?;
-    orders.key(room, &mut kept.key, &node)?;
+    scope.orders.key(room, &mut kept.key, &node)?;
     let bytes = kept.key.as_slice();
-    let weight = orders.weight(&node);
+    let weight = scope.orders.weight(&node);
     let number = kept.lineage.len();
     if number >= scope.bounds.nodes {
-        let seen = kept.visited.find(scope.alloc, text, bytes)?;
+        let seen = kept.visited.find(text, bytes)?;
         let known = kept.links.join(from.number, seen)?;
         return Ok(known);
     }
-    let there = kept.visited.add(scope.alloc, text, bytes)?;
+    let there = kept.visited.add(text, bytes)?;
     let joined = kept.links.join(from.number, there)?;
     if joined {
         return Ok(true);
@@ -155,28 +150,24 @@ fn follow<O: Orders>(
 /// Adds the nodes that these ways from a run lead to, unless ones that go on alike were reached. The answer is whether
 /// for each of them one is there now.
 pub(crate) fn follow_all<O: Orders>(
-    scope: SearchScope,
-    orders: &O,
+    scope: SearchScope<'_, O>,
     room: &mut O::Room,
     kept: &mut KeptNodes<O::Node, O::Move>,
     from: Reached,
     successors: Vec<Successor<O::Node, O::Move>>,
 ) -> Result<bool, AllocError>
-    requires kept { AreKept (O.runs orders.now) (O.has_key orders.now) kept.old }
-    requires from { IsText (O.runs orders.now) (ways kept.old.lineage) (texts kept.old.texts) from }
-    requires successors { All (IsSuccessor (O.runs orders.now) (get_or (ways kept.old.lineage) from.number [])) successors.items }
+    requires kept { AreKept (O.runs scope.orders.now) (O.has_key scope.orders.now) kept.old }
+    requires from { IsText (O.runs scope.orders.now) (ways kept.old.lineage) (texts kept.old.texts) from }
+    requires successors { All (IsSuccessor (O.runs scope.orders.now) (get_or (ways kept.old.lineage) from.number [])) successors.items }
     requires room { length (ways kept.old.lineage) ≤ scope.bounds.nodes }
-    ensures kept { OnOk result (AreKept (O.runs orders.now) (O.has_key orders.now) kept.new) }
-    ensures grows { OnOk result (Grows kept.old kept.new) }
-    ensures room { OnOk result (length (ways kept.new.lineage) ≤ scope.bounds.nodes) }
-    ensures unmarked { OnOk result (StayUnmarked kept.old kept.new) }
-    ensures full { IfOk result (λ all. all ≡ false → length (ways kept.new.lineage) ≡ scope.bounds.nodes) }
-    ensures leads { IfOk result (λ all. IsTrue all → All (λ next. LeadsOn (O.runs orders.now) kept.new from.number (get_or (ways kept.old.lineage) from.number [] ++ next.moves.items)) successors.items) }
+    ensures further { OnOk result (AreKeptFurther (O.runs scope.entry.orders.now) (O.has_key scope.entry.orders.now) scope.entry.bounds.nodes kept.old kept.new) }
+    ensures full { IfOk result (λ all. all ≡ false → length (ways kept.new.lineage) ≡ scope.entry.bounds.nodes) }
+    ensures leads { IfOk result (λ all. IsTrue all → All (λ next. LeadsOn (O.runs scope.entry.orders.now) kept.new from.number (get_or (ways kept.old.lineage) from.number [] ++ next.moves.items)) successors.items) }
 {
     let mut left = successors;
     let mut all = true;
     while let Some(next) = left.pop() {
-        let there = follow(scope, orders, room, kept, from, next)?;
+        let there = follow(scope, room, kept, from, next)?;
         all = all & there;
     }
     Ok(all)

@@ -94,9 +94,10 @@ pub struct Bounds {
     pub bytes: usize,
 }
 
-/// How far a search goes, and what gives it memory.
-#[derive(Clone, Copy)]
-struct SearchScope {
+/// What is searched, how far, and what gives memory for it.
+#[derive_where(Clone, Copy)]
+struct SearchScope<'a, O> {
     alloc: Global,
+    orders: &'a O,
     bounds: Bounds,
 }

@@ -2,8 +2,8 @@
 ghost use Rattle.std.specs.Prelude.{◌≡◌, ◌<◌, ◌++◌, ℕ, suc, [], ◌∷◌, length, reverse, get_or, slice_get, Some, IfOk, IfSome, OnOk};
 ghost use Rattle.std.specs.List.{All};
 ghost use Rattle.explore.specs.Grown.{grown};
-ghost use Rattle.explore.specs.Lineage.{ways, IsLineage};
 ghost use Rattle.explore.specs.Pieces.{pieces};
+ghost use Rattle.explore.specs.Lineage.{ways, IsLineage};
 
 use crate::pieces::Pieces;
 use std::alloc::{AllocError, Global};

@@ -3,15 +3,8 @@ ghost use Rattle.std.specs.Prelude.{◌≡◌, ◌⊎◌, ℕ, [], ◌∷◌, �
 ghost use Rattle.explore.specs.Grown.{Extends};
 ghost use Rattle.explore.specs.Links.{IsEdgeTo};
 
-use crate::pieces::narrow;
+use sharing::narrow;
 use std::alloc::{AllocError, Global};
-
-/// A way leads from one node to another that was there before, by their numbers.
-#[derive(Clone, Copy)]
-pub(crate) struct SearchEdge {
-    pub(crate) from: u32,
-    pub(crate) to: u32,
-}
 
 /// What is known of each node besides its run.
 #[derive(Drop)]
@@ -20,6 +13,13 @@ pub(crate) struct Links {
     pub(crate) edges: Vec<SearchEdge>,
     /// Whether a run may come to an end at a node, for all that is known, by the numbers of the nodes.
     pub(crate) may_end: Vec<bool>,
+}
+
+/// A way leads from one node to another that was there before, by their numbers.
+#[derive(Clone, Copy)]
+pub(crate) struct SearchEdge {
+    pub(crate) from: u32,
+    pub(crate) to: u32,
 }
 
 impl Links {

@@ -1,7 +1,8 @@
 //! Lists, each beside a number, in one arena.
-ghost use Rattle.std.specs.Prelude.{◌≡◌, ◌<◌, ◌++◌, [], ◌∷◌, length, Some, slice_get, IfOk, OnOk};
+ghost use Rattle.std.specs.Prelude.{◌≡◌, ◌<◌, ◌++◌, [], ◌∷◌, length, Some, slice_get, OnOk};
 ghost use Rattle.explore.specs.Pieces.{pieces, ArePieces};
 
+use sharing::narrow;
 use std::alloc::{AllocError, Global};
 
 /// The number beside a list, the length of the list, and where it begins in the arena.
@@ -19,21 +20,10 @@ pub(crate) struct Pieces<T> {
     pub(crate) arena: Vec<T>,
 }
 
-/// A number in half of the bytes: what doesn't fit there has no room.
-pub(crate) fn narrow(number: usize) -> Result<u32, AllocError>
-    ensures { IfOk result (λ narrow. narrow ≡ number) }
-{
-    if number > u32::MAX as usize {
-        return Err(AllocError);
-    }
-    Ok(number as u32)
-}
-
 impl<T: Copy> Pieces<T> {
     /// No lists.
     pub(crate) fn new(alloc: Global) -> Self
-        ensures whole { ArePieces result }
-        ensures none { pieces result ≡ [] }
+        ensures { pieces result ≡ [] }
     {
         Pieces {
             rows: Vec::new(alloc),

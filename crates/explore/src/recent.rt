@@ -15,18 +15,18 @@ pub(crate) struct Placed<N> {
     pub(crate) weight: usize,
 }
 
-/// How many nodes are kept at most, and how many bytes they may take. The newest is kept however many it takes.
-#[derive(Clone, Copy)]
-pub(crate) struct Most {
-    pub(crate) nodes: usize,
-    pub(crate) bytes: usize,
-}
-
 /// The newest nodes, and about how many bytes they take together.
 #[derive(Drop)]
 pub(crate) struct Recent<N> {
     pub(crate) nodes: VecDeque<Placed<N>>,
     pub(crate) weight: usize,
+}
+
+/// How many nodes are kept at most, and how many bytes they may take. The newest is kept however many it takes.
+#[derive(Clone, Copy)]
+pub(crate) struct Most {
+    pub(crate) nodes: usize,
+    pub(crate) bytes: usize,
 }
 
 impl<N: Drop> Recent<N> {

@@ -78,49 +78,48 @@ fn earlier(one: Option<Stopped>, other: Option<Stopped>) -> Option<Stopped>
 /// Expands a node: shows its ways that have come to an end, and keeps the nodes that the others lead to. The answer is
 /// why something was left out. Where that is a text, the nodes aren't kept.
 fn expand_node<O: Orders>(
-    scope: SearchScope,
-    orders: &O,
+    scope: SearchScope<'_, O>,
     room: &mut O::Room,
     kept: &mut KeptNodes<O::Node, O::Move>,
     shown: &mut Vec<Shown<O::Move, O::End>>,
     at: Pending<O::Node>,
 ) -> Result<Option<Stopped>, AllocError>
-    requires kept { AreKept (O.runs orders.now) (O.has_key orders.now) kept.old }
-    requires continued { AreContinued (O.runs orders.now) kept.old }
+    requires kept { AreKept (O.runs scope.orders.now) (O.has_key scope.orders.now) kept.old }
+    requires continued { AreContinued (O.runs scope.orders.now) kept.old }
     requires room { length (ways kept.old.lineage) ≤ scope.bounds.nodes }
-    requires sound { All (IsOfRun (O.runs orders.now)) shown.old.items }
+    requires sound { All (IsOfRun (O.runs scope.orders.now)) shown.old.items }
     requires distinct { AllPairs AreDistinct shown.old.items }
     requires few { length shown.old.items ≤ scope.bounds.shown }
-    requires at { IsPendingNode (O.runs orders.now) (ways kept.old.lineage) (texts kept.old.texts) at }
-    ensures sound { All (IsOfRun (O.runs orders.now)) shown.new.items }
+    requires at { IsPendingNode (O.runs scope.orders.now) (ways kept.old.lineage) (texts kept.old.texts) at }
+    ensures sound { All (IsOfRun (O.runs scope.entry.orders.now)) shown.new.items }
     ensures distinct { AllPairs AreDistinct shown.new.items }
     ensures shown { Extends shown.old.items shown.new.items }
-    ensures few { length shown.new.items ≤ scope.bounds.shown }
-    ensures kept { OnOk result (AreKept (O.runs orders.now) (O.has_key orders.now) kept.new) }
+    ensures few { length shown.new.items ≤ scope.entry.bounds.shown }
+    ensures kept { OnOk result (AreKept (O.runs scope.entry.orders.now) (O.has_key scope.entry.orders.now) kept.new) }
     ensures grows { OnOk result (Grows kept.old kept.new) }
-    ensures room { OnOk result (length (ways kept.new.lineage) ≤ scope.bounds.nodes) }
-    ensures full { IfOk result (λ left. left ≡ Some stop.Shown → length shown.new.items ≡ scope.bounds.shown) }
-    ensures nodes { IfOk result (λ left. left ≡ Some stop.Nodes → length (ways kept.new.lineage) ≡ scope.bounds.nodes) }
-    ensures followed { IfOk result (λ left. left ≡ None → IsFollowed (O.runs orders.now) (IsShown shown.new.items) (Serves (O.runs orders.now)) (ways kept.new.lineage) (get_or (ways kept.old.lineage) at.reached.number [])) }
-    ensures continued { OnOk result (AreContinued (O.runs orders.now) kept.new) }
+    ensures room { OnOk result (length (ways kept.new.lineage) ≤ scope.entry.bounds.nodes) }
+    ensures full { IfOk result (λ left. left ≡ Some stop.Shown → length shown.new.items ≡ scope.entry.bounds.shown) }
+    ensures nodes { IfOk result (λ left. left ≡ Some stop.Nodes → length (ways kept.new.lineage) ≡ scope.entry.bounds.nodes) }
+    ensures followed { IfOk result (λ left. left ≡ None → IsFollowed (O.runs scope.entry.orders.now) (IsShown shown.new.items) (Serves (O.runs scope.entry.orders.now)) (ways kept.new.lineage) (get_or (ways kept.old.lineage) at.reached.number [])) }
+    ensures continued { OnOk result (AreContinued (O.runs scope.entry.orders.now) kept.new) }
 {
     let Pending { node, reached } = at;
     let Expanded {
         successors,
         ended,
         whole,
-    } = orders.expand(scope.alloc, room, node)?;
+    } = scope.orders.expand(scope.alloc, room, node)?;
     let goes_on = ended.is_empty();
     let run = ReachedRun {
         lineage: &kept.lineage,
         texts: &kept.texts,
         reached,
     };
-    let told = show_all(scope.alloc, orders, run, shown, ended, scope.bounds.shown)?;
+    let told = show_all(scope, run, shown, ended)?;
     if !told {
         return Ok(Some(Stopped::Shown));
     }
-    let followed = follow_all(scope, orders, room, kept, reached, successors)?;
+    let followed = follow_all(scope, room, kept, reached, successors)?;
     let left = left_out(whole, followed);
     kept.links.settle(reached.number, goes_on & is_whole(left));
     Ok(left)
@@ -135,8 +134,7 @@ fn tell_nodes<P: Progress>(progress: &P, before: usize, now: usize) {
 
 /// Shows what the runs print and how they end, and counts the nodes that are kept.
 fn search<O: Orders, P: Progress>(
-    scope: SearchScope,
-    orders: &O,
+    scope: SearchScope<'_, O>,
     shown: &mut Vec<Shown<O::Move, O::End>>,
     nodes: &mut usize,
     progress: &P,
@@ -144,18 +142,18 @@ fn search<O: Orders, P: Progress>(
     requires room { 0 < scope.bounds.nodes }
     requires none { shown.old.items ≡ [] }
     requires begun { nodes.old ≡ 0 }
-    ensures few { nodes.new ≤ scope.bounds.nodes }
-    ensures few_shown { length shown.new.items ≤ scope.bounds.shown }
-    ensures sound { All (IsOfRun (O.runs orders.now)) shown.new.items }
+    ensures few { nodes.new ≤ scope.entry.bounds.nodes }
+    ensures few_shown { length shown.new.items ≤ scope.entry.bounds.shown }
+    ensures sound { All (IsOfRun (O.runs scope.entry.orders.now)) shown.new.items }
     ensures distinct { AllPairs AreDistinct shown.new.items }
-    ensures all { stopped_of result ≡ None → AreAllShown (O.runs orders.now) shown.new.items }
-    ensures nodes { stopped_of result ≡ Some stop.Nodes → nodes.new ≡ scope.bounds.nodes }
-    ensures full { stopped_of result ≡ Some stop.Shown → length shown.new.items ≡ scope.bounds.shown }
-    ensures counted { AreCounted (O.runs orders.now) shown.new.items (stopped_of result) nodes.new }
-    ensures endless { IfOk result (λ outcome. IfSome outcome.endless (λ moves. IsEndless (O.runs orders.now) moves.items)) }
+    ensures all { stopped_of result ≡ None → AreAllShown (O.runs scope.entry.orders.now) shown.new.items }
+    ensures nodes { stopped_of result ≡ Some stop.Nodes → nodes.new ≡ scope.entry.bounds.nodes }
+    ensures full { stopped_of result ≡ Some stop.Shown → length shown.new.items ≡ scope.entry.bounds.shown }
+    ensures counted { AreCounted (O.runs scope.entry.orders.now) shown.new.items (stopped_of result) nodes.new }
+    ensures endless { IfOk result (λ outcome. IfSome outcome.endless (λ moves. IsEndless (O.runs scope.entry.orders.now) moves.items)) }
 {
-    let mut room = orders.room(scope.alloc);
-    let mut kept = first(scope, orders, &mut room)?;
+    let mut room = scope.orders.room(scope.alloc);
+    let mut kept = first(scope, &mut room)?;
     *nodes = kept.lineage.len();
     let mut stopped = None;
     while let Some(reached) = kept.pending.pop() {
@@ -165,16 +163,10 @@ fn search<O: Orders, P: Progress>(
                 endless: None,
             });
         }
-        let node = node_at(
-            scope,
-            orders,
-            &mut room,
-            &kept.lineage,
-            &mut kept.nodes,
-            reached.number,
-        )?;
+        let number = reached.number;
+        let node = node_at(scope, &mut room, &kept.lineage, &mut kept.nodes, number)?;
         let at = Pending { node, reached };
-        let left = expand_node(scope, orders, &mut room, &mut kept, shown, at)?;
+        let left = expand_node(scope, &mut room, &mut kept, shown, at)?;
         let count = kept.lineage.len();
         tell_nodes(progress, *nodes, count);
         *nodes = count;
@@ -219,8 +211,12 @@ pub fn explore<O: Orders, P: Progress>(
 {
     let mut shown = Vec::new(alloc);
     let mut nodes = 0;
-    let scope = SearchScope { alloc, bounds };
-    match search(scope, orders, &mut shown, &mut nodes, progress) {
+    let scope = SearchScope {
+        alloc,
+        orders,
+        bounds,
+    };
+    match search(scope, &mut shown, &mut nodes, progress) {
         Ok(SearchOutcome { stopped, endless }) => Explored {
             shown,
             stopped,

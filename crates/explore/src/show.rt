@@ -9,8 +9,8 @@ ghost use Rattle.explore.specs.Lineage.{ways};
 use crate::kept::Reached;
 use crate::lineage::Lineage;
 use crate::text_table::TextTable;
-use crate::{EndedPath, Orders, Shown};
-use std::alloc::{AllocError, Global};
+use crate::{EndedPath, Orders, SearchScope, Shown};
+use std::alloc::AllocError;
 
 /// A run that was reached, and what holds its moves and its text.
 #[derive(Clone, Copy)]
@@ -56,38 +56,36 @@ fn is_shown<O: Orders>(
 /// Adds the text and the end of a way that goes on from a run, unless they are there. The answer is whether they are
 /// there now.
 fn show<O: Orders>(
-    alloc: Global,
-    orders: &O,
+    scope: SearchScope<'_, O>,
     run: ReachedRun<'_, O::Move>,
     shown: &mut Vec<Shown<O::Move, O::End>>,
     ended: EndedPath<O::Move, O::End>,
-    most: usize,
 ) -> Result<bool, AllocError>
-    requires run { HoldsRun (O.runs orders.now) run.lineage.now run.texts.now run.reached }
-    requires sound { All (IsOfRun (O.runs orders.now)) shown.old.items }
+    requires run { HoldsRun (O.runs scope.orders.now) run.lineage.now run.texts.now run.reached }
+    requires sound { All (IsOfRun (O.runs scope.orders.now)) shown.old.items }
     requires distinct { AllPairs AreDistinct shown.old.items }
-    requires few { length shown.old.items ≤ most }
-    requires ended { IsEndedPath (O.runs orders.now) (get_or (ways run.lineage.now) run.reached.number []) ended }
-    ensures sound { All (IsOfRun (O.runs orders.now)) shown.new.items }
+    requires few { length shown.old.items ≤ scope.bounds.shown }
+    requires ended { IsEndedPath (O.runs scope.orders.now) (get_or (ways run.lineage.now) run.reached.number []) ended }
+    ensures sound { All (IsOfRun (O.runs scope.entry.orders.now)) shown.new.items }
     ensures distinct { AllPairs AreDistinct shown.new.items }
     ensures grows { Extends shown.old.items shown.new.items }
-    ensures few { length shown.new.items ≤ most }
-    ensures full { IfOk result (λ there. there ≡ false → length shown.new.items ≡ most) }
-    ensures there { IfOk result (λ there. IsTrue there → IsShown shown.new.items ((O.runs orders.now).text (get_or (ways run.entry.lineage.now) run.entry.reached.number []) ++ ended.printed.items) ended.end) }
+    ensures few { length shown.new.items ≤ scope.entry.bounds.shown }
+    ensures full { IfOk result (λ there. there ≡ false → length shown.new.items ≡ scope.entry.bounds.shown) }
+    ensures there { IfOk result (λ there. IsTrue there → IsShown shown.new.items ((O.runs scope.entry.orders.now).text (get_or (ways run.entry.lineage.now) run.entry.reached.number []) ++ ended.printed.items) ended.end) }
 {
     let EndedPath {
         printed,
         end,
         moves: last,
     } = ended;
-    let text = run.texts.read(alloc, run.reached.text, &printed)?;
-    if is_shown(orders, shown, &text, &end) {
+    let text = run.texts.read(scope.alloc, run.reached.text, &printed)?;
+    if is_shown(scope.orders, shown, &text, &end) {
         return Ok(true);
     }
-    if shown.len() >= most {
+    if shown.len() >= scope.bounds.shown {
         return Ok(false);
     }
-    let mut moves = run.lineage.way(alloc, run.reached.number)?;
+    let mut moves = run.lineage.way(scope.alloc, run.reached.number)?;
     moves.extend_from_slice(&last)?;
     shown.push(Shown { text, end, moves })?;
     Ok(true)
@@ -95,28 +93,26 @@ fn show<O: Orders>(
 
 /// Adds the texts and the ends of these ways, unless they are there. The answer is whether each of them is there now.
 pub(crate) fn show_all<O: Orders>(
-    alloc: Global,
-    orders: &O,
+    scope: SearchScope<'_, O>,
     run: ReachedRun<'_, O::Move>,
     shown: &mut Vec<Shown<O::Move, O::End>>,
     ended: Vec<EndedPath<O::Move, O::End>>,
-    most: usize,
 ) -> Result<bool, AllocError>
-    requires run { HoldsRun (O.runs orders.now) run.lineage.now run.texts.now run.reached }
-    requires sound { All (IsOfRun (O.runs orders.now)) shown.old.items }
+    requires run { HoldsRun (O.runs scope.orders.now) run.lineage.now run.texts.now run.reached }
+    requires sound { All (IsOfRun (O.runs scope.orders.now)) shown.old.items }
     requires distinct { AllPairs AreDistinct shown.old.items }
-    requires few { length shown.old.items ≤ most }
-    requires ended { All (IsEndedPath (O.runs orders.now) (get_or (ways run.lineage.now) run.reached.number [])) ended.items }
-    ensures sound { All (IsOfRun (O.runs orders.now)) shown.new.items }
+    requires few { length shown.old.items ≤ scope.bounds.shown }
+    requires ended { All (IsEndedPath (O.runs scope.orders.now) (get_or (ways run.lineage.now) run.reached.number [])) ended.items }
+    ensures sound { All (IsOfRun (O.runs scope.entry.orders.now)) shown.new.items }
     ensures distinct { AllPairs AreDistinct shown.new.items }
     ensures grows { Extends shown.old.items shown.new.items }
-    ensures few { length shown.new.items ≤ most }
-    ensures full { IfOk result (λ there. there ≡ false → length shown.new.items ≡ most) }
-    ensures there { IfOk result (λ all. IsTrue all → All (λ one. IsShown shown.new.items ((O.runs orders.now).text (get_or (ways run.entry.lineage.now) run.entry.reached.number []) ++ one.printed.items) one.end) ended.items) }
+    ensures few { length shown.new.items ≤ scope.entry.bounds.shown }
+    ensures full { IfOk result (λ there. there ≡ false → length shown.new.items ≡ scope.entry.bounds.shown) }
+    ensures there { IfOk result (λ all. IsTrue all → All (λ one. IsShown shown.new.items ((O.runs scope.entry.orders.now).text (get_or (ways run.entry.lineage.now) run.entry.reached.number []) ++ one.printed.items) one.end) ended.items) }
 {
     let mut left = ended;
     while let Some(one) = left.pop() {
-        let there = show(alloc, orders, run, shown, one, most)?;
+        let there = show(scope, run, shown, one)?;
         if !there {
             return Ok(false);
         }

@@ -7,10 +7,9 @@
 //!
 //! Texts are numbered by groups since a step of a run may print ten thousand lines. To find the number of the text behind it costs two
 //! looks for each group into tables that are larger than the caches of a processor. By bytes it was most of the time of a search.
-ghost use Rattle.std.specs.Prelude.{◌≡◌, ◌<◌, ◌++◌, [], ◌∷◌, length, get_or, reverse, IfOk, OnOk};
+ghost use Rattle.std.specs.Prelude.{◌≡◌, ◌<◌, ◌++◌, [], ◌∷◌, length, get_or, reverse, IfOk};
 ghost use Rattle.std.specs.List.{All};
-ghost use Rattle.explore.specs.Grown.{Extends};
-ghost use Rattle.explore.specs.NumberedTexts.{joined_groups, line_groups, texts, IsTexts};
+ghost use Rattle.explore.specs.NumberedTexts.{joined_groups, line_groups, texts, HasLonger, IsTexts};
 
 use crate::line_groups::{LineGroups, first_length, full_length};
 use indexmap::IndexSet;
@@ -61,10 +60,7 @@ impl TextTable {
     fn add_group(&mut self, alloc: Global, before: usize, group: &[u8]) -> Result<usize, AllocError>
         requires ok { IsTexts self.old }
         requires before { before < length (texts self.old) }
-        ensures ok { OnOk result (IsTexts self.new) }
-        ensures grows { OnOk result (Extends (texts self.old) (texts self.new)) }
-        ensures within { IfOk result (λ number. number < length (texts self.new)) }
-        ensures text { IfOk result (λ number. get_or (texts self.new) number [] ≡ get_or (texts self.old) before [] ++ group.now) }
+        ensures { IfOk result (HasLonger self.old self.new before group.now) }
     {
         let group = self.groups.number(alloc, group)?;
         let (index, _) = self.edges.insert_full(TextEdge { before, group })?;
@@ -73,20 +69,12 @@ impl TextTable {
     }
 
     /// The number of the text that goes on from another by these bytes, which begin with a group.
-    fn add_groups(
-        &mut self,
-        alloc: Global,
-        before: usize,
-        bytes: &[u8],
-    ) -> Result<usize, AllocError>
+    fn add_groups(&mut self, alloc: Global, from: usize, bytes: &[u8]) -> Result<usize, AllocError>
         requires ok { IsTexts self.old }
-        requires before { before < length (texts self.old) }
-        ensures ok { OnOk result (IsTexts self.new) }
-        ensures grows { OnOk result (Extends (texts self.old) (texts self.new)) }
-        ensures within { IfOk result (λ number. number < length (texts self.new)) }
-        ensures text { IfOk result (λ number. get_or (texts self.new) number [] ≡ get_or (texts self.old) before [] ++ bytes.now) }
+        requires from { from < length (texts self.old) }
+        ensures { IfOk result (HasLonger self.old self.new from bytes.now) }
     {
-        let mut number = before;
+        let mut number = from;
         let mut rest = bytes;
         'groups: while !rest.is_empty() {
             let (group, others) = rest.split_at(first_length(rest));
@@ -139,10 +127,7 @@ impl TextTable {
     ) -> Result<usize, AllocError>
         requires ok { IsTexts self.old }
         requires before { before < length (texts self.old) }
-        ensures ok { OnOk result (IsTexts self.new) }
-        ensures grows { OnOk result (Extends (texts self.old) (texts self.new)) }
-        ensures within { IfOk result (λ number. number < length (texts self.new)) }
-        ensures text { IfOk result (λ number. get_or (texts self.new) number [] ≡ get_or (texts self.old) before [] ++ printed.now) }
+        ensures { IfOk result (HasLonger self.old self.new before printed.now) }
     {
         if printed.is_empty() {
             return Ok(before);

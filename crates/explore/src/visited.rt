@@ -54,18 +54,13 @@ impl Visited {
     }
 
     /// The number of such a visit, where there was one. Nothing is added.
-    pub(crate) fn find(
-        &mut self,
-        alloc: Global,
-        text: usize,
-        key: &[u8],
-    ) -> Result<Option<usize>, AllocError>
+    pub(crate) fn find(&mut self, text: usize, key: &[u8]) -> Result<Option<usize>, AllocError>
         requires whole { AreVisits self.old }
         ensures whole { OnOk result (AreVisits self.new) }
         ensures same { OnOk result (visits self.new ≡ visits self.old) }
         ensures there { IfOk result (λ there. IfSome there (IsThere (text, key.now) (visits self.old))) }
     {
-        let key = match self.parts.find(alloc, key)? {
+        let key = match self.parts.find(key)? {
             Some(key) => key,
             None => return Ok(None),
         };
@@ -76,18 +71,13 @@ impl Visited {
     }
 
     /// Adds a visit, unless there was such a one. The answer is the number of the one that was there.
-    pub(crate) fn add(
-        &mut self,
-        alloc: Global,
-        text: usize,
-        key: &[u8],
-    ) -> Result<Option<usize>, AllocError>
+    pub(crate) fn add(&mut self, text: usize, key: &[u8]) -> Result<Option<usize>, AllocError>
         requires whole { AreVisits self.old }
         ensures whole { OnOk result (AreVisits self.new) }
         ensures there { IfOk result (λ there. IfSome there (λ number. (visits self.new ≡ visits self.old) × IsThere (text, key.now) (visits self.old) number)) }
         ensures added { IfOk result (λ there. there ≡ None → visits self.new ≡ visits self.old ++ (text, key.now) ∷ []) }
     {
-        let key = self.parts.shorten(alloc, key)?;
+        let key = self.parts.shorten(key)?;
         let (number, is_new) = self.rows.insert_full(visit_of(text, key))?;
         if is_new {
             return Ok(None);

@@ -1,5 +1,11 @@
--- The proofs of the laws of a design's runs.
-pub mod Searches
+-- The proofs of what the ways from a node come to.
+pub mod Ordered
+pub mod LongTurns
 pub mod Ways
 pub mod Expansions
+pub mod Walked
 pub mod Remade
+pub mod ShownLawfully
+pub mod LawfulTexts
+pub mod FoundOrders
+pub mod EndlessRuns

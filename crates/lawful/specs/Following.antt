@@ -1,73 +1,52 @@
--- What following one entry from a node comes to.
-use Rattle.std.specs.Prelude.{◌≡◌, ℕ, ◌+◌, List, [], ◌∷◌, ◌++◌, length, Some, None}
-use Rattle.std.specs.List.{All}
-use Rattle.model.specs.declared.entry.Entry.{Entry}
-use Rattle.model.specs.declared.entry.Entry.TheVariants.{Turn}
+-- What following one loose transition from a node comes to.
+use Rattle.std.specs.Prelude.{◌≡◌, ℕ, List, [], ◌∷◌, ◌++◌}
 use Rattle.model.specs.declared.end.Limits.{Limits}
 use Rattle.model.specs.declared.end.Why.TheVariants.{TooLong}
 use Rattle.model.specs.declared.end.End.{End}
 use Rattle.model.specs.declared.end.End.TheVariants.{Stopped}
-use Rattle.model.specs.States.{State, Evaluate}
-use Rattle.model.specs.Runs.{action_in, turn_of, IsTimely}
+use Rattle.model.specs.States.{State}
+use Rattle.model.specs.Runs.{HasLongTurn}
 use Rattle.design.specs.Compiled.{Compiled, design_of}
 use Rattle.explore.specs.declared.Successor.{Successor}
 use Rattle.explore.specs.declared.EndedPath.{EndedPath}
+use Rattle.loose.specs.declared.transition.LooseTransition.{LooseTransition}
+use Rattle.loose.specs.declared.transition.LooseTransition.TheVariants.{Process}
+use Rattle.looseruns.specs.LooseMoves.{IsTimelyMove}
 use Rattle.regions.specs.Machine.{MachineView, state_at}
-use Rattle.lawful.specs.SearchNodes.{IsHere, IsReadyNode, IsWayOn, IsWayToEnd}
-use Rattle.lawful.specs.declared.node.DesignNode.{DesignNode}
+use Rattle.lawful.specs.LooseNodes.{IsReadyNode, IsLooseWayOn, IsLooseWayToEnd, StepsLoosely}
+use Rattle.lawful.specs.declared.node.LooseNode.{LooseNode}
 use Rattle.lawful.specs.declared.expand.Way.{Way}
 use Rattle.lawful.specs.declared.expand.Way.TheVariants.{On, Long, Past}
 
--- an entry takes an active evaluation of a process
-pub record IsTurnOf (s : State) (entry : Entry) (p : ℕ) : Type 0 where
-  pub number : ℕ
-  pub is_turn : entry ≡ Turn number
-  pub active : action_in s.active number ≡ Some (Evaluate p)
-
--- An entry is the turn of an active evaluation of a process, and that turn isn't short.
-pub record IsLongTurnOf (code : Compiled) (s : State) (entry : Entry) (p : ℕ) : Type 0 where
-  pub number : ℕ
-  pub is_turn : entry ≡ Turn number
-  pub active : action_in s.active number ≡ Some (Evaluate p)
-  pub long : turn_of (design_of code) s p ≡ None
-
--- the way to an end tells of the turn of a process that isn't short, with nothing printed on the way to it
-pub record TellsLong (code : Compiled) (s : State) (entry : Entry) (ended : EndedPath Entry End) : Type 0 where
+-- the way to an end tells of the turn of a process, with no transition and nothing printed on the way to it
+pub record TellsTurn (transition : LooseTransition) (ended : EndedPath LooseTransition End) : Type 0 where
   pub process : ℕ
-  pub is_long : IsLongTurnOf code s entry process
+  pub is_turn : transition ≡ Process process
+  pub here : ended.moves.items ≡ []
   pub silent : ended.printed.items ≡ []
   pub end_is : ended.end ≡ Stopped (TooLong process)
 
--- What an entry leads to from a state: a node, by the entry alone; the end of a run whose turn is too long; or nothing, since it
+-- it tells of a turn that isn't short
+pub record TellsLong (code : Compiled) (s : State) (transition : LooseTransition) (ended : EndedPath LooseTransition End) : Type 0 where
+  pub told : TellsTurn transition ended
+  pub long : HasLongTurn (design_of code) s told.process
+
+-- What a transition leads to from a state: a node, by the transition alone; the end of a run whose turn is too long; or nothing, since it
 -- isn't in time.
-abbrev pub IsWayBy : Compiled → Limits → State → Entry → Way → Type 0
-IsWayBy code limits s entry (On next) = IsWayOn code limits s next × (next.moves.items ≡ entry ∷ [])
-IsWayBy code limits s entry (Long ended) = IsWayToEnd code limits s ended × TellsLong code s entry ended
-IsWayBy code limits s entry Past = IsTimely limits entry → ⊥
-
--- one entry leads to a successor, whose machine has counted it
-abbrev pub IsOneOn : ℕ → Successor DesignNode Entry → Type 0
-IsOneOn begun next = (length next.moves.items ≡ 1) × (next.node.machine.value.core.entries ≡ begun + 1)
-
--- what an entry leads to from a machine that has taken so many: a node, whose machine has counted it, or an end at the machine itself
-abbrev pub IsCountedBy : ℕ → Way → Type 0
-IsCountedBy begun (On next) = IsOneOn begun next
-IsCountedBy begun (Long ended) = IsHere ended
-IsCountedBy begun Past = Unit {0}
-
--- One entry leads to each successor, and none to each end.
-pub record AreOneOn (begun : ℕ) (successors : List (Successor DesignNode Entry)) (ended : List (EndedPath Entry End)) : Type 0 where
-  pub nexts : All (IsOneOn begun) successors
-  pub ends : All IsHere ended
+abbrev pub IsWayBy : (ℕ → ℕ) → Compiled → Limits → State → LooseTransition → Way → Type 0
+IsWayBy class code limits s transition (On next) =
+    IsLooseWayOn class code limits s next × (next.moves.items ≡ transition ∷ []) × StepsLoosely class code s transition
+IsWayBy class code limits s transition (Long ended) = IsLooseWayToEnd class code limits s ended × TellsLong code s transition ended
+IsWayBy class code limits s transition Past = IsTimelyMove limits transition → ⊥
 
 -- a way was added to the successors, or to the ends
-abbrev pub IsAdded : Way → List (Successor DesignNode Entry) → List (EndedPath Entry End) → List (Successor DesignNode Entry) → List (EndedPath Entry End) → Type 0
+abbrev pub IsAdded : Way → List (Successor LooseNode LooseTransition) → List (EndedPath LooseTransition End) → List (Successor LooseNode LooseTransition) → List (EndedPath LooseTransition End) → Type 0
 IsAdded (On next) successors ended more all = (more ≡ successors ++ next ∷ []) × (all ≡ ended)
 IsAdded (Long end) successors ended more all = (more ≡ successors) × (all ≡ ended ++ end ∷ [])
 IsAdded Past successors ended more all = (more ≡ successors) × (all ≡ ended)
 
--- There is one successor, at the node of a machine, with the lines that are left in it, by these entries.
-abbrev pub IsArrived : MachineView → List Entry → List (Successor DesignNode Entry) → Type 0
+-- There is one successor, at the node of a machine, with the lines that are left in it, by these transitions.
+abbrev pub IsArrived : MachineView → List LooseTransition → List (Successor LooseNode LooseTransition) → Type 0
 IsArrived m moves xs =
-    (next : Successor DesignNode Entry) × (xs ≡ next ∷ []) × (next.moves.items ≡ moves) × (next.printed.items ≡ m.lines) × IsReadyNode m.code next.node × (state_at next.node.machine.value ≡ state_at m)
-    × (next.node.machine.value.core.entries ≡ m.core.entries)
+    (next : Successor LooseNode LooseTransition) × (xs ≡ next ∷ []) × (next.moves.items ≡ moves) × (next.printed.items ≡ m.lines) × IsReadyNode m.code next.node
+    × (state_at next.node.machine.value ≡ state_at m)

@@ -1,6 +1,6 @@
 pub mod Again
-pub mod DesignRuns
-pub mod Expanding
-pub mod SearchNodes
+pub mod LooseNodes
 pub mod Following
+pub mod Journals
+pub mod LawfulOrders
 pub mod Serving

@@ -1,14 +1,17 @@
-//! A machine made again by its entries, and how many bytes one takes.
-ghost use Rattle.std.specs.Prelude.{◌≡◌, IfOk, OnOk};
-ghost use Rattle.walks.specs.Walking.{HasTaken};
-ghost use Rattle.lawful.specs.Again.{HasGoneAgain};
+//! A machine made again by its transitions, and how many bytes one takes.
+ghost use Rattle.std.specs.Prelude.{IfOk, OnOk};
+ghost use Rattle.orders.specs.Alike.{IsInOrder};
+ghost use Rattle.loose.specs.Classes.{class_in};
+ghost use Rattle.regions.specs.Machine.{state_at};
+ghost use Rattle.lawful.specs.Again.{HasGoneAgain, HasGoneBy};
 
 use crate::node::SearchRoom;
-use model::entry::Entry;
+use loose::transition::LooseTransition;
+use loosesteps::take_loosely;
+use loosewalks::copy_of;
 use regions::{Continuation, Due, Evaluation, Machine, Update};
 use std::alloc::{AllocError, Global};
 use turn::TurnLog;
-use walks::copy_of;
 
 // About how many bytes a machine takes besides its registers, its processes and its events.
 const MACHINE_BYTES: usize = 1024;
@@ -48,13 +51,17 @@ pub(crate) fn weight(machine: &Machine<'_>) -> usize {
         )
 }
 
-// Takes entries, one after another.
-fn take_each(machine: &mut Machine<'_>, entries: &[Entry]) -> Result<(), AllocError>
-    ensures taken { OnOk result (HasTaken machine.old entries.now machine.new) }
-    ensures code { machine.new.code ≡ machine.old.code }
+// Takes transitions, one after another.
+fn take_each(
+    machine: &mut Machine<'_>,
+    classes: &[u32],
+    moves: &[LooseTransition],
+) -> Result<(), AllocError>
+    requires { IsInOrder (state_at machine.old) }
+    ensures { OnOk result (HasGoneBy (class_in classes.now) machine.old moves.now machine.new) }
 {
-    for entry in entries {
-        match machine.take(*entry) {
+    for transition in moves {
+        match take_loosely(machine, classes, *transition) {
             Ok(()) => {}
             Err(_) => return Err(AllocError),
         }
@@ -62,33 +69,36 @@ fn take_each(machine: &mut Machine<'_>, entries: &[Entry]) -> Result<(), AllocEr
     Ok(())
 }
 
-// Takes entries with a log that the machine is lent, and drops their lines.
+// Takes transitions with a log that the machine is lent, and drops their lines.
 fn go_again(
     log: &mut TurnLog,
     machine: &mut Machine<'_>,
-    entries: &[Entry],
+    classes: &[u32],
+    moves: &[LooseTransition],
 ) -> Result<(), AllocError>
-    ensures { OnOk result (HasGoneAgain machine.old entries.now machine.new) }
+    ensures { OnOk result (HasGoneAgain (class_in classes.now) machine.old moves.now machine.new) }
 {
+    machine.stands_in_order();
     machine.exchange_log(log);
-    let taken = take_each(machine, entries);
+    let taken = take_each(machine, classes, moves);
     machine.exchange_log(log);
     let _lines = machine.take_lines();
     machine.stands();
     taken
 }
 
-/// The machine that these entries lead to from where another stands, with no lines left in it. They were taken from there once, so
-/// that it fails only where memory is refused.
+/// The machine that these further transitions lead to from where another stands, with no lines left in it. They were taken from there
+/// once, so that it fails only where memory is refused.
 pub(crate) fn again<'d>(
     alloc: Global,
     room: &mut SearchRoom,
     from: &Machine<'d>,
-    entries: &[Entry],
+    classes: &[u32],
+    moves: &[LooseTransition],
 ) -> Result<Box<Machine<'d>>, AllocError>
-    ensures { IfOk result (λ machine. HasGoneAgain from.now entries.now machine.value) }
+    ensures { IfOk result (λ machine. HasGoneAgain (class_in classes.now) from.now moves.now machine.value) }
 {
     let mut machine = copy_of(alloc, from)?;
-    go_again(&mut room.log, &mut machine, entries)?;
+    go_again(&mut room.log, &mut machine, classes, moves)?;
     Ok(machine)
 }

@@ -1,152 +1,165 @@
-//! The ways that go on from a node: each entry that the rules permit, and the ends that a run may have there.
-ghost use Rattle.std.specs.Prelude.{◌≡◌, ◌+◌, ◌<◌, [], ◌∷◌, None, IfOk, IfErr, OnOk, OnErr, IsTrue};
+//! The loose runs that go on from a node: one way that stands for all, or each transition that may be taken, and the ends that a run may
+//! have there.
+ghost use Rattle.std.specs.Prelude.{◌≡◌, ◌↔◌, ◌<◌, [], ◌∷◌, IfOk, IfErr, OnOk, IsTrue};
 ghost use Rattle.std.specs.List.{All};
-ghost use Rattle.model.specs.declared.entry.Entry.{Entry};
 ghost use Rattle.model.specs.declared.end.End.{End};
-ghost use Rattle.model.specs.Runs.{refusal, step};
 ghost use Rattle.explore.specs.declared.EndedPath.{EndedPath};
-ghost use Rattle.explore.specs.declared.Successor.{Successor};
-ghost use Rattle.lawful.specs.declared.node.DesignNode.{DesignNode};
+ghost use Rattle.orders.specs.Alike.{IsInOrder};
+ghost use Rattle.loose.specs.declared.transition.LooseTransition.{LooseTransition};
+ghost use Rattle.loose.specs.declared.transition.LooseTransition.TheVariants as transitions;
+ghost use Rattle.loose.specs.Classes.{class_in};
+ghost use Rattle.loosesteps.specs.LooselyTaken.{IsTakenLoosely, IsNotTakenLoosely};
+ghost use Rattle.looseruns.specs.LooseMoves.{IsTimelyMove};
 ghost use Rattle.runs.specs.Halting.{GoesOn};
+ghost use Rattle.regions.specs.Machine.{state_at};
+ghost use Rattle.regions.specs.declared.machine.TakeFault.TheVariants as faults;
 ghost use Rattle.design.specs.Compiled.{design_of};
-ghost use Rattle.regions.specs.Machine.{most_entries, state_at, IsNotTaken};
-ghost use Rattle.regions.specs.StepLogs.{IsTaken};
-ghost use Rattle.walks.specs.Walking.{HasCounted, HasWalked};
-ghost use Rattle.lawful.specs.Following.{AreOneOn, IsAdded, IsArrived, IsCountedBy, IsTurnOf, IsWayBy, TellsLong};
-ghost use Rattle.lawful.specs.SearchNodes.{AreAllWays, AreBounded, AreWaysFor, IsCountedOn, IsHere, IsReadyNode, IsWayOn, IsWayToEnd};
+ghost use Rattle.loosewalks.specs.Sole.{IsLikeReached};
+ghost use Rattle.loosewalks.specs.LooseWalking.{HasWalkedLoosely};
+ghost use Rattle.lawful.specs.Following.{IsAdded, IsArrived, IsWayBy, TellsTurn};
+ghost use Rattle.lawful.specs.LooseNodes.{AreAllLooseWays, AreBounded, AreLooseWaysFor, IsReadyNode, IsLooseWayOn, IsLooseWayToEnd};
 
-use crate::node::{DesignNode, SearchRoom};
+use crate::node::{LooseNode, SearchRoom};
 use explore::{EndedPath, Expanded, Successor};
+use loose::transition::LooseTransition;
+use loosesteps::{loose_choices, take_loosely};
+use loosewalks::{copy_of, walk_loosely};
 use model::end::{End, Limits, Why};
-use model::entry::Entry;
 use regions::{Machine, TakeFault};
 use runs::halting::{end_at, is_timely};
 use settling::AnalyzedDesign;
 use std::alloc::{AllocError, Global};
 use turn::TurnLog;
-use walks::{copy_of, tell_long, walk_on};
 
-/// What one entry leads to.
+/// What one transition leads to.
 #[derive(Drop)]
 pub(crate) enum Way<'d> {
     /// A node.
-    On(Successor<DesignNode<'d>, Entry>),
+    On(Successor<LooseNode<'d>, LooseTransition>),
     /// The end of a run whose turn is too long.
-    Long(EndedPath<Entry, End>),
-    /// Nothing, since the entry advances past the limit of time.
+    Long(EndedPath<LooseTransition, End>),
+    /// Nothing, since the transition advances past the limit of time.
     Past,
 }
 
-/// What following the ways from a node has come to.
+/// What following the transitions from a node has come to.
 #[derive(Drop)]
 pub(crate) struct Ways<'d> {
-    successors: Vec<Successor<DesignNode<'d>, Entry>>,
-    ended: Vec<EndedPath<Entry, End>>,
+    successors: Vec<Successor<LooseNode<'d>, LooseTransition>>,
+    ended: Vec<EndedPath<LooseTransition, End>>,
 }
 
-// The node of a machine that took these entries, with the lines that they printed.
-fn next_of<'d>(machine: Box<Machine<'d>>, moves: Vec<Entry>) -> Successor<DesignNode<'d>, Entry>
+// The node of a machine that took these transitions, with the lines that they printed.
+fn next_of<'d>(
+    machine: Box<Machine<'d>>,
+    moves: Vec<LooseTransition>,
+) -> Successor<LooseNode<'d>, LooseTransition>
     ensures moves { result.moves ≡ moves }
     ensures printed { result.printed.items ≡ machine.entry.value.lines }
     ensures ready { IsReadyNode machine.entry.value.code result.node }
     ensures state { state_at result.node.machine.value ≡ state_at machine.entry.value }
-    ensures entries { result.node.machine.value.core.entries ≡ machine.entry.value.core.entries }
 {
     let mut machine = machine;
     let printed = machine.take_lines().into_bytes();
     machine.stands();
     Successor {
-        node: DesignNode { machine },
+        node: LooseNode { machine },
         printed,
         moves,
     }
 }
 
-// One entry alone.
-fn one(alloc: Global, entry: Entry) -> Result<Vec<Entry>, AllocError>
-    ensures { IfOk result (λ moves. moves.items ≡ entry ∷ []) }
+// One transition alone.
+fn one(alloc: Global, transition: LooseTransition) -> Result<Vec<LooseTransition>, AllocError>
+    ensures { IfOk result (λ moves. moves.items ≡ transition ∷ []) }
 {
     let mut moves = Vec::new(alloc);
-    moves.push(entry)?;
+    moves.push(transition)?;
     Ok(moves)
 }
 
-// The process of an entry that the rules permit, and that takes no step: the turn of a process, which isn't short.
-fn process_of(machine: &Machine<'_>, entry: Entry) -> u32
-    requires permitted { refusal (state_at machine.now) entry ≡ None }
-    requires stuck { step (design_of machine.now.code) (state_at machine.now) entry ≡ None }
-    ensures { IsTurnOf (state_at machine.now) entry result }
+// Whether a transition is in time: no advance past the limit.
+fn is_timely_move(limits: Limits, transition: LooseTransition) -> bool
+    ensures { IsTrue result ↔ IsTimelyMove limits transition }
 {
-    match entry {
-        Entry::Turn(number) => match machine.state().evaluation(number) {
-            Some((process, _)) => process,
-            None => unreachable!(),
-        },
-        _ => unreachable!(),
+    match transition {
+        LooseTransition::Change(entry) => is_timely(limits, entry),
+        _ => true,
     }
 }
 
-// The end of a run at an entry that the rules permit, and that wasn't taken since it is a turn that isn't short. Fails where memory
-// was refused to it instead.
-fn long_of(
-    alloc: Global,
-    machine: &Machine<'_>,
-    entry: Entry,
-    fault: TakeFault,
-) -> Result<EndedPath<Entry, End>, AllocError>
-    requires permitted { refusal (state_at machine.now) entry ≡ None }
-    requires few { machine.now.core.entries < most_entries }
-    requires fault { IsNotTaken machine.now entry fault }
-    ensures long { IfOk result (TellsLong machine.now.code (state_at machine.now) entry) }
-    ensures moves { IfOk result (λ ended. ended.moves.items ≡ []) }
+// The end of a run at the turn of a process that is too long.
+fn long_turn(alloc: Global, process: u32) -> EndedPath<LooseTransition, End>
+    ensures { TellsTurn (transitions.Process process) result }
 {
-    tell_long(machine, entry, fault)?;
-    let process = process_of(machine, entry);
-    Ok(EndedPath {
+    EndedPath {
         printed: Vec::new(alloc),
         end: End::Stopped(Why::TooLong(process)),
         moves: Vec::new(alloc),
-    })
+    }
 }
 
-// Takes an entry with a log that the machine is lent: each node takes just a few, and needs none of its own.
-fn take_with(log: &mut TurnLog, machine: &mut Machine<'_>, entry: Entry) -> Result<(), TakeFault>
-    ensures taken { OnOk result (IsTaken machine.old.code (state_at machine.old) machine.old.lines entry (state_at machine.new) machine.new.lines) }
-    ensures entries { OnOk result (machine.new.core.entries ≡ machine.old.core.entries + 1) }
+// The end of a run at a transition that may be taken, and that wasn't taken since it is a turn that is too long. Fails where memory was
+// refused to it instead.
+fn long_of(
+    alloc: Global,
+    transition: LooseTransition,
+    fault: TakeFault,
+) -> Result<EndedPath<LooseTransition, End>, AllocError>
+    ensures told { IfOk result (TellsTurn transition) }
+    ensures long { IfOk result (λ ended. fault ≡ faults.TooLong) }
+{
+    match fault {
+        TakeFault::TooLong => match transition {
+            LooseTransition::Process(process) => Ok(long_turn(alloc, process)),
+            _ => Err(AllocError),
+        },
+        _ => Err(AllocError),
+    }
+}
+
+// Takes a transition with a log that the machine is lent: each node takes just a few, and needs none of its own.
+fn take_with(
+    log: &mut TurnLog,
+    machine: &mut Machine<'_>,
+    classes: &[u32],
+    transition: LooseTransition,
+) -> Result<(), TakeFault>
+    requires { IsInOrder (state_at machine.old) }
+    ensures taken { OnOk result (IsTakenLoosely (class_in classes.now) machine.old.code (state_at machine.old) machine.old.lines transition (state_at machine.new) machine.new.lines) }
+    ensures stop { IfErr result (IsNotTakenLoosely (class_in classes.now) machine.old transition) }
+    ensures order { IsInOrder (state_at machine.new) }
     ensures code { machine.new.code ≡ machine.old.code }
-    ensures stop { IfErr result (IsNotTaken machine.old entry) }
-    ensures err { OnErr result (machine.new ≡ record machine.old { made = machine.new.made }) }
 {
     machine.exchange_log(log);
-    let taken = machine.take(entry);
+    let taken = take_loosely(machine, classes, transition);
     machine.exchange_log(log);
     taken
 }
 
-// Follows an entry that the rules permit, with this machine.
+// Follows a transition with this machine.
 fn way_by<'d>(
     alloc: Global,
+    classes: &[u32],
     limits: Limits,
     log: &mut TurnLog,
     machine: Box<Machine<'d>>,
-    entry: Entry,
+    transition: LooseTransition,
 ) -> Result<Way<'d>, AllocError>
+    requires order { IsInOrder (state_at machine.value) }
     requires silent { machine.value.lines ≡ [] }
     requires some_entry { 0 < limits.max_entries }
-    requires few { machine.value.core.entries < most_entries }
-    requires permitted { refusal (state_at machine.value) entry ≡ None }
-    ensures way { IfOk result (IsWayBy machine.entry.value.code limits (state_at machine.entry.value) entry) }
-    ensures counted { IfOk result (IsCountedBy machine.entry.value.core.entries) }
+    ensures { IfOk result (IsWayBy (class_in classes.now) machine.entry.value.code limits (state_at machine.entry.value) transition) }
 {
-    if !is_timely(limits, entry) {
+    if !is_timely_move(limits, transition) {
         return Ok(Way::Past);
     }
-    let moves = one(alloc, entry)?;
+    let moves = one(alloc, transition)?;
     let mut machine = machine;
-    match take_with(log, &mut machine, entry) {
+    match take_with(log, &mut machine, classes, transition) {
         Ok(()) => Ok(Way::On(next_of(machine, moves))),
         Err(fault) => {
-            let ended = long_of(alloc, &machine, entry, fault)?;
+            let ended = long_of(alloc, transition, fault)?;
             Ok(Way::Long(ended))
         }
     }
@@ -164,62 +177,63 @@ fn add<'d>(ways: &mut Ways<'d>, way: Way<'d>) -> Result<(), AllocError>
     Ok(())
 }
 
-// Follows each of these entries, which the rules permit, with copies of a machine.
+// Follows each of these transitions with copies of a machine.
 fn follow_each<'d>(
     alloc: Global,
+    classes: &[u32],
     limits: Limits,
     log: &mut TurnLog,
     machine: &Machine<'d>,
-    entries: &[Entry],
+    transitions: &[LooseTransition],
 ) -> Result<Ways<'d>, AllocError>
+    requires order { IsInOrder (state_at machine.now) }
     requires silent { machine.now.lines ≡ [] }
     requires some_entry { 0 < limits.max_entries }
-    requires few { machine.now.core.entries < most_entries }
-    requires permitted { All (λ entry. refusal (state_at machine.now) entry ≡ None) entries.now }
-    ensures ways { IfOk result (λ ways. AreWaysFor machine.now.code limits (state_at machine.now) entries.now ways.successors.items ways.ended.items) }
-    ensures counted { IfOk result (λ ways. AreOneOn machine.now.core.entries ways.successors.items ways.ended.items) }
+    ensures { IfOk result (λ ways. AreLooseWaysFor (class_in classes.now) machine.now.code limits (state_at machine.now) transitions.now ways.successors.items ways.ended.items) }
 {
     let mut ways = Ways {
         successors: Vec::new(alloc),
         ended: Vec::new(alloc),
     };
-    for entry in entries {
+    for transition in transitions {
         let copy = copy_of(alloc, machine)?;
-        let way = way_by(alloc, limits, log, copy, *entry)?;
+        let way = way_by(alloc, classes, limits, log, copy, *transition)?;
         add(&mut ways, way)?;
     }
     Ok(ways)
 }
 
-// Follows each of these entries, which the rules permit: the last of them with the machine itself.
+// Follows each of these transitions: the last of them with the machine itself.
 fn follow_all<'d>(
     alloc: Global,
+    classes: &[u32],
     limits: Limits,
     log: &mut TurnLog,
     machine: Box<Machine<'d>>,
-    entries: &[Entry],
+    transitions: &[LooseTransition],
 ) -> Result<Ways<'d>, AllocError>
-    requires permitted { All (λ entry. refusal (state_at machine.value) entry ≡ None) entries.now }
-    requires few { machine.value.core.entries < most_entries }
-    requires some_entry { 0 < limits.max_entries }
+    requires order { IsInOrder (state_at machine.value) }
     requires silent { machine.value.lines ≡ [] }
-    ensures ways { IfOk result (λ ways. AreWaysFor machine.entry.value.code limits (state_at machine.entry.value) entries.now ways.successors.items ways.ended.items) }
-    ensures counted { IfOk result (λ ways. AreOneOn machine.entry.value.core.entries ways.successors.items ways.ended.items) }
+    requires some_entry { 0 < limits.max_entries }
+    ensures { IfOk result (λ ways. AreLooseWaysFor (class_in classes.now) machine.entry.value.code limits (state_at machine.entry.value) transitions.now ways.successors.items ways.ended.items) }
 {
-    match entries.split_last() {
+    match transitions.split_last() {
         Some((last, others)) => {
-            let mut ways = follow_each(alloc, limits, log, &machine, others)?;
-            let way = way_by(alloc, limits, log, machine, *last)?;
+            let mut ways = follow_each(alloc, classes, limits, log, &machine, others)?;
+            let way = way_by(alloc, classes, limits, log, machine, *last)?;
             add(&mut ways, way)?;
             Ok(ways)
         }
-        None => follow_each(alloc, limits, log, &machine, entries),
+        None => follow_each(alloc, classes, limits, log, &machine, transitions),
     }
 }
 
 // A run may have this end here, and goes on in no way.
-fn halts<'d>(alloc: Global, end: End) -> Result<Expanded<DesignNode<'d>, Entry, End>, AllocError>
-    ensures one { IfOk result (λ x. (ended : EndedPath Entry End) × (x.ended.items ≡ ended ∷ []) × (ended.end ≡ end) × (ended.printed.items ≡ []) × (ended.moves.items ≡ [])) }
+fn halts<'d>(
+    alloc: Global,
+    end: End,
+) -> Result<Expanded<LooseNode<'d>, LooseTransition, End>, AllocError>
+    ensures one { IfOk result (λ x. (ended : EndedPath LooseTransition End) × (x.ended.items ≡ ended ∷ []) × (ended.end ≡ end) × (ended.printed.items ≡ []) × (ended.moves.items ≡ [])) }
     ensures none { IfOk result (λ x. x.successors.items ≡ []) }
 {
     let mut ended = Vec::new(alloc);
@@ -235,21 +249,21 @@ fn halts<'d>(alloc: Global, end: End) -> Result<Expanded<DesignNode<'d>, Entry, 
     })
 }
 
-// Follows each entry that the rules permit, and none where the journal has as many as it may have.
+// Follows each transition that may be taken, and none where the run has as many entries as it may have.
 fn branch<'d>(
     alloc: Global,
+    classes: &[u32],
     limits: Limits,
     log: &mut TurnLog,
     machine: Box<Machine<'d>>,
-) -> Result<Expanded<DesignNode<'d>, Entry, End>, AllocError>
+) -> Result<Expanded<LooseNode<'d>, LooseTransition, End>, AllocError>
+    requires order { IsInOrder (state_at machine.value) }
     requires silent { machine.value.lines ≡ [] }
     requires some_entry { 0 < limits.max_entries }
     requires goes_on { GoesOn limits (state_at machine.value) }
-    ensures next { IfOk result (λ x. All (IsWayOn machine.entry.value.code limits (state_at machine.entry.value)) x.successors.items) }
-    ensures sound { IfOk result (λ x. All (IsWayToEnd machine.entry.value.code limits (state_at machine.entry.value)) x.ended.items) }
-    ensures all { IfOk result (λ x. IsTrue x.whole → AreAllWays machine.entry.value.code limits (state_at machine.entry.value) x.successors.items x.ended.items) }
-    ensures counted { IfOk result (λ x. All (IsCountedOn limits machine.entry.value.core.entries) x.successors.items) }
-    ensures rest { IfOk result (λ x. All IsHere x.ended.items) }
+    ensures next { IfOk result (λ x. All (IsLooseWayOn (class_in classes.now) machine.entry.value.code limits (state_at machine.entry.value)) x.successors.items) }
+    ensures sound { IfOk result (λ x. All (IsLooseWayToEnd (class_in classes.now) machine.entry.value.code limits (state_at machine.entry.value)) x.ended.items) }
+    ensures all { IfOk result (λ x. IsTrue x.whole → AreAllLooseWays (class_in classes.now) machine.entry.value.code limits (state_at machine.entry.value) x.successors.items x.ended.items) }
 {
     if machine.state().entries() >= u64::from(limits.max_entries) {
         return Ok(Expanded {
@@ -258,8 +272,15 @@ fn branch<'d>(
             whole: false,
         });
     }
-    let entries = machine.next_entries(alloc)?;
-    let Ways { successors, ended } = follow_all(alloc, limits, log, machine, &entries)?;
+    let transitions = loose_choices(alloc, &machine, classes)?;
+    let Ways { successors, ended } = follow_all(
+        alloc,
+        classes,
+        limits,
+        log,
+        machine,
+        &transitions,
+    )?;
     Ok(Expanded {
         successors,
         ended,
@@ -267,12 +288,34 @@ fn branch<'d>(
     })
 }
 
+// Follows each loose transition that may be taken where a machine stands, or tells the end that a run has there. Ways are left out where
+// the run has as many entries as it may have, and goes on from there: no way leads past that.
+fn follow<'d>(
+    alloc: Global,
+    classes: &[u32],
+    limits: Limits,
+    log: &mut TurnLog,
+    machine: Box<Machine<'d>>,
+) -> Result<Expanded<LooseNode<'d>, LooseTransition, End>, AllocError>
+    requires order { IsInOrder (state_at machine.value) }
+    requires silent { machine.value.lines ≡ [] }
+    requires bounded { AreBounded limits }
+    ensures next { IfOk result (λ x. All (IsLooseWayOn (class_in classes.now) machine.entry.value.code limits (state_at machine.entry.value)) x.successors.items) }
+    ensures sound { IfOk result (λ x. All (IsLooseWayToEnd (class_in classes.now) machine.entry.value.code limits (state_at machine.entry.value)) x.ended.items) }
+    ensures all { IfOk result (λ x. IsTrue x.whole → AreAllLooseWays (class_in classes.now) machine.entry.value.code limits (state_at machine.entry.value) x.successors.items x.ended.items) }
+{
+    match end_at(limits, &machine) {
+        Some(end) => halts(alloc, end),
+        None => branch(alloc, classes, limits, log, machine),
+    }
+}
+
 // Goes on by one node, to which the only way leads.
 fn arrive<'d>(
     alloc: Global,
     machine: Box<Machine<'d>>,
-    moves: Vec<Entry>,
-) -> Result<Expanded<DesignNode<'d>, Entry, End>, AllocError>
+    moves: Vec<LooseTransition>,
+) -> Result<Expanded<LooseNode<'d>, LooseTransition, End>, AllocError>
     ensures one { IfOk result (λ x. IsArrived machine.entry.value moves.items x.successors.items) }
     ensures none { IfOk result (λ x. x.ended.items ≡ []) }
 {
@@ -286,53 +329,60 @@ fn arrive<'d>(
     })
 }
 
-// Goes on from where a machine stands as long as one order stands for all, with logs that are kept.
+// Goes on from where a machine stands as long as one way stands for all, with a log that is kept. A finished one goes nowhere.
 fn walk_with(
     alloc: Global,
     analyzed_design: &AnalyzedDesign<'_>,
+    classes: &[u32],
     limits: Limits,
-    machine: &mut Machine<'_>,
     room: &mut SearchRoom,
-) -> Result<Vec<Entry>, AllocError>
+    machine: &mut Machine<'_>,
+) -> Result<Vec<LooseTransition>, AllocError>
     requires code { machine.old.code ≡ analyzed_design.now }
     requires silent { machine.old.lines ≡ [] }
+    requires reached { IsLikeReached (class_in classes.now) (design_of machine.old.code) (state_at machine.old) }
+    ensures walked { IfOk result (λ moves. HasWalkedLoosely (class_in classes.now) limits (state_at machine.old) machine.new moves.items) }
     ensures code { machine.new.code ≡ machine.old.code }
-    ensures walked { IfOk result (λ moves. HasWalked limits (state_at machine.old) machine.new moves.items) }
-    ensures counted { IfOk result (λ moves. HasCounted limits machine.old.core.entries machine.new moves.items) }
 {
+    if machine.is_finished() {
+        return Ok(Vec::new(alloc));
+    }
     machine.exchange_log(&mut room.log);
-    let walked = walk_on(alloc, analyzed_design, limits, &mut room.logs, machine);
+    let walked = walk_loosely(
+        alloc,
+        analyzed_design,
+        classes,
+        limits,
+        &mut room.walk,
+        machine,
+    );
     machine.exchange_log(&mut room.log);
     walked
 }
 
-/// Follows each way from where a machine stands. Where one way stands for all it goes on by that, up to the next choice or for some
-/// hundred steps. Ways are left out where the journal has as many entries as it may have, and a run goes on from there: no way leads
-/// past that.
+/// Follows each way from where a machine stands, by these classes of the registers. Where one way stands for all it goes on by that, up to
+/// the next choice or for some hundred steps; else it follows each loose transition that may be taken. Ways are left out where the run has
+/// as many entries as it may have, and goes on from there: no way leads past that.
 pub(crate) fn expand<'d>(
     alloc: Global,
     analyzed_design: &AnalyzedDesign<'_>,
+    classes: &[u32],
     limits: Limits,
     room: &mut SearchRoom,
     machine: Box<Machine<'d>>,
-) -> Result<Expanded<DesignNode<'d>, Entry, End>, AllocError>
+) -> Result<Expanded<LooseNode<'d>, LooseTransition, End>, AllocError>
     requires code { machine.value.code ≡ analyzed_design.now }
     requires silent { machine.value.lines ≡ [] }
+    requires reached { IsLikeReached (class_in classes.now) (design_of machine.value.code) (state_at machine.value) }
     requires bounded { AreBounded limits }
-    ensures next { IfOk result (λ x. All (IsWayOn machine.entry.value.code limits (state_at machine.entry.value)) x.successors.items) }
-    ensures sound { IfOk result (λ x. All (IsWayToEnd machine.entry.value.code limits (state_at machine.entry.value)) x.ended.items) }
-    ensures all { IfOk result (λ x. IsTrue x.whole → AreAllWays machine.entry.value.code limits (state_at machine.entry.value) x.successors.items x.ended.items) }
-    ensures counted { IfOk result (λ x. All (IsCountedOn limits machine.entry.value.core.entries) x.successors.items) }
-    ensures rest { IfOk result (λ x. All IsHere x.ended.items) }
+    ensures next { IfOk result (λ x. All (IsLooseWayOn (class_in classes.now) machine.entry.value.code limits (state_at machine.entry.value)) x.successors.items) }
+    ensures sound { IfOk result (λ x. All (IsLooseWayToEnd (class_in classes.now) machine.entry.value.code limits (state_at machine.entry.value)) x.ended.items) }
+    ensures all { IfOk result (λ x. IsTrue x.whole → AreAllLooseWays (class_in classes.now) machine.entry.value.code limits (state_at machine.entry.value) x.successors.items x.ended.items) }
 {
-    match end_at(limits, &machine) {
-        Some(end) => return halts(alloc, end),
-        None => {}
-    }
     let mut machine = machine;
-    let moves = walk_with(alloc, analyzed_design, limits, &mut machine, room)?;
+    let moves = walk_with(alloc, analyzed_design, classes, limits, room, &mut machine)?;
     if moves.is_empty() {
-        branch(alloc, limits, &mut room.log, machine)
+        follow(alloc, classes, limits, &mut room.log, machine)
     } else {
         arrive(alloc, machine, moves)
     }

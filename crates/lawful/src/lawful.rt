@@ -1,128 +1,87 @@
-//! The lawful orders of a design, as a search follows them.
-ghost use Rattle.std.specs.Prelude.{◌≡◌, ◌<◌, ◌≤◌, [], length, None, Some, IfOk, IfSome};
-ghost use Rattle.std.specs.List.{All, AllPairs};
-ghost use Rattle.model.specs.States.{start};
+//! The lawful orders of a design, found by its loose runs.
+ghost use Rattle.std.specs.Prelude.{◌≡◌, ◌<◌, ◌≤◌, length, None, Some, IfOk, IfSome};
+ghost use Rattle.std.specs.List.{All, AllPairs, Any};
 ghost use Rattle.model.specs.Runs.{last_time};
-ghost use Rattle.explore.specs.Search.{AreDistinct, IsShown};
-ghost use Rattle.regions.specs.Machine.{state_at};
+ghost use Rattle.model.specs.Texts.{AreAllTexts, IsEndlessJournal, IsLawfulText, IsWithinLimits};
 ghost use Rattle.design.specs.Compiled.{design_of};
-ghost use Rattle.walks.specs.JournalsInTime.{AreAllTexts, IsLawfulText};
-ghost use Rattle.lawful.specs.DesignRuns.{IsEndlessJournal, IsWithinLimits};
-ghost use Rattle.lawful.specs.SearchNodes.{AreBounded};
 ghost use Rattle.explore.specs.declared.stopped.Stopped.TheVariants as stop;
+ghost use Rattle.lawful.specs.LawfulOrders.{AreLawfulOrders, IsNothingFound, MaySearch};
 
-use crate::again::{again, weight};
-use crate::expand::expand;
-use crate::node::{DesignNode, SearchRoom};
+use crate::journals::with_all_journals;
+use crate::search::LooseRuns;
 use design::Design;
-use explore::{Bounds, Expanded, Explored, Orders, explore};
+use explore::{Bounds, Explored, Stopped, explore};
+use loosejournals::classes_of;
 use model::end::{End, Limits};
 use model::entry::Entry;
 use progress::Progress;
-use regions::Machine;
 use settling::AnalyzedDesign;
 use std::alloc::{AllocError, Global};
 
-// The start of a design's run, on the heap.
-fn start_of<'d>(alloc: Global, design: &'d Design) -> Result<Box<Machine<'d>>, AllocError>
-    ensures code { IfOk result (λ machine. machine.value.code ≡ design.now) }
-    ensures state { IfOk result (λ machine. state_at machine.value ≡ start (design_of design.now)) }
-    ensures lines { IfOk result (λ machine. machine.value.lines ≡ []) }
-    ensures entries { IfOk result (λ machine. machine.value.core.entries ≡ 0) }
-{
-    let machine = Machine::start(alloc, design)?;
-    let boxed = Box::new(alloc, machine)?;
-    Ok(boxed)
-}
-
-// The lawful journals of a design in time.
-#[derive(Drop)]
-struct Lawful<'d> {
-    analyzed_design: AnalyzedDesign<'d>,
+// What is searched: the lawful orders of a design within these limits, and how far.
+#[derive(Clone, Copy)]
+struct Scope<'a> {
+    alloc: Global,
+    design: &'a Design,
     limits: Limits,
-    ghost bounded: { AreBounded limits },
+    bounds: Bounds,
 }
 
-impl<'d> Orders for Lawful<'d> {
-    ghost use Rattle.std.specs.Prelude.{refl};
-    ghost use Rattle.statekeys.specs.Keys.{IsKey};
-    ghost use Rattle.lawful.specs.SearchNodes.{counted_runs};
-    ghost use Rattle.lawful.specs.Serving.{lawful_alike, lawful_keyed};
-
-    type Move = Entry;
-
-    type Node = DesignNode<'d>;
-
-    type End = End;
-
-    type Room = SearchRoom;
-
-    ghost runs = { λ o. counted_runs o.analyzed_design o.limits };
-
-    ghost has_key = { λ _ node key. IsKey node.machine.value.core node.machine.value.values key };
-
-    // The machine at the start of the design's run.
-    fn start(&self, alloc: Global) -> Result<DesignNode<'d>, AllocError> {
-        let machine = start_of(alloc, self.analyzed_design.design())?;
-        machine.stands();
-        Ok(DesignNode { machine })
+// What is found where memory is refused to a search from its start.
+fn nothing_found(alloc: Global) -> Explored<Entry, End>
+    ensures { IsNothingFound result }
+{
+    Explored {
+        shown: Vec::new(alloc),
+        stopped: Some(Stopped::Memory),
+        nodes: 0,
+        endless: None,
     }
+}
 
-    fn room(&self, alloc: Global) -> SearchRoom {
-        SearchRoom::new(alloc)
+// Searches all loose runs of a design, in which an update waits for those of its class alone, and gives each text that is shown a lawful
+// journal. None where no lawful journal is found of a text that loose runs show, or none that leads where a loose run leads from which no
+// run comes to an end: that text may be one of no lawful journal, and the others may be fewer than all; lawful runs may all come to an end.
+// Fails where memory is refused behind the search; where it is refused to the search itself, that is what stopped it.
+fn orders_by<P: Progress>(
+    scope: Scope<'_>,
+    progress: &P,
+    classes: Vec<u32>,
+) -> Result<Option<Explored<Entry, End>>, AllocError>
+    requires { MaySearch scope.limits scope.bounds }
+    ensures { IfOk result (λ found. IfSome found (AreLawfulOrders (design_of scope.entry.design.now) scope.entry.limits scope.entry.bounds)) }
+{
+    let Scope {
+        alloc,
+        design,
+        limits,
+        bounds,
+    } = scope;
+    let orders = LooseRuns::new(AnalyzedDesign::of(alloc, design), classes, limits);
+    let explored = explore(alloc, &orders, bounds, progress);
+    with_all_journals(alloc, design, limits, &orders.classes, explored)
+}
+
+// Searches by the classes that the design's nonblocking assignments need, and where these don't tell with all registers in one class: then
+// each loose run is a lawful one.
+fn orders_of<P: Progress>(scope: Scope<'_>, progress: &P) -> Explored<Entry, End>
+    requires { MaySearch scope.limits scope.bounds }
+    ensures { AreLawfulOrders (design_of scope.entry.design.now) scope.entry.limits scope.entry.bounds result }
+{
+    let classes = match classes_of(scope.alloc, scope.design) {
+        Ok(classes) => classes,
+        Err(_) => return nothing_found(scope.alloc),
+    };
+    match orders_by(scope, progress, classes) {
+        Ok(Some(explored)) => return explored,
+        Ok(None) => {}
+        Err(_) => return nothing_found(scope.alloc),
     }
-
-    // Follows the ways that go on from a node in time, with the combinational processes that were found once.
-    fn expand(
-        &self,
-        alloc: Global,
-        room: &mut SearchRoom,
-        node: DesignNode<'d>,
-    ) -> Result<Expanded<DesignNode<'d>, Entry, End>, AllocError> {
-        let expanded = expand(
-            alloc,
-            &self.analyzed_design,
-            self.limits,
-            room,
-            node.machine,
-        )?;
-        Ok(expanded)
+    // a register that isn't listed is of class 0
+    match orders_by(scope, progress, Vec::new(scope.alloc)) {
+        Ok(Some(explored)) => explored,
+        _ => nothing_found(scope.alloc),
     }
-
-    fn key(
-        &self,
-        room: &mut SearchRoom,
-        key: &mut Vec<u8>,
-        node: &DesignNode<'d>,
-    ) -> Result<(), AllocError> {
-        room.fill_key(key, &node.machine)
-    }
-
-    fn weight(&self, node: &DesignNode<'d>) -> usize {
-        weight(&node.machine)
-    }
-
-    // The machine of a node after these further entries; the node's own stays where it stands.
-    fn again(
-        &self,
-        alloc: Global,
-        room: &mut SearchRoom,
-        from: &DesignNode<'d>,
-        moves: &[Entry],
-    ) -> Result<DesignNode<'d>, AllocError> {
-        let machine = again(alloc, room, &from.machine, moves)?;
-        Ok(DesignNode { machine })
-    }
-
-    fn same_end(&self, a: &End, b: &End) -> bool {
-        *a == *b
-    }
-
-    ghost silent = { λ _. refl };
-
-    ghost alike = { λ o i j a. lawful_alike o.analyzed_design o.limits i j a };
-
-    ghost keyed = { λ o a b i j key of_a of_b at bt text. lawful_keyed o.analyzed_design o.limits a b i j key of_a of_b at.0 bt.0 text };
 }
 
 /// Searches all lawful orders of a design within these limits (11.4), on one thread. Each text that is shown is that of the lawful
@@ -130,6 +89,9 @@ impl<'d> Orders for Lawful<'d> {
 /// in time that ends, but by the most entries or for want of memory, has a text and an end that are shown. What stopped it is told
 /// (`Unfollowed`: a run has the most entries), and so is a lawful journal from which no run comes to an end, where one is known. No
 /// journal has more than the most entries. How many states were reached is told at times.
+///
+/// The loose runs of the design are searched, and each lawful journal is one. Where one of their texts has no lawful journal that is
+/// found, the search is made once more with all registers in one class.
 pub fn lawful_orders<P: Progress>(
     alloc: Global,
     design: &Design,
@@ -141,23 +103,20 @@ pub fn lawful_orders<P: Progress>(
     requires some_entry { 0 < limits.max_entries }
     requires until { IfSome limits.until (λ until. until ≤ last_time) }
     ensures sound { All (λ s. IsLawfulText (design_of design.now) limits s.moves.items s.text.items s.end) result.shown.items }
-    ensures distinct { AllPairs AreDistinct result.shown.items }
+    ensures distinct { AllPairs (λ s t. s.text.items ≡ t.text.items → s.end ≡ t.end → ⊥) result.shown.items }
     ensures within { All (λ s. IsWithinLimits limits s.moves.items) result.shown.items }
-    ensures all { result.stopped ≡ None → AreAllTexts (design_of design.now) limits (IsShown result.shown.items) }
+    ensures all { result.stopped ≡ None → AreAllTexts (design_of design.now) limits (λ text end. Any (λ s. (s.text.items ≡ text) × (s.end ≡ end)) result.shown.items) }
     ensures few { result.nodes ≤ bounds.nodes }
     ensures few_shown { length result.shown.items ≤ bounds.shown }
     ensures nodes { result.stopped ≡ Some stop.Nodes → result.nodes ≡ bounds.nodes }
     ensures full { result.stopped ≡ Some stop.Shown → length result.shown.items ≡ bounds.shown }
     ensures endless { IfSome result.endless (λ journal. IsEndlessJournal (design_of design.now) limits journal.items) }
 {
-    let analyzed_design = AnalyzedDesign::of(alloc, design);
-    explore(
+    let scope = Scope {
         alloc,
-        &Lawful {
-            analyzed_design,
-            limits,
-        },
+        design,
+        limits,
         bounds,
-        progress,
-    )
+    };
+    orders_of(scope, progress)
 }

@@ -1,22 +1,25 @@
-//! The lawful orders of a design, searched.
+//! The lawful orders of a design, found by a search of its loose runs.
 //!
-//! 1. A `DesignNode` is where a journal has come to: the machine that took its entries.
-//! 2. `expand` follows each entry that the rules permit from a node, and tells the ends that a run may have there. Where one
-//!    order stands for all, `walk_on` of `walks` goes on by it.
-//! 3. Where the search asks for the node of a journal that it didn't keep, `again` takes the entries from a node that it kept.
-//! 4. `lawful_orders` gives that to the search of `explore`. What it shows are texts and ends of lawful journals, and where it
-//!    answers that all is covered, those of every lawful journal in time.
+//! 1. A `LooseNode` is where a loose run has come to: the machine that took its transitions, up to the order of updates of different
+//!    classes.
+//! 2. `expand` goes on from a node by the one way that stands for all, where there is one. Else it follows each loose transition that may be
+//!    taken there, and tells the ends that a run may have.
+//! 3. Where the search asks for the node of a run that it didn't keep, `again` takes the transitions from a node that it kept.
+//! 4. `lawful_orders` gives that to the search of `explore`. Each lawful journal is a loose run, so that where the search answers that all is
+//!    covered, the texts and ends of all lawful journals in time are shown.
+//! 5. `journals` gives each text that is shown its lawful journal, and `endless` one to a run from which no run comes to an end.
 //!
-//! The definitions stand in `specs/`: what the runs of a design are to a search, and what it says of the lawful journals that a
-//! search has shown texts and ends, and all of them. What those journals are stands in `walks`. `laws` carries what is proved of them
-//! besides.
+//! The definitions stand in `specs/`. The runs that are searched are those of `looseruns`, and what they say of lawful journals is proved
+//! there.
 #![tactic(auto)]
 
 mod again;
+mod endless;
 mod expand;
+mod journals;
 mod lawful;
-pub mod laws;
 mod node;
+mod search;
 
 pub use lawful::lawful_orders;
-pub use node::DesignNode;
+pub use node::LooseNode;

@@ -1,26 +1,27 @@
-//! A node of the search: where a run so far has come to.
-ghost use Rattle.std.specs.Prelude.{◌≡◌, OnOk};
-ghost use Rattle.statekeys.specs.Keys.{IsKey};
+//! A node of the search: where a loose run so far has come to.
+ghost use Rattle.std.specs.Prelude.{OnOk};
+ghost use Rattle.loose.specs.Classes.{class_in};
+ghost use Rattle.statekeys.specs.ClassKeys.{IsClassKey};
 
-use flat::Logs;
+use loosewalks::LooseRoom;
 use regions::Machine;
-use statekeys::{Scratch, key};
+use statekeys::{Scratch, class_key};
 use std::alloc::{AllocError, Global};
 use turn::TurnLog;
 
-/// Where a run so far has come to: the machine that took its entries, with none of their lines left in it. It is on the heap, so that
-/// a node is moved and dropped as a pointer.
+/// Where a loose run so far has come to: the machine that took its transitions, with none of their lines left in it. It is on the heap,
+/// so that a node is moved and dropped as a pointer.
 #[derive(Drop)]
-pub struct DesignNode<'d> {
+pub struct LooseNode<'d> {
     pub machine: Box<Machine<'d>>,
 }
 
-/// What is kept from one node to the next: a log that machines are lent for their turns, the logs of turns that are evaluated before
-/// they are taken, and room in which keys are made.
+/// What is kept from one node to the next: a log that machines are lent for their turns, what walks work in, and room in which keys are
+/// made.
 #[derive(Drop)]
 pub(crate) struct SearchRoom {
     pub(crate) log: TurnLog,
-    pub(crate) logs: Logs,
+    pub(crate) walk: LooseRoom,
     scratch: Scratch,
 }
 
@@ -29,19 +30,26 @@ impl SearchRoom {
     pub(crate) fn new(alloc: Global) -> SearchRoom {
         SearchRoom {
             log: TurnLog::new(alloc),
-            logs: Logs::new(alloc),
+            walk: LooseRoom::new(alloc),
             scratch: Scratch::new(alloc),
         }
     }
 
-    /// Fills `bytes` with the key of a machine's state.
+    /// Fills `bytes` with the class key of a machine's state.
     pub(crate) fn fill_key(
         &mut self,
         bytes: &mut Vec<u8>,
         machine: &Machine<'_>,
+        classes: &[u32],
     ) -> Result<(), AllocError>
-        ensures { OnOk result (IsKey machine.now.core machine.now.values bytes.new.items) }
+        ensures { OnOk result (IsClassKey (class_in classes.now) machine.now.core machine.now.values bytes.new.items) }
     {
-        key(bytes, &mut self.scratch, machine.state(), machine.store())
+        class_key(
+            bytes,
+            &mut self.scratch,
+            machine.state(),
+            machine.store(),
+            classes,
+        )
     }
 }

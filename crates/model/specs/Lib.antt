@@ -7,6 +7,7 @@ pub mod Turns
 pub mod TurnCases
 pub mod States
 pub mod Runs
+pub mod Texts
 pub mod Steps
 pub mod Journal
 pub mod Laws

@@ -5,6 +5,7 @@ ghost use Rattle.naming.specs.Begins.{AreProcessesOf, begin_of};
 ghost use Rattle.naming.specs.Naming.{AreRacesTold, HasJournal, IsDifferenceTold, IsJournalTold, IsRaceTold, IsRoleTold, TellsBehind, TellsEach, list_end_text};
 
 use crate::words::{cut_of, site_of, word_of};
+use accesses::are_same;
 use design::Design;
 use explore::Shown;
 use locations::processes;
@@ -183,28 +184,6 @@ fn begin_of(processes: &[locations::ProcessLocation], number: u32) -> Option<Pro
         }),
         None => None,
     }
-}
-
-/// Whether two entries are the same.
-fn is_same(one: Entry, other: Entry) -> bool
-    ensures { IsTrue result ↔ (one ≡ other) }
-{
-    one == other
-}
-
-/// Whether two journals are the same.
-fn are_same(one: &[Entry], other: &[Entry]) -> bool
-    ensures { IsTrue result ↔ (one.now ≡ other.now) }
-{
-    if one.len() != other.len() {
-        return false;
-    }
-    for place in 0..one.len() {
-        if !is_same(one[place], other[place]) {
-            return false;
-        }
-    }
-    true
 }
 
 /// Whether the journal beside a text is that of a run.

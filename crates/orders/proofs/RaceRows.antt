@@ -18,11 +18,12 @@ use Rattle.model.specs.Design.{Design, Process, Statement, Assign, Print, Argume
 use Rattle.model.specs.Turns.{Turn, Ended, turn_within}
 use Rattle.model.specs.States.{Action, Evaluate, Event, State, start, turned}
 use Rattle.model.specs.Runs.{Effect, silent, joined, step, action_in, turn_of, HasLongTurn}
+use Rattle.model.specs.Texts.{EndsHere}
 use Rattle.model.proofs.StepLaws.{step_is_exact}
 use Rattle.orders.specs.Alike.{transition_of}
-use Rattle.orders.specs.SearchLaws.{EndsHere, IsReachable, IsAmongVisited, FollowsEachTransition, Shows, IsComplete}
+use Rattle.orders.specs.SearchLaws.{IsReachable, IsAmongVisited, FollowsEachTransition, Shows, IsComplete}
 use Rattle.orders.proofs.AlikeStates.{alike_states-same}
-use Rattle.orders.proofs.InertUpdates.{goes_on}
+use Rattle.orders.proofs.GoingOn.{goes_on}
 use Rattle.orders.proofs.SearchLaws.{each_transition_covers}
 
 abbrev high : Vector

@@ -10,9 +10,10 @@ use Rattle.model.specs.declared.end.End.{End}
 use Rattle.model.specs.Design.{Design}
 use Rattle.model.specs.States.{start}
 use Rattle.model.specs.Runs.{Effect, silent, joined, step, run_from, IsTimely, AreTimely}
+use Rattle.model.specs.Texts.{EndsHere}
 use Rattle.model.proofs.RunLaws.{run_from-append}
 use Rattle.orders.specs.Alike.{Alike, IsInOrder}
-use Rattle.orders.specs.SearchLaws.{IsOneNode, OneNodeGoesOn, EndsHere, IsReachable, IsAmongVisited, EachTransitionCovers, Shows, IsComplete, CompleteShowsAll}
+use Rattle.orders.specs.SearchLaws.{IsOneNode, OneNodeGoesOn, IsReachable, IsAmongVisited, EachTransitionCovers, Shows, IsComplete, CompleteShowsAll}
 use Rattle.orders.proofs.StatesInOrder.{step_keeps_order, run_from_in_order, start_is_in_order, run_is_in_order}
 use Rattle.orders.proofs.AlikeStates.{alike_states-same, alike_states-trans}
 use Rattle.orders.proofs.AlikeSteps.{alike_states_step_alike, transition_has_one_outcome}

@@ -9,6 +9,7 @@ use Rattle.model.specs.declared.end.End.TheVariants.{Stopped}
 use Rattle.model.specs.Design.{Design}
 use Rattle.model.specs.States.{start}
 use Rattle.model.specs.Runs.{Effect, silent, joined, step, run_from, run, IsTimely, AreTimely, EndsIn}
+use Rattle.model.specs.Texts.{EndsHere}
 use Rattle.orders.specs.Alike.{Alike, IsInOrder, transition_of}
 
 -- where no time limit is given, every lawful journal is in time, since no step advances past the last time
@@ -28,11 +29,6 @@ OneNodeGoesOn =
     (design : Design) (limits : Limits) (e f g : Effect) (entries : List Entry) → IsInOrder e.state → IsInOrder f.state → IsOneNode e f
     → run_from design e entries ≡ Some g → AreTimely limits entries
     → (others : List Entry) × (k : Effect) × (length others ≡ length entries) × AreTimely limits others × (run_from design f others ≡ Some k) × IsOneNode g k
-
--- a run may end here in this way, which is none by the most entries or for want of memory
-abbrev pub EndsHere : Design → Limits → Effect → End → Type 0
-EndsHere design limits e end =
-    (end ≢ Stopped Entries) × (end ≢ Stopped Memory) × EndsIn design limits 0 e.state end
 
 -- an effect is what comes of a lawful journal
 abbrev pub IsReachable : Design → Effect → Type 0

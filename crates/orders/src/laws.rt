@@ -2,9 +2,7 @@
 
 ghost use Rattle.orders.specs.OrderLaws.{AlikeIsEquivalence, StartIsInOrder, StepKeepsOrder, RunIsInOrder, AlikeStatesStepAlike, TransitionHasOneOutcome, AlikeStatesEndAlike};
 ghost use Rattle.orders.specs.Canon.{CanonTellsAlike};
-ghost use Rattle.orders.specs.Apart.{TurnHasFrame, TurnsCommute};
-ghost use Rattle.orders.specs.Inert.{InertUpdatesAreTaken, InertOrderIsForgotten};
-ghost use Rattle.orders.specs.Flat.{FlatTurnsAreOneNode, FlatCovers, FlatTurnsCover};
+ghost use Rattle.orders.specs.Apart.{TurnHasFrame};
 ghost use Rattle.orders.specs.SearchLaws.{UnlimitedRunIsTimely, OneNodeGoesOn, EachTransitionCovers, CompleteShowsAll};
 
 /// States that are alike are so in either direction, and through a third. They are those that have the same form.
@@ -43,23 +41,4 @@ pub fn searches_are_complete()
 /// A short turn is the same on every store that has the same values of the registers that it used.
 pub fn turns_have_a_frame()
     ensures { TurnHasFrame }
-{}
-
-/// Two turns that are apart may be taken in either order.
-pub fn turns_apart_commute()
-    ensures { TurnsCommute }
-{}
-
-/// Nonblocking updates that wake nobody are all taken before anything else, and their order makes no difference.
-pub fn inert_updates_are_one_way()
-    ensures taken { InertUpdatesAreTaken }
-    ensures forgotten { InertOrderIsForgotten }
-{}
-
-/// From a flat state the turns lead to one node, but for the order of updates, and one node after these covers it; where one
-/// process makes updates for now, the node after the turns does.
-pub fn flat_states_are_one_way()
-    ensures node { FlatTurnsAreOneNode }
-    ensures covers { FlatCovers }
-    ensures turns { FlatTurnsCover }
 {}

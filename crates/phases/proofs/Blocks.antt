@@ -10,7 +10,7 @@ use Rattle.model.specs.declared.tree.Change.TheVariants.{Any}
 use Rattle.model.specs.Syntax.{Expression, registers_of}
 use Rattle.model.specs.Design.{Design, Process, Statement, Empty, Assign, AssignAfter, AssignLater, Delay, Await, If, While, Print, Finish, Statements, End, Then, Trigger, inside, all_of, size, all_statements, statement_at, process_at, first_place}
 use Rattle.model.specs.Expressions.{Store, own_value, assigned_value}
-use Rattle.model.specs.Turns.{At, Remainder, Wait, OnChange, contains, parts, whole, most_steps, short_turn, IsShort}
+use Rattle.model.specs.Turns.{At, Remainder, Wait, OnChange, contains, parts, whole, most_steps}
 use Rattle.model.specs.Turns as turns
 use Rattle.model.specs.TurnCases.{all_but, first_uses, over_at_once, with_step, with_write, HasTurn, nothing, assigned, event, chosen, other, restarted}
 use Rattle.model.proofs.PlaceLaws.{Stands, statement_there, stands_others, stands_awaited, stands_chosen}
@@ -19,14 +19,6 @@ use Rattle.orders.specs.Apart.{written_by}
 use Rattle.phases.specs.Combinational.{common, is_plain_one, is_plain, reads_one, reads, written_one, written, settled_one, settled, IsCombinational, CombinationalIsBlock}
 
 -- lists of registers
-
-left_or_right : (a b c d : Bool) → (a || b) ≡ true → (a ≡ true → c ≡ true) → (b ≡ true → d ≡ true) → (c || d) ≡ true
-left_or_right true b c d h first second = rw (first refl) refl
-left_or_right false b c d h first second = right c d (second h)
-  where
-    right : (c d : Bool) → d ≡ true → (c || d) ≡ true
-    right true d h = refl
-    right false d h = h
 
 pub append_tells : (xs ys : List ℕ) (r : ℕ) → contains (xs ++ ys) r ≡ (contains xs r || contains ys r)
 append_tells [] ys r = refl

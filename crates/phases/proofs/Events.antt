@@ -10,7 +10,7 @@ use Rattle.model.specs.Laws.{evaluates, evaluations_in}
 use Rattle.orders.specs.Alike.{IsInOrder, updates_in}
 use Rattle.orders.specs.Apart.{all_given}
 use Rattle.orders.proofs.EventLists.{evaluations-taken, own_evaluation}
-use Rattle.phases.specs.Phase.{Block, IsBlock, continuation_of, waits_for_register}
+use Rattle.phases.specs.Phase.{Block, IsActive, IsBlock, continuation_of, waits_for_register}
 use Rattle.phases.proofs.Changes.{woke, awake, one_where, Changed, changed}
 use Rattle.phases.proofs.Members.{Standing, stands_changed, unmoved}
 
@@ -112,3 +112,9 @@ taken_update s n r q v order at =
 pub stands_taken : (design : Design) (s : State) (n p : ℕ) (b : Block) → evaluations_in p (without n s.active) ≡ evaluations_in p s.active → Standing design s p b → Standing design (taking n s) p b
 stands_taken design s n p b same (inl (evaluations, continuation)) = inl (same ∙ evaluations, continuation)
 stands_taken design s n p b same (inr (evaluations, continuation, consistent)) = inr (same ∙ evaluations, continuation, consistent)
+
+-- a process whose evaluation is among the active events is active
+
+pub active_at : (s : State) (n p : ℕ) → IsInOrder s → action_in s.active n ≡ Some (Evaluate p) → IsActive s p
+active_at s n p order at_n =
+    omega (arith, evaluations-taken n p 0 s.next_event (Evaluate p) s.active order.active at_n, own_evaluation p)

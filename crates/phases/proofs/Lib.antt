@@ -5,5 +5,4 @@ pub mod Members
 pub mod Events
 pub mod PhaseSteps
 pub mod PhaseRuns
-pub mod FlatPhases
 pub mod Blocks

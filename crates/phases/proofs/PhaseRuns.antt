@@ -1,77 +1,28 @@
--- Runs through a phase: they end in one node, which covers the runs from its begin.
-use Rattle.std.proofs.Common.{◌≡◌, ◌≢◌, ℕ, zero, suc, ◌+◌, ◌<◌, ◌≤◌, Bool, true, false, eq-eqb, List, [], ◌∷◌, ◌++◌, ◌⊎◌, inl, inr, length, Some, None, refl, sym, ap, subst, ◌∙◌, ◌==◌, arith}
+-- Where runs through a phase have come to, and that at its ends the states are alike.
+use Rattle.std.proofs.Common.{◌≡◌, ℕ, zero, suc, ◌+◌, ◌<◌, Bool, true, false, eq-eqb, List, [], ◌∷◌, ◌⊎◌, inl, inr, length, Some, refl, sym, ap, subst, ◌∙◌, ◌==◌, arith}
 use Rattle.std.specs.Prelude.{slice_index_or, ◌||◌}
-use Rattle.std.specs.List.{All}
 use Rattle.std.proofs.lemmas.Bool.{eqb-true}
-use Rattle.std.proofs.lemmas.List.Elements.{All-nil, All-cons, All-head, All-tail}
-use Rattle.std.proofs.lemmas.Option.{option_and_then_some}
-use Rattle.model.specs.declared.entry.Entry.{Entry}
-use Rattle.model.specs.declared.entry.Entry.TheVariants.{Update, ActivateInactive, ActivateNba, ActivateMonitor, Advance}
-use Rattle.model.specs.declared.end.Limits.{Limits}
-use Rattle.model.specs.declared.end.End.{End}
 use Rattle.model.specs.Design.{Design}
 use Rattle.model.specs.Expressions.{value_of}
 use Rattle.model.specs.Turns.{contains, short_turn}
-use Rattle.model.specs.States.{Action, Evaluate, Event, Continuation, State}
-use Rattle.model.specs.Runs.{Effect, action_in, has_any, HasLongTurn, joined, step, run_from, turn_of}
-use Rattle.model.specs.Steps.{IsPermitted}
+use Rattle.model.specs.States.{Action, Event, Continuation, State}
+use Rattle.model.specs.Runs.{Effect, action_in}
 use Rattle.model.specs.Laws.{evaluations_in}
-use Rattle.model.proofs.StepLaws.{step_is_exact}
 use Rattle.orders.specs.Alike.{Alike, AreAlike, IsAlikeFuture, IsInOrder, updates_in}
 use Rattle.orders.specs.Apart.{AgreeOn, AreAlikeButOrder, all_given}
-use Rattle.orders.specs.SearchLaws.{EndsHere}
 use Rattle.orders.proofs.EventLists.{alike-same}
-use Rattle.orders.proofs.FlatRuns.{active_at}
-use Rattle.orders.proofs.StatesInOrder.{step_keeps_order}
 use Rattle.orders.proofs.TurnFrame.{turn_has_frame}
-use Rattle.orders.proofs.Stores.{append-none, same_store, stores_same}
-use Rattle.orders.proofs.SearchLaws.{then_some, visited_too, reached_in_order}
-use Rattle.orders.proofs.InertUpdates.{goes_on}
-use Rattle.phases.specs.Phase.{Block, continuation_of, IsTurnPending, HasSettled, IsOutput, IsPhase, TakesEvent, EndsPhase, PhaseEndsInOneNode, PhaseCovers}
+use Rattle.orders.proofs.Stores.{same_store, stores_same}
+use Rattle.phases.specs.Phase.{Block, continuation_of, HasSettled, IsOutput, IsPhase}
 use Rattle.phases.proofs.Values.{written_same}
 use Rattle.phases.proofs.Members.{Standing}
-use Rattle.phases.proofs.PhaseSteps.{Stays, phase_steps}
-
--- what stays, stays
-
-stays_same : (members : List ℕ) (block : ℕ → Block) (s : State) → Stays members block s s
-stays_same members block s =
-    record { time = refl; registers = refl; count = refl; others = λ q is. (refl, refl); inactive = refl; nonblocking = refl; monitor = refl; future_inactive = refl; future_nonblocking = refl; finished = refl; values = λ r none. refl }
-
-stays_on : (members : List ℕ) (block : ℕ → Block) (s f g : State) → Stays members block s f → Stays members block f g → Stays members block s g
-stays_on members block s f g h i =
-    record {
-      time = i.time ∙ h.time;
-      registers = i.registers ∙ h.registers;
-      count = i.count ∙ h.count;
-      others = λ q is. ((i.others q is).0 ∙ (h.others q is).0, (i.others q is).1 ∙ (h.others q is).1);
-      inactive = i.inactive ∙ h.inactive;
-      nonblocking = i.nonblocking ∙ h.nonblocking;
-      monitor = i.monitor ∙ h.monitor;
-      future_inactive = i.future_inactive ∙ h.future_inactive;
-      future_nonblocking = i.future_nonblocking ∙ h.future_nonblocking;
-      finished = i.finished ∙ h.finished;
-      values = λ r none. i.values r none ∙ h.values r none;
-    }
+use Rattle.phases.proofs.PhaseSteps.{Stays}
 
 -- a run in a phase
 
 abbrev pub Runs : Design → List ℕ → (ℕ → Block) → (ℕ → ℕ) → Effect → Effect → Type 0
 Runs design members block rank e f =
     (f.lines ≡ e.lines) × IsInOrder f.state × IsPhase design f.state members block rank × Stays members block e.state f.state
-
-pub phase_runs : (design : Design) (members : List ℕ) (block : ℕ → Block) (rank : ℕ → ℕ) (entries : List Entry) (e f : Effect) → IsInOrder e.state → IsPhase design e.state members block rank
-    → All TakesEvent entries → run_from design e entries ≡ Some f → Runs design members block rank e f
-phase_runs design members block rank [] e f order phase takes is =
-    let same : e ≡ f = cc in
-    subst (λ x. Runs design members block rank e x) same (refl, order, phase, stays_same members block e.state)
-phase_runs design members block rank (entry ∷ entries) e f order phase takes is =
-    option_and_then_some (λ x. run_from design (joined e x) entries) (step design e.state entry) f is
-    (λ g at_g later.
-    let (lines, phase', stays) = phase_steps design members block rank e.state entry g order phase (All-head TakesEvent entry entries takes) at_g in
-    let order' : IsInOrder g.state = step_keeps_order design e.state entry g order at_g in
-    let (lines', order'', phase'', stays') = phase_runs design members block rank entries (joined e g) f order' phase' (All-tail TakesEvent entry entries takes) later in
-    (lines' ∙ ap (λ ls. e.lines ++ ls) lines ∙ append-none e.lines, order'', phase'', stays_on members block e.state g.state f.state stays stays'))
 
 -- at the end all are settled
 
@@ -196,10 +147,6 @@ AlikeButActive s t =
       finished : s.finished ≡ t.finished;
     }
 
-same_but_active : (s : State) → AlikeButActive s s
-same_but_active s =
-    record { time = refl; store = refl; processes = refl; active = record { updates = λ r. refl; evaluations = λ p. refl }; inactive = alike-same s.inactive; nonblocking = alike-same s.nonblocking; monitor = refl; future_inactive = record { times = refl; due = λ time. alike-same _ }; future_nonblocking = record { times = refl; due = λ time. alike-same _ }; finished = refl }
-
 process_same : (design : Design) (members : List ℕ) (block : ℕ → Block) (rank : ℕ → ℕ) (s t f g : State) (p : ℕ) (is : Bool) → contains members p ≡ is → TwoEnds design members block rank f g
     → s.processes ≡ t.processes → Stays members block s f → Stays members block t g → continuation_of f p ≡ continuation_of g p
 process_same design members block rank s t f g p true is two same h i =
@@ -247,118 +194,7 @@ ends_alike design members block rank s t f g alike here there h i over over' =
       finished = h.finished ∙ alike.finished ∙ sym i.finished;
     }
 
-pub phase_ends_in_one_node : PhaseEndsInOneNode
-phase_ends_in_one_node design members block rank e f g entries others order phase (takes, goes, over) (takes', goes', over') =
-    let (lines, order_f, phase_f, stays_f) = phase_runs design members block rank entries e f order phase takes goes in
-    let (lines', order_g, phase_g, stays_g) = phase_runs design members block rank others e g order phase takes' goes' in
-    (lines, (lines ∙ sym lines', ends_alike design members block rank e.state e.state f.state g.state (same_but_active e.state) phase_f phase_g stays_f stays_g over over'))
-
--- a run from a phase comes to its end
-
-no_long : (design : Design) (members : List ℕ) (block : ℕ → Block) (rank : ℕ → ℕ) (s : State) (p : ℕ) → IsInOrder s → IsPhase design s members block rank → HasLongTurn design s p → ⊥
-no_long design members block rank s p order phase (n, at, long) =
-    let active : 1 ≤ evaluations_in p s.active = active_at s n p order at in
-    let member : contains members p ≡ true = phase.inside p active in
-    short p member (phase.stands p member) active long
-  where
-    found : (p : ℕ) → contains members p ≡ true → IsTurnPending s p (block p) → turn_of design s p ≡ None → ⊥
-    found p member (one, continuation) long =
-        let (t, at_t, c) = (phase.blocks p member).turns s.store s.time in
-        let is : turn_of design s p ≡ Some t = ap (λ (x : Continuation). short_turn design p x.remainder s.store s.time) continuation ∙ at_t in
-        cc
-
-    short : (p : ℕ) → contains members p ≡ true → Standing design s p (block p) → 1 ≤ evaluations_in p s.active → turn_of design s p ≡ None → ⊥
-    short p member (inl h) active long = found p member h long
-    short p member (inr (none, continuation, consistent)) active long = omega (arith, active, none)
-
-takes_event : (design : Design) (s : State) (x : Event) (xs : List Event) (entry : Entry) (f : Effect) → s.active ≡ x ∷ xs → IsPermitted design s entry f → TakesEvent entry
-takes_event design s x xs (Entry.Turn n) f is h = tt
-takes_event design s x xs (Update n) f is h = tt
-takes_event design s x xs ActivateInactive f is (none, some', same) = no_event none
-  where
-    no_event : has_any s.active ≡ false → ⊥
-    no_event none =
-        let some : has_any s.active ≡ true = ap has_any is in
-        cc
-takes_event design s x xs ActivateNba f is (none, none', some', same) = no_event none
-  where
-    no_event : has_any s.active ≡ false → ⊥
-    no_event none =
-        let some : has_any s.active ≡ true = ap has_any is in
-        cc
-takes_event design s x xs ActivateMonitor f is (none, none', none'', some', same) = no_event none
-  where
-    no_event : has_any s.active ≡ false → ⊥
-    no_event none =
-        let some : has_any s.active ≡ true = ap has_any is in
-        cc
-takes_event design s x xs (Advance time) f is (none, none', none'', none''', due, below, same) = no_event none
-  where
-    no_event : has_any s.active ≡ false → ⊥
-    no_event none =
-        let some : has_any s.active ≡ true = ap has_any is in
-        cc
-
--- a beginning of the entries takes the run to the end of the phase
-abbrev pub Passes : Design → Effect → List Entry → Type 0
-Passes design e entries = (before : List Entry) × (after : List Entry) × (f : Effect) × (before ++ after ≡ entries) × EndsPhase design e before f
-
-passes_more : (design : Design) (e g : Effect) (entry : Entry) (entries : List Entry) → TakesEvent entry → step design e.state entry ≡ Some g → Passes design (joined e g) entries → Passes design e (entry ∷ entries)
-passes_more design e g entry entries takes at_g (before, after, f, split, (all, goes, over)) = (
-  entry ∷ before,
-  after,
-  f,
-  ap (λ xs. entry ∷ xs) split,
-  (All-cons TakesEvent entry before takes all, then_some (λ x. run_from design (joined e x) before) (step design e.state entry) g f at_g goes, over),
-)
-
-pub passes : (design : Design) (limits : Limits) (members : List ℕ) (block : ℕ → Block) (rank : ℕ → ℕ) (es : List Event) (entries : List Entry) (e g : Effect) (end : End) → e.state.active ≡ es → IsInOrder e.state
-    → IsPhase design e.state members block rank → run_from design e entries ≡ Some g → EndsHere design limits g end → Passes design e entries
-passes design limits members block rank [] entries e g end active order phase is ends = ([], entries, e, refl, (All-nil TakesEvent, refl, active))
-passes design limits members block rank (x ∷ xs) [] e g end active order phase is ends =
-    let same : e ≡ g = cc in
-    let ends' : EndsHere design limits e end = rw same ends in
-    absurd (goes_on design limits e.state x xs 0 end active phase.goes_on (λ p long. no_long design members block rank e.state p order phase long) ends'.0 ends'.1 ends'.2)
-passes design limits members block rank (x ∷ xs) (entry ∷ entries) e g end active order phase is ends =
-    option_and_then_some (λ y. run_from design (joined e y) entries) (step design e.state entry) g is
-    (λ f at_f later.
-    let takes : TakesEvent entry = takes_event design e.state x xs entry f active ((step_is_exact design e.state entry f).0 at_f).1 in
-    let (lines, phase', stays) = phase_steps design members block rank e.state entry f order phase takes at_f in
-    let order' : IsInOrder f.state = step_keeps_order design e.state entry f order at_f in
-    passes_more design e f entry entries takes at_f (passes design limits members block rank f.state.active entries (joined e f) g end refl order' phase' later ends))
-
 -- where an event is taken, one is active
-
 pub none_in : (n : ℕ) (a : Action) (es : List Event) → es ≡ [] → action_in es n ≡ Some a → ⊥
 none_in n a [] is at = cc
 none_in n a (e ∷ es) is at = cc
-
-not_over : (design : Design) (s : State) (entry : Entry) (f : Effect) → TakesEvent entry → step design s entry ≡ Some f → s.active ≡ [] → ⊥
-not_over design s entry f takes is none = permitted entry takes ((step_is_exact design s entry f).0 is).1
-  where
-    permitted : (entry : Entry) → TakesEvent entry → IsPermitted design s entry f → ⊥
-    permitted (Entry.Turn n) takes (p, turn, at, exact, short, same) = none_in n (Evaluate p) s.active none at
-    permitted (Update n) takes (r, v, at, earliest, same) = none_in n (Action.Update r v) s.active none at
-    permitted ActivateInactive takes h = takes
-    permitted ActivateNba takes h = takes
-    permitted ActivateMonitor takes h = takes
-    permitted (Advance time) takes h = takes
-
-not_begun : (design : Design) (entries : List Entry) (e f : Effect) → entries ≢ [] → EndsPhase design e entries f → e.state.active ≡ [] → ⊥
-not_begun design [] e f some ends none = some refl
-not_begun design (entry ∷ entries) e f some (takes, goes, over) none =
-    option_and_then_some (λ x. run_from design (joined e x) entries) (step design e.state entry) f goes
-    (λ g at_g later. not_over design e.state entry g (All-head TakesEvent entry entries takes) at_g none)
-
-not_empty : (design : Design) (before : List Entry) (e f : Effect) → EndsPhase design e before f → (e.state.active ≡ [] → ⊥) → before ≢ []
-not_empty design [] e f (takes, goes, over) some none =
-    let same : e ≡ f = cc in
-    some (ap (λ x. x.state.active) same ∙ over)
-not_empty design (entry ∷ before) e f ends some none = cc
-
-pub phase_covers : PhaseCovers
-phase_covers design limits nodes members block rank e f entries reached phase some ends visited entry others g end goes timely over =
-    let order : IsInOrder e.state = reached_in_order design e reached in
-    let (before, after, k, split, ends_k) = passes design limits members block rank e.state.active (entry ∷ others) e g end refl order phase goes over in
-    let (lines, one) = phase_ends_in_one_node design members block rank e k f before entries order phase ends_k ends in
-    (before, after, k, not_empty design before e k ends_k (not_begun design entries e f some ends), split, ends_k.1, visited_too nodes k f one visited)

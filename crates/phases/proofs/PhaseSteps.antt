@@ -8,7 +8,7 @@ use Rattle.model.specs.declared.entry.Entry.{Entry}
 use Rattle.model.specs.declared.entry.Entry.TheVariants.{Update, ActivateInactive, ActivateNba, ActivateMonitor, Advance}
 use Rattle.model.specs.Design.{Design}
 use Rattle.model.specs.Expressions.{value_of}
-use Rattle.model.specs.Turns.{Remainder, OnChange, contains, short_turn}
+use Rattle.model.specs.Turns.{contains, short_turn}
 use Rattle.model.specs.Turns as turns
 use Rattle.model.specs.States.{Action, Evaluate, Continuation, State, change_all, schedule_all, schedule_wait, taking, without, turned, updated, with_continuation, triggers_of}
 use Rattle.model.specs.Runs.{Effect, action_in, has_earlier_update, remainder_of, turn_of, turn_effect, update_effect, step}
@@ -18,11 +18,10 @@ use Rattle.model.proofs.StepLaws.{step_is_exact}
 use Rattle.model.proofs.TurnLaws.{short_turn_found}
 use Rattle.orders.specs.Alike.{IsInOrder, updates_in}
 use Rattle.orders.specs.Apart.{AgreeOn, all_given, written_by}
-use Rattle.orders.specs.Flat.{IsActive}
 use Rattle.orders.proofs.EventLists.{updates_left, update_taken}
 use Rattle.orders.proofs.TurnFrame.{turn_has_frame}
 use Rattle.orders.proofs.Stores.{length_given, length_all, all_other}
-use Rattle.phases.specs.Phase.{Block, triggers, ComputesOutputs, IsBlock, IsConsistent, IsTurnPending, HasSettled, waits_for_register, updated_in, IsOutput, IsPhase, TakesEvent}
+use Rattle.phases.specs.Phase.{IsActive, Block, triggers, ComputesOutputs, IsBlock, IsConsistent, IsTurnPending, HasSettled, waits_for_register, updated_in, IsOutput, IsPhase, TakesEvent}
 use Rattle.phases.proofs.Values.{all_both, written_again}
 use Rattle.phases.proofs.Changes.{Changed, changed}
 use Rattle.phases.proofs.Members.{Standing, stands_changed, unmoved}

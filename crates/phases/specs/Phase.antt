@@ -1,21 +1,17 @@
 -- Combinational processes, and the phases in which they settle.
-use Rattle.std.specs.Prelude.{◌≡◌, ◌≢◌, ℕ, ◌<◌, Bool, true, false, ◌==◌, List, [], ◌∷◌, ◌⊎◌, map, length, Some, slice_index_or}
-use Rattle.std.specs.List.{All, list_any}
+use Rattle.std.specs.Prelude.{◌≡◌, ◌≢◌, ℕ, ◌<◌, ◌≤◌, Bool, true, false, ◌==◌, List, [], ◌⊎◌, map, length, Some, slice_index_or}
+use Rattle.std.specs.List.{list_any}
 use Rattle.model.specs.declared.tree.Change.TheVariants.{Any}
 use Rattle.model.specs.declared.entry.Entry.{Entry}
 use Rattle.model.specs.declared.entry.Entry.TheVariants.{Turn, Update, ActivateInactive, ActivateNba, ActivateMonitor, Advance}
-use Rattle.model.specs.declared.end.Limits.{Limits}
 use Rattle.model.specs.Design.{Design, Trigger}
 use Rattle.model.specs.Expressions.{Store}
 use Rattle.model.specs.Turns.{Remainder, OnChange, contains, short_turn}
 use Rattle.model.specs.Turns as turns
 use Rattle.model.specs.States.{Continuation, State}
-use Rattle.model.specs.Runs.{Effect, run_from}
 use Rattle.model.specs.Laws.{evaluations_in}
-use Rattle.orders.specs.Alike.{IsInOrder, updates_in}
+use Rattle.orders.specs.Alike.{updates_in}
 use Rattle.orders.specs.Apart.{all_given, written_by}
-use Rattle.orders.specs.Flat.{IsActive, IsFlat}
-use Rattle.orders.specs.SearchLaws.{IsOneNode, IsReachable, IsAmongVisited, Covers}
 
 -- A block of combinational logic, as in `always @(a or b) y = a & b;`: what its process has left to run while it waits, the
 -- registers that it waits for, and the registers that it gives values.
@@ -52,6 +48,10 @@ IsBlock design p block =
       turns : (store : Store) (now : ℕ) → (turn : turns.Turn) × (short_turn design p block.rest store now ≡ Some turn) × ComputesOutputs block turn;
       apart : (r : ℕ) → contains block.outputs r ≡ true → contains block.inputs r ≡ false;
     }
+
+-- an evaluation of the process is active
+abbrev pub IsActive : State → ℕ → Type 0
+IsActive s p = 1 ≤ evaluations_in p s.active
 
 -- a process in a state
 abbrev pub continuation_of : State → ℕ → Continuation
@@ -112,31 +112,3 @@ TakesEvent ActivateInactive = ⊥
 TakesEvent ActivateNba = ⊥
 TakesEvent ActivateMonitor = ⊥
 TakesEvent (Advance time) = ⊥
-
--- these entries take events up to the end of a phase, at which none is active
-abbrev pub EndsPhase : Design → Effect → List Entry → Effect → Type 0
-EndsPhase design e entries f =
-    All TakesEvent entries × (run_from design e entries ≡ Some f) × (f.state.active ≡ [])
-
--- Whichever events of a phase come first, at its end nothing was printed, and there is one node.
-abbrev pub PhaseEndsInOneNode : Type 0
-PhaseEndsInOneNode =
-    (design : Design) (members : List ℕ) (block : ℕ → Block) (rank : ℕ → ℕ) (e f g : Effect) (entries others : List Entry)
-    → IsInOrder e.state → IsPhase design e.state members block rank → EndsPhase design e entries f → EndsPhase design e others g
-    → (f.lines ≡ e.lines) × IsOneNode f g
-
--- One way through a phase is enough: the node at its end covers the runs from its begin.
-abbrev pub PhaseCovers : Type 0
-PhaseCovers =
-    (design : Design) (limits : Limits) (nodes : List Effect) (members : List ℕ) (block : ℕ → Block) (rank : ℕ → ℕ) (e f : Effect)
-    (entries : List Entry) → IsReachable design e → IsPhase design e.state members block rank → entries ≢ []
-    → EndsPhase design e entries f → IsAmongVisited nodes f → Covers design limits nodes e
-
--- Where the turns of a flat state, taken in any order, lead to nonblocking updates, and these, once they are activated, to a phase, one
--- way through all of it is enough: the node at the end of the phase covers the runs from the flat state.
-abbrev pub FlatPhaseCovers : Type 0
-FlatPhaseCovers =
-    (design : Design) (limits : Limits) (nodes : List Effect) (members : List ℕ) (block : ℕ → Block) (rank : ℕ → ℕ) (turn : ℕ → turns.Turn)
-    (e c d f : Effect) (turns entries : List Entry) → IsReachable design e → IsFlat design e.state turn → length turns ≡ length e.state.active
-    → run_from design e turns ≡ Some c → run_from design c (ActivateNba ∷ []) ≡ Some d → IsPhase design d.state members block rank
-    → EndsPhase design d entries f → IsAmongVisited nodes f → Covers design limits nodes e

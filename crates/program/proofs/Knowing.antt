@@ -1,5 +1,5 @@
 -- Texts that are known, and texts that are added to them.
-use Rattle.std.proofs.Common.{◌≡◌, ◌⊎◌, ◌∙◌, inl, inr, sym, subst, refl, ℕ, ◌+◌, ◌<◌, ltb, Bool, true, false, IsTrue, IfSome, Option, None, ◌≤◌, List, [], ◌∷◌, ◌++◌, length, get_or, Some, arith, string_bytes}
+use Rattle.std.proofs.Common.{◌≡◌, ◌⊎◌, ◌∙◌, inl, inr, sym, subst, refl, ℕ, ◌+◌, ◌<◌, ltb, Bool, true, false, IsTrue, IfSome, Option, None, ◌≤◌, List, [], length, get_or, Some, arith, string_bytes}
 use Rattle.std.specs.List.{All, AllPairs}
 use Rattle.std.proofs.lemmas.Bool.{ltb-true, ltb-false}
 use Rattle.std.proofs.lemmas.List.{get_or_default}
@@ -12,7 +12,7 @@ use Rattle.explore.specs.declared.Shown.{Shown}
 use Rattle.explore.specs.Grown.{Extends}
 use Rattle.explore.specs.Search.{AreDistinct, IsShown}
 use Rattle.explore.proofs.Complete.{Any-extends}
-use Rattle.explore.proofs.Growing.{length-extends}
+use Rattle.explore.proofs.Growing.{Extends-through, length-extends}
 use Rattle.runs.specs.RunRecords.{IsRun}
 use Rattle.runs.specs.Compared.{IsWhole}
 use Rattle.runs.specs.declared.run.RunRecord.{RunRecord}
@@ -20,7 +20,8 @@ use Rattle.races.specs.declared.told.Found.{Found}
 use Rattle.races.specs.declared.told.Race.{Race}
 use Rattle.races.specs.declared.told.RaceBounds.{RaceBounds}
 use Rattle.arguments.specs.declared.search_options.SearchOptions.{SearchOptions}
-use Rattle.program.specs.Findings.{AreKnown, AreRaces, IsKnown, IsLawfulShown, IsShownRun, limits_in}
+use Rattle.program.specs.declared.known.KnownTexts.{KnownTexts}
+use Rattle.program.specs.Findings.{AreFew, AreKnown, AreRaces, HasGrown, IsKnown, IsLawfulShown, IsShownRun, limits_in}
 use Rattle.program.proofs.Few.{no_longer}
 
 -- the text of a run that came to its end is that of a lawful journal
@@ -66,30 +67,39 @@ known_added true most shown r s same is full whole =
     inl (subst (λ (t : List ℕ). IsShown shown t r.end) same.0 (subst (λ (e : End). IsShown shown s.text.items e) same.1 (is refl)))
 known_added false most shown r s same is full whole = inr (full refl)
 
+-- texts that grow from texts that grew
+pub grown_through : (a b c : KnownTexts) → HasGrown a b → HasGrown b c → HasGrown a c
+grown_through a b c one two = record { most = two.most ∙ one.most; shown = Extends-through a.shown.items b.shown.items c.shown.items one.shown two.shown }
+
+-- what is known of a run stays so where texts have grown
+still_known : (old new : KnownTexts) (r : RunRecord) → HasGrown old new → length new.shown.items ≤ new.most → IsKnown old.most old.shown.items r → IsKnown new.most new.shown.items r
+still_known old new r grown few known =
+    known_more new.most old.shown.items new.shown.items r grown.shown few (subst (λ (n : ℕ). IsKnown n old.shown.items r) (sym grown.most) known)
+
 -- what is known of each race up to one more
-pub known_each : (most : ℕ) (shown shown' : List (Shown Entry End)) (races : List Race) (i : ℕ) (item : Race) → Extends shown shown' → length shown' ≤ most → item ≡ get_or races i item → i < length races
-    → ((k : ℕ) (d : Race) → k < i → IsKnown most shown (get_or races k d).exchanged) → IsKnown most shown' item.exchanged → (k : ℕ) (d : Race) → k < i + 1 → IsKnown most shown' (get_or races k d).exchanged
-known_each most shown shown' races i item more few at within before now k d lt = by_place (ltb k i) refl
+pub known_each : (old new : KnownTexts) (races : List Race) (i : ℕ) (item : Race) → HasGrown old new → length new.shown.items ≤ new.most → item ≡ get_or races i item → i < length races
+    → ((k : ℕ) (d : Race) → k < i → IsKnown old.most old.shown.items (get_or races k d).exchanged) → IsKnown new.most new.shown.items item.exchanged → (k : ℕ) (d : Race) → k < i + 1 → IsKnown new.most new.shown.items (get_or races k d).exchanged
+known_each old new races i item grown few at within before now k d lt = by_place (ltb k i) refl
   where
-    by_place : (b : Bool) → ltb k i ≡ b → IsKnown most shown' (get_or races k d).exchanged
-    by_place true is = known_more most shown shown' (get_or races k d).exchanged more few (before k d (ltb-true k i is))
+    by_place : (b : Bool) → ltb k i ≡ b → IsKnown new.most new.shown.items (get_or races k d).exchanged
+    by_place true is = still_known old new (get_or races k d).exchanged grown few (before k d (ltb-true k i is))
     by_place false is =
         let same : i ≡ k = omega (arith, lt, ltb-false k i is) in
-        subst (λ (n : ℕ). IsKnown most shown' (get_or races n d).exchanged) same
-        (subst (λ (r : Race). IsKnown most shown' r.exchanged) (at ∙ get_or_default races i item d within) now)
+        subst (λ (n : ℕ). IsKnown new.most new.shown.items (get_or races n d).exchanged) same
+        (subst (λ (r : Race). IsKnown new.most new.shown.items r.exchanged) (at ∙ get_or_default races i item d within) now)
 
 -- the second run of each race is one of the design
 pub races_run : (code : Compiled) (limits : Limits) (race_bounds : RaceBounds) (found : Found) → AreRaces code limits race_bounds found → All (λ (race : Race). IsRun code limits race.exchanged) found.races.items
 races_run code limits race_bounds found races k d lt = (races.races k d lt).exchanged
 
 -- what is known of the first run and of the second runs, and then of others
-pub all_known : (code : Compiled) (search_options : SearchOptions) (found : Found) (a b c : List (Shown Entry End)) → search_options.samples ≡ None → All (IsLawfulShown code (limits_in search_options)) c → AllPairs AreDistinct c → length c ≤ search_options.max_texts
-    → length b ≤ search_options.max_texts → Extends a b → Extends b c → IsKnown search_options.max_texts a found.original → All (λ (race : Race). IsKnown search_options.max_texts b race.exchanged) found.races.items → AreKnown code search_options found c
-all_known code search_options found a b c none lawful distinct few few_b more more' first others = record {
+pub all_known : (code : Compiled) (search_options : SearchOptions) (found : Found) (a b c : KnownTexts) → search_options.samples ≡ None → c.most ≡ search_options.max_texts → All (IsLawfulShown code (limits_in search_options)) c.shown.items → AreFew b → AreFew c
+    → HasGrown a b → HasGrown b c → IsKnown a.most a.shown.items found.original → All (λ (race : Race). IsKnown b.most b.shown.items race.exchanged) found.races.items → AreKnown code search_options found c.shown.items
+all_known code search_options found a b c none most lawful few_b few more more' first others = record {
   lawful = lawful;
-  distinct = distinct;
-  few = few;
-  none = subst (λ (o : Option ℕ). IfSome o (λ asked. c ≡ [])) (sym none) tt;
-  first = λ all. known_more search_options.max_texts b c found.original more' few (known_more search_options.max_texts a b found.original more few_b first);
-  others = λ all k d lt. known_more search_options.max_texts b c (get_or found.races.items k d).exchanged more' few (others k d lt);
+  distinct = few.distinct;
+  few = subst (λ (n : ℕ). length c.shown.items ≤ n) most few.few;
+  none = subst (λ (o : Option ℕ). IfSome o (λ asked. c.shown.items ≡ [])) (sym none) tt;
+  first = λ all. subst (λ (n : ℕ). IsKnown n c.shown.items found.original) most (still_known b c found.original more' few.few (still_known a b found.original more few_b.few first));
+  others = λ all k d lt. subst (λ (n : ℕ). IsKnown n c.shown.items (get_or found.races.items k d).exchanged) most (still_known b c (get_or found.races.items k d).exchanged more' few.few (others k d lt));
 }

@@ -4,6 +4,7 @@ use Rattle.std.specs.List.{All, AllPairs}
 use Rattle.model.specs.declared.entry.Entry.{Entry}
 use Rattle.model.specs.declared.end.End.{End}
 use Rattle.model.specs.declared.end.Limits.{Limits}
+use Rattle.model.specs.Texts.{IsLawfulText, AreAllTexts}
 use Rattle.design.specs.Compiled.{Compiled, design_of}
 use Rattle.explore.specs.declared.Shown.{Shown}
 use Rattle.explore.specs.declared.stopped.Stopped.{Stopped}
@@ -14,8 +15,7 @@ use Rattle.runs.specs.RunRecords as recorded
 use Rattle.runs.specs.Compared.{IsWhole}
 use Rattle.seeded.specs.Seeds.{AreSampled}
 use Rattle.runs.specs.declared.run.RunRecord.{RunRecord}
-use Rattle.walks.specs.JournalsInTime.{AreAllTexts, IsLawfulText}
-use Rattle.lawful.specs.DesignRuns as orders
+use Rattle.model.specs.Texts as orders
 use Rattle.races.specs.Races as conflicts
 use Rattle.races.specs.declared.told.Found.{Found}
 use Rattle.races.specs.declared.told.RaceBounds.{RaceBounds}
@@ -24,6 +24,7 @@ use Rattle.verdict.specs.declared.claim.Claim.TheVariants.{Every, SoFar, Sampled
 use Rattle.verdict.specs.declared.claim.SearchStop.{SearchStop}
 use Rattle.verdict.specs.declared.claim.SearchStop.TheVariants.{States, Texts, Entries, Megabytes, Memory}
 use Rattle.arguments.specs.declared.search_options.SearchOptions.{SearchOptions}
+use Rattle.program.specs.declared.known.KnownTexts.{KnownTexts}
 use Rattle.program.specs.declared.finding.SearchFinding.{SearchFinding}
 use Rattle.program.specs.declared.finding.SearchFinding.TheVariants as finding
 
@@ -187,6 +188,16 @@ pub record AreRaces (design : Compiled) (limits : Limits) (race_bounds : RaceBou
 -- where a run came to its end, its text and its end are among these, unless as many as may be are
 abbrev pub IsKnown : ℕ → List (Shown Entry End) → RunRecord → Type 0
 IsKnown most shown run = IsWhole run → IsShown shown (string_bytes run.lines) run.end ⊎ (length shown ≡ most)
+
+-- the texts are no more than they may be, and no two of them have one text and one end
+pub record AreFew (known : KnownTexts) : Type 0 where
+  pub few : length known.shown.items ≤ known.most
+  pub distinct : AllPairs AreDistinct known.shown.items
+
+-- texts stayed and others may have come behind them, and they may still be as many
+pub record HasGrown (old new : KnownTexts) : Type 0 where
+  pub most : new.most ≡ old.most
+  pub shown : Extends old.shown.items new.shown.items
 
 -- The texts that are known before a search of all orders: each with its end and a lawful journal that has both, no two the same, and no more than are asked for; those of the
 -- first run and of each race's second run are among them. None is where random orders are tried in place of the search.

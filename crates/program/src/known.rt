@@ -1,16 +1,14 @@
 //! Texts that are known before a search: those of the first run, of the second runs that show races, and of a few random orders.
 
-ghost use Rattle.std.specs.Prelude.{◌≡◌, ◌≤◌, ◌↔◌, false, length, IfOk, IfSome, IsTrue, OnOk};
-ghost use Rattle.std.specs.List.{All, AllPairs};
-ghost use Rattle.model.specs.Runs.{last_time};
+ghost use Rattle.std.specs.Prelude.{◌≡◌, ◌↔◌, [], false, length, IfOk, IsTrue, OnOk};
+ghost use Rattle.std.specs.List.{All};
 ghost use Rattle.model.specs.declared.end.Limits.{Limits};
 ghost use Rattle.design.specs.Compiled.{Compiled};
-ghost use Rattle.explore.specs.Grown.{Extends};
-ghost use Rattle.explore.specs.Search.{AreDistinct, Differs, IsShown};
+ghost use Rattle.explore.specs.Search.{Differs, IsShown};
 ghost use Rattle.runs.specs.RunRecords.{IsRun};
 ghost use Rattle.arguments.specs.Options.{CanSearch};
 ghost use Rattle.races.specs.declared.told.RaceBounds.{RaceBounds};
-ghost use Rattle.program.specs.Findings.{AreKnown, AreRaces, IsKnown, IsLawfulShown, IsShownRun, limits_in};
+ghost use Rattle.program.specs.Findings.{AreFew, AreKnown, AreRaces, HasGrown, IsKnown, IsLawfulShown, IsShownRun, limits_in};
 
 use arguments::SearchOptions;
 use design::Design;
@@ -29,6 +27,13 @@ const FEW_ORDERS: u32 = 8;
 
 /// The most entries of these together, where each takes as many as the first run; no further one is tried once they have as many.
 const FEW_ENTRIES: u64 = 50_000;
+
+/// Texts that are known, each with its end and its journal, and how many they may be.
+#[derive(Drop)]
+pub struct KnownTexts {
+    pub shown: Vec<Shown<Entry, End>>,
+    pub most: usize,
+}
 
 /// Whether this text and this end are those of one that is known.
 fn is_same(one: &Shown<Entry, End>, text: &[u8], end: End) -> bool
@@ -53,57 +58,6 @@ fn is_there(shown: &[Shown<Entry, End>], text: &[u8], end: End) -> bool
     false
 }
 
-/// Adds a text with its end and its journal, unless one with both is there or as many as may be are. The answer is whether one is
-/// there now.
-pub fn add(
-    shown: &mut Vec<Shown<Entry, End>>,
-    one: Shown<Entry, End>,
-    most: usize,
-) -> Result<bool, AllocError>
-    requires few { length shown.old.items ≤ most }
-    requires distinct { AllPairs AreDistinct shown.old.items }
-    ensures few { length shown.new.items ≤ most }
-    ensures distinct { AllPairs AreDistinct shown.new.items }
-    ensures grows { Extends shown.old.items shown.new.items }
-    ensures lawful { (code : Compiled) (limits : Limits) → IsLawfulShown code limits one → All (IsLawfulShown code limits) shown.old.items → All (IsLawfulShown code limits) shown.new.items }
-    ensures there { IfOk result (λ there. IsTrue there → IsShown shown.new.items one.text.items one.end) }
-    ensures full { IfOk result (λ there. there ≡ false → length shown.new.items ≡ most) }
-{
-    if is_there(shown.as_slice(), one.text.as_slice(), one.end) {
-        return Ok(true);
-    }
-    if shown.len() >= most {
-        return Ok(false);
-    }
-    shown.push(one)?;
-    Ok(true)
-}
-
-/// Adds texts with their ends and their journals in their order, each unless one with both is there. It stops where as many as may be
-/// are there. The answer is whether each is there now.
-pub fn add_all(
-    shown: &mut Vec<Shown<Entry, End>>,
-    others: Vec<Shown<Entry, End>>,
-    most: usize,
-) -> Result<bool, AllocError>
-    requires few { length shown.old.items ≤ most }
-    requires distinct { AllPairs AreDistinct shown.old.items }
-    ensures few { length shown.new.items ≤ most }
-    ensures distinct { AllPairs AreDistinct shown.new.items }
-    ensures grows { Extends shown.old.items shown.new.items }
-    ensures lawful { (code : Compiled) (limits : Limits) → All (IsLawfulShown code limits) others.items → All (IsLawfulShown code limits) shown.old.items → All (IsLawfulShown code limits) shown.new.items }
-    ensures there { IfOk result (λ all. IsTrue all → All (λ s. IsShown shown.new.items s.text.items s.end) others.items) }
-    ensures full { IfOk result (λ all. all ≡ false → length shown.new.items ≡ most) }
-{
-    for one in others {
-        let there = add(shown, one, most)?;
-        if !there {
-            return Ok(false);
-        }
-    }
-    Ok(true)
-}
-
 /// The text, the end and the journal of a run, once more.
 fn copy_of(alloc: Global, run: &RunRecord) -> Result<Shown<Entry, End>, AllocError>
     ensures { IfOk result (IsShownRun run.now) }
@@ -119,71 +73,104 @@ fn copy_of(alloc: Global, run: &RunRecord) -> Result<Shown<Entry, End>, AllocErr
     })
 }
 
-/// Adds the text of a run that came to its end.
-fn add_run(
-    alloc: Global,
-    shown: &mut Vec<Shown<Entry, End>>,
-    run: &RunRecord,
-    most: usize,
-) -> Result<(), AllocError>
-    requires few { length shown.old.items ≤ most }
-    requires distinct { AllPairs AreDistinct shown.old.items }
-    ensures few { OnOk result (length shown.new.items ≤ most) }
-    ensures distinct { OnOk result (AllPairs AreDistinct shown.new.items) }
-    ensures grows { OnOk result (Extends shown.old.items shown.new.items) }
-    ensures lawful { OnOk result ((code : Compiled) (limits : Limits) → IsRun code limits run.now → All (IsLawfulShown code limits) shown.old.items → All (IsLawfulShown code limits) shown.new.items) }
-    ensures known { OnOk result (IsKnown most shown.new.items run.now) }
-{
-    if !is_whole(run) {
-        return Ok(());
+impl KnownTexts {
+    /// No texts.
+    fn new(alloc: Global, most: usize) -> KnownTexts
+        ensures few { AreFew result }
+        ensures none { result.shown.items ≡ [] }
+        ensures most { result.most ≡ most }
+    {
+        KnownTexts {
+            shown: Vec::new(alloc),
+            most,
+        }
     }
-    let one = copy_of(alloc, run)?;
-    let _ = add(shown, one, most)?;
-    Ok(())
+
+    /// Adds a text with its end and its journal, unless one with both is there or as many as may be are. The answer is whether one
+    /// is there now.
+    fn add(&mut self, one: Shown<Entry, End>) -> Result<bool, AllocError>
+        requires few { AreFew self.old }
+        ensures few { AreFew self.new }
+        ensures grows { HasGrown self.old self.new }
+        ensures lawful { (code : Compiled) (limits : Limits) → IsLawfulShown code limits one → All (IsLawfulShown code limits) self.old.shown.items → All (IsLawfulShown code limits) self.new.shown.items }
+        ensures there { IfOk result (λ there. IsTrue there → IsShown self.new.shown.items one.text.items one.end) }
+        ensures full { IfOk result (λ there. there ≡ false → length self.new.shown.items ≡ self.new.most) }
+    {
+        if is_there(self.shown.as_slice(), one.text.as_slice(), one.end) {
+            return Ok(true);
+        }
+        if self.shown.len() >= self.most {
+            return Ok(false);
+        }
+        self.shown.push(one)?;
+        Ok(true)
+    }
+
+    /// Adds texts with their ends and their journals in their order, each unless one with both is there. It stops where as many as
+    /// may be are there. The answer is whether each is there now.
+    pub fn add_all(&mut self, others: Vec<Shown<Entry, End>>) -> Result<bool, AllocError>
+        requires few { AreFew self.old }
+        ensures few { AreFew self.new }
+        ensures grows { HasGrown self.old self.new }
+        ensures lawful { (code : Compiled) (limits : Limits) → All (IsLawfulShown code limits) others.items → All (IsLawfulShown code limits) self.old.shown.items → All (IsLawfulShown code limits) self.new.shown.items }
+        ensures there { IfOk result (λ all. IsTrue all → All (λ s. IsShown self.new.shown.items s.text.items s.end) others.items) }
+        ensures full { IfOk result (λ all. all ≡ false → length self.new.shown.items ≡ self.new.most) }
+    {
+        for one in others {
+            let there = self.add(one)?;
+            if !there {
+                return Ok(false);
+            }
+        }
+        Ok(true)
+    }
+
+    /// Adds the text of a run that came to its end.
+    fn add_run(&mut self, alloc: Global, run: &RunRecord) -> Result<(), AllocError>
+        requires few { AreFew self.old }
+        ensures few { OnOk result (AreFew self.new) }
+        ensures grows { OnOk result (HasGrown self.old self.new) }
+        ensures lawful { OnOk result ((code : Compiled) (limits : Limits) → IsRun code limits run.now → All (IsLawfulShown code limits) self.old.shown.items → All (IsLawfulShown code limits) self.new.shown.items) }
+        ensures known { OnOk result (IsKnown self.new.most self.new.shown.items run.now) }
+    {
+        if !is_whole(run) {
+            return Ok(());
+        }
+        let one = copy_of(alloc, run)?;
+        let _ = self.add(one)?;
+        Ok(())
+    }
+
+    /// Adds the texts of runs that came to their ends.
+    fn add_runs(&mut self, alloc: Global, runs: &[RunRecord]) -> Result<(), AllocError>
+        requires few { AreFew self.old }
+        ensures few { OnOk result (AreFew self.new) }
+        ensures grows { OnOk result (HasGrown self.old self.new) }
+        ensures lawful { OnOk result ((code : Compiled) (limits : Limits) → All (IsRun code limits) runs.now → All (IsLawfulShown code limits) self.old.shown.items → All (IsLawfulShown code limits) self.new.shown.items) }
+    {
+        for run in runs.iter() {
+            self.add_run(alloc, run)?;
+        }
+        Ok(())
+    }
+
+    /// Adds the texts of the second runs of races, where they came to their ends.
+    fn add_races(&mut self, alloc: Global, races: &[Race]) -> Result<(), AllocError>
+        requires few { AreFew self.old }
+        ensures few { OnOk result (AreFew self.new) }
+        ensures grows { OnOk result (HasGrown self.old self.new) }
+        ensures lawful { OnOk result ((code : Compiled) (limits : Limits) → All (λ race. IsRun code limits race.exchanged) races.now → All (IsLawfulShown code limits) self.old.shown.items → All (IsLawfulShown code limits) self.new.shown.items) }
+        ensures known { OnOk result (All (λ race. IsKnown self.new.most self.new.shown.items race.exchanged) races.now) }
+    {
+        for race in races.iter() {
+            self.add_run(alloc, &race.exchanged)?;
+        }
+        Ok(())
+    }
 }
 
-/// Adds the texts of runs that came to their ends.
-fn add_runs(
-    alloc: Global,
-    shown: &mut Vec<Shown<Entry, End>>,
-    runs: &[RunRecord],
-    most: usize,
-) -> Result<(), AllocError>
-    requires few { length shown.old.items ≤ most }
-    requires distinct { AllPairs AreDistinct shown.old.items }
-    ensures few { OnOk result (length shown.new.items ≤ most) }
-    ensures distinct { OnOk result (AllPairs AreDistinct shown.new.items) }
-    ensures grows { OnOk result (Extends shown.old.items shown.new.items) }
-    ensures lawful { OnOk result ((code : Compiled) (limits : Limits) → All (IsRun code limits) runs.now → All (IsLawfulShown code limits) shown.old.items → All (IsLawfulShown code limits) shown.new.items) }
-{
-    for run in runs.iter() {
-        add_run(alloc, shown, run, most)?;
-    }
-    Ok(())
-}
-
-/// Adds the texts of the second runs of races, where they came to their ends.
-fn add_races(
-    alloc: Global,
-    shown: &mut Vec<Shown<Entry, End>>,
-    races: &[Race],
-    most: usize,
-) -> Result<(), AllocError>
-    requires few { length shown.old.items ≤ most }
-    requires distinct { AllPairs AreDistinct shown.old.items }
-    ensures few { OnOk result (length shown.new.items ≤ most) }
-    ensures distinct { OnOk result (AllPairs AreDistinct shown.new.items) }
-    ensures grows { OnOk result (Extends shown.old.items shown.new.items) }
-    ensures lawful { OnOk result ((code : Compiled) (limits : Limits) → All (λ race. IsRun code limits race.exchanged) races.now → All (IsLawfulShown code limits) shown.old.items → All (IsLawfulShown code limits) shown.new.items) }
-    ensures known { OnOk result (All (λ race. IsKnown most shown.new.items race.exchanged) races.now) }
-{
-    for race in races.iter() {
-        add_run(alloc, shown, &race.exchanged, most)?;
-    }
-    Ok(())
-}
-
-/// The texts that are known of a design before its orders are searched, and none where random ones are tried in place of that.
+/// The texts that are known of a design before its orders are searched: those of the first run, of the second runs of its races, and
+/// of a few random orders, up to as many as may be shown. None where random orders are tried in place of the search.
 pub fn known_texts<P: Progress>(
     alloc: Global,
     design: &Design,
@@ -196,31 +183,16 @@ pub fn known_texts<P: Progress>(
     ensures { IfOk result (λ known. AreKnown design.now search_options found.now known.items) }
 {
     match search_options.samples {
-        Some(_) => Ok(Vec::new(alloc)),
-        None => known_first(alloc, design, search_options, found, progress),
+        Some(_) => return Ok(Vec::new(alloc)),
+        None => {}
     }
-}
-
-/// The texts of the first run, of the second runs of its races, and of a few random orders, up to as many as may be shown.
-fn known_first<P: Progress>(
-    alloc: Global,
-    design: &Design,
-    search_options: SearchOptions,
-    found: &Found,
-    progress: &P,
-) -> Result<Vec<Shown<Entry, End>>, AllocError>
-    requires can { CanSearch search_options }
-    requires all { search_options.samples ≡ None }
-    requires races { (race_bounds : RaceBounds) × AreRaces design.now (limits_in search_options) race_bounds found.now }
-    ensures { IfOk result (λ known. AreKnown design.now search_options found.now known.items) }
-{
-    let most = search_options.max_texts as usize;
-    let mut known = Vec::new(alloc);
-    add_run(alloc, &mut known, &found.original, most)?;
-    add_races(alloc, &mut known, found.races.as_slice(), most)?;
-    let others = random_orders(alloc, design, search_options, few_orders(found), progress);
-    add_runs(alloc, &mut known, others.as_slice(), most)?;
-    Ok(known)
+    let mut known = KnownTexts::new(alloc, search_options.max_texts as usize);
+    known.add_run(alloc, &found.original)?;
+    known.add_races(alloc, found.races.as_slice())?;
+    let others = random_orders(alloc, design, search_options, found, progress);
+    known.add_runs(alloc, others.as_slice())?;
+    let KnownTexts { shown, most: _ } = known;
+    Ok(shown)
 }
 
 /// How many random orders are tried: none where the first run has no two entries whose order may matter, and else as many as the
@@ -233,12 +205,12 @@ fn few_orders(found: &Found) -> u32 {
     (FEW_ENTRIES / entries).min(u64::from(FEW_ORDERS)) as u32
 }
 
-/// So many random orders.
+/// A few random orders.
 fn random_orders<P: Progress>(
     alloc: Global,
     design: &Design,
     search_options: SearchOptions,
-    count: u32,
+    found: &Found,
     progress: &P,
 ) -> Vec<RunRecord>
     requires { CanSearch search_options }
@@ -250,7 +222,7 @@ fn random_orders<P: Progress>(
     };
     let seeds = Seeds {
         first: search_options.seed,
-        count,
+        count: few_orders(found),
     };
     let bounds = SampleBounds {
         kept: FEW_ORDERS as usize,

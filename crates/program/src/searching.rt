@@ -7,7 +7,7 @@ ghost use Rattle.explore.specs.Grown.{Extends};
 ghost use Rattle.explore.specs.Search.{AreDistinct};
 ghost use Rattle.std.specs.List.{All, AllPairs};
 ghost use Rattle.frontend.specs.Sources.{IsDesignOf};
-ghost use Rattle.program.specs.Findings.{AreFound, HaveSomeEnds, IsLawfulShown, IsClaimWithin, claim_of, finding_of, first_text, journals_of, limits_in, or_full, search_stop_of, unless_stopped};
+ghost use Rattle.program.specs.Findings.{AreFound, HaveSomeEnds, IsLawfulShown, claim_of, finding_of, first_text, journals_of, limits_in, or_full, search_stop_of, unless_stopped};
 ghost use Rattle.arguments.specs.Options.{CanSearch};
 ghost use Rattle.program.specs.Program.{status_of};
 ghost use Rattle.program.specs.Printed.{HasLeft, HasShown, IsToldLast};
@@ -15,7 +15,7 @@ ghost use Rattle.files.specs.Saved.{IsHeld, KeepsFiles, LeadsElsewhere, SavesAll
 
 use crate::fault::CommandFault;
 use crate::finding::SearchFinding;
-use crate::known::add_all;
+use crate::known::KnownTexts;
 use crate::racing::tell_races;
 use crate::sampling::sampled;
 use crate::texts::FoundTexts;
@@ -171,27 +171,9 @@ fn find_texts<P: Progress>(
     ensures grown { IfOk result (λ texts. Extends known.items texts.shown.items) }
 {
     match search_options.samples {
-        Some(count) => sampled(alloc, design, search_options, count, progress),
-        None => Ok(searched(alloc, design, search_options, known, progress)),
+        Some(count) => return sampled(alloc, design, search_options, count, progress),
+        None => {}
     }
-}
-
-/// The texts of all lawful orders, as far as they are searched, behind those that are known.
-fn searched<P: Progress>(
-    alloc: Global,
-    design: &Design,
-    search_options: SearchOptions,
-    known: Vec<Shown<Entry, End>>,
-    progress: &P,
-) -> FoundTexts
-    requires can { CanSearch search_options }
-    requires all { search_options.samples ≡ None }
-    requires lawful { All (IsLawfulShown design.now (limits_in search_options)) known.items }
-    requires distinct { AllPairs AreDistinct known.items }
-    requires few { length known.items ≤ search_options.max_texts }
-    ensures found { AreFound design.now search_options result.claim result.shown.items (option_map (λ journal. journal.items) result.endless) }
-    ensures grown { Extends known.items result.shown.items }
-{
     let limits = Limits {
         until: search_options.until,
         max_entries: search_options.max_entries,
@@ -209,17 +191,21 @@ fn searched<P: Progress>(
         nodes,
         endless,
     } = explored;
-    let mut shown = known;
-    let added = add_all(&mut shown, others, search_options.max_texts as usize);
+    let mut all = KnownTexts {
+        shown: known,
+        most: search_options.max_texts as usize,
+    };
+    let added = all.add_all(others);
+    let KnownTexts { shown, most: _ } = all;
     let stopped = stop_of(stopped, added);
     let endless = endless_of(stopped, endless);
     let number = number_of(&endless, shown.as_slice());
     let claim = claim_of(search_options, stopped, nodes, number);
-    FoundTexts {
+    Ok(FoundTexts {
         claim,
         shown,
         endless,
-    }
+    })
 }
 
 /// For what a search stopped whose texts were put behind those that are known: for its own reason, for the most texts where one of them was left out, and for want of

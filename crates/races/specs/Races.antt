@@ -1,6 +1,6 @@
 -- What a race shows, and how many there are.
 use Rattle.std.specs.Prelude.{◌≡◌, ◌≤◌, ◌⊎◌, ℕ, List, length, Option, Some}
-use Rattle.std.specs.List.{All}
+use Rattle.std.specs.List.{All, AllPairs}
 use Rattle.model.specs.declared.entry.Entry.{Entry}
 use Rattle.model.specs.declared.end.Limits.{Limits}
 use Rattle.model.specs.Design.{Design}
@@ -12,6 +12,7 @@ use Rattle.races.specs.declared.told.Race.{Race}
 use Rattle.races.specs.declared.told.RaceBounds.{RaceBounds}
 use Rattle.races.specs.declared.told.Bound.{Bound}
 use Rattle.races.specs.declared.told.Bound.TheVariants.{Races, Pairs}
+use Rattle.races.specs.declared.trials.Trials.{Trials}
 use Rattle.accesses.specs.declared.role.Role.{Role}
 use Rattle.accesses.specs.declared.pair.Pair.{Pair}
 use Rattle.accesses.specs.Roles.{HasBothOrders}
@@ -58,3 +59,16 @@ pub record IsWithinBounds (bounds : RaceBounds) (races : List Race) (tried : ℕ
   pub shown : length races ≤ tried
   pub full_races : cut ≡ Some Races → length races ≡ bounds.races
   pub full_tries : cut ≡ Some Pairs → tried ≡ bounds.pairs
+
+-- the tries so far keep within the bounds
+abbrev pub IsTrying : RaceBounds → Trials → Type 0
+IsTrying bounds t = IsWithinBounds bounds t.races.items t.tried t.cut
+
+-- as much was tried as before, or more, within the bounds, and the same races are told
+abbrev pub HasTried : RaceBounds → Trials → Trials → Type 0
+HasTried bounds old new = IsTrying bounds new × (new.races ≡ old.races) × (old.tried ≤ new.tried)
+
+-- the races that are told so far keep within the bounds, each is shown, and no two are for one site and of the same two processes
+abbrev pub AreToldRaces : Compiled → Limits → RunRecord → RaceBounds → Trials → Type 0
+AreToldRaces code limits original bounds t =
+    IsTrying bounds t × All (IsShownRace code limits original) t.races.items × AllPairs AreOthers t.races.items

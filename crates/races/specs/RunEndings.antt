@@ -1,21 +1,42 @@
--- Where a run of a machine ends.
-use Rattle.std.specs.Prelude.{◌≤◌, List, length, IfSome}
+-- A run under way, and where it may end.
+use Rattle.std.specs.Prelude.{◌≡◌, ◌<◌, ◌≤◌, length, Option, Some, IfSome}
 use Rattle.model.specs.declared.entry.Entry.{Entry}
 use Rattle.model.specs.declared.end.Limits.{Limits}
 use Rattle.model.specs.declared.end.End.{End}
 use Rattle.model.specs.Runs.{last_time, EndsIn}
 use Rattle.design.specs.Compiled.{Compiled, design_of}
-use Rattle.regions.specs.Machine.{MachineView, state_at}
+use Rattle.turn.specs.TurnLogs.{LogView}
+use Rattle.regions.specs.StepLogs.{IsTurnGiven}
+use Rattle.regions.specs.Machine.{state_at}
 use Rattle.runs.specs.declared.run.RunRecord.{RunRecord}
-use Rattle.runs.specs.RunRecords.{IsRun}
+use Rattle.runs.specs.Halting.{GoesOn}
+use Rattle.runs.specs.RunRecords.{HasComeTo, IsRun}
+use Rattle.races.specs.declared.journaled_machine.JournaledMachine.{JournaledMachine}
 
 -- the limit of time, where there is one, isn't past the last time
 abbrev pub HasTimeLimit : Limits → Type 0
 HasTimeLimit limits = IfSome limits.until (λ until. until ≤ last_time)
 
--- a run with these limits may end in this way where the machine stands, behind this journal
-abbrev pub EndsAt : Limits → List Entry → MachineView → End → Type 0
-EndsAt limits journal p end = EndsIn (design_of p.code) limits (length journal) (state_at p) end
+-- a run is under way: its limit of time isn't past the last time, and its machine stands behind its journal, which is lawful and in
+-- time
+abbrev pub IsUnderWay : JournaledMachine → Type 0
+IsUnderWay run = HasTimeLimit run.limits × HasComeTo run.limits run.journal.items run.machine
+
+-- a run under way has room for an entry more, and one may be next in time
+abbrev pub MayGoOn : JournaledMachine → Type 0
+MayGoOn run = IsUnderWay run × (length run.journal.items < run.limits.max_entries) × GoesOn run.limits (state_at run.machine)
+
+-- a run went on, or stayed: it is under way, as one of the same design and within the same limits
+abbrev pub HasGoneOn : JournaledMachine → JournaledMachine → Type 0
+HasGoneOn old new = IsUnderWay new × (new.machine.code ≡ old.machine.code) × (new.limits ≡ old.limits)
+
+-- a log that is given is that of the turn that an entry takes where a run stands
+abbrev pub IsGivenLog : JournaledMachine → Entry → Option LogView → Type 0
+IsGivenLog run entry log = IfSome log (λ turn. IsTurnGiven run.machine.code (state_at run.machine) entry (Some turn))
+
+-- a run may end in this way where its machine stands
+abbrev pub EndsAt : JournaledMachine → End → Type 0
+EndsAt run end = EndsIn (design_of run.machine.code) run.limits (length run.journal.items) (state_at run.machine) end
 
 -- a run of every design, within any limits: one of no entries, for which there was no memory
 abbrev pub IsOfAnyDesign : RunRecord → Type 0

@@ -12,11 +12,12 @@ struct StepMarks {
     assigned: bool,
 }
 
-/// How steps hang on an earlier one: which need it, themselves or by another one that does; and which depend on it, since they
+/// How steps hang on an earlier one, and the later one behind them: which need it, themselves or by another one that does; and which depend on it, since they
 /// need it or conflict with it, themselves or by another one that does.
 #[derive(Drop)]
 struct Chain {
     earlier: usize,
+    later: SegmentStep,
     by_earlier: StepMarks,
     by_depending: StepMarks,
     needing: StepSet,
@@ -66,16 +67,20 @@ impl StepMarks {
 }
 
 impl Chain {
-    // How the steps between two hang on the earlier one.
+    // How the steps between two hang on the earlier one. None where the later one needs it.
     fn between(
         alloc: Global,
         segment: &Segment,
         earlier: usize,
         later: usize,
-    ) -> Result<Chain, AllocError> {
+    ) -> Result<Option<Chain>, AllocError> {
+        let Some(last) = segment.step_at(later) else {
+            return Ok(None);
+        };
         let width = later.saturating_sub(earlier);
         let mut chain = Chain {
             earlier,
+            later: last,
             by_earlier: StepMarks::new(alloc, segment.sites())?,
             by_depending: StepMarks::new(alloc, segment.sites())?,
             needing: StepSet::new(alloc, width)?,
@@ -90,7 +95,11 @@ impl Chain {
                 chain.pass(at, step, segment.accesses_of(at));
             }
         }
-        Ok(chain)
+        if chain.needs(last) {
+            Ok(None)
+        } else {
+            Ok(Some(chain))
+        }
     }
 
     // Whether a step that another one needs is in a set.
@@ -147,15 +156,10 @@ impl Segment {
         later: usize,
     ) -> Result<Option<PriorSteps>, AllocError> {
         let width = later.saturating_sub(earlier);
-        let last = match self.step_at(later) {
-            Some(last) => last,
-            None => return Ok(None),
-        };
-        let chain = Chain::between(alloc, self, earlier, later)?;
-        if chain.needs(last) {
+        let Some(chain) = Chain::between(alloc, self, earlier, later)? else {
             return Ok(None);
-        }
-        let is_tied = chain.is_linked(last, self.accesses_of(later));
+        };
+        let is_tied = chain.is_linked(chain.later, self.accesses_of(later));
         let steps = if is_tied {
             others(alloc, &chain.needing, width)?
         } else {
@@ -172,14 +176,9 @@ impl Segment {
         earlier: usize,
         later: usize,
     ) -> Result<Option<PriorSteps>, AllocError> {
-        let last = match self.step_at(later) {
-            Some(last) => last,
-            None => return Ok(None),
-        };
-        let chain = Chain::between(alloc, self, earlier, later)?;
-        if chain.needs(last) {
+        let Some(chain) = Chain::between(alloc, self, earlier, later)? else {
             return Ok(None);
-        }
+        };
         let steps = others(alloc, &chain.needing, later.saturating_sub(earlier))?;
         Ok(Some(PriorSteps {
             steps,

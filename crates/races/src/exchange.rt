@@ -1,7 +1,7 @@
 //! The second run of a conflict, in which the order of its two entries is turned.
-ghost use Rattle.std.specs.Prelude.{◌≡◌, IfOk, IfSome};
-ghost use Rattle.runs.specs.RunRecords.{HasComeTo, IsRun};
-ghost use Rattle.races.specs.RunEndings.{EndsAt};
+ghost use Rattle.std.specs.Prelude.{IfOk, IfSome};
+ghost use Rattle.runs.specs.RunRecords.{IsRun};
+ghost use Rattle.races.specs.RunEndings.{IsUnderWay, HasGoneOn, EndsAt};
 
 use crate::conflicts::{Conflict, Turning};
 use crate::follow::{follow_made, follow_on, follow_segment, lead_all, repeat};
@@ -56,36 +56,6 @@ fn have_one_text(
     Ok(copy.take_lines() == other.take_lines())
 }
 
-// Whether a second run stands where the first one stood before the next change of the regions, with the same text: what follows is the same
-// then. The machine stands where the two runs part, and is led on by the first one's entries.
-fn rejoins(
-    task: RaceSearch<'_>,
-    run: &JournaledMachine<'_>,
-    machine: &mut Machine<'_>,
-    pair: Pair,
-) -> Result<bool, AllocError> {
-    let place = next_change(task.transitions, pair.later);
-    let entries = match task.original.journal.get(pair.earlier..place) {
-        Some(entries) => entries,
-        None => return Ok(false),
-    };
-    if run.machine.state().is_active() || !lead(machine, entries) {
-        return Ok(false);
-    }
-    if !have_one_state(task.alloc, &run.machine, machine)? {
-        return Ok(false);
-    }
-    have_one_text(task.alloc, &run.machine, machine)
-}
-
-/// What a second run takes behind the entries before a pair, by the places of their transitions, and how many entries it may have.
-#[derive(Clone, Copy)]
-pub(crate) struct Lead<'a> {
-    pub(crate) pair: Pair,
-    pub(crate) places: &'a [usize],
-    pub(crate) most: u64,
-}
-
 /// Whether the entries of a pair are turned, or keep their order.
 #[derive(Clone, Copy)]
 pub(crate) enum Order {
@@ -93,153 +63,178 @@ pub(crate) enum Order {
     Kept,
 }
 
-// The transitions of the first run behind a pair's earlier entry, but for those that were taken before.
-fn guide_behind<'a>(task: RaceSearch<'a>, lead: Lead<'a>) -> Guide<'a> {
-    Guide {
-        transitions: task.transitions,
-        at: lead.pair.earlier.saturating_add(1),
-        taken: lead.places,
-        later: lead.pair.later,
-    }
+// How a second run is led: the search and the pair that it is for, what it takes behind the entries before the pair, by the places of
+// their transitions, and how many entries it may have.
+#[derive(Clone, Copy)]
+struct Lead<'a> {
+    task: RaceSearch<'a>,
+    pair: Pair,
+    places: &'a [usize],
+    most: u64,
 }
 
-// Takes the entries of the first run before a pair. The answer is whether all were taken.
-fn repeat_before(task: RaceSearch<'_>, run: &mut JournaledMachine<'_>, pair: Pair) -> bool
-    requires come { HasComeTo task.limits run.old.journal.items run.old.machine }
-    ensures come { HasComeTo task.entry.limits run.new.journal.items run.new.machine }
-    ensures code { run.new.machine.code ≡ run.old.machine.code }
-{
-    let journal = task.original.journal.as_slice();
-    let count = pair.earlier.min(journal.len());
-    repeat(run, task.limits, journal.split_at(count).0)
-}
+impl<'a> Lead<'a> {
+    // The transitions of the first run behind the pair's earlier entry, but for those that were taken before.
+    fn guide(self) -> Guide<'a> {
+        Guide {
+            transitions: self.task.transitions,
+            at: self.pair.earlier.saturating_add(1),
+            taken: self.places,
+            later: self.pair.later,
+        }
+    }
 
-// Goes on behind the two entries of a pair to the end of the run, unless it comes to where the first run came, or has as many entries as
-// it may have.
-fn go_on<P: Progress>(
-    task: RaceSearch<'_>,
-    run: &mut JournaledMachine<'_>,
-    machine: &mut Machine<'_>,
-    turned: Lead<'_>,
-    progress: &P,
-) -> Result<Option<End>, AllocError>
-    requires come { HasComeTo task.limits run.old.journal.items run.old.machine }
-    ensures come { HasComeTo task.entry.limits run.new.journal.items run.new.machine }
-    ensures code { run.new.machine.code ≡ run.old.machine.code }
-    ensures ends { IfOk result (λ end. IfSome end (EndsAt task.entry.limits run.new.journal.items run.new.machine)) }
-{
-    let mut guide = guide_behind(task, turned);
-    let end = follow_segment(run, task.limits, &mut guide, MOST_STEPS);
-    if end.is_some() {
-        return Ok(end);
+    // Whether a second run stands where the first one stood before the next change of the regions, with the same text: what follows is
+    // the same then. The machine stands where the two runs part, and is led on by the first one's entries.
+    fn rejoins(
+        self,
+        run: &JournaledMachine<'_>,
+        machine: &mut Machine<'_>,
+    ) -> Result<bool, AllocError> {
+        let task = self.task;
+        let place = next_change(task.transitions, self.pair.later);
+        let entries = match task.original.journal.get(self.pair.earlier..place) {
+            Some(entries) => entries,
+            None => return Ok(false),
+        };
+        if run.machine.state().is_active() || !lead(machine, entries) {
+            return Ok(false);
+        }
+        if !have_one_state(task.alloc, &run.machine, machine)? {
+            return Ok(false);
+        }
+        have_one_text(task.alloc, &run.machine, machine)
     }
-    if rejoins(task, run, machine, turned.pair)? {
-        return Ok(None);
-    }
-    Ok(follow_on(run, task.limits, &mut guide, turned.most, progress))
-}
 
-// Takes the entries of the first run before a pair, those in its place, and then the transitions of the first run as far as they may be taken.
-// None where one of those before may not be taken, where it comes to where the first run came, or has as many entries as it may have.
-fn lead_swapped<P: Progress>(
-    task: RaceSearch<'_>,
-    run: &mut JournaledMachine<'_>,
-    turned: Lead<'_>,
-    progress: &P,
-) -> Result<Option<End>, AllocError>
-    requires come { HasComeTo task.limits run.old.journal.items run.old.machine }
-    ensures come { HasComeTo task.entry.limits run.new.journal.items run.new.machine }
-    ensures code { run.new.machine.code ≡ run.old.machine.code }
-    ensures ends { IfOk result (λ end. IfSome end (EndsAt task.entry.limits run.new.journal.items run.new.machine)) }
-{
-    if !repeat_before(task, run, turned.pair) {
-        return Ok(None);
+    // Takes the entries of the first run before the pair. The answer is whether all were taken.
+    fn repeat_before(self, run: &mut JournaledMachine<'_>) -> bool
+        requires { IsUnderWay run.old }
+        ensures { HasGoneOn run.old run.new }
+    {
+        let journal = self.task.original.journal.as_slice();
+        let count = self.pair.earlier.min(journal.len());
+        repeat(run, journal.split_at(count).0)
     }
-    let mut machine = copy_of(task.alloc, &run.machine)?;
-    if !lead_all(run, task.limits, task.transitions, turned.places) {
-        return Ok(None);
-    }
-    go_on(task, run, &mut machine, turned, progress)
-}
 
-// Takes the entries of the first run before a pair, and those in its place, of which the last finishes the run. None where one may not be
-// taken, or the run hasn't finished.
-fn lead_cut_off(
-    task: RaceSearch<'_>,
-    run: &mut JournaledMachine<'_>,
-    turned: Lead<'_>,
-) -> Option<End>
-    requires come { HasComeTo task.limits run.old.journal.items run.old.machine }
-    ensures come { HasComeTo task.entry.limits run.new.journal.items run.new.machine }
-    ensures code { run.new.machine.code ≡ run.old.machine.code }
-    ensures ends { IfSome result (EndsAt task.entry.limits run.new.journal.items run.new.machine) }
-{
-    if !repeat_before(task, run, turned.pair) {
-        return None;
+    // Takes the entries of the first run before the pair, and those in its place. The answer is whether all were taken.
+    fn take_all(self, run: &mut JournaledMachine<'_>) -> bool
+        requires { IsUnderWay run.old }
+        ensures { HasGoneOn run.old run.new }
+    {
+        if !self.repeat_before(run) {
+            return false;
+        }
+        lead_all(run, self.task.transitions, self.places)
     }
-    if !lead_all(run, task.limits, task.transitions, turned.places) {
-        return None;
-    }
-    run.end(task.limits)
-}
 
-// Takes the entries of the first run before its last one, another one and what comes of it, then the last one, and goes on. None where one
-// of those may not be taken, or it has as many entries as it may have.
-fn lead_held_back<P: Progress>(
-    task: RaceSearch<'_>,
-    run: &mut JournaledMachine<'_>,
-    other: Entry,
-    turned: Lead<'_>,
-    progress: &P,
-) -> Option<End>
-    requires come { HasComeTo task.limits run.old.journal.items run.old.machine }
-    ensures come { HasComeTo task.entry.limits run.new.journal.items run.new.machine }
-    ensures code { run.new.machine.code ≡ run.old.machine.code }
-    ensures ends { IfSome result (EndsAt task.entry.limits run.new.journal.items run.new.machine) }
-{
-    if !repeat_before(task, run, turned.pair) {
-        return None;
+    // Takes the entries of the first run before the pair, those in its place, and then the transitions of the first run as far as they
+    // may be taken. None where one of those before may not be taken, where it comes to where the first run came, or has as many entries
+    // as it may have.
+    fn swapped<P: Progress>(
+        self,
+        run: &mut JournaledMachine<'_>,
+        progress: &P,
+    ) -> Result<Option<End>, AllocError>
+        requires { IsUnderWay run.old }
+        ensures went { HasGoneOn run.old run.new }
+        ensures ends { IfOk result (λ end. IfSome end (EndsAt run.new)) }
+    {
+        if !self.repeat_before(run) {
+            return Ok(None);
+        }
+        let mut machine = copy_of(self.task.alloc, &run.machine)?;
+        if !lead_all(run, self.task.transitions, self.places) {
+            return Ok(None);
+        }
+        let mut guide = self.guide();
+        let end = follow_segment(run, &mut guide, MOST_STEPS);
+        if end.is_some() {
+            return Ok(end);
+        }
+        if self.rejoins(run, &mut machine)? {
+            return Ok(None);
+        }
+        Ok(follow_on(run, &mut guide, self.most, progress))
     }
-    if !repeat(run, task.limits, &[other]) {
-        return None;
-    }
-    if !follow_made(run, task.limits, MOST_STEPS) {
-        return None;
-    }
-    let last = task.original.journal.get(turned.pair.earlier).copied()?;
-    if !repeat(run, task.limits, &[last]) {
-        return None;
-    }
-    let mut guide = Guide {
-        transitions: &[],
-        at: 0,
-        taken: &[],
-        later: 0,
-    };
-    follow_on(run, task.limits, &mut guide, turned.most, progress)
-}
 
-// Takes the entries of the first run before a pair, and those in its place, in which the two keep their order, and goes on. None where one
-// may not be taken, or it has as many entries as it may have.
-fn lead_kept<P: Progress>(
-    task: RaceSearch<'_>,
-    run: &mut JournaledMachine<'_>,
-    kept: Lead<'_>,
-    progress: &P,
-) -> Option<End>
-    requires come { HasComeTo task.limits run.old.journal.items run.old.machine }
-    ensures come { HasComeTo task.entry.limits run.new.journal.items run.new.machine }
-    ensures code { run.new.machine.code ≡ run.old.machine.code }
-    ensures ends { IfSome result (EndsAt task.entry.limits run.new.journal.items run.new.machine) }
-{
-    if !repeat_before(task, run, kept.pair) {
-        return None;
+    // Takes the entries of the first run before the pair, and those in its place, of which the last finishes the run. None where one may
+    // not be taken, or the run hasn't finished.
+    fn cut_off(self, run: &mut JournaledMachine<'_>) -> Option<End>
+        requires { IsUnderWay run.old }
+        ensures went { HasGoneOn run.old run.new }
+        ensures ends { IfSome result (EndsAt run.new) }
+    {
+        if !self.take_all(run) {
+            return None;
+        }
+        run.end()
     }
-    if !lead_all(run, task.limits, task.transitions, kept.places) {
-        return None;
+
+    // Takes the entries of the first run before its last one, another one and what comes of it, then the last one, and goes on. None
+    // where one of those may not be taken, or it has as many entries as it may have.
+    fn held_back<P: Progress>(
+        self,
+        other: Entry,
+        run: &mut JournaledMachine<'_>,
+        progress: &P,
+    ) -> Option<End>
+        requires { IsUnderWay run.old }
+        ensures went { HasGoneOn run.old run.new }
+        ensures ends { IfSome result (EndsAt run.new) }
+    {
+        if !self.repeat_before(run) {
+            return None;
+        }
+        if !repeat(run, &[other]) {
+            return None;
+        }
+        if !follow_made(run, MOST_STEPS) {
+            return None;
+        }
+        let last = self.task.original.journal.get(self.pair.earlier).copied()?;
+        if !repeat(run, &[last]) {
+            return None;
+        }
+        let mut guide = Guide {
+            transitions: &[],
+            at: 0,
+            taken: &[],
+            later: 0,
+        };
+        follow_on(run, &mut guide, self.most, progress)
     }
-    let mut guide = guide_behind(task, kept);
-    follow_on(run, task.limits, &mut guide, kept.most, progress)
+
+    // Takes the entries of the first run before the pair, and those in its place, in which the two keep their order, and goes on. None
+    // where one may not be taken, or it has as many entries as it may have.
+    fn kept<P: Progress>(self, run: &mut JournaledMachine<'_>, progress: &P) -> Option<End>
+        requires { IsUnderWay run.old }
+        ensures went { HasGoneOn run.old run.new }
+        ensures ends { IfSome result (EndsAt run.new) }
+    {
+        if !self.take_all(run) {
+            return None;
+        }
+        let mut guide = self.guide();
+        follow_on(run, &mut guide, self.most, progress)
+    }
+
+    // Leads a run as the order of the pair's entries is turned.
+    fn turned<P: Progress>(
+        self,
+        run: &mut JournaledMachine<'_>,
+        turning: Turning,
+        progress: &P,
+    ) -> Result<Option<End>, AllocError>
+        requires { IsUnderWay run.old }
+        ensures went { HasGoneOn run.old run.new }
+        ensures ends { IfOk result (λ end. IfSome end (EndsAt run.new)) }
+    {
+        match turning {
+            Turning::Swapped => self.swapped(run, progress),
+            Turning::CutOff => Ok(self.cut_off(run)),
+            Turning::HeldBack(other) => Ok(self.held_back(other, run, progress)),
+        }
+    }
 }
 
 // The places of what a second run takes in the place of a conflict's earlier entry: those of the steps between the two, and then the two,
@@ -262,26 +257,6 @@ fn places_of(alloc: Global, conflict: &Conflict, order: Order) -> Result<Vec<usi
     Ok(places)
 }
 
-// Leads a run as the order of a conflict's entries is turned.
-fn lead_turned<P: Progress>(
-    task: RaceSearch<'_>,
-    run: &mut JournaledMachine<'_>,
-    turning: Turning,
-    turned: Lead<'_>,
-    progress: &P,
-) -> Result<Option<End>, AllocError>
-    requires come { HasComeTo task.limits run.old.journal.items run.old.machine }
-    ensures come { HasComeTo task.entry.limits run.new.journal.items run.new.machine }
-    ensures code { run.new.machine.code ≡ run.old.machine.code }
-    ensures ends { IfOk result (λ end. IfSome end (EndsAt task.entry.limits run.new.journal.items run.new.machine)) }
-{
-    match turning {
-        Turning::Swapped => lead_swapped(task, run, turned, progress),
-        Turning::CutOff => Ok(lead_cut_off(task, run, turned)),
-        Turning::HeldBack(other) => Ok(lead_held_back(task, run, other, turned, progress)),
-    }
-}
-
 /// A second run, in which the order of a conflict's entries is turned or kept, and the steps before them come before both. What it takes is
 /// taken off the entries that are left to second runs. None where it can't be made, where no entries are left, or, of a run in which the order
 /// is turned, where it comes to where the first run came, with the same text.
@@ -300,19 +275,20 @@ pub(crate) fn exchange<P: Progress>(
         return Ok(None);
     }
     let places = places_of(task.alloc, conflict, order)?;
-    let mut run = JournaledMachine::start(task.alloc, task.design)?;
+    let mut run = JournaledMachine::start(task.alloc, task.design, task.limits)?;
     let lead = Lead {
+        task,
         pair: conflict.pair,
         places: &places,
         most,
     };
     let end = match order {
-        Order::Turned => lead_turned(task, &mut run, conflict.turning, lead, progress),
-        Order::Kept => Ok(lead_kept(task, &mut run, lead, progress)),
+        Order::Turned => lead.turned(&mut run, conflict.turning, progress),
+        Order::Kept => Ok(lead.kept(&mut run, progress)),
     };
     *left = most.saturating_sub(run.journal.len() as u64);
     match end {
-        Ok(Some(end)) => Ok(Some(run.told(task.alloc, task.limits, end))),
+        Ok(Some(end)) => Ok(Some(run.told(task.alloc, end))),
         Ok(None) => Ok(None),
         Err(error) => Err(error),
     }

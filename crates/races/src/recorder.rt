@@ -1,13 +1,10 @@
 //! The first run, and what its entries do.
-ghost use Rattle.std.specs.Prelude.{◌≡◌, ◌<◌, List, length, IfSome, None};
-ghost use Rattle.model.specs.declared.entry.Entry.{Entry};
+ghost use Rattle.std.specs.Prelude.{◌≡◌, IfSome, None, option_copied};
 ghost use Rattle.model.specs.declared.entry.Entry.TheVariants.{Turn};
-ghost use Rattle.model.specs.declared.end.Limits.{Limits};
 ghost use Rattle.model.specs.Runs.{refusal};
 ghost use Rattle.regions.specs.Machine.{state_at};
-ghost use Rattle.runs.specs.Halting.{GoesOn};
-ghost use Rattle.runs.specs.RunRecords.{HasComeTo, IsRun};
-ghost use Rattle.races.specs.RunEndings.{HasTimeLimit, EndsAt};
+ghost use Rattle.runs.specs.RunRecords.{IsRun};
+ghost use Rattle.races.specs.RunEndings.{IsUnderWay, IsGivenLog, MayGoOn, HasGoneOn, EndsAt};
 
 use crate::conflicts::Conflicts;
 use crate::journaled_machine::JournaledMachine;
@@ -16,7 +13,7 @@ use crate::told::{Bound, RaceBounds};
 use crate::transitions::{RunTransition, first_entry};
 use accesses::{Does, Role, Site};
 use design::Design;
-use model::end::{End, Limits, Why};
+use model::end::{End, Why};
 use model::entry::Entry;
 use progress::{Progress, tell_entries};
 use regions::Machine;
@@ -24,15 +21,15 @@ use runs::run::RunRecord;
 use std::alloc::Global;
 use turn::{Suspend, TurnLog};
 
-// The most events that are looked at which a run leaves behind as it finishes.
-const MOST_LEFT: usize = 1_024;
-
 /// Who made an event: the process of a turn, or that of the turn that made an update, and its place in the journal.
 #[derive(Clone, Copy)]
 struct EventOrigin {
     process: u32,
     place: usize,
 }
+
+// The most events that are looked at which a run leaves behind as it finishes.
+const MOST_LEFT: usize = 1_024;
 
 /// What is noted of the entries of a run.
 #[derive(Drop)]
@@ -248,11 +245,11 @@ impl RunRecorder {
         }
     }
 
-    // Notes that an entry was taken. Where it can't be noted, the run ends for want of memory.
-    fn taken(&mut self, machine: &Machine<'_>, noted: Option<Noted>) -> Option<End>
-        ensures { (limits : Limits) (journal : List Entry) → IfSome result (EndsAt limits journal machine.now) }
+    // Notes that a run took an entry. Where it can't be noted, the run ends for want of memory.
+    fn taken(&mut self, run: &JournaledMachine<'_>, noted: Option<Noted>) -> Option<End>
+        ensures { IfSome result (EndsAt run.now) }
     {
-        if self.note_taken(machine, noted) {
+        if self.note_taken(&run.machine, noted) {
             None
         } else {
             Some(End::Stopped(Why::Memory))
@@ -275,70 +272,59 @@ fn own_events(log: &TurnLog) -> u64 {
     }
 }
 
-// Takes an entry of which this is noted, or else answers how the run ends here.
+// Takes an entry of which this is noted, a turn by its log, or else answers how the run ends here.
 fn recorder_step(
     run: &mut JournaledMachine<'_>,
-    limits: Limits,
     recorder: &mut RunRecorder,
     entry: Entry,
+    log: Option<&TurnLog>,
     noted: Option<Noted>,
 ) -> Option<End>
-    requires come { HasComeTo limits run.old.journal.items run.old.machine }
-    requires few { length run.old.journal.items < limits.max_entries }
-    requires goes_on { GoesOn limits (state_at run.old.machine) }
+    requires goes_on { MayGoOn run.old }
     requires permitted { refusal (state_at run.old.machine) entry ≡ None }
-    ensures come { HasComeTo limits run.new.journal.items run.new.machine }
-    ensures code { run.new.machine.code ≡ run.old.machine.code }
-    ensures ends { IfSome result (EndsAt limits run.new.journal.items run.new.machine) }
+    requires given { IsGivenLog run.old entry (option_copied log) }
+    ensures went { HasGoneOn run.old run.new }
+    ensures ends { IfSome result (EndsAt run.new) }
 {
-    if let Some(end) = run.step(limits, entry) {
+    if let Some(end) = run.step(entry, log) {
         return Some(end);
     }
-    recorder.taken(&run.machine, noted)
+    recorder.taken(run, noted)
 }
 
 // Evaluates a turn into a log, notes it, and takes it by that log, or else answers how the run ends here. One that can't be evaluated
 // is taken without: that tells the end.
 fn recorder_turn(
     run: &mut JournaledMachine<'_>,
-    limits: Limits,
     recorder: &mut RunRecorder,
     log: &mut TurnLog,
     number: u64,
 ) -> Option<End>
-    requires come { HasComeTo limits run.old.journal.items run.old.machine }
-    requires few { length run.old.journal.items < limits.max_entries }
-    requires goes_on { GoesOn limits (state_at run.old.machine) }
+    requires goes_on { MayGoOn run.old }
     requires permitted { refusal (state_at run.old.machine) (Turn number) ≡ None }
-    ensures come { HasComeTo limits run.new.journal.items run.new.machine }
-    ensures code { run.new.machine.code ≡ run.old.machine.code }
-    ensures ends { IfSome result (EndsAt limits run.new.journal.items run.new.machine) }
+    ensures went { HasGoneOn run.old run.new }
+    ensures ends { IfSome result (EndsAt run.new) }
 {
+    let turn = Entry::Turn(number);
     let process = match run.machine.evaluate(log, number, 0) {
         Ok(Some(process)) => process,
-        _ => return recorder_step(run, limits, recorder, Entry::Turn(number), None),
+        _ => return recorder_step(run, recorder, turn, None, None),
     };
     let noted = recorder.note_turn(&run.machine, number, process, log);
-    if let Some(end) = run.step_turn(limits, number, log) {
-        return Some(end);
-    }
-    recorder.taken(&run.machine, Some(noted))
+    recorder_step(run, recorder, turn, Some(&*log), Some(noted))
 }
 
 // Takes the first entry that may be next, or else answers how the run ends here.
 fn record_entry(
     run: &mut JournaledMachine<'_>,
-    limits: Limits,
     recorder: &mut RunRecorder,
     log: &mut TurnLog,
 ) -> Option<End>
-    requires until { HasTimeLimit limits }
-    requires come { HasComeTo limits run.old.journal.items run.old.machine }
-    ensures come { HasComeTo limits run.new.journal.items run.new.machine }
-    ensures code { run.new.machine.code ≡ run.old.machine.code }
-    ensures ends { IfSome result (EndsAt limits run.new.journal.items run.new.machine) }
+    requires { IsUnderWay run.old }
+    ensures went { HasGoneOn run.old run.new }
+    ensures ends { IfSome result (EndsAt run.new) }
 {
-    if let Some(end) = run.end(limits) {
+    if let Some(end) = run.end() {
         return Some(end);
     }
     let entry = match first_entry(&run.machine) {
@@ -346,34 +332,30 @@ fn record_entry(
         None => return Some(End::Stopped(Why::Memory)),
     };
     let noted = match entry {
-        Entry::Turn(number) => return recorder_turn(run, limits, recorder, log, number),
+        Entry::Turn(number) => return recorder_turn(run, recorder, log, number),
         Entry::Update(number) => recorder.note_update(&run.machine, number),
         change => Some(recorder.note_change(change)),
     };
-    recorder_step(run, limits, recorder, entry, noted)
+    recorder_step(run, recorder, entry, None, noted)
 }
 
 /// Makes the first run, which takes the first entry that may be next at each choice, from its start.
 pub(crate) fn record_run<P: Progress>(
     alloc: Global,
-    design: &Design,
     run: &mut JournaledMachine<'_>,
-    limits: Limits,
     recorder: &mut RunRecorder,
     progress: &P,
 ) -> RunRecord
-    requires until { HasTimeLimit limits }
-    requires come { HasComeTo limits run.old.journal.items run.old.machine }
-    requires code { run.old.machine.code ≡ design.now }
-    ensures { IsRun design.now limits result }
+    requires { IsUnderWay run.old }
+    ensures { IsRun run.old.machine.code run.old.limits result }
 {
     let mut log = TurnLog::new(alloc);
-    for _ in 0..limits.max_entries {
-        if let Some(end) = record_entry(run, limits, recorder, &mut log) {
-            return run.told(alloc, limits, end);
+    for _ in 0..run.limits.max_entries {
+        if let Some(end) = record_entry(run, recorder, &mut log) {
+            return run.told(alloc, end);
         }
         tell_entries(progress, run.journal.len() as u64, run.machine.time());
     }
-    let end = run.last_end(limits);
-    run.told(alloc, limits, end)
+    let end = run.last_end();
+    run.told(alloc, end)
 }

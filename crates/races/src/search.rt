@@ -9,10 +9,11 @@ use crate::journaled_machine::JournaledMachine;
 use crate::race_search::RaceSearch;
 use crate::recorder::{RunRecorder, record_run};
 use crate::told::{Bound, Found, RaceBounds};
-use crate::trials::{Trials, try_all, wants_memory};
+use crate::trials::{Trials, try_all};
 use design::Design;
 use model::end::{End, Limits, Why};
 use progress::Progress;
+use runs::compared::wants_memory;
 use runs::run::RunRecord;
 use std::alloc::Global;
 
@@ -64,12 +65,12 @@ pub fn find_races<P: Progress>(
     // The bounds hold, each race has taken a second run, and the list is cut by a bound only where it is met.
     ensures within { IsWithinBounds bounds result.races.items result.tried result.cut }
 {
-    let mut run = match JournaledMachine::start(alloc, design) {
+    let mut run = match JournaledMachine::start(alloc, design, limits) {
         Ok(run) => run,
         Err(_) => return without_races(alloc, nothing(alloc)),
     };
     let mut recorder = RunRecorder::start(alloc, design, bounds);
-    let original = record_run(alloc, design, &mut run, limits, &mut recorder, progress);
+    let original = record_run(alloc, &mut run, &mut recorder, progress);
     if wants_memory(&original) {
         return without_races(alloc, original);
     }

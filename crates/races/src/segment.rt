@@ -195,8 +195,19 @@ impl Segment {
         self.finishing = self.steps.len().checked_sub(1);
     }
 
-    // Keeps an access, and counts those to each site.
-    fn keep_access(&mut self, access: Access) -> Result<(), AllocError> {
+    // The place of the last step.
+    fn last_step(&self) -> usize {
+        self.steps.len().saturating_sub(1)
+    }
+
+    // Keeps an access of the last step, and counts those to each site.
+    fn keep_access(&mut self, site: Site, does: Does, changes: bool) -> Result<(), AllocError> {
+        let access = Access {
+            step: self.last_step(),
+            site,
+            does,
+            changes,
+        };
         let number = access.site_number();
         self.sites = self.sites.max(number.saturating_add(1));
         self.accesses.push(access)?;
@@ -208,28 +219,22 @@ impl Segment {
         if self.cut.is_some() {
             return;
         }
-        let access = Access {
-            step: self.steps.len().saturating_sub(1),
-            site,
-            does,
-            changes,
-        };
-        let kept = self.keep_access(access);
+        let kept = self.keep_access(site, does, changes);
         self.noted(kept);
     }
 
-    // Keeps an assignment, in place of an earlier one of the same step, and counts those to each register.
-    fn keep_assign(&mut self, assign: Assign) -> Result<(), AllocError> {
-        let Assign {
-            step,
-            register,
-            due,
-            ..
-        } = assign;
+    // Keeps an assignment of the last step, in place of an earlier one of it, and counts those to each register.
+    fn keep_assign(&mut self, register: RegId, value: Bits, due: u64) -> Result<(), AllocError> {
+        let step = self.last_step();
         if self.assigns_to.of(register as usize) > 0 {
             self.assigns.retain(|a| a.step != step || a.register != register || a.due != due);
         }
-        self.assigns.push(assign)?;
+        self.assigns.push(Assign {
+            step,
+            register,
+            value,
+            due,
+        })?;
         self.assigns_to.add(register as usize)
     }
 
@@ -241,13 +246,7 @@ impl Segment {
         if let Some(last) = self.steps.last_mut() {
             last.assigns = true;
         }
-        let assign = Assign {
-            step: self.steps.len().saturating_sub(1),
-            register,
-            value,
-            due,
-        };
-        let kept = self.keep_assign(assign);
+        let kept = self.keep_assign(register, value, due);
         self.noted(kept);
     }
 

@@ -5,7 +5,7 @@ ghost use Rattle.model.specs.Runs.{refusal};
 ghost use Rattle.regions.specs.Machine.{state_at};
 
 use model::entry::Entry;
-use regions::{Choices, Machine};
+use regions::{Choices, Machine, region_of};
 
 // How many of the transitions that may be wanted are looked at for one that may be next.
 const LOOK_AHEAD: usize = 64;
@@ -93,18 +93,12 @@ pub(crate) fn first_entry(machine: &Machine<'_>) -> Option<Entry>
     choices.get(0)
 }
 
-// Whether an entry comes before a change of the regions that isn't the same: a turn or an update does, and of two changes
-// the one that is due first.
+// Whether an entry comes before a change of the regions that isn't the same: of two advances that to the lesser time, and else the
+// entry whose region is emptied first.
 fn is_earlier(entry: Entry, change: Entry) -> bool {
     match (entry, change) {
-        (Entry::Turn(_), _) => true,
-        (Entry::Update(_), _) => true,
         (Entry::Advance(time), Entry::Advance(other)) => time < other,
-        (Entry::Advance(_), _) => false,
-        (_, Entry::Advance(_)) => true,
-        (Entry::ActivateInactive, _) => true,
-        (Entry::ActivateNba, Entry::ActivateMonitor) => true,
-        _ => false,
+        _ => region_of(&entry) < region_of(&change),
     }
 }
 

@@ -1,20 +1,18 @@
 //! The tries of conflicts, and the races that they show.
-ghost use Rattle.std.specs.Prelude.{◌≡◌, ◌<◌, ◌≤◌, [], false, IfOk, IfNone, IfSome, IsTrue, Some, vec_len};
+ghost use Rattle.std.specs.Prelude.{◌≡◌, ◌<◌, [], false, IfOk, IfNone, IfSome, IsTrue, Some, vec_len};
 ghost use Rattle.std.specs.List.{All, AllPairs};
-ghost use Rattle.runs.specs.Compared.{WantsNoMemory};
 ghost use Rattle.accesses.specs.Roles.{HasBothOrders};
 ghost use Rattle.design.specs.Compiled.{design_of};
-ghost use Rattle.races.specs.Races.{AreOfSame, AreOthers, IsNewBeside, IsRaceOf, IsSecond, IsShownRace, IsWithinBounds};
+ghost use Rattle.races.specs.Races.{AreOfSame, AreOthers, IsNewBeside, IsRaceOf, IsSecond, IsShownRace, IsTrying, HasTried, AreToldRaces};
 ghost use Rattle.races.specs.declared.told.Bound.TheVariants.{Races, Pairs};
 
 use crate::conflicts::{Conflict, Conflicts, Turning};
 use crate::exchange::{Order, exchange};
 use crate::race_search::RaceSearch;
 use crate::told::{Bound, Race};
-use accesses::{Pair, Site, is_confirmed, is_cut_off, is_held_back};
-use model::end::{End, Why};
+use accesses::{Claim, Pair, Site};
 use progress::Progress;
-use runs::compared::are_apart;
+use runs::compared::{are_apart, wants_memory};
 use runs::run::RunRecord;
 use std::alloc::AllocError;
 
@@ -56,16 +54,6 @@ fn is_told(races: &[Race], pair: Pair) -> bool
     false
 }
 
-// Whether a run ended for want of memory.
-pub(crate) fn wants_memory(run: &RunRecord) -> bool
-    ensures { result ≡ false → WantsNoMemory run.now }
-{
-    match run.end {
-        End::Stopped(Why::Memory) => true,
-        _ => false,
-    }
-}
-
 // How many entries a second run has between the one that it takes in a place and the first run's entry of that place.
 fn count_between(one: &RunRecord, other: &RunRecord, place: usize) -> usize {
     let last = match one.journal.get(place).copied() {
@@ -89,15 +77,20 @@ fn has_both_orders(
 ) -> Result<bool, AllocError>
     ensures { IfOk result (λ has. IsTrue has → HasBothOrders (design_of task.entry.design.now) task.entry.original.now.journal.items exchanged.now.journal.items conflict.now.pair.site conflict.now.pair.time conflict.now.pair.first conflict.now.pair.second) }
 {
-    let (alloc, design, pair) = (task.alloc, task.design, conflict.pair);
-    let (one, other) = (&task.original.journal, &exchanged.journal);
+    let claim = Claim {
+        alloc: task.alloc,
+        design: task.design,
+        journal: &task.original.journal,
+        exchanged: &exchanged.journal,
+        pair: conflict.pair,
+    };
     let before = conflict.before.steps.count();
     match conflict.turning {
-        Turning::Swapped => is_confirmed(alloc, design, one, other, pair, before),
-        Turning::CutOff => is_cut_off(alloc, design, one, other, pair, before),
+        Turning::Swapped => claim.is_confirmed(before),
+        Turning::CutOff => claim.is_cut_off(before),
         Turning::HeldBack(_) => {
-            let between = count_between(task.original, exchanged, pair.earlier);
-            is_held_back(alloc, design, one, other, pair, between)
+            let between = count_between(task.original, exchanged, conflict.pair.earlier);
+            claim.is_held_back(between)
         }
     }
 }
@@ -166,7 +159,7 @@ fn race_of(
 impl Trials {
     /// No tries yet: all entries of second runs are left, and what cut the list of conflicts has cut that of the races.
     pub(crate) fn new(task: RaceSearch<'_>, conflicts: &Conflicts) -> Trials
-        ensures within { IsWithinBounds task.entry.bounds result.races.items result.tried result.cut }
+        ensures within { IsTrying task.entry.bounds result }
         ensures none { result.races.items ≡ [] }
     {
         Trials {
@@ -179,10 +172,10 @@ impl Trials {
 
     // Notes by what the list of races is cut, unless something cut it before.
     fn cut_by(&mut self, task: RaceSearch<'_>, bound: Bound)
-        requires within { IsWithinBounds task.bounds self.old.races.items self.old.tried self.old.cut }
+        requires within { IsTrying task.bounds self.old }
         requires races { bound ≡ Races → vec_len self.old.races ≡ task.bounds.races }
         requires pairs { bound ≡ Pairs → self.old.tried ≡ task.bounds.pairs }
-        ensures within { IsWithinBounds task.entry.bounds self.new.races.items self.new.tried self.new.cut }
+        ensures within { IsTrying task.entry.bounds self.new }
         ensures same { self.new ≡ record self.old { cut = self.new.cut } }
     {
         if self.cut.is_none() {
@@ -192,7 +185,7 @@ impl Trials {
 
     // The bound of the tries that is met, if one is.
     fn met(&self, task: RaceSearch<'_>) -> Option<Bound>
-        requires within { IsWithinBounds task.bounds self.now.races.items self.now.tried self.now.cut }
+        requires within { IsTrying task.bounds self.now }
         ensures races { IfSome result (λ b. b ≡ Races → vec_len self.now.races ≡ task.entry.bounds.races) }
         ensures pairs { IfSome result (λ b. b ≡ Pairs → self.now.tried ≡ task.entry.bounds.pairs) }
         ensures room { IfNone result (vec_len self.now.races < task.entry.bounds.races) }
@@ -215,17 +208,15 @@ impl Trials {
         &mut self,
         task: RaceSearch<'_>,
         conflict: &Conflict,
-        order: Order,
         from: &RunRecord,
+        order: Order,
         progress: &P,
     ) -> Result<Option<RunRecord>, AllocError>
-        requires within { IsWithinBounds task.bounds self.old.races.items self.old.tried self.old.cut }
-        ensures within { IsWithinBounds task.entry.bounds self.new.races.items self.new.tried self.new.cut }
-        ensures same { self.new.races ≡ self.old.races }
+        requires within { IsTrying task.bounds self.old }
+        ensures tried { HasTried task.entry.bounds self.old self.new }
         ensures made { IfOk result (λ made. IfSome made (IsSecond task.entry.design.now task.entry.limits from.now)) }
         ensures room { IfOk result (λ made. IfSome made (λ _. vec_len self.new.races < task.entry.bounds.races)) }
         ensures more { IfOk result (λ made. IfSome made (λ _. vec_len self.new.races < self.new.tried)) }
-        ensures grown { self.old.tried ≤ self.new.tried }
     {
         if let Some(bound) = self.met(task) {
             self.cut_by(task, bound);
@@ -248,15 +239,13 @@ impl Trials {
         turned: &RunRecord,
         progress: &P,
     ) -> Result<bool, AllocError>
-        requires within { IsWithinBounds task.bounds self.old.races.items self.old.tried self.old.cut }
-        ensures within { IsWithinBounds task.entry.bounds self.new.races.items self.new.tried self.new.cut }
-        ensures same { self.new.races ≡ self.old.races }
-        ensures grown { self.old.tried ≤ self.new.tried }
+        requires within { IsTrying task.bounds self.old }
+        ensures tried { HasTried task.entry.bounds self.old self.new }
     {
         if !conflict.before.is_tied {
             return Ok(true);
         }
-        let made = self.second_run(task, conflict, Order::Kept, turned, progress)?;
+        let made = self.second_run(task, conflict, turned, Order::Kept, progress)?;
         Ok(made.is_some())
     }
 
@@ -268,11 +257,9 @@ impl Trials {
         turned: RunRecord,
         progress: &P,
     ) -> Result<Option<Race>, AllocError>
-        requires within { IsWithinBounds task.bounds self.old.races.items self.old.tried self.old.cut }
+        requires within { IsTrying task.bounds self.old }
         requires second { IsSecond task.design.now task.limits task.original.now turned }
-        ensures within { IsWithinBounds task.entry.bounds self.new.races.items self.new.tried self.new.cut }
-        ensures same { self.new.races ≡ self.old.races }
-        ensures grown { self.old.tried ≤ self.new.tried }
+        ensures tried { HasTried task.entry.bounds self.old self.new }
         ensures shown { IfOk result (λ race. IfSome race (IsShownRace task.entry.design.now task.entry.limits task.entry.original.now)) }
         ensures of { IfOk result (λ race. IfSome race (IsRaceOf conflict.now.pair)) }
     {
@@ -290,15 +277,14 @@ impl Trials {
         conflict: &Conflict,
         progress: &P,
     ) -> Result<Option<Race>, AllocError>
-        requires within { IsWithinBounds task.bounds self.old.races.items self.old.tried self.old.cut }
-        ensures within { IsWithinBounds task.entry.bounds self.new.races.items self.new.tried self.new.cut }
-        ensures same { self.new.races ≡ self.old.races }
+        requires within { IsTrying task.bounds self.old }
+        ensures tried { HasTried task.entry.bounds self.old self.new }
         ensures shown { IfOk result (λ race. IfSome race (IsShownRace task.entry.design.now task.entry.limits task.entry.original.now)) }
         ensures of { IfOk result (λ race. IfSome race (IsRaceOf conflict.now.pair)) }
         ensures room { IfOk result (λ race. IfSome race (λ _. vec_len self.new.races < task.entry.bounds.races)) }
         ensures more { IfOk result (λ race. IfSome race (λ _. vec_len self.new.races < self.new.tried)) }
     {
-        match self.second_run(task, conflict, Order::Turned, task.original, progress)? {
+        match self.second_run(task, conflict, task.original, Order::Turned, progress)? {
             Some(turned) => self.race_by(task, conflict, turned, progress),
             None => Ok(None),
         }
@@ -306,15 +292,13 @@ impl Trials {
 
     // Keeps the race of a pair.
     fn keep(&mut self, task: RaceSearch<'_>, pair: Pair, race: Race)
-        requires within { IsWithinBounds task.bounds self.old.races.items self.old.tried self.old.cut }
+        requires told { AreToldRaces task.design.now task.limits task.original.now task.bounds self.old }
         requires room { vec_len self.old.races < task.bounds.races }
         requires more { vec_len self.old.races < self.old.tried }
         requires race { IsShownRace task.design.now task.limits task.original.now race }
         requires of { IsRaceOf pair race }
         requires beside { IsNewBeside self.old.races.items pair }
-        requires shown { All (IsShownRace task.design.now task.limits task.original.now) self.old.races.items }
-        requires distinct { AllPairs AreOthers self.old.races.items }
-        ensures within { IsWithinBounds task.entry.bounds self.new.races.items self.new.tried self.new.cut }
+        ensures within { IsTrying task.entry.bounds self.new }
         ensures shown { All (IsShownRace task.entry.design.now task.entry.limits task.entry.original.now) self.new.races.items }
         ensures distinct { AllPairs AreOthers self.new.races.items }
     {
@@ -325,12 +309,8 @@ impl Trials {
 
     // Tries a conflict within the bounds, unless a race of its group is told.
     fn try_conflict<P: Progress>(&mut self, task: RaceSearch<'_>, conflict: &Conflict, progress: &P)
-        requires within { IsWithinBounds task.bounds self.old.races.items self.old.tried self.old.cut }
-        requires shown { All (IsShownRace task.design.now task.limits task.original.now) self.old.races.items }
-        requires distinct { AllPairs AreOthers self.old.races.items }
-        ensures within { IsWithinBounds task.entry.bounds self.new.races.items self.new.tried self.new.cut }
-        ensures shown { All (IsShownRace task.entry.design.now task.entry.limits task.entry.original.now) self.new.races.items }
-        ensures distinct { AllPairs AreOthers self.new.races.items }
+        requires { AreToldRaces task.design.now task.limits task.original.now task.bounds self.old }
+        ensures { AreToldRaces task.entry.design.now task.entry.limits task.entry.original.now task.entry.bounds self.new }
     {
         if is_told(&self.races, conflict.pair) {
             return;
@@ -344,12 +324,8 @@ impl Trials {
 
     // Tries the conflicts of a round.
     fn try_round<P: Progress>(&mut self, task: RaceSearch<'_>, round: &[Conflict], progress: &P)
-        requires within { IsWithinBounds task.bounds self.old.races.items self.old.tried self.old.cut }
-        requires shown { All (IsShownRace task.design.now task.limits task.original.now) self.old.races.items }
-        requires distinct { AllPairs AreOthers self.old.races.items }
-        ensures within { IsWithinBounds task.entry.bounds self.new.races.items self.new.tried self.new.cut }
-        ensures shown { All (IsShownRace task.entry.design.now task.entry.limits task.entry.original.now) self.new.races.items }
-        ensures distinct { AllPairs AreOthers self.new.races.items }
+        requires { AreToldRaces task.design.now task.limits task.original.now task.bounds self.old }
+        ensures { AreToldRaces task.entry.design.now task.entry.limits task.entry.original.now task.entry.bounds self.new }
     {
         for conflict in round {
             self.try_conflict(task, conflict, progress);
@@ -363,9 +339,7 @@ pub(crate) fn try_all<P: Progress>(
     conflicts: &Conflicts,
     progress: &P,
 ) -> Trials
-    ensures within { IsWithinBounds task.entry.bounds result.races.items result.tried result.cut }
-    ensures shown { All (IsShownRace task.entry.design.now task.entry.limits task.entry.original.now) result.races.items }
-    ensures distinct { AllPairs AreOthers result.races.items }
+    ensures { AreToldRaces task.entry.design.now task.entry.limits task.entry.original.now task.entry.bounds result }
 {
     let mut trials = Trials::new(task, conflicts);
     for round in conflicts.rounds.iter() {

@@ -27,5 +27,7 @@ pub mod Given
 pub mod Told
 pub mod Begun
 pub mod Untaken
+pub mod FirstRegions
 pub mod Permitted
+pub mod BroughtForward
 pub mod Crossing

@@ -16,4 +16,5 @@ pub mod Regions
 pub mod Copies
 pub mod Refused
 pub mod EvaluationEntries
+pub mod BringingForward
 pub mod Machine

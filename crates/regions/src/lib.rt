@@ -16,6 +16,9 @@
 //! 6. A change of region swaps a region into an empty one, and the monitor region is emptied. An advance takes the events of the least time
 //!    off the front of the two lists of future events.
 //!
+//! The order of the regions stands in `region` alone. From the first region that has an event follow which change of the regions
+//! comes next and is due, which entries are refused as not due, and whether any event is left.
+//!
 //! A `Machine` is a design with its state and a store: it evaluates the turn of an entry, applies the entry, and says which
 //! entries may be next. What takes entries on one thread stands on it; the gate, which evaluates turns elsewhere, on `State::apply`.
 //!
@@ -34,6 +37,7 @@ mod next;
 mod permit;
 mod queue;
 mod reader;
+mod region;
 mod state;
 mod step;
 mod store;
@@ -45,5 +49,6 @@ pub use future::Due;
 pub use machine::{Machine, TakeFault};
 pub use queue::{Continuation, Evaluation, Update};
 pub use reader::turn_on;
+pub use region::{Region, region_of};
 pub use state::{ApplyFault, Made, MadeEvent, State};
 pub use store::{PlainStore, Store};

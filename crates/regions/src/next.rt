@@ -1,18 +1,18 @@
 //! What may be next: the change of the regions that is due, and all entries that the rules permit.
-ghost use Rattle.std.specs.Prelude.{◌≡◌, ◌↔◌, List, ◌++◌, map, IfOk, OnOk, None, Some, false};
+ghost use Rattle.std.specs.Prelude.{◌≡◌, ◌↔◌, List, ◌++◌, map, IfOk, OnOk, IsSome, IsTrue, None, Some, false};
 ghost use Rattle.std.specs.List.{Contains};
 ghost use Rattle.logic4.specs.Vector.{Vector};
 ghost use Rattle.model.specs.declared.entry.Entry.{Entry};
 ghost use Rattle.model.specs.Turns.{Remainder};
-ghost use Rattle.model.specs.Runs.{refusal};
+ghost use Rattle.model.specs.Runs.{refusal, has_any, is_quiet};
 ghost use Rattle.design.specs.declared.code.ProcState.{ProcState};
 ghost use Rattle.regions.specs.Queue.{core_of, state_of};
-ghost use Rattle.regions.specs.Machine.{IsTurnEntry, IsDue, AreInOrder};
+ghost use Rattle.regions.specs.Machine.{IsTurnEntry, IsDue, IsNextChange, AreInOrder};
 ghost use Rattle.regions.specs.EvaluationEntries.{turn_entry_of};
 
 use crate::choices::Choices;
 use crate::queue::{Evaluation, Queue};
-use model::end::LAST_TIME;
+use crate::region::Region;
 use model::entry::Entry;
 use std::alloc::{AllocError, Global};
 
@@ -29,35 +29,49 @@ fn push_turns(turns: &mut Vec<Entry>, evaluations: &[Evaluation]) -> Result<(), 
 impl Queue {
     ghost use Rattle.regions.specs.Order.{IsOrderedQueue};
 
+    // The change of the regions that comes next, whatever its time: that of the first region that has an event, where none is active.
+    pub fn next_change(&self) -> Option<Entry>
+        requires ordered { IsOrderedQueue self.now }
+        ensures next { (rem : ProcState → Remainder) (values : List Vector) (entry : Entry) → (result ≡ Some entry) ↔ IsNextChange (state_of rem values (core_of self.now)) entry }
+        ensures some { (rem : ProcState → Remainder) (values : List Vector) → has_any (core_of self.now).active ≡ false → is_quiet (state_of rem values (core_of self.now)) ≡ false → IsSome result }
+    {
+        let Some(region) = self.first_region() else {
+            return None;
+        };
+        match region {
+            Region::Active => None,
+            Region::Inactive => Some(Entry::ActivateInactive),
+            Region::Nonblocking => Some(Entry::ActivateNba),
+            Region::Monitor => Some(Entry::ActivateMonitor),
+            Region::Future => match self.next_time() {
+                Some(time) => Some(Entry::Advance(time)),
+                None => None,
+            },
+        }
+    }
+
+    // Whether this change of the regions comes next.
+    pub fn is_next(&self, change: Entry) -> bool
+        requires ordered { IsOrderedQueue self.now }
+        ensures { (rem : ProcState → Remainder) (values : List Vector) → IsTrue result ↔ IsNextChange (state_of rem values (core_of self.now)) change }
+    {
+        match self.next_change() {
+            Some(next) => next == change,
+            None => false,
+        }
+    }
+
     // The change of the regions that the rules permit.
     pub fn due(&self) -> Option<Entry>
         requires ordered { IsOrderedQueue self.now }
         ensures { (rem : ProcState → Remainder) (values : List Vector) → IsDue (state_of rem values (core_of self.now)) result }
     {
-        if self.finished {
+        let Some(change) = self.next_change() else {
             return None;
-        }
-        if self.is_active() {
-            return None;
-        }
-        if !self.inactive.is_empty() {
-            return Some(Entry::ActivateInactive);
-        }
-        if !self.nonblocking.is_empty() {
-            return Some(Entry::ActivateNba);
-        }
-        if !self.monitor.is_empty() {
-            return Some(Entry::ActivateMonitor);
-        }
-        match self.next_time() {
-            Some(time) => {
-                if time > LAST_TIME {
-                    None
-                } else {
-                    Some(Entry::Advance(time))
-                }
-            }
-            None => None,
+        };
+        match self.refusal(&change) {
+            None => Some(change),
+            Some(_) => None,
         }
     }
 

@@ -9,7 +9,7 @@ use Rattle.model.specs.declared.end.End.TheVariants.{Quiet, Stopped}
 use Rattle.model.specs.Design.{Design}
 use Rattle.model.specs.States.{State}
 use Rattle.model.specs.Runs.{silent, refusal, IsTimely, HasLongTurn}
-use Rattle.orders.specs.SearchLaws.{EndsHere}
+use Rattle.model.specs.Texts.{EndsHere}
 
 -- the rules permit this entry here, and it is in time
 abbrev pub MayBeNext : Limits → State → Entry → Type 0

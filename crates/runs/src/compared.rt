@@ -1,6 +1,6 @@
 //! How two runs differ.
-ghost use Rattle.std.specs.Prelude.{◌↔◌, IsTrue};
-ghost use Rattle.runs.specs.Compared.{AreLike, IsWhole, HavePartedTexts, AreDifferentRuns};
+ghost use Rattle.std.specs.Prelude.{◌≡◌, ◌↔◌, false, IsTrue};
+ghost use Rattle.runs.specs.Compared.{AreLike, IsWhole, HavePartedTexts, AreDifferentRuns, WantsNoMemory};
 
 use crate::run::RunRecord;
 use model::end::{End, Why};
@@ -23,6 +23,16 @@ pub fn is_whole(run: &RunRecord) -> bool
         End::Stopped(Why::Entries) => false,
         End::Stopped(Why::Memory) => false,
         _ => true,
+    }
+}
+
+/// Whether a run ended for want of memory.
+pub fn wants_memory(run: &RunRecord) -> bool
+    ensures { result ≡ false → WantsNoMemory run.now }
+{
+    match run.end {
+        End::Stopped(Why::Memory) => true,
+        _ => false,
     }
 }
 

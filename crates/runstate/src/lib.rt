@@ -25,7 +25,7 @@ mod ledger;
 mod mark;
 mod run_state;
 
-pub use evaluate::{HeldCells, Holding, held_turn};
+pub use evaluate::{CellAccess, Holding, held_turn};
 pub use ledger::Item;
 pub use mark::{
     Addition, Adds, Both, Compares, Makes, MarkCell, MarkLoad, MarkPass, MarkView, Marks, Telling,

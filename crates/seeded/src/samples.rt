@@ -10,9 +10,9 @@ ghost use Rattle.seeded.specs.Samples.{AreStillIn, GivesWay, IsRepresented};
 
 use crate::run::run_seeded;
 use design::Design;
-use model::end::{End, Limits, Why};
+use model::end::Limits;
 use progress::{HowFar, Progress, Untold};
-use runs::compared::{are_apart, is_same, is_whole};
+use runs::compared::{are_apart, is_same, is_whole, wants_memory};
 use runs::run::RunRecord;
 use std::alloc::{AllocError, Global};
 
@@ -111,16 +111,6 @@ fn keep(kept: &mut Vec<RunRecord>, run: RunRecord) -> Result<(), AllocError>
     give_way(kept, &run);
     kept.push_reserved(run);
     Ok(())
-}
-
-// Whether a run ended for want of memory.
-fn wants_memory(run: &RunRecord) -> bool
-    ensures { result ≡ false → WantsNoMemory run.now }
-{
-    match run.end {
-        End::Stopped(Why::Memory) => true,
-        _ => false,
-    }
 }
 
 /// Runs of several seeds. It keeps those that are apart, the first of each text and end: of a run that was cut off only what it

@@ -1,8 +1,8 @@
 -- What is told of the elements of lists, one after another.
-use Rattle.std.proofs.Common.{◌≡◌, ◌<◌, ◌+◌, ℕ, Bool, true, false, List, [], ◌∷◌, ◌++◌, map, length, take, Option, Some, refl, sym, ap, subst, ◌∙◌, arith, get_or, ◌==◌, ◌||◌, if◌then◌else◌}
+use Rattle.std.proofs.Common.{◌≡◌, ◌<◌, ◌+◌, ⊎_elim, ℕ, Bool, true, false, List, [], ◌∷◌, ◌++◌, map, length, take, Option, Some, refl, sym, ap, subst, ◌∙◌, arith, get_or, ◌==◌, ◌||◌, if◌then◌else◌}
 use Rattle.std.specs.Prelude.{slice_get}
 use Rattle.std.specs.List.{All, list_any}
-use Rattle.std.proofs.lemmas.Bool.{eqb-true}
+use Rattle.std.proofs.lemmas.Bool.{cases_lt, eqb-true}
 use Rattle.std.proofs.lemmas.List.{take_more, map-append, get_or_default}
 use Rattle.std.proofs.lemmas.List.Elements.{All-head, All-tail}
 use Rattle.logic4.specs.Vector.{Vector}
@@ -18,8 +18,6 @@ use Rattle.regions.specs.declared.queue.Update.{Update}
 use Rattle.regions.specs.declared.queue.Evaluation.{Evaluation}
 use Rattle.regions.specs.Queue.{update_event, evaluation_event}
 use Rattle.combinational.specs.declared.block.Logic.{Logic}
-use Rattle.flat.proofs.Sleeping.{upto_more}
-use Rattle.flat.proofs.Evaluated.{writes_more}
 use Rattle.settling.specs.Waiting.{WaitsForNone}
 
 -- what holds of each element holds of each number that is there
@@ -89,12 +87,29 @@ times_more es at p n m e within before is longer =
     ap (evaluations_in p) (map-append evaluation_event (take at es) (e ∷ [])) ∙ evaluations-append p (map evaluation_event (take at es)) (map evaluation_event (e ∷ [])) in
     longer ∙ ap (λ k. k + evaluations_in p (evaluation_event e ∷ [])) before ∙ sym (ap (λ (l : List Evaluation). evaluations_in p (map evaluation_event l)) one ∙ both)
 
+-- the writes of one update more
+writes_more : (us : List Update) (at : ℕ) (ws more : List (ℕ × Vector)) (u : Update) → at < length us → ws ≡ updates_in (map update_event (take at us)) → u ≡ get_or us at u → more ≡ ws ++ (u.register, u.value) ∷ [] → more ≡ updates_in (map update_event (take (at + 1) us))
+writes_more us at ws more u within before is longer =
+    let one : take (at + 1) us ≡ take at us ++ u ∷ [] = take_more us at u within ∙ ap (λ (v : Update). take at us ++ v ∷ []) (sym is) in
+    let both : updates_in (map update_event (take at us ++ u ∷ [])) ≡ updates_in (map update_event (take at us)) ++ (u.register, u.value) ∷ [] =
+    ap updates_in (map-append update_event (take at us) (u ∷ [])) ∙ updates-append (map update_event (take at us)) (map update_event (u ∷ [])) in
+    longer ∙ (ap (λ (l : List (ℕ × Vector)). l ++ (u.register, u.value) ∷ []) before ∙ sym (ap (λ (l : List Update). updates_in (map update_event l)) one ∙ both))
+
 pub registers_more : (us : List Update) (at : ℕ) (rs more : List ℕ) (u : Update) → at < length us → rs ≡ map (λ (w : ℕ × Vector). w.0) (updates_in (map update_event (take at us))) → u ≡ get_or us at u → more ≡ rs ++ u.register ∷ []
     → more ≡ map (λ (w : ℕ × Vector). w.0) (updates_in (map update_event (take (at + 1) us)))
 registers_more us at rs more u within before is longer =
     let ws : List (ℕ × Vector) = updates_in (map update_event (take at us)) in
     longer ∙ ap (λ (l : List ℕ). l ++ u.register ∷ []) before ∙ sym (map-append (λ (w : ℕ × Vector). w.0) ws ((u.register, u.value) ∷ []))
     ∙ ap (map (λ (w : ℕ × Vector). w.0)) (writes_more us at ws (ws ++ (u.register, u.value) ∷ []) u within refl is refl)
+
+-- what holds up to a place, and there, holds up to the next
+pub upto_more : {X : Type 0} (P : X → Type 0) (xs : List X) (i : ℕ) → ((k : ℕ) (d : X) → k < i → P (get_or xs k d)) → ((d : X) → P (get_or xs i d)) → (k : ℕ) (d : X) → k < i + 1 → P (get_or xs k d)
+upto_more P xs i before here k d below =
+    ⊎_elim (λ less. before k d less)
+    (λ more.
+    let same : k ≡ i = omega (arith, below, more) in
+    subst (λ j. P (get_or xs j d)) (sym same) (here d))
+    (cases_lt k i)
 
 -- each output of a process is among these registers
 abbrev pub HasOutputsOf : List (Option Logic) → List ℕ → ℕ → Type 0

@@ -62,16 +62,15 @@ fn is_behind(continuation: &Continuation, logic: &Logic) -> bool
 // Whether the turn of a process that goes on here would leave every value as it is. It is asked for a process that has no active
 // evaluation, so that the machine doesn't evaluate it.
 fn is_consistent(
-    alloc: Global,
+    log: &mut TurnLog,
     machine: &Machine<'_>,
     place: &ProcState,
 ) -> Result<bool, AllocError>
     ensures { IfOk result (λ consistent. consistent ≡ true → (p : ℕ) → IsContinuedAt machine.now.core p place.now → HasUnchangingTurn (design_of machine.now.code) (state_at machine.now) p) }
 {
     machine.stands();
-    let mut log = TurnLog::new(alloc);
     match turn_on(
-        &mut log,
+        log,
         machine.design(),
         place,
         machine.time(),
@@ -85,7 +84,7 @@ fn is_consistent(
 
 // Whether a process of this logic is pending, or has settled, where it goes on so.
 fn stands_as(
-    alloc: Global,
+    log: &mut TurnLog,
     machine: &Machine<'_>,
     logic: &Logic,
     process: u32,
@@ -104,14 +103,14 @@ fn stands_as(
             if times != 0 {
                 return Ok(false);
             }
-            is_consistent(alloc, machine, &continuation.state)
+            is_consistent(log, machine, &continuation.state)
         }
     }
 }
 
-/// Whether a process is combinational, and pending or settled.
+/// Whether a process is combinational, and pending or settled. Where its turn has to be evaluated, that is done into the log.
 pub(crate) fn is_member(
-    alloc: Global,
+    log: &mut TurnLog,
     machine: &Machine<'_>,
     network: &Network,
     process: u32,
@@ -131,7 +130,7 @@ pub(crate) fn is_member(
         return Ok(false);
     }
     machine.stands();
-    stands_as(alloc, machine, logic, process, &continuation)
+    stands_as(log, machine, logic, process, &continuation)
 }
 
 /// Whether each of these processes is.
@@ -144,8 +143,9 @@ pub(crate) fn are_members(
     requires found { IsNetworkOf machine.now.code network.now }
     ensures { IfOk result (λ all. all ≡ true → AreMembers machine.now.code (state_at machine.now) network.now members.now) }
 {
+    let mut log = TurnLog::new(alloc);
     for member in members {
-        if !is_member(alloc, machine, network, *member)? {
+        if !is_member(&mut log, machine, network, *member)? {
             return Ok(false);
         }
     }

@@ -30,13 +30,14 @@ pub(crate) enum Unknown {
 /// chunk's number. From where the hash of a chunk leads to its own slot, no slot is free.
 #[derive(Drop)]
 pub(crate) struct Chunks {
+    pub(crate) alloc: Global,
     pub(crate) rows: Vec<ChunkSpan>,
     pub(crate) arena: Vec<u8>,
     pub(crate) slots: Vec<u64>,
 }
 
 /// A number in half of the bytes: what doesn't fit there has no room.
-pub(crate) fn narrow(number: usize) -> Result<u32, AllocError>
+pub fn narrow(number: usize) -> Result<u32, AllocError>
     ensures { IfOk result (λ narrow. narrow ≡ number) }
 {
     if number > u32::MAX as usize {
@@ -125,6 +126,7 @@ impl Chunks {
         ensures none { chunks result ≡ [] }
     {
         Chunks {
+            alloc,
             rows: Vec::new(alloc),
             arena: Vec::new(alloc),
             slots: Vec::new(alloc),
@@ -184,20 +186,20 @@ impl Chunks {
     }
 
     // Makes room for one slot more.
-    fn widen(&mut self, alloc: Global) -> Result<(), AllocError>
+    fn widen(&mut self) -> Result<(), AllocError>
         ensures rows { self.new.rows ≡ self.old.rows }
         ensures arena { self.new.arena ≡ self.old.arena }
     {
         let count = self.slots.len();
         if self.rows.len() >= count / 4 * 3 {
             let more = count.saturating_add(count / 2).max(FIRST_SLOTS);
-            self.slots = wider(alloc, &self.slots, more)?;
+            self.slots = wider(self.alloc, &self.slots, more)?;
         }
         Ok(())
     }
 
     // Adds a chunk with this hash, and answers its number.
-    fn push(&mut self, alloc: Global, hash: u64, bytes: &[u8]) -> Result<u32, AllocError>
+    fn push(&mut self, hash: u64, bytes: &[u8]) -> Result<u32, AllocError>
         requires whole { AreChunks self.old }
         ensures whole { OnOk result (AreChunks self.new) }
         ensures grows { OnOk result (Extends (chunks self.old) (chunks self.new)) }
@@ -205,7 +207,7 @@ impl Chunks {
     {
         let number = narrow(self.rows.len())?;
         let next = narrow(self.rows.len() + 1)?;
-        self.widen(alloc)?;
+        self.widen()?;
         let begin = self.arena.len();
         self.arena.extend_from_slice(bytes)?;
         self.rows.push(ChunkSpan {
@@ -219,7 +221,6 @@ impl Chunks {
     /// The number of a chunk. None where it isn't there and isn't to be added.
     pub(crate) fn number(
         &mut self,
-        alloc: Global,
         bytes: &[u8],
         unknown: Unknown,
     ) -> Result<Option<u32>, AllocError>
@@ -238,7 +239,7 @@ impl Chunks {
         match unknown {
             Unknown::Missed => Ok(None),
             Unknown::Added => {
-                let number = self.push(alloc, hash, bytes)?;
+                let number = self.push(hash, bytes)?;
                 Ok(Some(number))
             }
         }

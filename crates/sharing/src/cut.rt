@@ -3,7 +3,7 @@ ghost use Rattle.std.specs.Prelude.{◌≡◌, ◌+◌, ◌*◌, ◌<◌, ◌≤
 ghost use Rattle.sharing.specs.Parts.{chunks, joined_chunks, AreChunks, AreThere, Extends};
 
 use crate::chunks::{Chunks, Unknown};
-use std::alloc::{AllocError, Global};
+use std::alloc::AllocError;
 
 // The least length of a chunk that isn't the last one.
 const LEAST: usize = 32;
@@ -36,7 +36,6 @@ fn first_length(bytes: &[u8]) -> usize
 /// Fills `numbers` with the numbers of the chunks of bytes. Answers whether each of them is there: it is, unless it wasn't and isn't to be
 /// added.
 pub(crate) fn cut(
-    alloc: Global,
     held: &mut Chunks,
     numbers: &mut Vec<u32>,
     bytes: &[u8],
@@ -56,7 +55,7 @@ pub(crate) fn cut(
     let mut rest = bytes;
     'chunks: loop {
         let (chunk, others) = rest.split_at(first_length(rest));
-        match held.number(alloc, chunk, unknown)? {
+        match held.number(chunk, unknown)? {
             Some(number) => numbers.push(number)?,
             None => return Ok(false),
         }

@@ -15,4 +15,5 @@ mod cut;
 pub mod laws;
 mod parts;
 
+pub use chunks::narrow;
 pub use parts::{Parts, Shortened};

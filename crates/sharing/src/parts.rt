@@ -52,12 +52,7 @@ impl Parts {
     }
 
     // What a byte string is shortened to. None where a part of it isn't there and isn't to be added.
-    fn shortened(
-        &mut self,
-        alloc: Global,
-        bytes: &[u8],
-        unknown: Unknown,
-    ) -> Result<Option<Shortened>, AllocError>
+    fn shortened(&mut self, bytes: &[u8], unknown: Unknown) -> Result<Option<Shortened>, AllocError>
         requires whole { AreParts self.old }
         ensures whole { OnOk result (AreParts self.new) }
         ensures grows { OnOk result (Extends (chunk_table self.old) (chunk_table self.new)) }
@@ -66,19 +61,13 @@ impl Parts {
         ensures missed { IfOk result (λ found. found ≡ None → unknown ≡ Unknown.Missed) }
         ensures same { OnOk result (unknown ≡ Unknown.Missed → chunk_table self.new ≡ chunk_table self.old) }
     {
-        if !cut(alloc, &mut self.chunks, &mut self.numbers, bytes, unknown)? {
+        if !cut(&mut self.chunks, &mut self.numbers, bytes, unknown)? {
             return Ok(None);
         }
         let mut levels = 0;
         'levels: while self.numbers.len() > 1 {
             encode(&mut self.code, &self.numbers)?;
-            if !cut(
-                alloc,
-                &mut self.chunks,
-                &mut self.numbers,
-                &self.code,
-                unknown,
-            )? {
+            if !cut(&mut self.chunks, &mut self.numbers, &self.code, unknown)? {
                 return Ok(None);
             }
             levels += 1;
@@ -90,27 +79,27 @@ impl Parts {
     }
 
     /// Shortens a byte string to what tells it. Fails where memory is refused.
-    pub fn shorten(&mut self, alloc: Global, bytes: &[u8]) -> Result<Shortened, AllocError>
+    pub fn shorten(&mut self, bytes: &[u8]) -> Result<Shortened, AllocError>
         requires whole { AreParts self.old }
         ensures whole { OnOk result (AreParts self.new) }
         ensures grows { OnOk result (Extends (chunk_table self.old) (chunk_table self.new)) }
         ensures held { IfOk result (HoldsWhole (chunk_table self.new)) }
         ensures told { IfOk result (λ short. unshortened (chunk_table self.new) short ≡ bytes.now) }
     {
-        match self.shortened(alloc, bytes, Unknown::Added)? {
+        match self.shortened(bytes, Unknown::Added)? {
             Some(short) => Ok(short),
             None => unreachable!(),
         }
     }
 
     /// What a byte string was shortened to, where all parts of it are there. No part is added.
-    pub fn find(&mut self, alloc: Global, bytes: &[u8]) -> Result<Option<Shortened>, AllocError>
+    pub fn find(&mut self, bytes: &[u8]) -> Result<Option<Shortened>, AllocError>
         requires whole { AreParts self.old }
         ensures whole { OnOk result (AreParts self.new) }
         ensures same { OnOk result (chunk_table self.new ≡ chunk_table self.old) }
         ensures held { IfOk result (λ found. IfSome found (HoldsWhole (chunk_table self.new))) }
         ensures told { IfOk result (λ found. IfSome found (λ short. unshortened (chunk_table self.new) short ≡ bytes.now)) }
     {
-        self.shortened(alloc, bytes, Unknown::Missed)
+        self.shortened(bytes, Unknown::Missed)
     }
 }

@@ -1,5 +1,6 @@
 -- States of which one thing is told are alike.
 use Rattle.std.proofs.Common.{◌≡◌, ℕ, List, [], map, sym, ◌∙◌, ap, subst}
+use Rattle.std.proofs.lemmas.List.{append-nil}
 use Rattle.logic4.specs.Vector.{Vector}
 use Rattle.model.specs.Turns.{Remainder}
 use Rattle.model.specs.States.{Event}
@@ -8,18 +9,18 @@ use Rattle.orders.specs.Alike.{Alike, AreAlike, IsAlikeFuture}
 use Rattle.design.specs.declared.code.ProcState.{ProcState}
 use Rattle.regions.specs.Queue.{Core, state_of, standing}
 use Rattle.regions.specs.ProcessWaking.{triggers_at}
-use Rattle.statekeys.specs.Keys.{KeyContent, AreEvents, AreToCome, IsToldOf, IsKey}
+use Rattle.statekeys.specs.Keys.{KeyContent, AreEvents, AreToCome, IsToldOf, IsKey, key_code}
 use Rattle.statekeys.specs.KeyLaws.{KeysTellStates}
 use Rattle.statekeys.proofs.KeyCodes.{key_code_tells}
 
-events_alike : (updates : List (ℕ × Vector)) (processes : List ℕ) (xs ys : List Event) → AreEvents updates processes xs
+pub events_alike : (updates : List (ℕ × Vector)) (processes : List ℕ) (xs ys : List Event) → AreEvents updates processes xs
     → AreEvents updates processes ys → AreAlike xs ys
 events_alike updates processes xs ys h k = record {
   updates = h.in_order ∙ sym k.in_order;
   evaluations = λ p. h.as_many p ∙ sym (k.as_many p);
 }
 
-future_alike : (times : List ℕ) (updates : List (ℕ × (ℕ × Vector))) (processes : List (ℕ × ℕ)) (xs ys : List (ℕ × Event))
+pub future_alike : (times : List ℕ) (updates : List (ℕ × (ℕ × Vector))) (processes : List (ℕ × ℕ)) (xs ys : List (ℕ × Event))
     → AreToCome times updates processes xs → AreToCome times updates processes ys → IsAlikeFuture xs ys
 future_alike times updates processes xs ys h k = record {
   times = h.in_time ∙ sym k.in_time;
@@ -44,6 +45,6 @@ told_alike rem a b v w told same h k = record {
 
 pub keys_tell_states : KeysTellStates
 keys_tell_states rem a b v w key same (t, of_a, bytes) (u, of_b, bytes') =
-    let one : t ≡ u = key_code_tells t u (sym bytes ∙ bytes') in
+    let one : t ≡ u = (key_code_tells t u [] [] (append-nil (key_code t) ∙ sym bytes ∙ bytes' ∙ sym (append-nil (key_code u)))).0 in
     let P : KeyContent → Type 0 = λ x. IsToldOf a v x in
     told_alike rem a b v w u same (subst P one of_a) of_b

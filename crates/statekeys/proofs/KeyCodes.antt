@@ -1,7 +1,6 @@
 -- Keys tell what they are of.
-use Rattle.std.proofs.Common.{◌≡◌, ℕ, List, [], ◌++◌, sym, ◌∙◌, ap, append_assoc}
+use Rattle.std.proofs.Common.{◌≡◌, ℕ, List, ◌++◌, sym, ◌∙◌, ap, append_assoc}
 use Rattle.std.specs.Prelude.{Option}
-use Rattle.std.proofs.lemmas.List.{append-nil}
 use Rattle.logic4.specs.Vector.{Vector}
 use Rattle.design.specs.declared.code.ProcState.{ProcState}
 use Rattle.statekeys.specs.KeyCodes.{IsSelfDelimiting, nat_code, bool_code, pair_code, option_code, list_code, vector_code}
@@ -23,26 +22,26 @@ pub process_code_tells : IsSelfDelimiting process_code
 process_code_tells x y r s e =
     pair_code_tells state_code (option_code nat_code) state_code_tells (option_code_tells nat_code nat_code_tells) x y r s e
 
-right : (a b c d e f g h i j k l : List ℕ)
-    → a ++ b ++ c ++ d ++ e ++ f ++ g ++ h ++ i ++ j ++ k ++ l
-    ≡ a ++ (b ++ (c ++ (d ++ (e ++ (f ++ (g ++ (h ++ (i ++ (j ++ (k ++ (l ++ [])))))))))))
-right a b c d e f g h i j k l = simp (append_assoc, append-nil)
+right : (a b c d e f g h i j k l r : List ℕ)
+    → (a ++ b ++ c ++ d ++ e ++ f ++ g ++ h ++ i ++ j ++ k ++ l) ++ r
+    ≡ a ++ (b ++ (c ++ (d ++ (e ++ (f ++ (g ++ (h ++ (i ++ (j ++ (k ++ (l ++ r)))))))))))
+right a b c d e f g h i j k l r = simp append_assoc
 
--- a key in parts, one after another
-parts : (t : KeyContent) → key_code t
+-- a key in parts, one after another, and what follows it
+parts : (t : KeyContent) (r : List ℕ) → key_code t ++ r
     ≡ nat_code t.time ++ (bool_code t.finished ++ (list_code vector_code t.values ++ (list_code process_code t.processes
     ++ (list_code update_code t.updates ++ (list_code nat_code t.evaluations ++ (list_code nat_code t.inactive
     ++ (list_code update_code t.nonblocking ++ (list_code nat_code t.monitor ++ (list_code nat_code t.future_times
-    ++ (list_code (pair_code nat_code nat_code) t.future_evaluations ++ (list_code (pair_code nat_code update_code) t.future_updates ++ [])))))))))))
-parts t =
+    ++ (list_code (pair_code nat_code nat_code) t.future_evaluations ++ (list_code (pair_code nat_code update_code) t.future_updates ++ r)))))))))))
+parts t r =
     right (nat_code t.time) (bool_code t.finished) (list_code vector_code t.values) (list_code process_code t.processes)
     (list_code update_code t.updates) (list_code nat_code t.evaluations) (list_code nat_code t.inactive)
     (list_code update_code t.nonblocking) (list_code nat_code t.monitor) (list_code nat_code t.future_times)
-    (list_code (pair_code nat_code nat_code) t.future_evaluations) (list_code (pair_code nat_code update_code) t.future_updates)
+    (list_code (pair_code nat_code nat_code) t.future_evaluations) (list_code (pair_code nat_code update_code) t.future_updates) r
 
-pub key_code_tells : (t u : KeyContent) → key_code t ≡ key_code u → t ≡ u
-key_code_tells t u e =
-    let e0 = sym (parts t) ∙ e ∙ parts u in
+pub key_code_tells : IsSelfDelimiting key_code
+key_code_tells t u r s e =
+    let e0 = sym (parts t r) ∙ e ∙ parts u s in
     let e1 = nat_code_tells t.time u.time _ _ e0 in
     let e2 = bool_code_tells t.finished u.finished _ _ e1.1 in
     let e3 = list_code_tells vector_code vector_code_tells t.values u.values _ _ e2.1 in
@@ -57,7 +56,7 @@ key_code_tells t u e =
     t.future_evaluations u.future_evaluations _ _ e10.1 in
     let e12 = list_code_tells (pair_code nat_code update_code) (pair_code_tells nat_code update_code nat_code_tells update_code_tells)
     t.future_updates u.future_updates _ _ e11.1 in
-    λ k. record {
+    let same : t ≡ u = λ k. record {
       time = e1.0 k;
       finished = e2.0 k;
       values = e3.0 k;
@@ -70,4 +69,5 @@ key_code_tells t u e =
       future_times = e10.0 k;
       future_evaluations = e11.0 k;
       future_updates = e12.0 k;
-    }
+    } in
+    (same, e12.1)

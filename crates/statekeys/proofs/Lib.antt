@@ -4,3 +4,6 @@ pub mod Parts
 pub mod KeyCodes
 pub mod Alikeness
 pub mod Events
+pub mod Classes
+pub mod ClassKeys
+pub mod Grouping

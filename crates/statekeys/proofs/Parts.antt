@@ -12,3 +12,8 @@ list_code-map c f xs = λ k. nat_code (sym (length-map xs f) k) ++ sym (flat_map
 pub put_map : {A B : Type 0} (c : B → List ℕ) (f : A → B) (xs : List A) (old new : List ℕ) → new ≡ old ++ list_code (λ x. c (f x)) xs
     → new ≡ old ++ list_code c (map f xs)
 put_map c f xs old new h = h ∙ ap (λ bs. old ++ bs) (list_code-map c f xs)
+
+-- of a list that is another
+pub put_map_of : {A B : Type 0} (c : B → List ℕ) (f : A → B) (zs xs : List A) (old new : List ℕ) → zs ≡ xs
+    → new ≡ old ++ list_code (λ x. c (f x)) zs → new ≡ old ++ list_code c (map f xs)
+put_map_of {A} c f zs xs old new same h = put_map c f xs old new (h ∙ ap (λ (ys : List A). old ++ list_code (λ x. c (f x)) ys) same)

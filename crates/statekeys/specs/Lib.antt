@@ -2,3 +2,4 @@ pub mod KeyCodes
 pub mod Keys
 pub mod KeyParts
 pub mod KeyLaws
+pub mod ClassKeys

@@ -1,7 +1,7 @@
 //! States as bytes.
 ghost use Rattle.std.specs.Prelude.{◌≡◌, ◌++◌, map, OnOk};
 ghost use Rattle.std.specs.List.Sorted.{IsPermutation};
-ghost use Rattle.statekeys.specs.KeyCodes.{nat_code, pair_code, list_code};
+ghost use Rattle.statekeys.specs.KeyCodes.{nat_code, bool_code, pair_code, list_code, vector_code};
 ghost use Rattle.statekeys.specs.Keys.{process_code, update_code, IsKey};
 ghost use Rattle.statekeys.specs.KeyParts.{going_on, unnumbered_update, due_process, due_assignment};
 
@@ -11,14 +11,22 @@ use regions::{Continuation, Due, Evaluation, PlainStore, State, Update};
 use std::alloc::{AllocError, Global};
 use std::collections::VecDeque;
 
-/// Room in which the processes of evaluations are sorted. It is kept from one key to the next, so that keys take no memory of
-/// their own once it has grown.
+// Room that most keys fit in.
+const KEY_ROOM: usize = 256;
+
+/// Room in which the processes of evaluations are sorted, and updates by their classes. It is kept from one key to the next, so
+/// that keys take no memory of their own once it has grown; but a class key does while it sorts a list of more than 20 updates that
+/// doesn't stand in order.
 #[derive(Drop)]
 pub struct Scratch {
-    active: Vec<u32>,
-    inactive: Vec<u32>,
-    times: Vec<u64>,
-    future: Vec<(u64, u32)>,
+    pub(crate) active: Vec<u32>,
+    pub(crate) inactive: Vec<u32>,
+    pub(crate) times: Vec<u64>,
+    pub(crate) future: Vec<(u64, u32)>,
+    pub(crate) updates: Vec<Update>,
+    pub(crate) nonblocking: Vec<Update>,
+    pub(crate) future_updates: Vec<Due<Update>>,
+    pub(crate) update_times: Vec<u64>,
 }
 
 impl Scratch {
@@ -29,6 +37,10 @@ impl Scratch {
             inactive: Vec::new(alloc),
             times: Vec::new(alloc),
             future: Vec::new(alloc),
+            updates: Vec::new(alloc),
+            nonblocking: Vec::new(alloc),
+            future_updates: Vec::new(alloc),
+            update_times: Vec::new(alloc),
         }
     }
 }
@@ -75,8 +87,26 @@ impl<E: Encode> Encode for Due<E> {
     }
 }
 
-// Appends where each process goes on, and what it waits at.
-fn put_processes(bytes: &mut Vec<u8>, processes: &[Continuation]) -> Result<(), AllocError>
+/// Begins a key, in place of what stood in `bytes`: the time of a state, whether its run is finished, and the values of its registers.
+pub(crate) fn begin_key(
+    bytes: &mut Vec<u8>,
+    state: &State,
+    store: &PlainStore,
+) -> Result<(), AllocError>
+    ensures { OnOk result (bytes.new.items ≡ nat_code state.now.time ++ bool_code state.now.finished ++ list_code vector_code store.now) }
+{
+    bytes.clear();
+    bytes.reserve(KEY_ROOM)?;
+    state.time().encode(bytes)?;
+    state.is_finished().encode(bytes)?;
+    put_slice(bytes, store.values())
+}
+
+/// Appends where each process goes on, and what it waits at.
+pub(crate) fn put_processes(
+    bytes: &mut Vec<u8>,
+    processes: &[Continuation],
+) -> Result<(), AllocError>
     ensures { OnOk result (bytes.new.items ≡ bytes.old.items ++ list_code process_code (map going_on processes.now)) }
 {
     put_slice(bytes, processes)
@@ -96,8 +126,8 @@ fn put_future_updates(bytes: &mut Vec<u8>, future: &VecDeque<Due<Update>>) -> Re
     put_deque(bytes, future)
 }
 
-// Appends the processes of evaluations in rising order.
-fn put_evaluations(
+/// Appends the processes of evaluations in rising order.
+pub(crate) fn put_evaluations(
     bytes: &mut Vec<u8>,
     processes: &mut Vec<u32>,
     evaluations: &VecDeque<Evaluation>,
@@ -113,11 +143,11 @@ fn put_evaluations(
     put_slice(bytes, processes)
 }
 
-// Appends the times of evaluations to come in their order.
-fn put_times(
+/// Appends the times of events to come in their order.
+pub(crate) fn put_times<E>(
     bytes: &mut Vec<u8>,
     times: &mut Vec<u64>,
-    future: &VecDeque<Due<Evaluation>>,
+    future: &VecDeque<Due<E>>,
 ) -> Result<(), AllocError>
     ensures { OnOk result (bytes.new.items ≡ bytes.old.items ++ list_code nat_code (map (λ d. d.time) future.now.items)) }
 {
@@ -151,8 +181,8 @@ fn list_due(
     push_due(processes, second)
 }
 
-// Appends the processes of evaluations to come with their times, in rising order.
-fn put_future_evaluations(
+/// Appends the processes of evaluations to come with their times, in rising order.
+pub(crate) fn put_future_evaluations(
     bytes: &mut Vec<u8>,
     processes: &mut Vec<(u64, u32)>,
     future: &VecDeque<Due<Evaluation>>,
@@ -164,9 +194,6 @@ fn put_future_evaluations(
     processes.sort_unstable();
     put_slice(bytes, processes)
 }
-
-// Room that most keys fit in.
-const KEY_ROOM: usize = 256;
 
 /// Fills `bytes` with the key of a state and the values of its registers. What stood there is dropped; where memory is refused,
 /// a part of the key may stand there.
@@ -180,11 +207,7 @@ pub fn key(
 {
     let (updates, evaluations) = state.active();
     let future = state.future_evaluations();
-    bytes.clear();
-    bytes.reserve(KEY_ROOM)?;
-    state.time().encode(bytes)?;
-    state.is_finished().encode(bytes)?;
-    put_slice(bytes, store.values())?;
+    begin_key(bytes, state, store)?;
     put_processes(bytes, state.processes())?;
     put_updates(bytes, updates)?;
     put_evaluations(bytes, &mut scratch.active, evaluations)?;

@@ -91,13 +91,16 @@ impl<'d> Explainer<'d> {
         ensures fault { IfErr result (IsNotExplained self.old.position entry) }
         ensures err { OnErr result (state_at self.new.position ≡ state_at self.old.position) }
     {
-        let number = note(
+        let number = match note(
             &self.machine,
             entry,
             &mut self.log,
             &mut self.cells,
             &mut self.told,
-        )?;
+        ) {
+            Ok(number) => number,
+            Err(_) => return Err(StepFault::Memory),
+        };
         match take_noted(&mut self.machine, entry, number, &self.log) {
             Ok(()) => {}
             Err(fault) => return Err(StepFault::NotTaken(fault)),

@@ -1,5 +1,5 @@
 //! What is noted of an entry before it is taken.
-ghost use Rattle.std.specs.Prelude.{◌≡◌, ◌<◌, [], map, length, slice_get, Some, None, MatchOption, IfOk, IfErr, OnOk};
+ghost use Rattle.std.specs.Prelude.{◌≡◌, ◌<◌, [], map, length, slice_get, Some, None, MatchOption, IfOk, OnOk};
 ghost use Rattle.model.specs.declared.entry.Entry.TheVariants as entries;
 ghost use Rattle.model.specs.Runs.{Effect, action_in, step};
 ghost use Rattle.design.specs.Compiled.{design_of};
@@ -9,11 +9,10 @@ ghost use Rattle.regions.specs.Machine.{state_at};
 ghost use Rattle.steps.specs.declared.entry_account.EntryActor.TheVariants as actors;
 ghost use Rattle.steps.specs.Accounts.{account_of};
 ghost use Rattle.steps.specs.Cells.{cell_values, reading_in, AreWritten, AllWritesIn};
-ghost use Rattle.steps.specs.ExplainerStanding.{update_of, IsCleared, IsLogFilled, IsNoted, IsSoundState};
+ghost use Rattle.steps.specs.ExplainerStanding.{update_of, IsCleared, IsKept, IsLogFilled, IsNoted, IsSoundState};
 
 use crate::cells::{VersionedValue, change, change_all, reading};
 use crate::entry_account::{EntryAccount, EntryActor, Reading};
-use crate::fault::StepFault;
 use design::RegId;
 use indexmap::IndexMap;
 use model::entry::Entry;
@@ -72,19 +71,17 @@ fn tell_turn(
 // Evaluates a turn, notes it, and answers its number where the log is filled with it.
 fn note_turn(
     machine: &Machine<'_>,
-    number: u64,
     log: &mut TurnLog,
     cells: &mut Vec<VersionedValue>,
     told: &mut EntryAccount,
-) -> Result<Option<u64>, StepFault>
-    requires sound { IsSoundState machine.now.code (state_at machine.now) }
-    requires cells { length cells.old.items ≡ length machine.now.code.widths }
+    number: u64,
+) -> Result<Option<u64>, AllocError>
+    requires kept { IsKept machine.now cells.old.items }
     requires cleared { IsCleared told.old }
     ensures noted { OnOk result ((effect : Effect) → cell_values cells.old.items ≡ machine.now.values → step (design_of machine.now.code) (state_at machine.now) (entries.Turn number) ≡ Some effect → IsNoted machine.now.code (state_at machine.now) cells.old.items (entries.Turn number) effect cells.new.items (account_of told.new)) }
     ensures sound { OnOk result ((effect : Effect) → step (design_of machine.now.code) (state_at machine.now) (entries.Turn number) ≡ Some effect → IsSoundState machine.now.code effect.state) }
     ensures given { IfOk result (IsLogFilled machine.now.code (state_at machine.now) (entries.Turn number) log.new) }
     ensures registers { length cells.new.items ≡ length cells.old.items }
-    ensures fault { IfErr result (λ fault. fault ≡ StepFault.Memory) }
 {
     match machine.evaluate(log, number, 0) {
         Ok(Some(process)) => {
@@ -94,7 +91,7 @@ fn note_turn(
         }
         Ok(None) => Ok(None),
         Err(FillFault::TooLong) => Ok(None),
-        Err(FillFault::Memory) => Err(StepFault::Memory),
+        Err(FillFault::Memory) => Err(AllocError),
     }
 }
 
@@ -117,19 +114,18 @@ fn note_update(
     cells: &mut Vec<VersionedValue>,
     told: &mut EntryAccount,
     number: u64,
-) -> Result<(), StepFault>
-    requires sound { IsSoundState machine.now.code (state_at machine.now) }
-    requires cells { length cells.old.items ≡ length machine.now.code.widths }
+) -> Result<(), AllocError>
+    requires kept { IsKept machine.now cells.old.items }
     requires cleared { IsCleared told.old }
     ensures noted { OnOk result ((effect : Effect) → cell_values cells.old.items ≡ machine.now.values → step (design_of machine.now.code) (state_at machine.now) (entries.Update number) ≡ Some effect → IsNoted machine.now.code (state_at machine.now) cells.old.items (entries.Update number) effect cells.new.items (account_of told.new)) }
     ensures sound { OnOk result ((effect : Effect) → step (design_of machine.now.code) (state_at machine.now) (entries.Update number) ≡ Some effect → IsSoundState machine.now.code effect.state) }
     ensures registers { length cells.new.items ≡ length cells.old.items }
-    ensures fault { IfErr result (λ fault. fault ≡ StepFault.Memory) }
 {
     match update_numbered(machine.state().active().0, number) {
         Some(update) => {
             told.actor = EntryActor::Update(update.register, update.value);
-            Ok(change(cells, &mut told.changes, update.register, update.value)?)
+            change(cells, &mut told.changes, update.register, update.value)?;
+            Ok(())
         }
         None => Ok(()),
     }
@@ -147,25 +143,23 @@ fn clear(told: &mut EntryAccount)
 }
 
 /// Notes an entry before the machine takes it: who does it, what it reads, assigns and changes. Where the entry is a turn, and the
-/// log is filled with it, answers its number. After an `Err` the registers may have changed.
+/// log is filled with it, answers its number. Fails where memory is refused, and the registers may have changed then.
 pub fn note(
     machine: &Machine<'_>,
     entry: Entry,
     log: &mut TurnLog,
     cells: &mut Vec<VersionedValue>,
     told: &mut EntryAccount,
-) -> Result<Option<u64>, StepFault>
-    requires sound { IsSoundState machine.now.code (state_at machine.now) }
-    requires cells { length cells.old.items ≡ length machine.now.code.widths }
+) -> Result<Option<u64>, AllocError>
+    requires kept { IsKept machine.now cells.old.items }
     ensures noted { OnOk result ((effect : Effect) → cell_values cells.old.items ≡ machine.now.values → step (design_of machine.now.code) (state_at machine.now) entry ≡ Some effect → IsNoted machine.now.code (state_at machine.now) cells.old.items entry effect cells.new.items (account_of told.new)) }
     ensures sound { OnOk result ((effect : Effect) → step (design_of machine.now.code) (state_at machine.now) entry ≡ Some effect → IsSoundState machine.now.code effect.state) }
     ensures given { IfOk result (IsLogFilled machine.now.code (state_at machine.now) entry log.new) }
     ensures registers { length cells.new.items ≡ length cells.old.items }
-    ensures fault { IfErr result (λ fault. fault ≡ StepFault.Memory) }
 {
     clear(told);
     match entry {
-        Entry::Turn(number) => note_turn(machine, number, log, cells, told),
+        Entry::Turn(number) => note_turn(machine, log, cells, told, number),
         Entry::Update(number) => {
             note_update(machine, cells, told, number)?;
             Ok(None)

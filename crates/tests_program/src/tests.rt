@@ -21,7 +21,6 @@ use std::{io, mem};
 mod bounds;
 mod claims;
 mod counts;
-mod cut;
 mod flushed;
 mod journals;
 mod placing;
@@ -36,6 +35,7 @@ mod starved;
 mod threads;
 mod tries;
 mod unsynced;
+mod unwritten;
 mod words;
 
 /// A run that keeps its journal.
@@ -472,26 +472,6 @@ fn assert_line<R: Abort + Threads + Wait + Sync>(
     wanted: Expected<'_>,
 ) {
     assert_in(rt, alloc, line, line, &over(source), wanted);
-}
-
-/// Where there is only room for this much of the lines, just that is printed.
-fn assert_cut<R: Abort + Threads + Wait + Sync>(
-    rt: &R,
-    alloc: Global,
-    line: &str,
-    setting: Setting<'_>,
-    out: &str,
-) {
-    let cut = Setting {
-        out_room: out.len(),
-        ..setting
-    };
-    let wanted = Expected {
-        status: 1,
-        out,
-        err: CANNOT_WRITE,
-    };
-    assert_in(rt, alloc, line, line, &cut, wanted);
 }
 
 /// A replay of a run's journal prints the lines of the run.

@@ -1,5 +1,6 @@
 -- A text behind which two pieces were put, one after the other.
-use Rattle.std.proofs.Common.{◌≡◌, ◌∙◌, ap, ℕ, Bool, true, false, List, ◌++◌, append_assoc, Result, Ok, Err, OnOk, is_ok, if◌then◌else◌}
+use Rattle.std.proofs.Common.{◌≡◌, ◌∙◌, ap, ℕ, Bool, true, false, List, ◌++◌, append_assoc, Option, Some, None, Result, Ok, Err, OnOk, is_ok, if◌then◌else◌, refl}
+use Rattle.verdict.specs.Verdicts.{endless_text, some_endless}
 
 -- where both were put
 pub joined : (new old a mid b : List ℕ) → new ≡ mid ++ b → mid ≡ old ++ a → new ≡ old ++ (a ++ b)
@@ -15,3 +16,8 @@ pub joined_last : {A E : Type 0} (r : Result A E) (new old a mid b c : List ℕ)
     → OnOk r (new ≡ old ++ (a ++ c))
 joined_last (Ok x) new old a mid b c h k e = joined new old a mid c (h ∙ ap (λ w. mid ++ w) e) k
 joined_last (Err x) new old a mid b c h k e = tt
+
+-- what is said where a run without an end is known
+pub endless_known : (o : Option ℕ) (prefix : Option (List ℕ)) (n : ℕ) → o ≡ Some n → endless_text o prefix ≡ some_endless o prefix
+endless_known (Some m) prefix n is = refl
+endless_known None prefix n is = cc

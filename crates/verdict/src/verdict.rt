@@ -1,7 +1,7 @@
 //! The lines on the texts that were found.
 
 ghost use Rattle.std.specs.Prelude.{◌≡◌, ◌++◌, OnOk, option_map};
-ghost use Rattle.verdict.specs.Verdicts.{claim_text, endless_text, every_text, many_every, none_every, one_of_them, one_every, open_text, sampled_text, so_far_text, some_endless, verdict_text};
+ghost use Rattle.verdict.specs.Verdicts.{claim_text, endless_text, many_every, none_every, one_of_them, one_every, open_text, sampled_text, so_far_text, verdict_text};
 
 use crate::claim::{Claim, SearchStop};
 use crate::phrases::{
@@ -39,7 +39,11 @@ fn push_claim(text: &mut Vec<u8>, verdict: &Verdict<'_>) -> Result<(), AllocErro
     ensures { OnOk result (text.new.items ≡ text.old.items ++ claim_text verdict.entry.now.claim verdict.entry.now.until verdict.entry.now.count verdict.entry.now.ends verdict.entry.now.first.now (option_map (λ path. path.now) verdict.entry.now.prefix)) }
 {
     match verdict.claim {
-        Claim::Every { states, endless } => push_every(text, verdict, states, endless),
+        Claim::Every { states, endless } => match verdict.count {
+            0 => push_none(text, verdict.until, endless, verdict.prefix),
+            1 => push_one(text, verdict, states, endless),
+            _ => push_many(text, verdict, endless),
+        },
         Claim::SoFar(stop) => push_so_far(text, stop, verdict.count),
         Claim::Sampled(orders) => push_sampled(text, orders),
     }
@@ -73,22 +77,6 @@ fn push_sampled(text: &mut Vec<u8>, orders: u32) -> Result<(), AllocError>
     text.extend_from_slice(b" random lawful orders: others may be possible\n")
 }
 
-/// What every lawful run prints that comes to an end, where all were searched.
-fn push_every(
-    text: &mut Vec<u8>,
-    verdict: &Verdict<'_>,
-    states: u64,
-    endless: Option<usize>,
-) -> Result<(), AllocError>
-    ensures { OnOk result (text.new.items ≡ text.old.items ++ every_text states endless verdict.entry.now.until verdict.entry.now.count verdict.entry.now.ends verdict.entry.now.first.now (option_map (λ path. path.now) verdict.entry.now.prefix)) }
-{
-    match verdict.count {
-        0 => push_none(text, verdict.until, endless, verdict.prefix),
-        1 => push_one(text, verdict, states, endless),
-        _ => push_many(text, verdict, endless),
-    }
-}
-
 /// That no lawful run comes to an end, and where the journal of one that doesn't is saved, if it is.
 fn push_none(
     text: &mut Vec<u8>,
@@ -105,7 +93,7 @@ fn push_none(
     text.extend_from_slice(b"\n")
 }
 
-/// That some lawful runs don't come to an end, where one is known.
+/// That some lawful runs don't come to an end, where one is known, and where its journal is saved, if it is.
 fn push_endless(
     text: &mut Vec<u8>,
     endless: Option<usize>,
@@ -114,22 +102,13 @@ fn push_endless(
     ensures { OnOk result (text.new.items ≡ text.old.items ++ endless_text endless (option_map (λ path. path.now) prefix.entry)) }
 {
     match endless {
-        Some(_) => push_some_endless(text, endless, prefix),
+        Some(_) => {
+            text.extend_from_slice(b"some lawful runs don't come to an end")?;
+            push_journal(text, prefix, endless)?;
+            text.extend_from_slice(b"\n")
+        }
         None => Ok(()),
     }
-}
-
-/// That some lawful runs don't come to an end, and where the journal of one is saved, if it is.
-fn push_some_endless(
-    text: &mut Vec<u8>,
-    endless: Option<usize>,
-    prefix: Option<&str>,
-) -> Result<(), AllocError>
-    ensures { OnOk result (text.new.items ≡ text.old.items ++ some_endless endless (option_map (λ path. path.now) prefix.entry)) }
-{
-    text.extend_from_slice(b"some lawful runs don't come to an end")?;
-    push_journal(text, prefix, endless)?;
-    text.extend_from_slice(b"\n")
 }
 
 /// That every lawful run that comes to an end prints the same text, and that text behind all that is said.

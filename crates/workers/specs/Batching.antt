@@ -1,5 +1,6 @@
 -- Several turns that a worker commits at once.
-use Rattle.std.specs.Prelude.{◌≡◌, ℕ, ◌+◌, ◌-◌, ◌^◌, ◌<◌, ◌≤◌, List, length, slice_index_or}
+use Rattle.std.specs.Prelude.{◌≡◌, ℕ, ◌+◌, ◌-◌, ◌^◌, ◌<◌, ◌≤◌, List, [], length, slice_index_or}
+use Rattle.std.specs.Vec.{vec_capacity}
 use Rattle.std.specs.VecDeque.{deque_capacity}
 use Rattle.commitgate.specs.Named.{Named}
 use Rattle.turn.specs.TurnLogs.{LogView}
@@ -17,6 +18,7 @@ use Rattle.workers.specs.declared.batch.Filling.TheVariants.{More, Enough, Over}
 use Rattle.workers.specs.declared.next_round.NextRound.{NextRound}
 use Rattle.workers.specs.declared.next_round.NextRound.TheVariants.{GoesOn, Ends}
 use Rattle.workers.specs.declared.worker.Worker.{Worker}
+use Rattle.workers.specs.declared.worker.WorkerRoom.{WorkerRoom}
 use Rattle.workers.specs.Keeping.{weigh_got, ExtendsWorker, KeepsAll}
 use Rattle.workers.specs.WorkerInvariant.{HasPositions, seat_turn_count, SameEnds, IsOver, got_by_ends}
 
@@ -29,9 +31,21 @@ abbrev pub HasBatchRoom : {A : Type 0} → Batch A → Type 0
 HasBatchRoom batch =
     (length batch.logs.items ≡ most_turns) × (most_turns ≤ deque_capacity batch.tickets) × (most_turns ≤ deque_capacity batch.replies)
 
--- its turns may be committed by a worker: their tickets and logs, by what the worker's seat has seen
+-- a worker has room for the grants of 16 updates, and an empty batch with room for the most turns
+pub record HasWorkerRoom {A : Type 0} (room : WorkerRoom A) : Type 0 where
+  pub grants : vec_capacity room.grants ≡ 16
+  pub batch : HasBatchRoom room.batch
+  pub empty : room.batch.tickets.items ≡ []
+
+-- the turns of a batch may be committed by a worker: their tickets and logs, by what the worker's seat has seen
 abbrev pub MayBeCommitted : {A : Type 0} → Named → Batch A → Worker A → Type 0
 MayBeCommitted n batch worker = AreOffered n.code worker.seat.fresh batch.tickets.items batch.logs.items
+
+-- one more turn may be added: the batch has room for it, and its turns may be committed by a worker
+pub record HasPlace {A : Type 0} (n : Named) (batch : Batch A) (worker : Worker A) : Type 0 where
+  pub room : HasBatchRoom batch
+  pub few : length batch.tickets.items < most_turns
+  pub offered : MayBeCommitted n batch worker
 
 -- The turn of a ticket is too long, by the log behind those of the batch's turns. What was read in it stands in what a seat
 -- has seen of the registers.

@@ -1,5 +1,5 @@
 -- What a worker has, and what its calls keep.
-use Rattle.std.specs.Prelude.{◌≡◌, ◌⊎◌, ℕ, zero, suc, ◌+◌, ◌-◌, ◌^◌, ◌<◌, ◌≤◌, List, [], ◌∷◌, ◌++◌, map, length, Some, IsSome, slice_get}
+use Rattle.std.specs.Prelude.{◌≡◌, ◌⊎◌, ℕ, zero, suc, ◌+◌, ◌-◌, ◌^◌, ◌<◌, ◌≤◌, List, [], ◌∷◌, ◌++◌, map, length, Option, Some, IfNone, IfSome, IsSome, slice_get}
 use Rattle.std.specs.List.{sum_by, AllByRecursion, range_with_len}
 use mathlib.Core.List.{IsPrefix}
 use Rattle.model.specs.declared.end.End.TheVariants.{Quiet}
@@ -16,7 +16,7 @@ use Rattle.eventpool.specs.Pools.{IsPool}
 use Rattle.commitgate.specs.GateJournals.{Stays}
 use Rattle.eventpool.specs.Ends.{Owning, Stealing, owner_card, thief_card}
 use Rattle.workers.specs.Counting.{turns_at}
-use Rattle.workers.specs.Keeping.{ExtendsWorker, HasLostNone}
+use Rattle.workers.specs.Keeping.{ExtendsWorker, GotNone, GotOne, HasLostNone}
 use Rattle.workers.specs.declared.next_round.NextRound.{NextRound}
 use Rattle.workers.specs.declared.next_round.NextRound.TheVariants as next_of
 use Rattle.workers.specs.declared.worker.Worker.{Worker}
@@ -95,6 +95,15 @@ module _ {T : Type 0} where
   abbrev pub IsReady : SeatView → Owning T → List (Stealing T) → ℕ → Type 0
   IsReady s owner row evaluations =
       HasPositions s × (evaluations < 2 ^ 64 - 1 → seat_turn_count s ≤ evaluations) × (evaluations + 1 ≤ got_by_ends owner row)
+
+-- Ends looked for a ticket: they are still these ends, and nothing was put. They got one more ticket, the one that was found, and none where none was.
+pub record LookFor {T : Type 0} (owner : Owning T) (row : List (Stealing T)) (owner' : Owning T) (row' : List (Stealing T)) (found : Option T) : Type 0 where
+  pub ends : SameEnds owner row owner' row'
+  pub some : IfSome found (λ _. got_by_ends owner' row' ≡ got_by_ends owner row + 1)
+  pub none : IfNone found (got_by_ends owner' row' ≡ got_by_ends owner row)
+  pub got : IfSome found (GotOne owner row owner' row')
+  pub same : IfNone found (GotNone owner row owner' row')
+  pub put : owner'.put ≡ owner.put
 
 -- a worker with a ticket stays the same worker, and counts its evaluation
 pub record ServesTicket {A : Type 0} (old new : Worker A) : Type 0 where

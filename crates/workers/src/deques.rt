@@ -2,8 +2,8 @@
 ghost use Rattle.std.specs.Prelude.{◌≡◌, ◌+◌, ◌++◌, [], ◌∷◌, map, length, IfSome, IfNone};
 ghost use Rattle.std.specs.List.{sum_by};
 ghost use Rattle.eventpool.specs.Ends.{thief_card};
-ghost use Rattle.workers.specs.Keeping.{StoleOne, StoleNone, GotOne, GotNone};
-ghost use Rattle.workers.specs.WorkerInvariant.{Goes, OverUnless, OnlyPuts, SameEnds, got_by_ends};
+ghost use Rattle.workers.specs.Keeping.{StoleOne, StoleNone};
+ghost use Rattle.workers.specs.WorkerInvariant.{Goes, LookFor, OverUnless, OnlyPuts};
 ghost use Rattle.workers.specs.declared.next_round.NextRound.TheVariants.{GoesOn};
 
 use crate::next_round::NextRound;
@@ -12,9 +12,6 @@ use crossbeam_utils::Backoff;
 use eventpool::{Owner, Stolen, Thief};
 use std::sync::Wait;
 use std::thread;
-
-/// How often a worker looks again for a ticket before it rests: some microseconds, at the end of which it lets others run.
-pub(crate) const LOOKS: u32 = 11;
 
 // Steals the first ticket of a deque. Where another is quicker it tries again.
 fn steal_one<T: Drop, R: Wait>(rt: &R, thief: &mut Thief<T>) -> Option<T>
@@ -56,12 +53,7 @@ pub(crate) fn take<T: Drop, R: Wait>(
     owner: &mut Owner<T>,
     row: &mut Vec<Thief<T>>,
 ) -> Option<T>
-    ensures ends { SameEnds owner.old row.old.items owner.new row.new.items }
-    ensures some { IfSome result (λ _. got_by_ends owner.new row.new.items ≡ got_by_ends owner.old row.old.items + 1) }
-    ensures none { IfNone result (got_by_ends owner.new row.new.items ≡ got_by_ends owner.old row.old.items) }
-    ensures got { IfSome result (λ x. GotOne owner.old row.old.items owner.new row.new.items x) }
-    ensures same { IfNone result (GotNone owner.old row.old.items owner.new row.new.items) }
-    ensures put { owner.new.put ≡ owner.old.put }
+    ensures { LookFor owner.old row.old.items owner.new row.new.items result }
 {
     match owner.take() {
         Some(ticket) => Some(ticket),
@@ -77,12 +69,7 @@ pub(crate) fn take_soon<T: Drop, R: Wait>(
     row: &mut Vec<Thief<T>>,
     looks: u32,
 ) -> Option<T>
-    ensures ends { SameEnds owner.old row.old.items owner.new row.new.items }
-    ensures some { IfSome result (λ _. got_by_ends owner.new row.new.items ≡ got_by_ends owner.old row.old.items + 1) }
-    ensures none { IfNone result (got_by_ends owner.new row.new.items ≡ got_by_ends owner.old row.old.items) }
-    ensures got { IfSome result (λ x. GotOne owner.old row.old.items owner.new row.new.items x) }
-    ensures same { IfNone result (GotNone owner.old row.old.items owner.new row.new.items) }
-    ensures put { owner.new.put ≡ owner.old.put }
+    ensures { LookFor owner.old row.old.items owner.new row.new.items result }
 {
     if row.is_empty() {
         return None;

@@ -17,6 +17,9 @@ const WEIGHT: u64 = 8;
 // After so many answers that weren't stale, twice as many turns are committed at once.
 const ENOUGH: u32 = 64;
 
+// How often a worker looks again for a ticket before it rests: some microseconds, at the end of which it lets others run.
+const LOOKS: u32 = 11;
+
 // How long a worker backs off, in microseconds. An admitted worker that makes no round for so long is held up.
 const BACKOFF: u64 = 500;
 
@@ -54,7 +57,7 @@ impl Admission {
 
 /// How long a worker's turns were of late, how many of them it commits at once, and whether it is admitted.
 #[derive(Drop)]
-pub(crate) struct Throttle {
+pub struct Throttle {
     // The mean of the counted steps of its turns, times WEIGHT.
     steps: u64,
     // How many short turns are committed at once, and how many answers since that number changed weren't stale.
@@ -88,6 +91,11 @@ impl Throttle {
     /// Whether the worker's turns are short.
     pub(crate) fn is_short(&self) -> bool {
         self.steps < SHORT * WEIGHT
+    }
+
+    /// How often the worker looks again for a ticket before it rests: not at all where its turns are short.
+    pub(crate) fn looks(&self) -> u32 {
+        if self.is_short() { 0 } else { LOOKS }
     }
 
     /// How many turns are committed at once.

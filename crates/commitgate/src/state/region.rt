@@ -78,23 +78,13 @@ impl<'d, K: Naming> GateState<'d, K> {
         }
     }
 
-    /// The first change of the regions that is due, where nothing is active and an event is left (11.4).
+    /// The change of the regions that comes next, where nothing is active and an event is left (11.4).
     fn due_change(&self) -> Entry
         requires { IsBetweenRegions K.named.code self.now }
         ensures { IsDueChange (state_in K.named.code self.now) result }
     {
-        let regions = &self.run_state.regions;
-        if regions.legal(&Entry::ActivateInactive) {
-            return Entry::ActivateInactive;
-        }
-        if regions.legal(&Entry::ActivateNba) {
-            return Entry::ActivateNba;
-        }
-        if regions.legal(&Entry::ActivateMonitor) {
-            return Entry::ActivateMonitor;
-        }
-        match regions.next_time() {
-            Some(time) => Entry::Advance(time),
+        match self.run_state.regions.next_change() {
+            Some(change) => change,
             None => unreachable!(),
         }
     }

@@ -10,6 +10,6 @@ use Rattle.accesses.proofs.accesses.waits.Goals as goal
 
 pub returns-in-Some : goal.returns-in-Some
 returns-in-Some c =
-    c.has_trigger.ensures
+    c.waits_for.ensures
     ∙ (ap (λ (ts : List Trigger). list_any (λ t. t.1 == c.args.register) ts) (c.in-Some.ensures.lookup.4 (omega arith) [])
     ∙ ap (λ (s : Suspend). waits_for c.args.register (wait_of c.args.controls.now s)) (sym c.in-Event.is ∙ c.suspend.ensures))

@@ -1,4 +1,4 @@
-use Rattle.std.proofs.Common.{◌<◌, ◌≤◌, ◌*◌, length}
+use Rattle.std.proofs.Common.{◌≤◌, ◌*◌, length}
 use Rattle.std.specs.List.{All}
 use Rattle.explore.specs.Lineage.{ways}
 use Rattle.explore.specs.Placed.{IsPlaced}
@@ -7,7 +7,7 @@ use Rattle.explore.proofs.again.place_all.Given as goal
 abbrev pub invariant-loop-left : goal.invariant-loop-left
 invariant-loop-left g l =
     record {
-      checkpoints : All (IsPlaced (g.O.Orders.runs l.orders) (ways l.lineage)) l.checkpoints.nodes.items;
+      checkpoints : All (IsPlaced (g.O.Orders.runs l.scope.orders.now) (ways l.lineage)) l.checkpoints.nodes.items;
       within : l.left * 2 ≤ length l.passed.items;
     }
 

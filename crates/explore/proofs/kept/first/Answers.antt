@@ -10,7 +10,7 @@ use Rattle.explore.proofs.kept.first.Goals as goal
 
 pub returns-clause-kept : goal.returns-clause-kept
 returns-clause-kept g c =
-    let orders = c.args.orders.now in
+    let orders = c.args.scope.orders.now in
     let visit : ℕ × List ℕ = (0, c.as_slice.result.now) in
     let p : Reached = record { number = 0; text = 0 } in
     let first : Placed g.row.O-Node.Denot = record { number = 0; node = c.in_ok-node.node; weight = c.weight-weight.result } in

@@ -14,7 +14,7 @@ use Rattle.explore.proofs.kept.follow_all.Goals as goal
 
 pub loop-next-init : goal.loop-next-init
 loop-next-init g c =
-    let runs = g.O.Orders.runs c.args.orders.now in
+    let runs = g.O.Orders.runs c.args.scope.orders.now in
     let way = get_or (ways c.args.kept.now.lineage) c.args.from.number [] in
     record {
       kept = c.requires.kept;
@@ -28,7 +28,7 @@ loop-next-init g c =
 
 pub follow-requires-clause-next : goal.follow-requires-clause-next
 follow-requires-clause-next g c =
-    let runs = g.O.Orders.runs c.args.orders.now in
+    let runs = g.O.Orders.runs c.args.scope.orders.now in
     let way = get_or (ways c.args.kept.now.lineage) c.args.from.number [] in
     let next = c.in-Some.next in
     subst (λ (l : List g.row.O-Move.Denot). IsSuccessor runs l next) (sym (get_or-extends (ways c.args.kept.now.lineage) (ways c.loop-next.kept.lineage) c.args.from.number [] c.loop-next.invariant.grows.lineage c.requires.from.way))
@@ -36,20 +36,20 @@ follow-requires-clause-next g c =
 
 pub loop-next-preserved : goal.loop-next-preserved
 loop-next-preserved g c =
-    let runs = g.O.Orders.runs c.args.orders.now in
+    let runs = g.O.Orders.runs c.args.scope.orders.now in
     let way = get_or (ways c.args.kept.now.lineage) c.args.from.number [] in
     let next = c.in-Some.next in
     let popped = c.in-Some.ensures.items in
     let before = c.loop-next.invariant.done in
     let new = c.follow.new.kept in
-    let longer : length (ways c.loop-next.kept.lineage) ≤ length (ways new.lineage) = length-extends (ways c.loop-next.kept.lineage) (ways new.lineage) c.in_ok-there.ensures.grows.lineage in
-    let room = c.in_ok-there.ensures.room in
+    let longer : length (ways c.loop-next.kept.lineage) ≤ length (ways new.lineage) = length-extends (ways c.loop-next.kept.lineage) (ways new.lineage) c.in_ok-there.ensures.further.grows.lineage in
+    let room = c.in_ok-there.ensures.further.room in
     let same = get_or-extends (ways c.args.kept.now.lineage) (ways c.loop-next.kept.lineage) c.args.from.number [] c.loop-next.invariant.grows.lineage c.requires.from.way in
     record {
-      kept = c.in_ok-there.ensures.kept;
-      grows = Grows-through c.args.kept.now c.loop-next.kept c.follow.new.kept c.loop-next.invariant.grows c.in_ok-there.ensures.grows;
-      room = c.in_ok-there.ensures.room;
-      unmarked = λ k none. c.loop-next.invariant.unmarked k (c.in_ok-there.ensures.unmarked k none);
+      kept = c.in_ok-there.ensures.further.kept;
+      grows = Grows-through c.args.kept.now c.loop-next.kept c.follow.new.kept c.loop-next.invariant.grows c.in_ok-there.ensures.further.grows;
+      room = c.in_ok-there.ensures.further.room;
+      unmarked = λ k none. c.loop-next.invariant.unmarked k (c.in_ok-there.ensures.further.unmarked k none);
       full = λ not_all. elim (one_false c.loop-next.all c.in_ok-there.there not_all) [
         | inl before_it ↦ let at : length (ways c.loop-next.kept.lineage) ≡ c.args.scope.bounds.nodes = c.loop-next.invariant.full before_it in omega (arith, at, longer, room)
         | inr now ↦ c.in_ok-there.ensures.full now
@@ -59,14 +59,19 @@ loop-next-preserved g c =
         next ∷ before.0,
         taken_more c.args.successors.items c.loop-next.left.items c.pop.new.self.items before.0 next before.1 popped,
         λ all. let both = both_true c.loop-next.all c.in_ok-there.there all in
-            leads_more runs c.loop-next.kept new c.args.from.number way before.0 next c.in_ok-there.ensures.grows (before.2 both.0)
+            leads_more runs c.loop-next.kept new c.args.from.number way before.0 next c.in_ok-there.ensures.further.grows (before.2 both.0)
             (subst (λ (l : List g.row.O-Move.Denot). LeadsOn runs new c.args.from.number (l ++ next.moves.items)) same (c.in_ok-there.ensures.leads both.1)),
       );
     }
 
+pub returns-clause-further : goal.returns-clause-further
+returns-clause-further g c =
+    let known = c.loop-next.invariant in
+    record { kept = known.kept; grows = known.grows; room = known.room; unmarked = known.unmarked }
+
 pub returns-clause-leads : goal.returns-clause-leads
 returns-clause-leads g c all =
-    let runs = g.O.Orders.runs c.args.orders.now in
+    let runs = g.O.Orders.runs c.args.scope.orders.now in
     let way = get_or (ways c.args.kept.now.lineage) c.args.from.number [] in
     let done = c.loop-next.invariant.done in
     let none : length c.loop-next.left.items ≡ 0 = omega (arith, c.in_default.ensures.cases.0) in

@@ -8,10 +8,10 @@ use Rattle.explore.proofs.kept.follow_all.Given as goal
 
 abbrev pub invariant-loop-next : goal.invariant-loop-next
 invariant-loop-next g l =
-    let runs = g.O.Orders.runs l.orders in
+    let runs = g.O.Orders.runs l.scope.orders.now in
     let way = get_or (ways l.fn.kept.lineage) l.from.number [] in
     record {
-      kept : AreKept runs (g.O.Orders.has_key l.orders) l.kept;
+      kept : AreKept runs (g.O.Orders.has_key l.scope.orders.now) l.kept;
       grows : Grows l.fn.kept l.kept;
       room : length (ways l.kept.lineage) ≤ l.scope.bounds.nodes;
       unmarked : StayUnmarked l.fn.kept l.kept;

@@ -19,7 +19,7 @@ returns-then-not-told-clause-grows g c = Grows-itself c.args.kept.now
 
 pub returns-clause-grows : goal.returns-clause-grows
 returns-clause-grows g c =
-    let grows = c.in_ok-followed.ensures.grows in
+    let grows = c.in_ok-followed.ensures.further.grows in
     record {
       lineage = grows.lineage;
       steps = grows.steps;
@@ -32,8 +32,11 @@ returns-clause-grows g c =
 
 pub returns-clause-kept : goal.returns-clause-kept
 returns-clause-kept g c =
-    let kept = c.in_ok-followed.ensures.kept in
+    let kept = c.in_ok-followed.ensures.further.kept in
     record { lineage = kept.lineage; told = kept.told; whole = kept.whole; count = kept.count; visited = kept.visited; pending = kept.pending; placed = kept.placed }
+
+pub returns-clause-room : goal.returns-clause-room
+returns-clause-room g c = c.in_ok-followed.ensures.further.room
 
 pub returns-clause-full : goal.returns-clause-full
 returns-clause-full g c at = absurd (c.left_out-left.ensures.apart at)
@@ -43,7 +46,7 @@ returns-clause-nodes g c at = c.in_ok-followed.ensures.full (c.left_out-left.ens
 
 pub returns-clause-followed : goal.returns-clause-followed
 returns-clause-followed g c none =
-    let orders = c.args.orders.now in
+    let orders = c.args.scope.orders.now in
     let runs = g.O.Orders.runs orders in
     let kept = c.follow_all.new.kept in
     let way = get_or (ways c.args.kept.now.lineage) c.args.at.reached.number [] in
@@ -56,18 +59,18 @@ returns-clause-followed g c none =
 
 pub returns-clause-continued : goal.returns-clause-continued
 returns-clause-continued g c k unmarked =
-    let orders = c.args.orders.now in
+    let orders = c.args.scope.orders.now in
     let runs = g.O.Orders.runs orders in
     let old = c.args.kept.now in
     let kept = c.follow_all.new.kept in
     let number = c.args.at.reached.number in
     let way = get_or (ways old.lineage) number [] in
-    let grows = c.in_ok-followed.ensures.grows in
+    let grows = c.in_ok-followed.ensures.further.grows in
     let new : KeptNodes g.row.O-Node.Denot g.row.O-Move.Denot = record { lineage = kept.lineage; texts = kept.texts; visited = kept.visited; links = c.settle.new.self; pending = kept.pending; nodes = kept.nodes; key = kept.key } in
     let edges : Extends kept.links.edges.items new.links.edges.items = subst (λ (l : List SearchEdge). Extends kept.links.edges.items l) (sym c.settle.ensures.edges) (Extends-itself kept.links.edges.items) in
     let settled = λ (j : ℕ) (here : IsContinued runs kept j). IsContinued-more runs kept new j (Extends-itself (ways kept.lineage)) (Extends-itself (pieces kept.lineage.steps)) edges here in
     elim (c.settle.ensures.may_end k unmarked) [
-      | inl before ↦ settled k (IsContinued-more runs old kept k grows.lineage grows.steps grows.edges (c.requires.continued k (c.in_ok-followed.ensures.unmarked k before)))
+      | inl before ↦ settled k (IsContinued-more runs old kept k grows.lineage grows.steps grows.edges (c.requires.continued k (c.in_ok-followed.ensures.further.unmarked k before)))
       | inr now ↦
           let both = both_true c.is_empty-goes_on.result c.is_whole.result now.1 in
           let none : length c.in_ok-successors.field-0.ended.items ≡ 0 = empty_is_none c.in_ok-successors.field-0.ended c.is_empty-goes_on.result c.is_empty-goes_on.ensures both.0 in

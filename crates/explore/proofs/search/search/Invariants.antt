@@ -8,10 +8,10 @@ use Rattle.explore.proofs.search.search.Given as goal
 
 abbrev pub invariant-loop-reached : goal.invariant-loop-reached
 invariant-loop-reached g l =
-    let runs = g.O.Orders.runs l.orders in
+    let runs = g.O.Orders.runs l.scope.orders.now in
     let reached = ways l.kept.lineage in
     record {
-      kept : AreKept runs (g.O.Orders.has_key l.orders) l.kept;
+      kept : AreKept runs (g.O.Orders.has_key l.scope.orders.now) l.kept;
       continued : AreContinued runs l.kept;
       some : 0 < length reached;
       starts : get_or reached 0 [] ≡ [];

@@ -12,7 +12,7 @@ use Rattle.explore.proofs.show.show.Goals as goal
 
 pub returns-then-is_shown-clause-there : goal.returns-then-is_shown-clause-there
 returns-then-is_shown-clause-there g c _ =
-    let runs = g.O.Orders.runs c.args.orders.now in
+    let runs = g.O.Orders.runs c.args.scope.orders.now in
     let way = get_or (ways c.args.run.lineage.now) c.args.run.reached.number [] in
     let printed = c.args.ended.printed.items in
     let text : c.in_ok-text.text.items ≡ runs.text way ++ printed =
@@ -25,7 +25,7 @@ returns-in_err-push-clause-grows g c = ([], c.in_err-push.ensures.items ∙ sym 
 
 pub returns-clause-sound : goal.returns-clause-sound
 returns-clause-sound g c =
-    let runs = g.O.Orders.runs c.args.orders.now in
+    let runs = g.O.Orders.runs c.args.scope.orders.now in
     let way = get_or (ways c.args.run.lineage.now) c.args.run.reached.number [] in
     let printed = c.args.ended.printed.items in
     let text : c.in_ok-text.text.items ≡ runs.text way ++ printed =
@@ -44,7 +44,7 @@ returns-clause-distinct g c =
 
 pub returns-clause-there : goal.returns-clause-there
 returns-clause-there g c _ =
-    let runs = g.O.Orders.runs c.args.orders.now in
+    let runs = g.O.Orders.runs c.args.scope.orders.now in
     let way = get_or (ways c.args.run.lineage.now) c.args.run.reached.number [] in
     let printed = c.args.ended.printed.items in
     let text : c.in_ok-text.text.items ≡ runs.text way ++ printed =

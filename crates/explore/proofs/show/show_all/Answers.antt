@@ -12,7 +12,7 @@ use Rattle.explore.proofs.show.show_all.Goals as goal
 
 pub loop-one-init : goal.loop-one-init
 loop-one-init g c =
-    let runs = g.O.Orders.runs c.args.orders.now in
+    let runs = g.O.Orders.runs c.args.scope.orders.now in
     let way = get_or (ways c.args.run.lineage.now) c.args.run.reached.number [] in
     record {
       sound = c.requires.sound;
@@ -25,13 +25,13 @@ loop-one-init g c =
 
 pub show-requires-clause-ended : goal.show-requires-clause-ended
 show-requires-clause-ended g c =
-    let runs = g.O.Orders.runs c.args.orders.now in
+    let runs = g.O.Orders.runs c.args.scope.orders.now in
     let way = get_or (ways c.args.run.lineage.now) c.args.run.reached.number [] in
     (All-pop (IsEndedPath runs way) c.loop-one.left.items c.pop.new.self.items (Some c.in-Some.one) c.in-Some.ensures.items c.loop-one.invariant.left).1
 
 pub loop-one-preserved : goal.loop-one-preserved
 loop-one-preserved g c =
-    let runs = g.O.Orders.runs c.args.orders.now in
+    let runs = g.O.Orders.runs c.args.scope.orders.now in
     let way = get_or (ways c.args.run.lineage.now) c.args.run.reached.number [] in
     let one = c.in-Some.one in
     let popped = c.in-Some.ensures.items in
@@ -52,7 +52,7 @@ loop-one-preserved g c =
 
 pub returns-clause-there : goal.returns-clause-there
 returns-clause-there g c _ =
-    let runs = g.O.Orders.runs c.args.orders.now in
+    let runs = g.O.Orders.runs c.args.scope.orders.now in
     let way = get_or (ways c.args.run.lineage.now) c.args.run.reached.number [] in
     let done = c.loop-one.invariant.done in
     let none : length c.loop-one.left.items ≡ 0 = omega (arith, c.in_default.ensures.cases.0) in

@@ -8,12 +8,12 @@ use Rattle.explore.proofs.show.show_all.Given as goal
 
 abbrev pub invariant-loop-one : goal.invariant-loop-one
 invariant-loop-one g l =
-    let runs = g.O.Orders.runs l.orders in
+    let runs = g.O.Orders.runs l.scope.orders.now in
     let way = get_or (ways l.run.lineage.now) l.run.reached.number [] in
     record {
       sound : All (IsOfRun runs) l.shown.items;
       distinct : AllPairs AreDistinct l.shown.items;
-      few : length l.shown.items ≤ l.most;
+      few : length l.shown.items ≤ l.scope.bounds.shown;
       grows : Extends l.fn.shown.items l.shown.items;
       left : All (IsEndedPath runs way) l.left.items;
       done : (did : List (EndedPath g.row.O-Move.Denot g.row.O-End.Denot)) × (l.fn.ended.items ≡ l.left.items ++ did)

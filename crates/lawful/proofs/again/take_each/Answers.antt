@@ -1,21 +1,23 @@
--- One entry more.
-use Rattle.std.proofs.Common.{List, take, get_or, refl, sym, subst, ◌∙◌, arith}
+-- One transition more.
+use Rattle.std.proofs.Common.{List, take, get_or, sym, subst, arith}
 use Rattle.std.proofs.lemmas.List.{take_more}
-use Rattle.model.specs.declared.entry.Entry.{Entry}
-use Rattle.model.specs.declared.entry.Entry.TheVariants.{Turn}
-use Rattle.walks.specs.Walking.{HasTaken}
-use Rattle.walks.proofs.Walks.{taken_none, taken_more}
+use Rattle.loose.specs.declared.transition.LooseTransition.{LooseTransition}
+use Rattle.loose.specs.declared.transition.LooseTransition.TheVariants.{Process}
+use Rattle.loose.specs.Classes.{class_in}
+use Rattle.lawful.specs.Again.{HasGoneBy}
+use Rattle.lawful.proofs.Remade.{gone_nowhere, gone_more}
 use Rattle.lawful.proofs.again.take_each.Goals as goal
 
-pub loop-entry-init : goal.loop-entry-init
-loop-entry-init c = record { code = refl; taken = taken_none c.args.machine.now }
+pub loop-transition-init : goal.loop-transition-init
+loop-transition-init c = record { order = c.requires; gone = gone_nowhere (class_in c.args.classes.now) c.args.machine.now c.requires }
 
-pub loop-entry-preserved : goal.loop-entry-preserved
-loop-entry-preserved c =
-    let entries = c.args.entries.now in
-    let at = c.loop-entry.entry-index in
+pub loop-transition-preserved : goal.loop-transition-preserved
+loop-transition-preserved c =
+    let moves = c.args.moves.now in
+    let at = c.loop-transition.transition-index in
+    let class = class_in c.args.classes.now in
     record {
-      code = c.in-Ok.ensures.code ∙ c.loop-entry.invariant.code;
-      taken = subst (λ (l : List Entry). HasTaken c.args.machine.now l c.take.new.self) (sym (take_more entries at (Turn 0) (omega arith)))
-          (taken_more c.args.machine.now c.loop-entry.machine c.take.new.self (take at entries) (get_or entries at (Turn 0)) c.loop-entry.invariant.taken c.loop-entry.invariant.code c.in-Ok.ensures.taken c.in-Ok.ensures.entries);
+      order = c.take_loosely.ensures.order;
+      gone = subst (λ (l : List LooseTransition). HasGoneBy class c.args.machine.now l c.take_loosely.new.machine) (sym (take_more moves at (Process 0) (omega arith)))
+          (gone_more class c.args.machine.now c.loop-transition.machine c.take_loosely.new.machine (take at moves) (get_or moves at (Process 0)) c.requires c.loop-transition.invariant.order c.take_loosely.ensures.order c.loop-transition.invariant.gone c.take_loosely.ensures.code c.in-Ok.ensures.taken);
     }

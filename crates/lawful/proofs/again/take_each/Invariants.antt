@@ -1,10 +1,13 @@
--- The entries so far were taken.
-use Rattle.std.proofs.Common.{◌≡◌, take}
-use Rattle.walks.specs.Walking.{HasTaken}
+-- The transitions so far were taken.
+use Rattle.std.proofs.Common.{take}
+use Rattle.orders.specs.Alike.{IsInOrder}
+use Rattle.loose.specs.Classes.{class_in}
+use Rattle.regions.specs.Machine.{state_at}
+use Rattle.lawful.specs.Again.{HasGoneBy}
 use Rattle.lawful.proofs.again.take_each.Given as goal
 
-abbrev pub invariant-loop-entry : goal.invariant-loop-entry
-invariant-loop-entry l = record {
-  code : l.machine.code ≡ l.fn.machine.code;
-  taken : HasTaken l.fn.machine (take l.entry-index l.entries) l.machine;
+abbrev pub invariant-loop-transition : goal.invariant-loop-transition
+invariant-loop-transition l = record {
+  order : IsInOrder (state_at l.machine);
+  gone : HasGoneBy (class_in l.classes) l.fn.machine (take l.transition-index l.moves) l.machine;
 }

@@ -1,11 +1,8 @@
 use Rattle.std.proofs.Common.{take}
+use Rattle.loose.specs.Classes.{class_in}
 use Rattle.regions.specs.Machine.{state_at}
-use Rattle.lawful.specs.Following.{AreOneOn}
-use Rattle.lawful.specs.SearchNodes.{AreWaysFor}
+use Rattle.lawful.specs.LooseNodes.{AreLooseWaysFor}
 use Rattle.lawful.proofs.expand.follow_each.Given as goal
 
-abbrev pub invariant-loop-entry : goal.invariant-loop-entry
-invariant-loop-entry l = record {
-  ways : AreWaysFor l.machine.code l.limits (state_at l.machine) (take l.entry-index l.entries) l.ways.successors.items l.ways.ended.items;
-  counted : AreOneOn l.machine.core.entries l.ways.successors.items l.ways.ended.items;
-}
+abbrev pub invariant-loop-transition : goal.invariant-loop-transition
+invariant-loop-transition l = AreLooseWaysFor (class_in l.classes) l.machine.code l.limits (state_at l.machine) (take l.transition-index l.transitions) l.ways.successors.items l.ways.ended.items

@@ -1,47 +1,32 @@
 -- The step that a machine took, or why it took none.
-use Rattle.std.proofs.Common.{◌≡◌, ◌<◌, ◌+◌, length, None, ap, sym, ◌∙◌, subst}
-use Rattle.model.specs.Runs.{refusal}
-use Rattle.regions.specs.Machine.{MachineView, state_at, most_entries, IsNotTaken}
-use Rattle.lawful.specs.Following.{TellsLong}
-use Rattle.lawful.proofs.Ways.{taken_is_way, long_is_way, untaken, still_not_taken}
+use Rattle.std.proofs.Common.{Some, ap, sym, ◌∙◌, subst}
+use Rattle.model.specs.Runs.{HasLongTurn}
+use Rattle.design.specs.Compiled.{design_of}
+use Rattle.orders.specs.Alike.{IsInOrder}
+use Rattle.loose.specs.Classes.{class_in}
+use Rattle.loosesteps.specs.LooselyTaken.{IsNotTakenLoosely}
+use Rattle.regions.specs.Machine.{MachineView, state_at}
+use Rattle.lawful.proofs.LongTurns.{stuck_is_long, permitted_goes_on}
+use Rattle.lawful.proofs.Ways.{taken_is_way, long_is_way}
 use Rattle.lawful.proofs.expand.way_by.Goals as goal
 
-pub returns-in-Ok-clause-way : goal.returns-in-Ok-clause-way
-returns-in-Ok-clause-way c =
+pub take_with-requires : goal.take_with-requires
+take_with-requires c = subst (λ (p : MachineView). IsInOrder (state_at p)) (sym c.deref_mut.ensures.value) c.requires.order
+
+pub returns-in-Ok : goal.returns-in-Ok
+returns-in-Ok c =
     let next = c.next_of.result in
-    taken_is_way c.args.limits c.args.machine.value c.deref_mut.result.now c.take_with.new.machine c.args.entry next c.deref_mut.ensures.value c.requires.silent (c.is_timely.ensures.0 c.if-not-is_timely.false)
-    c.in-Ok.ensures.code c.in-Ok.ensures.taken (ap (λ v. v.items) c.next_of.ensures.moves ∙ c.in_ok-moves.ensures)
+    taken_is_way (class_in c.args.classes.now) c.args.limits c.args.machine.value c.deref_mut.result.now c.take_with.new.machine c.args.transition next c.deref_mut.ensures.value c.requires.order c.take_with.ensures.order c.requires.silent (c.is_timely_move.ensures.0 c.if-not-is_timely_move.false)
+    c.take_with.ensures.code c.in-Ok.ensures.taken (ap (λ v. v.items) c.next_of.ensures.moves ∙ c.in_ok-moves.ensures)
     c.next_of.ensures.printed c.next_of.ensures.ready c.next_of.ensures.state
 
-pub returns-in-Ok-clause-counted : goal.returns-in-Ok-clause-counted
-returns-in-Ok-clause-counted c = (
-  ap length (ap (λ v. v.items) c.next_of.ensures.moves ∙ c.in_ok-moves.ensures),
-  c.next_of.ensures.entries ∙ (c.in-Ok.ensures.entries ∙ ap (λ (p : MachineView). p.core.entries + 1) c.deref_mut.ensures.value),
-)
-
-pub returns-clause-counted : goal.returns-clause-counted
-returns-clause-counted c = c.in_ok-ended-in-Err.ensures.moves
-
-pub long_of-requires-clause-permitted : goal.long_of-requires-clause-permitted
-long_of-requires-clause-permitted c =
-    let same = untaken c.args.machine.value c.deref_mut.result.now c.take_with.new.machine c.deref.result.now c.deref_mut.ensures.value c.in-Err.ensures.err c.deref.ensures in
-    subst (λ (p : MachineView). refusal (state_at p) c.args.entry ≡ None) (sym same) c.requires.permitted
-
-pub long_of-requires-clause-few : goal.long_of-requires-clause-few
-long_of-requires-clause-few c =
-    let same = untaken c.args.machine.value c.deref_mut.result.now c.take_with.new.machine c.deref.result.now c.deref_mut.ensures.value c.in-Err.ensures.err c.deref.ensures in
-    subst (λ (p : MachineView). p.core.entries < most_entries) (sym same) c.requires.few
-
-pub long_of-requires-clause-fault : goal.long_of-requires-clause-fault
-long_of-requires-clause-fault c =
-    let same = untaken c.args.machine.value c.deref_mut.result.now c.take_with.new.machine c.deref.result.now c.deref_mut.ensures.value c.in-Err.ensures.err c.deref.ensures in
-    still_not_taken c.args.machine.value c.deref.result.now c.take_with.new.machine c.args.entry c.in-Err.fault same
-    (subst (λ (p : MachineView). IsNotTaken p c.args.entry c.in-Err.fault) c.deref_mut.ensures.value c.in-Err.ensures.stop)
-
-pub returns-clause-way : goal.returns-clause-way
-returns-clause-way c =
+pub returns : goal.returns
+returns c =
     let m = c.args.machine.value in
+    let class = class_in c.args.classes.now in
     let ended = c.in_ok-ended-in-Err.ended in
-    let same = untaken m c.deref_mut.result.now c.take_with.new.machine c.deref.result.now c.deref_mut.ensures.value c.in-Err.ensures.err c.deref.ensures in
-    let tells : TellsLong m.code (state_at m) c.args.entry ended = subst (λ (p : MachineView). TellsLong p.code (state_at p) c.args.entry ended) same c.in_ok-ended-in-Err.ensures.long in
-    (long_is_way m.code c.args.limits (state_at m) c.args.entry ended c.requires.permitted c.requires.some_entry tells c.in_ok-ended-in-Err.ensures.moves, tells)
+    let tells = c.in_ok-ended-in-Err.ensures.told in
+    let stop : IsNotTakenLoosely class m c.args.transition c.in-Err.fault = subst (λ (p : MachineView). IsNotTakenLoosely class p c.args.transition c.in-Err.fault) c.deref_mut.ensures.value c.in-Err.ensures.stop in
+    let (entry, its, permitted, stuck) = subst (IsNotTakenLoosely class m c.args.transition) c.in_ok-ended-in-Err.ensures.long stop in
+    let long : HasLongTurn (design_of m.code) (state_at m) tells.process = stuck_is_long class (design_of m.code) (state_at m) entry tells.process (its ∙ ap (λ t. Some t) tells.is_turn) permitted stuck in
+    long_is_way class m.code c.args.limits (state_at m) c.args.transition ended c.requires.order c.requires.some_entry (permitted_goes_on class (state_at m) entry permitted) tells long

@@ -1,9 +1,6 @@
-use Rattle.std.proofs.Common.{◌≡◌}
-use Rattle.runs.specs.RunRecords.{HasComeTo}
+-- The run went on.
+use Rattle.races.specs.RunEndings.{HasGoneOn}
 use Rattle.races.proofs.follow.follow_made.Given as goal
 
 abbrev pub invariant-loop : goal.invariant-loop
-invariant-loop l = record {
-  come : HasComeTo l.limits l.run.journal.items l.run.machine;
-  code : l.run.machine.code ≡ l.fn.run.machine.code;
-}
+invariant-loop l = HasGoneOn l.fn.run l.run

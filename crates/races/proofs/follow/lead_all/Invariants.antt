@@ -1,9 +1,6 @@
-use Rattle.std.proofs.Common.{◌≡◌}
-use Rattle.runs.specs.RunRecords.{HasComeTo}
+-- The run went on.
+use Rattle.races.specs.RunEndings.{HasGoneOn}
 use Rattle.races.proofs.follow.lead_all.Given as goal
 
 abbrev pub invariant-loop-place : goal.invariant-loop-place
-invariant-loop-place l = record {
-  come : HasComeTo l.limits l.run.journal.items l.run.machine;
-  code : l.run.machine.code ≡ l.fn.run.machine.code;
-}
+invariant-loop-place l = HasGoneOn l.fn.run l.run

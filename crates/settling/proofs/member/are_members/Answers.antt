@@ -3,8 +3,7 @@ use Rattle.std.proofs.Common.{◌<◌, length, subst, arith}
 use Rattle.std.proofs.lemmas.List.{get_or_default}
 use Rattle.regions.specs.Machine.{state_at}
 use Rattle.settling.specs.Settling.{IsMember}
-use Rattle.flat.proofs.Sleeping.{upto_more}
-use Rattle.settling.proofs.Listed.{all_there}
+use Rattle.settling.proofs.Listed.{all_there, upto_more}
 use Rattle.settling.proofs.member.are_members.Goals as goal
 
 pub loop-member-preserved : goal.loop-member-preserved

@@ -1,7 +1,7 @@
 use Rattle.std.proofs.Common.{◌≡◌, ℕ, List, [], ◌++◌, map, refl, sym, ◌∙◌, ap}
 use Rattle.std.proofs.lemmas.Result.{on_ok_weaker}
 use Rattle.design.specs.declared.code.ProcState.{ProcState}
-use Rattle.statekeys.specs.KeyCodes.{nat_code, bool_code, pair_code, list_code, vector_code}
+use Rattle.statekeys.specs.KeyCodes.{nat_code, pair_code, list_code}
 use Rattle.statekeys.specs.Keys.{KeyContent, IsToldOf, IsKey, process_code, update_code, key_code}
 use Rattle.statekeys.specs.KeyParts.{going_on, unnumbered_update, due_assignment}
 use Rattle.statekeys.proofs.Events.{active_told, inactive_told, nonblocking_told, future_inactive_told, future_nonblocking_told, processes_told}
@@ -11,9 +11,9 @@ use Rattle.statekeys.proofs.keys.key.Goals as goal
 abbrev told : goal.After-put_future_updates → KeyContent
 told c =
     record {
-      time = c.time.result;
-      finished = c.is_finished.result;
-      values = c.values.result.now;
+      time = c.args.state.now.time;
+      finished = c.args.state.now.finished;
+      values = c.args.store.now;
       processes = map going_on c.processes.result.now;
       updates = map unnumbered_update c.active.result.0.now.items;
       evaluations = c.put_evaluations.new.processes.items;
@@ -27,9 +27,9 @@ told c =
 
 is_told : (c : goal.After-put_future_updates) → IsToldOf c.args.state.now c.args.store.now (told c)
 is_told c = record {
-  time = c.time.ensures;
-  finished = c.is_finished.ensures;
-  store = c.values.ensures;
+  time = refl;
+  finished = refl;
+  store = refl;
   processes = processes_told _ _ _ c.processes.ensures;
   active = active_told c.active.result.0.now.items c.active.result.1.now.items c.put_evaluations.new.processes.items c.args.state.now.active
       c.active.ensures c.in_ok-put_evaluations.ensures.processes;
@@ -45,20 +45,17 @@ is_told c = record {
 pub returns : goal.returns
 returns c =
     let t : KeyContent = told c in
-    let s1 = c.in_ok-encode.ensures ∙ ap (λ bs. bs ++ nat_code t.time) (c.reserve.ensures.items ∙ c.clear.ensures.items) in
-    let s2 = c.in_ok-encode-2.ensures ∙ ap (λ bs. bs ++ bool_code t.finished) s1 in
-    let s3 = c.in_ok-put_slice.ensures ∙ ap (λ bs. bs ++ list_code vector_code t.values) s2 in
-    let s4 = c.in_ok-put_processes.ensures ∙ ap (λ bs. bs ++ list_code process_code t.processes) s3 in
-    let s5 = c.in_ok-put_updates.ensures ∙ ap (λ bs. bs ++ list_code update_code t.updates) s4 in
-    let s6 = c.in_ok-put_evaluations.ensures.bytes ∙ ap (λ bs. bs ++ list_code nat_code t.evaluations) s5 in
-    let s7 = c.in_ok-put_evaluations-2.ensures.bytes ∙ ap (λ bs. bs ++ list_code nat_code t.inactive) s6 in
-    let s8 = c.in_ok-put_updates-2.ensures ∙ ap (λ bs. bs ++ list_code update_code t.nonblocking) s7 in
-    let s9 = c.in_ok-put_slice-2.ensures ∙ ap (λ bs. bs ++ list_code nat_code t.monitor) s8 in
-    let s10 = c.in_ok-put_times.ensures ∙ ap (λ bs. bs ++ list_code nat_code t.future_times) s9 in
-    let s11 = c.in_ok-put_future_evaluations.ensures.bytes ∙ ap (λ bs. bs ++ list_code (pair_code nat_code nat_code) t.future_evaluations) s10 in
+    let s1 = c.in_ok-put_processes.ensures ∙ ap (λ bs. bs ++ list_code process_code t.processes) c.in_ok-begin_key.ensures in
+    let s2 = c.in_ok-put_updates.ensures ∙ ap (λ bs. bs ++ list_code update_code t.updates) s1 in
+    let s3 = c.in_ok-put_evaluations.ensures.bytes ∙ ap (λ bs. bs ++ list_code nat_code t.evaluations) s2 in
+    let s4 = c.in_ok-put_evaluations-2.ensures.bytes ∙ ap (λ bs. bs ++ list_code nat_code t.inactive) s3 in
+    let s5 = c.in_ok-put_updates-2.ensures ∙ ap (λ bs. bs ++ list_code update_code t.nonblocking) s4 in
+    let s6 = c.in_ok-put_slice.ensures ∙ ap (λ bs. bs ++ list_code nat_code t.monitor) s5 in
+    let s7 = c.in_ok-put_times.ensures ∙ ap (λ bs. bs ++ list_code nat_code t.future_times) s6 in
+    let s8 = c.in_ok-put_future_evaluations.ensures.bytes ∙ ap (λ bs. bs ++ list_code (pair_code nat_code nat_code) t.future_evaluations) s7 in
     let last : List ℕ = list_code (pair_code nat_code update_code) t.future_updates in
     let before : List ℕ = c.put_future_evaluations.new.bytes.items in
     let after : List ℕ = c.put_future_updates.new.bytes.items in
     let all : after ≡ before ++ last → IsKey c.args.state.now c.args.store.now after =
-    λ e. (told c, is_told c, e ∙ ap (λ bs. bs ++ last) s11) in
+    λ e. (told c, is_told c, e ∙ ap (λ bs. bs ++ last) s8) in
     on_ok_weaker c.put_future_updates.result all c.put_future_updates.ensures

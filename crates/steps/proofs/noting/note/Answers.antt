@@ -46,9 +46,8 @@ returns-in_default c =
     record {
       noted = λ effect values is.
           other_noted p.code (state_at p) c.args.entry c.args.cells.now.items (account_of c.clear.new.told) c.in_default.not-Turn c.in_default.not-Update
-          c.requires.sound c.clear.ensures.actor c.clear.ensures.cleared.reads c.clear.ensures.cleared.changes c.clear.ensures.cleared.assigned effect is;
-      sound = λ effect is. other_sound p.code (state_at p) c.args.entry c.in_default.not-Turn c.in_default.not-Update c.requires.sound effect is;
+          c.requires.kept.sound c.clear.ensures.actor c.clear.ensures.cleared.reads c.clear.ensures.cleared.changes c.clear.ensures.cleared.assigned effect is;
+      sound = λ effect is. other_sound p.code (state_at p) c.args.entry c.in_default.not-Turn c.in_default.not-Update c.requires.kept.sound effect is;
       given = search rules;
       registers = search rules;
-      fault = search rules;
     }

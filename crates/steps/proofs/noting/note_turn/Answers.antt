@@ -24,7 +24,7 @@ returns-in_ok-tell_turn-in-Ok-Some-clause-sound c = λ effect is.
     let log = c.evaluate.new.log in
     let process = c.in-Ok-Some.process in
     let logged : IsTurnLogged p.code (state_at p) c.args.number process log = subst (λ (o : Option ℕ). IsEvaluated p.code (state_at p) c.args.number log o) c.in-Ok-Some.field-0-is c.in-Ok-Some.ensures in
-    turn_sound p.code (state_at p) c.args.number process log c.requires.sound logged effect is
+    turn_sound p.code (state_at p) c.args.number process log c.requires.kept.sound logged effect is
 
 pub returns-in_ok-tell_turn-in-Ok-Some-clause-given : goal.returns-in_ok-tell_turn-in-Ok-Some-clause-given
 returns-in_ok-tell_turn-in-Ok-Some-clause-given c =

@@ -22,7 +22,7 @@ change-requires c =
     let active : map update_event us ++ map evaluation_event es ≡ s.active = c.active.ensures ∙ ap (λ (k : Core). k.active) c.state.ensures in
     let found : update_of (action_in (map update_event us) c.args.number) ≡ Some (c.in-Some.update.now.register, c.in-Some.update.now.value) = c.in-Some.ensures in
     let action = update_found s us es c.args.number c.in-Some.update.now.register c.in-Some.update.now.value active found in
-    subst (λ k. c.in-Some.update.now.register < k) (sym c.requires.cells) (update_fits code s c.args.number c.in-Some.update.now.register c.in-Some.update.now.value c.requires.sound action).0
+    subst (λ k. c.in-Some.update.now.register < k) (sym c.requires.kept.registers) (update_fits code s c.args.number c.in-Some.update.now.register c.in-Some.update.now.value c.requires.kept.sound action).0
 
 pub returns-in_ok-change-in-Some-clause-noted : goal.returns-in_ok-change-in-Some-clause-noted
 returns-in_ok-change-in-Some-clause-noted c = λ effect values is.
@@ -47,7 +47,7 @@ returns-in_ok-change-in-Some-clause-sound c = λ effect is.
     let active : map update_event us ++ map evaluation_event es ≡ s.active = c.active.ensures ∙ ap (λ (k : Core). k.active) c.state.ensures in
     let found : update_of (action_in (map update_event us) c.args.number) ≡ Some (c.in-Some.update.now.register, c.in-Some.update.now.value) = c.in-Some.ensures in
     let action = update_found s us es c.args.number c.in-Some.update.now.register c.in-Some.update.now.value active found in
-    update_sound code s c.args.number c.in-Some.update.now.register c.in-Some.update.now.value c.requires.sound action effect is
+    update_sound code s c.args.number c.in-Some.update.now.register c.in-Some.update.now.value c.requires.kept.sound action effect is
 
 pub returns-in-None-clause-noted : goal.returns-in-None-clause-noted
 returns-in-None-clause-noted c = λ effect values is.

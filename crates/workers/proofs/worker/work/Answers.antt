@@ -11,9 +11,7 @@ loop-init g c = record {
   works = works_self _;
   later = (within_self _).later;
   keeps = keeps_nothing _ _;
-  room = search rules;
-  grants = search rules;
-  empty = search rules;
+  room = record { grants = search rules; batch = search rules; empty = search rules };
 }
 
 pub loop-preserved : goal.loop-preserved
@@ -21,9 +19,7 @@ loop-preserved g c = record {
   works = works_more _ _ _ c.loop.invariant.works c.step.ensures.works;
   later = later_more _ _ _ c.loop.invariant.later c.step.ensures.within.later;
   keeps = keeps_more _ _ _ _ _ _ _ c.loop.invariant.keeps (c.step.ensures.keeps c.in-GoesOn.is);
-  room = c.step.ensures.room;
-  grants = c.step.ensures.grants;
-  empty = c.step.ensures.empty c.in-GoesOn.is;
+  room = c.step.ensures.room c.in-GoesOn.is;
 }
 
 pub returns-in-Ends : goal.returns-in-Ends

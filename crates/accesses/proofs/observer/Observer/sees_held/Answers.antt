@@ -1,11 +1,12 @@
 -- To where either entry may be next, and over a segment to where the first one still may.
+use Rattle.std.proofs.Common.{refl}
 use Rattle.accesses.proofs.Pairs.{sees_held}
 use Rattle.accesses.proofs.observer.Observer.sees_held.Goals as goal
 
 pub returns : goal.returns
 returns c = λ h.
     sees_held c.args.held.before.now c.args.held.segment.now c.args.held.one c.args.held.other c.args.pair c.args.self.now.machine
-    c.lead.new.machine c.has_role.new.self.machine c.has_role-2.new.self.machine c.lead-2.new.machine c.requires.start c.lead.ensures.code
-    (c.lead.ensures.led c.if-not-lead.false) (c.has_role.ensures.holds c.if-not-has_role.false) c.has_role.ensures.machine
-    (c.has_role-2.ensures.holds c.if-not-has_role-2.false) c.has_role-2.ensures.machine c.lead-2.ensures.code
-    (c.lead-2.ensures.led c.if-not-lead-2.false) (c.is_one.ensures h)
+    c.sees_first.new.self.machine c.sees_first.new.self.machine c.has_role.new.self.machine c.leaves_first.new.self.machine c.requires.start c.sees_first.ensures.code
+    (c.sees_first.ensures.led c.if-not-sees_first.false) (c.sees_first.ensures.first c.if-not-sees_first.false) refl
+    (c.has_role.ensures.holds c.if-not-has_role.false) c.has_role.ensures.machine c.leaves_first.ensures.code (c.leaves_first.ensures.led h)
+    (c.leaves_first.ensures.first h)

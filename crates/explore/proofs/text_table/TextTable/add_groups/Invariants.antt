@@ -10,7 +10,7 @@ invariant-groups l =
       ok : IsTexts l.self;
       grows : Extends (texts l.fn.self) (texts l.self);
       within : l.number < length (texts l.self);
-      text : get_or (texts l.fn.self) l.before [] ++ l.bytes ≡ get_or (texts l.self) l.number [] ++ l.rest;
+      text : get_or (texts l.fn.self) l.from [] ++ l.bytes ≡ get_or (texts l.self) l.number [] ++ l.rest;
     }
 
 abbrev pub decreases-groups : goal.decreases-groups

@@ -11,10 +11,10 @@ pub returns-else-is_err-clause-shown : goal.returns-else-is_err-clause-shown
 returns-else-is_err-clause-shown c =
     let P : Race → Type 0 = IsShownRace c.args.task.design.now c.args.task.limits c.args.task.original.now in
     subst (λ (xs : List Race). All P xs) (sym c.push.ensures.items)
-    (kept_all P (is_ok c.push.result) c.args.self.now.races.items c.args.race c.requires.shown c.requires.race)
+    (kept_all P (is_ok c.push.result) c.args.self.now.races.items c.args.race c.requires.told.1 c.requires.race)
 
 pub returns-else-is_err-clause-distinct : goal.returns-else-is_err-clause-distinct
 returns-else-is_err-clause-distinct c =
     subst (λ (xs : List Race). AllPairs AreOthers xs) (sym c.push.ensures.items)
-    (kept_pairs AreOthers (is_ok c.push.result) c.args.self.now.races.items c.args.race c.requires.distinct
+    (kept_pairs AreOthers (is_ok c.push.result) c.args.self.now.races.items c.args.race c.requires.told.2
     (new_others c.args.self.now.races.items c.args.pair c.args.race c.requires.beside c.requires.of))

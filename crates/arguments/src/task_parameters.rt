@@ -1,0 +1,27 @@
+//! Which words and options each command takes.
+
+ghost use Rattle.std.specs.Prelude.{◌≡◌};
+ghost use Rattle.arguments.specs.Arguments.{parameters_of};
+
+use crate::command_task::CommandTask;
+use crate::parameters::Parameter;
+use crate::parameters::Parameter::{
+    All, File, From, Journal, JournalTo, JournalsTo, MaxEntries, MaxMemory, MaxStates, MaxTexts,
+    Out, Samples, Seed, To, Until, Workers,
+};
+
+/// What the command of a task takes, in the order in which help shows it.
+pub fn parameters(task: CommandTask) -> &'static [Parameter]
+    ensures { result.now ≡ parameters_of task }
+{
+    match task {
+        CommandTask::Run => &[File, Workers, Until, MaxEntries, JournalTo, Seed],
+        CommandTask::Replay => &[File, Journal],
+        CommandTask::Races => &[
+            File, Until, MaxEntries, MaxStates, MaxTexts, MaxMemory, JournalsTo, Samples, Seed,
+        ],
+        CommandTask::Check => &[File, All],
+        CommandTask::Explain => &[File, Journal, From, To],
+        CommandTask::Waves => &[File, Journal, Out],
+    }
+}

@@ -1,0 +1,11 @@
+pub mod Tests
+pub mod Ordering
+pub mod Telling
+pub mod Masks
+pub mod Marks
+pub mod Summaries
+pub mod Walking
+pub mod Adding
+pub mod OneEvent
+pub mod CertifiedRuns
+pub mod Prefixes

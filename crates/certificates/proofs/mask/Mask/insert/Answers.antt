@@ -1,0 +1,6 @@
+-- The mask has the bit of the new number too.
+use Rattle.certificates.proofs.Masks.{masked_more}
+use Rattle.certificates.proofs.mask.Mask.insert.Goals as goal
+
+pub returns : goal.returns
+returns c = λ numbers masked. masked_more numbers c.args.self.now c.args.number c.bit_of.result c.bit_of.ensures masked

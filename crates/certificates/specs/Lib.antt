@@ -1,0 +1,11 @@
+pub mod Masks
+pub mod Changes
+pub mod Notes
+pub mod NoteViews
+pub mod Coming
+pub mod Apart
+pub mod Marks
+pub mod Actors
+pub mod Summaries
+pub mod Certified
+pub mod CertificateLaws

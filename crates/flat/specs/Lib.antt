@@ -1,4 +1,0 @@
-pub mod EvaluatedTurns
-pub mod Tests
-pub mod Sleeping
-pub mod UpdateOnly

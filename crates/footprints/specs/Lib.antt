@@ -1,0 +1,3 @@
+pub mod Footprints
+pub mod FootprintLaws
+pub mod Moves

@@ -1,0 +1,36 @@
+-- What a search of lawful orders answers.
+use Rattle.std.specs.Prelude.{◌≡◌, ℕ, ◌<◌, ◌≤◌, length, None, Some, IfSome}
+use Rattle.std.specs.List.{All, AllPairs}
+use Rattle.model.specs.declared.entry.Entry.{Entry}
+use Rattle.model.specs.declared.end.Limits.{Limits}
+use Rattle.model.specs.declared.end.End.{End}
+use Rattle.model.specs.Design.{Design}
+use Rattle.model.specs.Runs.{last_time}
+use Rattle.model.specs.Texts.{AreAllTexts, IsEndlessJournal, IsLawfulText, IsWithinLimits}
+use Rattle.explore.specs.declared.Bounds.{Bounds}
+use Rattle.explore.specs.declared.Explored.{Explored}
+use Rattle.explore.specs.declared.stopped.Stopped.TheVariants as stop
+use Rattle.explore.specs.Search.{AreDistinct, IsShown}
+
+-- what a search asks of its limits and its bounds: room for a node, and for an entry, and no time past the last one
+pub record MaySearch (limits : Limits) (bounds : Bounds) : Type 0 where
+  pub some_node : 0 < bounds.nodes
+  pub some_entry : 0 < limits.max_entries
+  pub in_time : IfSome limits.until (λ until. until ≤ last_time)
+
+-- Each text that is shown is that of the lawful journal beside it, and so is its end; no two have one text and one end; they are all where
+-- the search wasn't stopped; the search kept to its bounds, and to the one that stopped it; and what is said to be endless is.
+pub record AreLawfulOrders (design : Design) (limits : Limits) (bounds : Bounds) (found : Explored Entry End) : Type 0 where
+  pub sound : All (λ s. IsLawfulText design limits s.moves.items s.text.items s.end) found.shown.items
+  pub distinct : AllPairs AreDistinct found.shown.items
+  pub within : All (λ s. IsWithinLimits limits s.moves.items) found.shown.items
+  pub all : found.stopped ≡ None → AreAllTexts design limits (IsShown found.shown.items)
+  pub few : found.nodes ≤ bounds.nodes
+  pub few_shown : length found.shown.items ≤ bounds.shown
+  pub nodes_full : found.stopped ≡ Some stop.Nodes → found.nodes ≡ bounds.nodes
+  pub shown_full : found.stopped ≡ Some stop.Shown → length found.shown.items ≡ bounds.shown
+  pub never_ends : IfSome found.endless (λ journal. IsEndlessJournal design limits journal.items)
+
+-- nothing was found, of whichever design and within whichever limits and bounds, and the search says that it was stopped
+abbrev pub IsNothingFound : Explored Entry End → Type 0
+IsNothingFound found = (design : Design) (limits : Limits) (bounds : Bounds) → AreLawfulOrders design limits bounds found

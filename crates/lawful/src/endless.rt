@@ -1,0 +1,85 @@
+//! The lawful journal of a loose run from which no run comes to an end.
+ghost use Rattle.std.specs.Prelude.{◌≡◌, ◌≤◌, true, IfOk, IfSome};
+ghost use Rattle.model.specs.Runs.{last_time};
+ghost use Rattle.model.specs.Texts.{IsEndlessJournal};
+ghost use Rattle.design.specs.Compiled.{design_of};
+ghost use Rattle.regions.specs.Machine.{state_at};
+ghost use Rattle.loose.specs.Classes.{class_in};
+ghost use Rattle.loose.specs.Loose.{AlikeIn};
+ghost use Rattle.explore.specs.Search.{IsEndless};
+ghost use Rattle.lawful.specs.Again.{LeadLooselyTo};
+ghost use Rattle.lawful.specs.LooseNodes.{searched_runs};
+
+use crate::again::again;
+use crate::node::SearchRoom;
+use crate::search::start_of;
+use design::Design;
+use loose::transition::LooseTransition;
+use loosejournals::{LedJournal, journal_to};
+use model::end::Limits;
+use model::entry::Entry;
+use regions::Machine;
+use std::alloc::{AllocError, Global};
+
+// Whether the states of two machines of one design are alike in these classes, as far as their class keys tell.
+fn stand_alike(
+    alloc: Global,
+    room: &mut SearchRoom,
+    one: &Machine<'_>,
+    other: &Machine<'_>,
+    classes: &[u32],
+) -> Result<bool, AllocError>
+    requires code { one.now.code ≡ other.now.code }
+    ensures { IfOk result (λ alike. alike ≡ true → AlikeIn (class_in classes.now) (state_at one.now) (state_at other.now)) }
+{
+    one.stands();
+    other.stands();
+    let mut key = Vec::new(alloc);
+    room.fill_key(&mut key, one, classes)?;
+    let mut other_key = Vec::new(alloc);
+    room.fill_key(&mut other_key, other, classes)?;
+    Ok(key.as_slice() == other_key.as_slice())
+}
+
+// Whether a machine stands where these loose transitions lead from the start of its design's run, up to the order of updates of different
+// classes.
+fn stands_there(
+    alloc: Global,
+    design: &Design,
+    classes: &[u32],
+    moves: &[LooseTransition],
+    machine: &Machine<'_>,
+) -> Result<bool, AllocError>
+    requires code { machine.now.code ≡ design.now }
+    ensures { IfOk result (λ there. there ≡ true → LeadLooselyTo (class_in classes.now) design.now moves.now (state_at machine.now)) }
+{
+    let mut room = Box::new(alloc, SearchRoom::new(alloc))?;
+    let start = start_of(alloc, design)?;
+    let loosely = again(alloc, &mut room, &start, classes, moves)?;
+    stand_alike(alloc, &mut room, machine, &loosely, classes)
+}
+
+/// A lawful journal from which no run comes to an end, as none does from a loose run of these transitions: it is led by them, and leads
+/// where they lead, up to the order of updates of different classes. None where it leads elsewhere, or none is led. Fails where memory is
+/// refused.
+pub(crate) fn endless_journal(
+    alloc: Global,
+    design: &Design,
+    limits: Limits,
+    classes: &[u32],
+    moves: &[LooseTransition],
+) -> Result<Option<Vec<Entry>>, AllocError>
+    requires until { IfSome limits.until (λ until. until ≤ last_time) }
+    requires endless { IsEndless (searched_runs design.now (class_in classes.now) limits) moves.now }
+    ensures { IfOk result (λ found. IfSome found (λ journal. IsEndlessJournal (design_of design.now) limits journal.items)) }
+{
+    let led = match journal_to(alloc, design, limits, classes, moves)? {
+        Some(led) => led,
+        None => return Ok(None),
+    };
+    if !stands_there(alloc, design, classes, moves, &led.machine)? {
+        return Ok(None);
+    }
+    let LedJournal { journal, .. } = led;
+    Ok(Some(journal))
+}

@@ -1,0 +1,144 @@
+//! The loose runs of a design, as a search follows them.
+ghost use Rattle.std.specs.Prelude.{◌≡◌, [], IfOk};
+ghost use Rattle.model.specs.States.{start};
+ghost use Rattle.regions.specs.Machine.{state_at};
+ghost use Rattle.design.specs.Compiled.{design_of};
+ghost use Rattle.lawful.specs.LooseNodes.{AreBounded};
+
+use crate::again::{again, weight};
+use crate::expand::expand;
+use crate::node::{LooseNode, SearchRoom};
+use design::Design;
+use explore::{Expanded, Orders};
+use loose::transition::LooseTransition;
+use model::end::{End, Limits};
+use regions::Machine;
+use settling::AnalyzedDesign;
+use std::alloc::{AllocError, Global};
+
+/// The start of a design's run, on the heap.
+pub(crate) fn start_of<'d>(
+    alloc: Global,
+    design: &'d Design,
+) -> Result<Box<Machine<'d>>, AllocError>
+    ensures code { IfOk result (λ machine. machine.value.code ≡ design.now) }
+    ensures state { IfOk result (λ machine. state_at machine.value ≡ start (design_of design.now)) }
+    ensures lines { IfOk result (λ machine. machine.value.lines ≡ []) }
+{
+    let machine = Machine::start(alloc, design)?;
+    let boxed = Box::new(alloc, machine)?;
+    Ok(boxed)
+}
+
+/// The loose runs of a design in time, by these classes of its registers.
+#[derive(Drop)]
+pub(crate) struct LooseRuns<'d> {
+    pub(crate) analyzed_design: AnalyzedDesign<'d>,
+    pub(crate) classes: Vec<u32>,
+    pub(crate) limits: Limits,
+    ghost bounded: { AreBounded limits },
+}
+
+impl<'d> LooseRuns<'d> {
+    /// The loose runs of a design within limits, by these classes of its registers.
+    pub(crate) fn new(
+        analyzed_design: AnalyzedDesign<'d>,
+        classes: Vec<u32>,
+        limits: Limits,
+    ) -> LooseRuns<'d>
+        requires { AreBounded limits }
+        ensures design { result.analyzed_design ≡ analyzed_design.entry }
+        ensures classes { result.classes ≡ classes }
+        ensures limits { result.limits ≡ limits }
+    {
+        LooseRuns {
+            analyzed_design,
+            classes,
+            limits,
+        }
+    }
+}
+
+impl<'d> Orders for LooseRuns<'d> {
+    ghost use Rattle.std.specs.Prelude.{refl};
+    ghost use Rattle.loose.specs.Classes.{class_in};
+    ghost use Rattle.statekeys.specs.ClassKeys.{IsClassKey};
+    ghost use Rattle.lawful.specs.LooseNodes.{searched_runs};
+    ghost use Rattle.lawful.specs.Serving.{loose_alike, loose_keyed};
+
+    type Move = LooseTransition;
+
+    type Node = LooseNode<'d>;
+
+    type End = End;
+
+    type Room = SearchRoom;
+
+    ghost runs = { λ o. searched_runs o.analyzed_design (class_in o.classes.items) o.limits };
+
+    ghost has_key = { λ o node key. IsClassKey (class_in o.classes.items) node.machine.value.core node.machine.value.values key };
+
+    // The machine at the start of the design's run.
+    fn start(&self, alloc: Global) -> Result<LooseNode<'d>, AllocError> {
+        let machine = start_of(alloc, self.analyzed_design.design())?;
+        machine.stands();
+        Ok(LooseNode { machine })
+    }
+
+    fn room(&self, alloc: Global) -> SearchRoom {
+        SearchRoom::new(alloc)
+    }
+
+    // Follows the ways that go on loosely from a node in time, with the combinational processes that were found once.
+    fn expand(
+        &self,
+        alloc: Global,
+        room: &mut SearchRoom,
+        node: LooseNode<'d>,
+    ) -> Result<Expanded<LooseNode<'d>, LooseTransition, End>, AllocError> {
+        let expanded = expand(
+            alloc,
+            &self.analyzed_design,
+            &self.classes,
+            self.limits,
+            room,
+            node.machine,
+        )?;
+        Ok(expanded)
+    }
+
+    fn key(
+        &self,
+        room: &mut SearchRoom,
+        key: &mut Vec<u8>,
+        node: &LooseNode<'d>,
+    ) -> Result<(), AllocError> {
+        room.fill_key(key, &node.machine, &self.classes)
+    }
+
+    fn weight(&self, node: &LooseNode<'d>) -> usize {
+        weight(&node.machine)
+    }
+
+    // The machine of a node after these further transitions; the node's own stays where it stands.
+    fn again(
+        &self,
+        alloc: Global,
+        room: &mut SearchRoom,
+        from: &LooseNode<'d>,
+        moves: &[LooseTransition],
+    ) -> Result<LooseNode<'d>, AllocError> {
+        let machine = again(alloc, room, &from.machine, &self.classes, moves)?;
+        Ok(LooseNode { machine })
+    }
+
+    fn same_end(&self, a: &End, b: &End) -> bool {
+        *a == *b
+    }
+
+    ghost silent = { λ _. refl };
+
+    ghost alike = { λ o i j a. loose_alike o.analyzed_design (class_in o.classes.items) o.limits i j a };
+
+    ghost keyed = { λ o a b i j key of_a of_b at bt text. loose_keyed o.analyzed_design (class_in o.classes.items) o.limits a b i j key of_a of_b at bt text };
+}

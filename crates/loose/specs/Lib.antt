@@ -1,0 +1,3 @@
+pub mod Loose
+pub mod Classes
+pub mod LooseLaws

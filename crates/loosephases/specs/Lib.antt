@@ -1,0 +1,2 @@
+pub mod LoosePhase
+pub mod Held

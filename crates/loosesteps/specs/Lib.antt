@@ -1,0 +1,3 @@
+pub mod Classes
+pub mod Choices
+pub mod LooselyTaken

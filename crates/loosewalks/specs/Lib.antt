@@ -1,0 +1,4 @@
+pub mod Sole
+pub mod EventWays
+pub mod LooseWalking
+pub mod Certified

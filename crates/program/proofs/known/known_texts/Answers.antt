@@ -1,0 +1,30 @@
+-- The texts of the first run, of the second runs and of the random orders, one behind the other.
+use Rattle.std.proofs.Common.{◌∙◌, List, subst, sym}
+use Rattle.std.specs.List.{All}
+use Rattle.std.proofs.lemmas.List.Elements.{All-nil}
+use Rattle.model.specs.declared.entry.Entry.{Entry}
+use Rattle.model.specs.declared.end.End.{End}
+use Rattle.explore.specs.declared.Shown.{Shown}
+use Rattle.runs.specs.RunRecords.{IsRun}
+use Rattle.runs.specs.declared.run.RunRecord.{RunRecord}
+use Rattle.races.specs.declared.told.Race.{Race}
+use Rattle.program.specs.Findings.{IsKnown, IsLawfulShown, limits_in}
+use Rattle.program.proofs.Knowing.{all_known, races_run}
+use Rattle.program.proofs.known.known_texts.Goals as goal
+
+pub returns : goal.returns
+returns g c =
+    let code = c.args.design.now in
+    let search_options = c.args.search_options in
+    let limits = limits_in search_options in
+    let found = c.args.found.now in
+    let races = c.requires.races.1 in
+    let begun = subst (λ (ss : List (Shown Entry End)). All (IsLawfulShown code limits) ss) (sym c.new-known.ensures.none) (All-nil (IsLawfulShown code limits)) in
+    let one = c.in_ok-add_run.ensures.lawful code limits races.original begun in
+    let shown = subst (λ (rs : List Race). All (λ (race : Race). IsRun code limits race.exchanged) rs) (sym c.as_slice.ensures.value) (races_run code limits c.requires.races.0 found races) in
+    let two = c.in_ok-add_races.ensures.lawful code limits shown one in
+    let runs = subst (λ (rs : List RunRecord). All (IsRun code limits) rs) (sym c.as_slice-2.ensures.value) c.random_orders-others.ensures in
+    let told = subst (λ (rs : List Race). All (λ (race : Race). IsKnown c.add_races.new.self.most c.add_races.new.self.shown.items race.exchanged) rs) c.as_slice.ensures.value c.in_ok-add_races.ensures.known in
+    let most = c.in_ok-add_runs.ensures.grows.most ∙ (c.in_ok-add_races.ensures.grows.most ∙ (c.in_ok-add_run.ensures.grows.most ∙ c.new-known.ensures.most)) in
+    all_known code search_options found c.add_run.new.self c.add_races.new.self c.add_runs.new.self c.in-None.is most (c.in_ok-add_runs.ensures.lawful code limits runs two) c.in_ok-add_races.ensures.few
+    c.in_ok-add_runs.ensures.few c.in_ok-add_races.ensures.grows c.in_ok-add_runs.ensures.grows c.in_ok-add_run.ensures.known told

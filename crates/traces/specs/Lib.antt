@@ -1,0 +1,5 @@
+pub mod Traces
+pub mod TraceLaws
+pub mod StandsFor
+pub mod Restricted
+pub mod Certificates

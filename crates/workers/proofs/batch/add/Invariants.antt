@@ -1,4 +1,0 @@
-use Rattle.workers.proofs.batch.add.Given as goal
-
-abbrev pub ghosts-evaluate : goal.ghosts-evaluate
-ghosts-evaluate g a = record { seat = a.seat.now }
